@@ -1,0 +1,24 @@
+//! What a run answers with, and how it fails.
+use thiserror::Error;
+
+/// What a call that was granted tells.
+#[derive(Debug, Drop)]
+pub enum Answer {
+    /// That it was done.
+    Done,
+    /// The content of a file.
+    Bytes(Vec<u8>),
+    /// The names in a directory.
+    Names(Vec<Vec<u8>>),
+}
+
+/// Why a run of a script ended before the script did.
+#[derive(Clone, Copy, Debug, PartialEq, Eq, Error)]
+pub enum RunFault {
+    #[error("the script could not be read to its end; the complete lines before that were answered")]
+    Read,
+    #[error("the answers could not be written; what came out is a beginning of them")]
+    Write,
+    #[error("memory was refused before the script was read")]
+    Memory,
+}

@@ -1,0 +1,180 @@
+//! Nodes: their attributes, and what they hold by their kind.
+ghost use Rattle.std.specs.Prelude.{◌≡◌, map, OnOk, OnErr};
+ghost use Rattle.vt_spec.specs.Rights.{is_directory};
+ghost use Rattle.vt_spec.specs.Tree.{kind_of, entries_of, bytes_of, parent_of, entry_named, new_directory, with_entries, with_entry, with_bytes};
+ghost use Rattle.vt_spec.specs.Tree.Content.{Regular, Symlink, Whiteout};
+
+use crate::{Attr, DirectoryEntries, Kind, NodeId};
+use std::alloc::{AllocError, Global};
+use std::marker::Model;
+
+/// A node of a tree: an inode without its number.
+#[derive(Debug, Drop)]
+pub struct Node {
+    attr: Attr,
+    content: Content,
+}
+
+// What a node holds.
+#[derive(Debug, Drop)]
+enum Content {
+    Directory {
+        parent: NodeId,
+        entries: DirectoryEntries,
+        opaque: bool,
+    },
+    Regular {
+        bytes: Vec<u8>,
+    },
+    Symlink {
+        text: Vec<u8>,
+    },
+    Whiteout,
+}
+
+impl Model for Node {
+    ghost use Rattle.std.specs.Prelude.{ℕ};
+    ghost use Rattle.vt_spec.specs.Tree.{Node as Inode};
+
+    ghost Value = { Inode ℕ };
+
+    ghost use Rattle.vt_node.specs.NodeView.{content_of};
+
+    ghost view = { λ n. record { attr = n.attr; content = content_of n.content } };
+}
+
+impl Node {
+    /// An empty directory below this parent; the root is its own parent. It takes no memory.
+    pub fn new_directory(alloc: Global, attr: Attr, parent: NodeId) -> Self
+        ensures { result ≡ record { attr = attr; content = new_directory parent } }
+    {
+        Node {
+            attr,
+            content: Content::Directory {
+                parent,
+                entries: DirectoryEntries::new(alloc),
+                opaque: false,
+            },
+        }
+    }
+
+    /// A regular file with these bytes.
+    pub fn new_file(attr: Attr, bytes: Vec<u8>) -> Self
+        ensures { result ≡ record { attr = attr; content = Regular bytes.items } }
+    {
+        Node {
+            attr,
+            content: Content::Regular { bytes },
+        }
+    }
+
+    /// A symbolic link with this text.
+    pub fn new_link(attr: Attr, text: Vec<u8>) -> Self
+        ensures { result ≡ record { attr = attr; content = Symlink text.items } }
+    {
+        Node {
+            attr,
+            content: Content::Symlink { text },
+        }
+    }
+
+    /// A whiteout, the character device 0/0 of an overlay's upper layer.
+    pub fn new_whiteout(attr: Attr) -> Self
+        ensures { result ≡ record { attr = attr; content = Whiteout } }
+    {
+        Node {
+            attr,
+            content: Content::Whiteout,
+        }
+    }
+
+    /// Its owner, group and mode.
+    pub fn attr(&self) -> Attr
+        ensures { result ≡ self.now.attr }
+    {
+        self.attr
+    }
+
+    /// Its kind.
+    pub fn kind(&self) -> Kind
+        ensures { result ≡ kind_of self.now.content }
+    {
+        match &self.content {
+            Content::Directory { .. } => Kind::Dir,
+            Content::Regular { .. } => Kind::File,
+            Content::Symlink { .. } => Kind::Link,
+            Content::Whiteout => Kind::White,
+        }
+    }
+
+    /// Whether it is a directory.
+    pub fn is_directory(&self) -> bool
+        ensures { result ≡ is_directory (kind_of self.now.content) }
+    {
+        matches!(&self.content, Content::Directory { .. })
+    }
+
+    /// The number that a name leads to, in a directory.
+    pub fn entry(&self, name: &[u8]) -> Option<NodeId>
+        ensures { result ≡ entry_named name.now (entries_of self.now.content) }
+    {
+        match &self.content {
+            Content::Directory { entries, .. } => entries.entry(name),
+            _ => None,
+        }
+    }
+
+    /// The parent of a directory; of any other node `own`, which is to be its number.
+    pub fn parent(&self, own: NodeId) -> NodeId
+        ensures { result ≡ parent_of own self.now.content }
+    {
+        match &self.content {
+            Content::Directory { parent, .. } => *parent,
+            _ => own,
+        }
+    }
+
+    /// The bytes of a file, or the text of a link; of any other node none.
+    pub fn bytes(&self) -> &[u8]
+        ensures { result.now ≡ bytes_of self.now.content }
+    {
+        match &self.content {
+            Content::Regular { bytes } => bytes,
+            Content::Symlink { text } => text,
+            _ => &[],
+        }
+    }
+
+    /// The names of a directory, in the order of their bytes; of any other node none.
+    pub fn names(&self) -> &[Vec<u8>]
+        ensures { map (λ name. name.items) result.now ≡ map (λ entry. entry.0) (entries_of self.now.content) }
+    {
+        match &self.content {
+            Content::Directory { entries, .. } => entries.names(),
+            _ => &[],
+        }
+    }
+
+    /// Puts an entry into a directory, in its place; any other node stays as it is.
+    pub fn insert_entry(&mut self, name: Vec<u8>, id: NodeId) -> Result<(), AllocError>
+        ensures ok { OnOk result (self.new ≡ record {
+          attr = self.old.attr;
+          content = with_entries self.old.content (with_entry name.items id (entries_of self.old.content));
+        }) }
+        ensures err { OnErr result (self.new ≡ self.old) }
+    {
+        match &mut self.content {
+            Content::Directory { entries, .. } => entries.insert(name, id),
+            _ => Ok(()),
+        }
+    }
+
+    /// Sets the whole content of a file; any other node stays as it is. It takes no memory.
+    pub fn set_bytes(&mut self, bytes: Vec<u8>)
+        ensures { self.new ≡ record { attr = self.old.attr; content = with_bytes self.old.content bytes.items } }
+    {
+        if let Content::Regular { bytes: old } = &mut self.content {
+            *old = bytes;
+        }
+    }
+}

@@ -1,0 +1,65 @@
+//! What no clause says: that calls succeed with ample memory.
+use super::*;
+use std::test::Fail;
+
+fn plain() -> Result<Attr, Fail> {
+    let mode = Mode::new(0o755).ok_or("a mode")?;
+    Ok(Attr {
+        uid: 1,
+        gid: 2,
+        mode,
+    })
+}
+
+#[test]
+fn a_directory_lists_its_names_in_the_order_of_their_bytes(rt: HostRuntime) -> Result<(), Fail> {
+    let mut directory = Node::new_directory(rt.alloc(), plain()?, NodeId::new(7));
+    let names = [b"b".as_slice(), b"a\xff", b"a", b"\xc3\xa9", b"B", b"ab"];
+    for (number, name) in names.iter().enumerate() {
+        let name = Vec::from_slice(rt.alloc(), *name)?;
+        directory.insert_entry(name, NodeId::new(number))?;
+    }
+    let sorted = [b"B".as_slice(), b"a", b"ab", b"a\xff", b"b", b"\xc3\xa9"];
+    assert_eq!(rt; directory.names().len(), sorted.len());
+    for (name, wanted) in directory.names().iter().zip(sorted.iter()) {
+        assert_eq!(rt; name.as_slice(), *wanted);
+    }
+    assert_eq!(rt; directory.entry(b"ab"), Some(NodeId::new(5)));
+    assert_eq!(rt; directory.entry(b"c"), None);
+    assert_eq!(rt; directory.parent(NodeId::new(9)), NodeId::new(7));
+    assert_eq!(rt; directory.kind(), Kind::Dir);
+    Ok(())
+}
+
+#[test]
+fn an_entry_leads_to_its_newest_number(rt: HostRuntime) -> Result<(), Fail> {
+    let mut entries = DirectoryEntries::new(rt.alloc());
+    assert!(rt; entries.is_empty());
+    for number in 0..3 {
+        let name = Vec::from_slice(rt.alloc(), b"a")?;
+        entries.insert(name, NodeId::new(number))?;
+    }
+    assert_eq!(rt; entries.len(), 1);
+    assert_eq!(rt; entries.entry(b"a"), Some(NodeId::new(2)));
+    Ok(())
+}
+
+#[test]
+fn other_nodes_have_no_entries(rt: HostRuntime) -> Result<(), Fail> {
+    let bytes = Vec::from_slice(rt.alloc(), b"hi")?;
+    let mut file = Node::new_file(plain()?, Vec::new(rt.alloc()));
+    file.set_bytes(bytes);
+    assert_eq!(rt; file.bytes(), b"hi".as_slice());
+    let text = Vec::from_slice(rt.alloc(), b"/a")?;
+    let link = Node::new_link(plain()?, text);
+    assert_eq!(rt; link.bytes(), b"/a".as_slice());
+    let whiteout = Node::new_whiteout(plain()?);
+    assert_eq!(rt; whiteout.bytes(), b"".as_slice());
+    for node in [&file, &link, &whiteout] {
+        assert!(rt; !node.is_directory());
+        assert!(rt; node.names().is_empty());
+        assert_eq!(rt; node.parent(NodeId::new(3)), NodeId::new(3));
+        assert_eq!(rt; node.attr(), plain()?);
+    }
+    Ok(())
+}

@@ -1,0 +1,5 @@
+pub mod ReplyLemmas
+pub mod RunLemmas
+pub mod SessionLemmas
+pub mod ToldLemmas
+pub mod WalkLemmas

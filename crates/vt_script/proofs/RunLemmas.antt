@@ -1,0 +1,163 @@
+-- Moments of a run, one after another.
+use Rattle.std.proofs.Common.{◌≡◌, ◌≢◌, ℕ, ◌+◌, ◌==◌, Bool, true, false, List, [], ◌∷◌, ◌++◌, Some, None, refl, sym, ap, ◌∙◌, subst, append_assoc, nat_eq}
+use Rattle.std.proofs.lemmas.List.{append-nil}
+use Rattle.vt_spec.specs.World.{World}
+use Rattle.vt_spec.specs.Script.{lines_of, with_line_byte}
+use Rattle.vt_spec.specs.Run.{Tells, line_step, step_text, step_world, text_from, handed, later}
+use Rattle.vt_script.specs.Progress.{Moment, Runs, HasNoNewline, after_line, whole_lines, whole_with}
+
+-- a line ends at its newline
+pub lines_of-newline : (line more : List ℕ) → HasNoNewline line → lines_of (line ++ 10 ∷ more) ≡ line ∷ lines_of more
+lines_of-newline [] more whole = refl
+lines_of-newline (byte ∷ line) more whole =
+    ap (λ b. with_line_byte b byte (lines_of (line ++ 10 ∷ more))) whole.0
+    ∙ ap (with_line_byte false byte) (lines_of-newline line more whole.1)
+
+-- a last line without a newline is one too
+pub lines_of-last : (byte : ℕ) (line : List ℕ) → HasNoNewline (byte ∷ line) → lines_of (byte ∷ line) ≡ (byte ∷ line) ∷ []
+lines_of-last byte [] whole = ap (λ b. with_line_byte b byte []) whole.0
+lines_of-last byte (next ∷ line) whole =
+    ap (λ b. with_line_byte b byte (lines_of (next ∷ line))) whole.0
+    ∙ ap (with_line_byte false byte) (lines_of-last next line whole.1)
+
+pub HasNoNewline-push : (line : List ℕ) (byte : ℕ) → HasNoNewline line → (byte == 10) ≡ false → HasNoNewline (line ++ byte ∷ [])
+HasNoNewline-push [] byte whole other = (other, tt)
+HasNoNewline-push (first ∷ line) byte whole other = (whole.0, HasNoNewline-push line byte whole.1 other)
+
+-- what has no newline has no whole line
+whole_lines-none : (line : List ℕ) → HasNoNewline line → whole_lines line ≡ []
+whole_lines-none [] none = refl
+whole_lines-none (byte ∷ line) none =
+    ap (λ b. whole_with b byte (whole_lines line)) none.0 ∙ ap (whole_with false byte) (whole_lines-none line none.1)
+
+-- what follows the last newline is no whole line
+pub whole_lines-rest : (ended line : List ℕ) → HasNoNewline line → whole_lines (ended ++ line) ≡ whole_lines ended
+whole_lines-rest [] line none = whole_lines-none line none
+whole_lines-rest (byte ∷ ended) line none = ap (whole_with (byte == 10) byte) (whole_lines-rest ended line none)
+
+whole_with-more : (b : Bool) (byte next : ℕ) (rest : List ℕ) → whole_with b byte (next ∷ rest) ≡ byte ∷ next ∷ rest
+whole_with-more true byte next rest = refl
+whole_with-more false byte next rest = refl
+
+-- a text before whole lines is whole with them
+whole_lines-before : (front : List ℕ) (next : ℕ) (rest : List ℕ) → whole_lines (next ∷ rest) ≡ next ∷ rest → whole_lines (front ++ next ∷ rest) ≡ front ++ next ∷ rest
+whole_lines-before [] next rest whole = whole
+whole_lines-before (byte ∷ []) next rest whole =
+    ap (whole_with (byte == 10) byte) whole ∙ whole_with-more (byte == 10) byte next rest
+whole_lines-before (byte ∷ other ∷ front) next rest whole =
+    ap (whole_with (byte == 10) byte) (whole_lines-before (other ∷ front) next rest whole)
+    ∙ whole_with-more (byte == 10) byte other (front ++ next ∷ rest)
+
+whole_lines-append : (a b : List ℕ) → whole_lines a ≡ a → whole_lines b ≡ b → whole_lines (a ++ b) ≡ a ++ b
+whole_lines-append a [] first second = rw append-nil first
+whole_lines-append a (next ∷ rest) first second = whole_lines-before a next rest second
+
+whole_lines-newline : (line : List ℕ) → whole_lines (line ++ 10 ∷ []) ≡ line ++ 10 ∷ []
+whole_lines-newline line = whole_lines-before line 10 [] refl
+
+-- nothing read, nothing written
+pub stays : (moment : Moment) → Runs moment [] [] moment
+stays moment = record { ended = []; split = append-nil moment.line; whole = refl; refused = []; goes_on = λ more later rest told. told }
+
+-- what is read one after another is written one after another
+pub runs_then : (a b c : Moment) (read more_read text more_text : List ℕ) → Runs a read text b → Runs b more_read more_text c → Runs a (read ++ more_read) (text ++ more_text) c
+runs_then a b c read more_read text more_text first second = record {
+  ended = first.ended ++ second.ended;
+  split = sym (append_assoc a.line read more_read) ∙ ap (λ xs. xs ++ more_read) first.split
+      ∙ append_assoc first.ended b.line more_read ∙ ap (λ xs. first.ended ++ xs) second.split ∙ sym (append_assoc first.ended second.ended c.line);
+  whole = whole_lines-append first.ended second.ended first.whole second.whole;
+  refused = first.refused ++ second.refused;
+  goes_on = λ more later rest told.
+      rw (append_assoc first.ended second.ended more, append_assoc first.refused second.refused later, append_assoc text more_text rest)
+      (first.goes_on (second.ended ++ more) (second.refused ++ later) (more_text ++ rest) (second.goes_on more later rest told));
+}
+
+-- a byte that is read belongs to the line
+pub runs_byte : (moment : Moment) (byte : ℕ) → Runs moment (byte ∷ []) [] (record moment { line = moment.line ++ byte ∷ [] })
+runs_byte moment byte = record { ended = []; split = refl; whole = refl; refused = []; goes_on = λ more later rest told. told }
+
+line_then : (line more : List ℕ) → HasNoNewline line → lines_of ((line ++ 10 ∷ []) ++ more) ≡ line ∷ lines_of more
+line_then line more none = ap lines_of (append_assoc line (10 ∷ []) more) ∙ lines_of-newline line more none
+
+-- a newline answers the line, which was refused memory
+pub runs_refused : (moment : Moment) → HasNoNewline moment.line →
+    let step = line_step nat_eq moment.world moment.line None in
+    Runs moment (10 ∷ []) (step_text (moment.answered + 1) step) (after_line moment step)
+runs_refused moment none = record {
+  ended = moment.line ++ 10 ∷ [];
+  split = sym (append-nil (moment.line ++ 10 ∷ []));
+  whole = whole_lines-newline moment.line;
+  refused = true ∷ [];
+  goes_on = λ more later rest told.
+      subst (λ lines. Tells nat_eq moment.world (moment.answered + 1) lines (true ∷ later) (step_text (moment.answered + 1) (line_step nat_eq moment.world moment.line None) ++ rest))
+      (sym (line_then moment.line more none))
+      (rest, refl, told);
+}
+
+-- a newline answers the line, to which a number was handed that is not in use
+pub runs_spoken : (moment : Moment) (fresh : ℕ) → moment.world.tree.node fresh ≡ None → HasNoNewline moment.line →
+    let step = line_step nat_eq moment.world moment.line (Some fresh) in
+    Runs moment (10 ∷ []) (step_text (moment.answered + 1) step) (after_line moment step)
+runs_spoken moment fresh unused none = record {
+  ended = moment.line ++ 10 ∷ [];
+  split = sym (append-nil (moment.line ++ 10 ∷ []));
+  whole = whole_lines-newline moment.line;
+  refused = false ∷ [];
+  goes_on = λ more later rest told.
+      subst (λ lines. Tells nat_eq moment.world (moment.answered + 1) lines (false ∷ later) (step_text (moment.answered + 1) (line_step nat_eq moment.world moment.line (Some fresh)) ++ rest))
+      (sym (line_then moment.line more none))
+      (fresh, unused, rest, refl, told);
+}
+
+-- the text of the lines that ended
+pub told_whole : (old : Moment) (bytes text : List ℕ) (new : Moment) (runs : Runs old bytes text new) → Tells nat_eq old.world (old.answered + 1) (lines_of runs.ended) runs.refused text
+told_whole old bytes text new runs =
+    let told : Tells nat_eq old.world (old.answered + 1) (lines_of (runs.ended ++ [])) (runs.refused ++ []) (text ++ []) = runs.goes_on [] [] [] refl in
+    rw (append-nil runs.ended, append-nil runs.refused, append-nil text) at told
+
+-- the text of lines that are not all is a beginning of the text of all
+pub text_from-front : (world : World ℕ) (number : ℕ) (front back : List (List ℕ)) (refused : List Bool) →
+    (more : List ℕ) × (text_from world number (front ++ back) refused ≡ text_from world number front refused ++ more)
+text_from-front world number [] back refused = (text_from world number back refused, refl)
+text_from-front world number (line ∷ front) back refused =
+    let step = line_step nat_eq world line (handed number refused) in
+    let rest = text_from-front (step_world world step) (number + 1) front back (later refused) in
+    (rest.0, ap (λ xs. step_text number step ++ xs) rest.1 ∙ sym (append_assoc (step_text number step) _ rest.0))
+
+whole_tail : (b : Bool) (byte : ℕ) (rest ended : List ℕ) → whole_with b byte rest ≡ byte ∷ ended → rest ≡ ended
+whole_tail true byte [] ended e = cc
+whole_tail false byte [] ended e = cc
+whole_tail true byte (next ∷ rest) ended e = cc
+whole_tail false byte (next ∷ rest) ended e = cc
+
+lines_of-some : (byte : ℕ) (bytes : List ℕ) → lines_of (byte ∷ bytes) ≢ []
+lines_of-some byte bytes e = some (byte == 10) (lines_of bytes) e
+  where
+    some : (b : Bool) (lines : List (List ℕ)) → with_line_byte b byte lines ≢ []
+    some true lines e = cc
+    some false [] e = cc
+    some false (line ∷ lines) e = cc
+
+-- a byte that does not end a line goes onto a line that is there
+with_line_byte-append : (b : Bool) (byte : ℕ) (lines more : List (List ℕ)) → (b ≡ false → lines ≢ []) → with_line_byte b byte (lines ++ more) ≡ with_line_byte b byte lines ++ more
+with_line_byte-append true byte lines more there = refl
+with_line_byte-append false byte [] more there = absurd (there refl refl)
+with_line_byte-append false byte (line ∷ lines) more there = refl
+
+-- whole lines that go on without ending a line are not all
+goes_on_whole : (b : Bool) (byte : ℕ) (ended : List ℕ) → whole_with b byte ended ≡ byte ∷ ended → b ≡ false → lines_of ended ≢ []
+goes_on_whole b byte [] e f = absurd (empty b f e)
+  where
+    empty : (b : Bool) → b ≡ false → whole_with b byte [] ≢ byte ∷ []
+    empty true f e = cc
+    empty false f e = cc
+goes_on_whole b byte (next ∷ ended) e f = lines_of-some next ended
+
+-- the lines of whole lines with more behind them
+pub lines_of-whole : (ended more : List ℕ) → whole_lines ended ≡ ended → lines_of (ended ++ more) ≡ lines_of ended ++ lines_of more
+lines_of-whole [] more whole = refl
+lines_of-whole (byte ∷ ended) more whole =
+    let rest : whole_lines ended ≡ ended = whole_tail (byte == 10) byte (whole_lines ended) ended whole in
+    ap (with_line_byte (byte == 10) byte) (lines_of-whole ended more rest)
+    ∙ with_line_byte-append (byte == 10) byte (lines_of ended) (lines_of more)
+    (goes_on_whole (byte == 10) byte ended (ap (whole_with (byte == 10) byte) (sym rest) ∙ whole))

@@ -1,0 +1,168 @@
+-- How the steps of a session follow one another.
+use Rattle.std.proofs.Common.{◌≡◌, ◌≢◌, ℕ, ◌+◌, ◌==◌, true, false, List, [], ◌∷◌, ◌++◌, length, take, drop, get_or, ◌<◌, Option, Some, None, Result, Ok, Err, refl, sym, ap, ◌∙◌, subst, append_assoc, nat_eq}
+use Rattle.std.proofs.lemmas.List.{append-nil, take-append-drop, take_more}
+use Rattle.vt_io.specs.declared.output.Sink.{Ghosts}
+use Rattle.vt_io.specs.LineBuffer.{Holds}
+use Rattle.vt_io.proofs.Printing.{Wrote-nothing, Wrote-append, WroteFront-append}
+use Rattle.vt_spec.specs.World.{World}
+use Rattle.vt_spec.specs.Run.{Tells, line_step, step_text}
+use Rattle.vt_spec.specs.Script.{lines_of}
+use Rattle.vt_script.specs.Progress.{Moment, Runs, HasNoNewline, after_line}
+use Rattle.vt_script.specs.Session.{State, moment, IsReading, IsHanded, Fed, Broke, IsLast, Closed, BrokeLast, Closes, Replied, BrokeReply, Replies}
+use Rattle.vt_script.proofs.RunLemmas.{stays, runs_then, runs_byte, runs_refused, runs_spoken, lines_of-last, HasNoNewline-push}
+
+same_moment : {a b : Moment} → a.world ≡ b.world → a.answered ≡ b.answered → a.line ≡ b.line → a ≡ b
+same_moment {a} {b} w n l = λ i. record { world = w i; answered = n i; line = l i }
+
+-- a last line is the only one
+last_line : (line : List ℕ) (byte : ℕ) (bytes : List ℕ) → line ≡ byte ∷ bytes → HasNoNewline line → lines_of line ≡ line ∷ []
+last_line line byte bytes some whole =
+    ap lines_of some ∙ lines_of-last byte bytes (subst HasNoNewline some whole) ∙ ap (λ l. l ∷ []) (sym some)
+
+module _ {W : Type 0} (sink : Ghosts W) where
+  -- nothing was read yet
+  pub fed_nothing : (state : State) (line : List ℕ) (x : W) → IsReading state line → Fed sink (moment state line) [] state x x
+  fed_nothing state line x reading =
+      record { line = line; text = []; reading = reading; runs = stays (moment state line); wrote = Wrote-nothing sink x }
+
+  -- what was read one after another
+  pub fed_then : (old : Moment) (read more : List ℕ) (middle new : State) (x y z : W) (first : Fed sink old read middle x y) → Fed sink (moment middle first.line) more new y z → Fed sink old (read ++ more) new x z
+  fed_then old read more middle new x y z first second = record {
+    line = second.line;
+    text = first.text ++ second.text;
+    reading = second.reading;
+    runs = runs_then old (moment middle first.line) (moment new second.line) read more first.text second.text first.runs second.runs;
+    wrote = Wrote-append sink first.wrote second.wrote;
+  }
+
+  -- a write failed later on
+  pub broke_then : (old : Moment) (read more : List ℕ) (middle : State) (x y z : W) (first : Fed sink old read middle x y) → Broke sink (moment middle first.line) more y z → Broke sink old (read ++ more) x z
+  broke_then old read more middle x y z first second = record {
+    read = read ++ second.read;
+    unread = second.unread;
+    text = first.text ++ second.text;
+    new = second.new;
+    split = ap (λ xs. read ++ xs) second.split ∙ sym (append_assoc read second.read second.unread);
+    runs = runs_then old (moment middle first.line) second.new read second.read first.text second.text first.runs second.runs;
+    wrote = WroteFront-append sink first.wrote second.wrote;
+  }
+
+  -- a write failed before more was read
+  pub broke_before : (old : Moment) (read more : List ℕ) (x y : W) → Broke sink old read x y → Broke sink old (read ++ more) x y
+  broke_before old read more x y broke = record {
+    read = broke.read;
+    unread = broke.unread ++ more;
+    text = broke.text;
+    new = broke.new;
+    split = ap (λ xs. xs ++ more) broke.split ∙ append_assoc broke.read broke.unread more;
+    runs = broke.runs;
+    wrote = broke.wrote;
+  }
+
+  -- a byte that goes onto the line
+  pub fed_byte : (old new : State) (line : List ℕ) (byte : ℕ) (x : W) → IsReading old line → (byte == 10) ≡ false → new.world ≡ old.world → new.answered ≡ old.answered → Holds (line ++ byte ∷ []) new.kept →
+      Fed sink (moment old line) (byte ∷ []) new x x
+  fed_byte old new line byte x reading other world answered held =
+      let same : moment new (line ++ byte ∷ []) ≡ record (moment old line) { line = line ++ byte ∷ [] } = cc in
+      record {
+        line = line ++ byte ∷ [];
+        text = [];
+        reading = record { held = held; whole = HasNoNewline-push line byte reading.whole other };
+        runs = subst (λ m. Runs (moment old line) (byte ∷ []) [] m) (sym same) (runs_byte (moment old line) byte);
+        wrote = Wrote-nothing sink x;
+      }
+
+  -- the run goes through the newline of a line that is answered
+  runs_line : (state : State) (line : List ℕ) (handed : Option ℕ) → HasNoNewline line → IsHanded state.world handed →
+      let step = line_step nat_eq state.world line handed in
+      Runs (moment state line) (10 ∷ []) (step_text (state.answered + 1) step) (after_line (moment state line) step)
+  runs_line state line None whole handed = runs_refused (moment state line) whole
+  runs_line state line (Some fresh) whole handed = runs_spoken (moment state line) fresh handed whole
+
+  -- a line that was answered at its newline
+  pub fed_line : (old new : State) (line : List ℕ) (x y : W) → IsReading old line → Replied sink old.world line (old.answered + 1) new.world x y → new.answered ≡ old.answered + 1 → Holds [] new.kept →
+      Fed sink (moment old line) (10 ∷ []) new x y
+  fed_line old new line x y reading replied answered held =
+      let step = line_step nat_eq old.world line replied.handed in
+      let same : moment new [] ≡ after_line (moment old line) step = same_moment replied.world answered refl in
+      record {
+        line = [];
+        text = step_text (old.answered + 1) step;
+        reading = record { held = held; whole = tt };
+        runs = subst (λ m. Runs (moment old line) (10 ∷ []) (step_text (old.answered + 1) step) m) (sym same) (runs_line old line replied.handed reading.whole replied.unused);
+        wrote = replied.wrote;
+      }
+
+  -- a write failed in the answer to a line
+  pub broke_line : (old : State) (line : List ℕ) (x y : W) → IsReading old line → BrokeReply sink old.world line (old.answered + 1) x y → Broke sink (moment old line) (10 ∷ []) x y
+  broke_line old line x y reading broke =
+      let step = line_step nat_eq old.world line broke.handed in
+      record {
+        read = 10 ∷ [];
+        unread = [];
+        text = step_text (old.answered + 1) step;
+        new = after_line (moment old line) step;
+        split = refl;
+        runs = runs_line old line broke.handed reading.whole broke.unused;
+        wrote = broke.wrote;
+      }
+
+-- what may be told of a last line of which some byte was read
+told_last : (moment : Moment) (handed : Option ℕ) (byte : ℕ) (bytes : List ℕ) → moment.line ≡ byte ∷ bytes → HasNoNewline moment.line → IsHanded moment.world handed →
+    IsLast moment (step_text (moment.answered + 1) (line_step nat_eq moment.world moment.line handed))
+told_last moment None byte bytes some whole handed = record {
+  refused = true ∷ [];
+  tells = subst (λ lines. Tells nat_eq moment.world (moment.answered + 1) lines (true ∷ []) (step_text (moment.answered + 1) (line_step nat_eq moment.world moment.line None)))
+      (sym (last_line moment.line byte bytes some whole)) ([], sym (append-nil _), refl);
+}
+told_last moment (Some fresh) byte bytes some whole handed = record {
+  refused = false ∷ [];
+  tells = subst (λ lines. Tells nat_eq moment.world (moment.answered + 1) lines (false ∷ []) (step_text (moment.answered + 1) (line_step nat_eq moment.world moment.line (Some fresh))))
+      (sym (last_line moment.line byte bytes some whole)) (fresh, handed, [], sym (append-nil _), refl);
+}
+
+module _ {W : Type 0} (sink : Ghosts W) where
+  -- there is no last line
+  pub closed_none : (state : State) (line : List ℕ) (x : W) → line ≡ [] → Closed sink (moment state line) x x
+  closed_none state line x none = record {
+    text = [];
+    told = record { refused = []; tells = subst (λ l. Tells nat_eq state.world (state.answered + 1) (lines_of l) [] []) (sym none) refl };
+    wrote = Wrote-nothing sink x;
+  }
+
+  -- the last line was answered
+  pub closed_reply : (state : State) (line : List ℕ) (new : World ℕ) (x y : W) → line ≢ [] → IsReading state line → Replied sink state.world line (state.answered + 1) new x y → Closed sink (moment state line) x y
+  closed_reply state [] new x y some reading replied = absurd (some refl)
+  closed_reply state (byte ∷ bytes) new x y some reading replied = record {
+    text = step_text (state.answered + 1) (line_step nat_eq state.world (byte ∷ bytes) replied.handed);
+    told = told_last (moment state (byte ∷ bytes)) replied.handed byte bytes refl reading.whole replied.unused;
+    wrote = replied.wrote;
+  }
+
+  -- a write failed in the answer to the last line
+  pub broke_last : (state : State) (line : List ℕ) (x y : W) → line ≢ [] → IsReading state line → BrokeReply sink state.world line (state.answered + 1) x y → BrokeLast sink (moment state line) x y
+  broke_last state [] x y some reading broke = absurd (some refl)
+  broke_last state (byte ∷ bytes) x y some reading broke = record {
+    text = step_text (state.answered + 1) (line_step nat_eq state.world (byte ∷ bytes) broke.handed);
+    told = told_last (moment state (byte ∷ bytes)) broke.handed byte bytes refl reading.whole broke.unused;
+    wrote = broke.wrote;
+  }
+
+  -- the last line was answered, or a write failed
+  pub closes_reply : {T E : Type 0} (state : State) (line : List ℕ) (new : World ℕ) (x y : W) (r : Result T E) → line ≢ [] → IsReading state line → Replies sink state.world line (state.answered + 1) r new x y → Closes sink (moment state line) r x y
+  closes_reply state line new x y (Ok t) some reading replied = closed_reply state line new x y some reading replied
+  closes_reply state line new x y (Err fault) some reading broke = broke_last state line x y some reading broke
+
+  -- the loop's bytes up to an index, and then one more
+  pub fed_more : (old : Moment) (bytes : List ℕ) (i byte : ℕ) (middle new : State) (x y z : W) → i < length bytes → byte ≡ get_or bytes i 0 → (first : Fed sink old (take i bytes) middle x y) → Fed sink (moment middle first.line) (byte ∷ []) new y z → Fed sink old (take (i + 1) bytes) new x z
+  fed_more old bytes i byte middle new x y z within is first second =
+      subst (λ xs. Fed sink old xs new x z) (ap (λ b. take i bytes ++ b ∷ []) is ∙ sym (take_more bytes i 0 within))
+      (fed_then sink old (take i bytes) (byte ∷ []) middle new x y z first second)
+
+  -- the loop's bytes up to an index, and then a write failed
+  pub broke_more : (old : Moment) (bytes : List ℕ) (i byte : ℕ) (middle : State) (x y z : W) → i < length bytes → byte ≡ get_or bytes i 0 → (first : Fed sink old (take i bytes) middle x y) → Broke sink (moment middle first.line) (byte ∷ []) y z → Broke sink old bytes x z
+  broke_more old bytes i byte middle x y z within is first second =
+      let all : (take i bytes ++ byte ∷ []) ++ drop (i + 1) bytes ≡ bytes =
+      ap (λ b. (take i bytes ++ b ∷ []) ++ drop (i + 1) bytes) is ∙ ap (λ xs. xs ++ drop (i + 1) bytes) (sym (take_more bytes i 0 within)) ∙ take-append-drop (i + 1) bytes in
+      subst (λ xs. Broke sink old xs x z) all
+      (broke_before sink old (take i bytes ++ byte ∷ []) (drop (i + 1) bytes) x z (broke_then sink old (take i bytes) (byte ∷ []) middle x y z first second))

@@ -1,0 +1,110 @@
+-- What a run has told, from its opening on.
+use Rattle.std.proofs.Common.{◌≡◌, ℕ, ◌+◌, ◌-◌, ◌≤◌, Bool, List, ◌++◌, length, take, drop, sym, ap, ◌∙◌, append_assoc, nat_eq, subst, Result, Ok, Err, arith}
+use Rattle.std.proofs.Math.Seq.{take-append-add}
+use Rattle.std.proofs.lemmas.List.{take-append-drop}
+use Rattle.std.specs.Io.{StartsWith}
+use Rattle.vt_spec.specs.World.{opening}
+use Rattle.vt_spec.specs.Script.{lines_of}
+use Rattle.vt_spec.specs.Run.{Tells, text_from, script_text}
+use Rattle.std.specs.Prelude.{OnOk, IsErrOf}
+use Rattle.vt_spec.proofs.Runs.{one_text}
+use Rattle.vt_io.specs.declared.output.Sink.{Ghosts}
+use Rattle.vt_io.specs.Sink.{WroteFront}
+use Rattle.vt_io.proofs.Printing.{Wrote-append, WroteFront-append}
+use Rattle.vt_script.specs.Session.{State, moment, Fed, Broke, Closed, BrokeLast, Closes, AnswersScript, BeginsToAnswer}
+use Rattle.vt_script.specs.Progress.{Moment, Runs, HasNoNewline, opening_moment, whole_lines}
+use Rattle.vt_script.proofs.RunLemmas.{whole_lines-rest, told_whole, text_from-front, lines_of-whole}
+
+-- what a sink took of a text, where it holds a beginning of all
+pub front_of : (held text new : List ℕ) → length held ≤ length new → StartsWith (held ++ text) new → (front : List ℕ) × (more : List ℕ) × (new ≡ held ++ front) × (text ≡ front ++ more)
+front_of held text new longer starts =
+    let taken : length held + (length new - length held) ≡ length new = omega arith in (
+      take (length new - length held) text,
+      drop (length new - length held) text,
+      sym starts ∙ ap (λ n. take n (held ++ text)) (sym taken) ∙ take-append-add held text (length new - length held),
+      sym (take-append-drop (length new - length held) text),
+    )
+
+-- what was read is the lines that ended and what follows them
+whole_read : (read text : List ℕ) (new : Moment) (runs : Runs opening_moment read text new) → HasNoNewline new.line → whole_lines read ≡ runs.ended
+whole_read read text new runs none = ap whole_lines runs.split ∙ whole_lines-rest runs.ended new.line none ∙ runs.whole
+
+-- the text of the lines that ended is the policy's text of the whole lines
+pub whole_told : (read text : List ℕ) (new : Moment) (runs : Runs opening_moment read text new) → HasNoNewline new.line → (refused : List Bool) × (text ≡ script_text refused (whole_lines read))
+whole_told read text new runs none =
+    (runs.refused, one_text runs.ended runs.refused text (told_whole opening_moment read text new runs) ∙ ap (script_text runs.refused) (sym (whole_read read text new runs none)))
+
+-- the text of all lines is the policy's text
+pub all_told : (script text : List ℕ) (new : Moment) (runs : Runs opening_moment script text new) (refused : List Bool) (last : List ℕ) →
+    Tells nat_eq new.world (new.answered + 1) (lines_of new.line) refused last →
+    (all : List Bool) × (text ++ last ≡ script_text all script)
+all_told script text new runs refused last told =
+    let all : Tells nat_eq (opening nat_eq 0) 1 (lines_of (runs.ended ++ new.line)) (runs.refused ++ refused) (text ++ last) = runs.goes_on new.line refused last told in
+    (runs.refused ++ refused, one_text (runs.ended ++ new.line) (runs.refused ++ refused) (text ++ last) all ∙ ap (script_text (runs.refused ++ refused)) (sym runs.split))
+
+-- the text of the lines that ended is a beginning of the policy's text, whatever follows what was read
+pub front_told : (read unread text : List ℕ) (new : Moment) (runs : Runs opening_moment read text new) →
+    (refused : List Bool) × (more : List ℕ) × (script_text refused (read ++ unread) ≡ text ++ more)
+unfolding script_text
+front_told read unread text new runs =
+    let lines : lines_of (read ++ unread) ≡ lines_of runs.ended ++ lines_of (new.line ++ unread) =
+    ap (λ xs. lines_of (xs ++ unread)) runs.split ∙ ap lines_of (append_assoc runs.ended new.line unread)
+    ∙ lines_of-whole runs.ended (new.line ++ unread) runs.whole in
+    let front = text_from-front (opening nat_eq 0) 1 (lines_of runs.ended) (lines_of (new.line ++ unread)) runs.refused in (
+      runs.refused,
+      front.0,
+      ap (λ xs. text_from (opening nat_eq 0) 1 xs runs.refused) lines ∙ front.1
+          ∙ ap (λ xs. xs ++ front.0) (sym (one_text runs.ended runs.refused text (told_whole opening_moment read text new runs))),
+    )
+
+module _ {W : Type 0} (sink : Ghosts W) where
+  -- between two lines or in one, the sink holds the text of the whole lines
+  pub whole_held : (read : List ℕ) (state : State) (x y : W) → Fed sink opening_moment read state x y → sink.tells x → AnswersScript sink (whole_lines read) x y
+  whole_held read state x y fed tells =
+      let told = whole_told read fed.text (moment state fed.line) fed.runs fed.reading.whole in
+      (told.0, fed.wrote.appended tells ∙ ap (λ text. sink.written x ++ text) told.1)
+
+  -- a beginning of the text of some of the script is one of the policy's text
+  front_held : (script read unread text : List ℕ) (new : Moment) (x y : W) → script ≡ read ++ unread → Runs opening_moment read text new → WroteFront sink x y text → sink.tells x → BeginsToAnswer sink script x y
+  front_held script read unread text new x y split runs wrote tells =
+      let taken = front_of (sink.written x) text (sink.written y) (wrote.no_shorter tells) (wrote.front tells) in
+      let told = front_told read unread text new runs in (
+        told.0,
+        taken.0,
+        taken.1 ++ told.1,
+        taken.2,
+        ap (script_text told.0) split ∙ told.2 ∙ ap (λ xs. xs ++ told.1) taken.3 ∙ append_assoc taken.0 taken.1 told.1,
+      )
+
+  -- a write failed while more was to come
+  pub broke_held : (script read unread : List ℕ) (x y : W) → script ≡ read ++ unread → Broke sink opening_moment read x y → sink.tells x → BeginsToAnswer sink script x y
+  broke_held script read unread x y split broke tells =
+      front_held script broke.read (broke.unread ++ unread) broke.text broke.new x y
+      (split ∙ ap (λ xs. xs ++ unread) broke.split ∙ append_assoc broke.read broke.unread unread) broke.runs broke.wrote tells
+
+  -- a write failed in the answer to the last line
+  broke_last_held : (read : List ℕ) (state : State) (x y z : W) (fed : Fed sink opening_moment read state x y) → BrokeLast sink (moment state fed.line) y z → sink.tells x → BeginsToAnswer sink read x z
+  broke_last_held read state x y z fed broke tells =
+      let wrote = WroteFront-append sink fed.wrote broke.wrote in
+      let taken = front_of (sink.written x) (fed.text ++ broke.text) (sink.written z) (wrote.no_shorter tells) (wrote.front tells) in
+      let told = all_told read fed.text (moment state fed.line) fed.runs broke.told.refused broke.text broke.told.tells in
+      (told.0, taken.0, taken.1, taken.2, sym told.1 ∙ taken.3)
+
+  -- all was answered
+  closed_held : (read : List ℕ) (state : State) (x y z : W) (fed : Fed sink opening_moment read state x y) → Closed sink (moment state fed.line) y z → sink.tells x → AnswersScript sink read x z
+  closed_held read state x y z fed closed tells =
+      let told = all_told read fed.text (moment state fed.line) fed.runs closed.told.refused closed.text closed.told.tells in
+      (told.0, (Wrote-append sink fed.wrote closed.wrote).appended tells ∙ ap (λ text. sink.written x ++ text) told.1)
+
+  -- how a run ends that read all of its script
+  pub ends_well : {T E A : Type 0} (r : Result T E) (script read : List ℕ) (state : State) (x y z : W) (fed : Fed sink opening_moment read state x y) → Closes sink (moment state fed.line) r y z → (A → script ≡ read) →
+      OnOk r (A → sink.tells x → AnswersScript sink script x z)
+  ends_well (Ok t) script read state x y z fed closes all =
+      λ a tells. subst (λ xs. AnswersScript sink xs x z) (sym (all a)) (closed_held read state x y z fed closes tells)
+  ends_well (Err fault) script read state x y z fed closes all = tt
+
+  pub ends_badly : {T E A : Type 0} (r : Result T E) (fault : E) (script read : List ℕ) (state : State) (x y z : W) (fed : Fed sink opening_moment read state x y) → Closes sink (moment state fed.line) r y z → (A → script ≡ read) →
+      IsErrOf r fault → A → sink.tells x → BeginsToAnswer sink script x z
+  ends_badly (Ok t) fault script read state x y z fed closes all is a tells = absurd cc
+  ends_badly (Err other) fault script read state x y z fed closes all is a tells =
+      subst (λ xs. BeginsToAnswer sink xs x z) (sym (all a)) (broke_last_held read state x y z fed closes tells)

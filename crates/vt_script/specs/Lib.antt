@@ -1,0 +1,5 @@
+pub mod Progress
+pub mod Session
+pub mod SessionValue
+pub mod WalkValue
+pub mod WorldValue

@@ -1,0 +1,114 @@
+-- What a session does between two bytes of a script, and what a run leaves in a sink.
+use Rattle.std.specs.Prelude.{◌≡◌, ℕ, ◌+◌, nat_eq, Bool, List, [], ◌∷◌, ◌++◌, Option, Some, None, Result, Ok, Err}
+use Rattle.vt_io.specs.declared.output.Sink.{Ghosts}
+use Rattle.vt_io.specs.Sink.{Wrote, WroteFront}
+use Rattle.vt_io.specs.LineBuffer.{LineSoFar, Holds}
+use Rattle.vt_spec.specs.World.{World}
+use Rattle.vt_spec.specs.Script.{lines_of}
+use Rattle.vt_spec.specs.Run.{Tells, line_step, step_text, step_world, script_text}
+use Rattle.vt_script.specs.Progress.{Moment, Runs, HasNoNewline, whole_lines}
+
+-- a session: the world, how many lines are answered, and what is kept of the next line
+pub record State : Type 0 where
+  pub world : World ℕ
+  pub answered : ℕ
+  pub kept : LineSoFar
+
+-- the moment of a run at which a session stands, if it has read this of the next line
+abbrev pub moment : State → List ℕ → Moment
+moment state line = record { world = state.world; answered = state.answered; line = line }
+
+-- these bytes were read of the next line
+pub record IsReading (state : State) (line : List ℕ) : Type 0 where
+  pub held : Holds line state.kept
+  pub whole : HasNoNewline line
+
+-- a line of which some byte was read
+abbrev pub begun : List ℕ → ℕ
+begun [] = 0
+begun (byte ∷ bytes) = 1
+
+-- how many lines are answered or begun
+abbrev pub lines_begun : State → ℕ
+lines_begun state = state.answered + begun state.kept.bytes
+
+-- a number that is not in use, or none where memory was refused
+abbrev pub IsHanded : World ℕ → Option ℕ → Type 0
+IsHanded world None = Unit {0}
+IsHanded world (Some fresh) = world.tree.node fresh ≡ None
+
+-- what may be told of the last line
+pub record IsLast (old : Moment) (text : List ℕ) : Type 0 where
+  pub refused : List Bool
+  pub tells : Tells nat_eq old.world (old.answered + 1) (lines_of old.line) refused text
+
+module _ {W : Type 0} (sink : Ghosts W) where
+  -- bytes were read, and the lines that ended were answered
+  pub record Fed (old : Moment) (bytes : List ℕ) (new : State) (before after : W) : Type 0 where
+    pub line : List ℕ
+    pub text : List ℕ
+    pub reading : IsReading new line
+    pub runs : Runs old bytes text (moment new line)
+    pub wrote : Wrote sink before after text
+
+  -- a write failed in the text of some of the bytes
+  pub record Broke (old : Moment) (bytes : List ℕ) (before after : W) : Type 0 where
+    pub read : List ℕ
+    pub unread : List ℕ
+    pub text : List ℕ
+    pub new : Moment
+    pub split : bytes ≡ read ++ unread
+    pub runs : Runs old read text new
+    pub wrote : WroteFront sink before after text
+
+  abbrev pub Feeds : {T E : Type 0} → Moment → List ℕ → Result T E → State → W → W → Type 0
+  Feeds old bytes (Ok t) new before after = Fed old bytes new before after
+  Feeds old bytes (Err fault) new before after = Broke old bytes before after
+
+  -- the last line was answered, if there is one
+  pub record Closed (old : Moment) (before after : W) : Type 0 where
+    pub text : List ℕ
+    pub told : IsLast old text
+    pub wrote : Wrote sink before after text
+
+  -- a write failed in the text of the last line
+  pub record BrokeLast (old : Moment) (before after : W) : Type 0 where
+    pub text : List ℕ
+    pub told : IsLast old text
+    pub wrote : WroteFront sink before after text
+
+  abbrev pub Closes : {T E : Type 0} → Moment → Result T E → W → W → Type 0
+  Closes old (Ok t) before after = Closed old before after
+  Closes old (Err fault) before after = BrokeLast old before after
+
+  -- one line was answered by its step
+  pub record Replied (old : World ℕ) (line : List ℕ) (number : ℕ) (new : World ℕ) (before after : W) : Type 0 where
+    pub handed : Option ℕ
+    pub unused : IsHanded old handed
+    pub world : new ≡ step_world old (line_step nat_eq old line handed)
+    pub wrote : Wrote sink before after (step_text number (line_step nat_eq old line handed))
+
+  -- a write failed in the text of one line
+  pub record BrokeReply (old : World ℕ) (line : List ℕ) (number : ℕ) (before after : W) : Type 0 where
+    pub handed : Option ℕ
+    pub unused : IsHanded old handed
+    pub wrote : WroteFront sink before after (step_text number (line_step nat_eq old line handed))
+
+  abbrev pub Replies : {T E : Type 0} → World ℕ → List ℕ → ℕ → Result T E → World ℕ → W → W → Type 0
+  Replies old line number (Ok t) new before after = Replied old line number new before after
+  Replies old line number (Err fault) new before after = BrokeReply old line number before after
+
+  -- the sink was given the policy's answers to the script, some of whose lines may have been refused memory
+  abbrev pub AnswersScript : List ℕ → W → W → Type 0
+  AnswersScript script before after = (refused : List Bool) × (sink.written after ≡ sink.written before ++ script_text refused script)
+
+  -- the sink was given the policy's answers to the complete lines of what was read of the script
+  abbrev pub AnswersWholeLines : List ℕ → List ℕ → W → W → Type 0
+  AnswersWholeLines script unread before after =
+      (read : List ℕ) × (script ≡ read ++ unread) × AnswersScript (whole_lines read) before after
+
+  -- the sink was given a beginning of the policy's answers to the script
+  abbrev pub BeginsToAnswer : List ℕ → W → W → Type 0
+  BeginsToAnswer script before after =
+      (refused : List Bool) × (text : List ℕ) × (more : List ℕ)
+      × (sink.written after ≡ sink.written before ++ text) × (script_text refused script ≡ text ++ more)

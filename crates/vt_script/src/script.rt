@@ -1,0 +1,62 @@
+//! A script is answered line by line, in whatever pieces its bytes come.
+ghost use Rattle.std.specs.Prelude.{◌≡◌, ◌⊎◌, ◌+◌, ◌<◌, ◌^◌, [], OnOk, IsErrOf};
+ghost use Rattle.vt_script.specs.Session.{AnswersScript, AnswersWholeLines, BeginsToAnswer};
+
+use crate::session::Session;
+use std::alloc::Global;
+use vt_io::input::Source;
+use vt_io::output::Sink;
+use vt_line::answer::RunFault;
+
+/// How many bytes are asked for at a time.
+const CHUNK: usize = 8192;
+
+/// Answers a script: reads it from the source, and writes a line for each line that has an answer.
+///
+/// Each line is answered before the next is looked at. A line that was refused memory answers
+/// `deny 12 ENOMEM S5` and counts as no call. `Read` and `Write` come where that device failed, and
+/// `Memory` where the opening world or the line's buffer was refused, before anything was read.
+pub fn run<R: Source, W: Sink>(alloc: Global, source: &mut R, sink: &mut W) -> Result<(), RunFault>
+    requires source_countable { R.failures source.old + 1 < 2 ^ 64 }
+    requires sink_countable { W.failures sink.old + 1 < 2 ^ 64 }
+
+    // Where the source and the sink tell their bytes: all that was to come is answered.
+    ensures ok { OnOk result (R.tells source.old → W.tells sink.old
+        → AnswersScript W.Sink (R.rest source.old) sink.old sink.new) }
+    ensures all_read { OnOk result (R.tells source.old → R.rest source.new ≡ []) }
+
+    // After a failed read: the complete lines before it are answered.
+    ensures after_read { IsErrOf result RunFault.Read → R.tells source.old → W.tells sink.old
+        → AnswersWholeLines W.Sink (R.rest source.old) (R.rest source.new) sink.old sink.new }
+
+    // After a failed write: what the sink took is a beginning of the answers.
+    ensures after_write { IsErrOf result RunFault.Write → R.tells source.old → W.tells sink.old
+        → BeginsToAnswer W.Sink (R.rest source.old) sink.old sink.new }
+
+    // Memory is refused before anything was read or written.
+    ensures memory { IsErrOf result RunFault.Memory → (source.new ≡ source.old) × (sink.new ≡ sink.old) }
+
+    // The first failure of a device ends the run, and is its answer.
+    ensures read_failed { IsErrOf result RunFault.Read → R.failures source.new ≡ R.failures source.old + 1 }
+    ensures no_read_failed { IsErrOf result RunFault.Read ⊎ (R.failures source.new ≡ R.failures source.old) }
+    ensures write_failed { IsErrOf result RunFault.Write → W.failures sink.new ≡ W.failures sink.old + 1 }
+    ensures no_write_failed { IsErrOf result RunFault.Write ⊎ (W.failures sink.new ≡ W.failures sink.old) }
+
+    // Both go on telling their bytes.
+    ensures source_tells { R.tells source.old → R.tells source.new }
+    ensures sink_tells { W.tells sink.old → W.tells sink.new }
+{
+    let mut session = Session::new(alloc)?;
+    let mut chunk = [0; CHUNK];
+    'pieces: loop {
+        let count = match source.read(&mut chunk) {
+            Ok(count) => count,
+            Err(_) => return Err(RunFault::Read),
+        };
+        if count == 0 {
+            break;
+        }
+        session.feed(&chunk[..count], sink)?;
+    }
+    session.finish(sink)
+}

@@ -1,0 +1,154 @@
+//! What is kept from one byte of a script to the next.
+ghost use Rattle.std.specs.Prelude.{◌≡◌, ◌+◌, ◌<◌, ◌≤◌, ◌^◌, ◌∷◌, [], List, ℕ, length, IfOk, IfErr, OnOk, OnErr};
+ghost use Rattle.vt_io.specs.LineBuffer.{Holds};
+ghost use Rattle.vt_script.specs.WorldValue.{world_of};
+ghost use Rattle.vt_script.specs.Progress.{opening_moment};
+ghost use Rattle.vt_script.specs.Session.{moment, lines_begun, IsReading, Feeds, Closes, Replies};
+ghost use Rattle.vt_script.specs.SessionValue.{state_of};
+
+use crate::world::World;
+use std::alloc::Global;
+use vt_io::line::LineBuffer;
+use vt_io::output::Sink;
+use vt_line::answer::RunFault;
+use vt_line::line::Line;
+use vt_line::print::write_reply;
+use vt_spec::errors::Rule;
+
+/// The world, how many lines are answered, and the line that is being read.
+#[derive(Drop)]
+pub struct Session {
+    pub world: World,
+    /// How many lines have ended, also those that have no answer.
+    pub answered: u64,
+    /// What was read of the next line.
+    pub line: LineBuffer,
+    pub alloc: Global,
+}
+
+// Answers the line of this number.
+fn answer<W: Sink>(
+    alloc: Global,
+    world: &mut World,
+    number: u64,
+    line: &LineBuffer,
+    sink: &mut W,
+) -> Result<(), RunFault>
+    requires { W.failures sink.old + 1 < 2 ^ 64 }
+    ensures replies { (text : List ℕ) → Holds text line.now
+        → Replies W.Sink (world_of world.old) text number result (world_of world.new) sink.old sink.new }
+    ensures kept { OnOk result (W.failures sink.new ≡ W.failures sink.old) }
+    ensures counted { OnErr result (W.failures sink.new ≡ W.failures sink.old + 1) }
+    ensures fault { IfErr result (λ fault. fault ≡ RunFault.Write) }
+{
+    // Its clause says that the number which a new object would get is not in use.
+    let _fresh = world.tree.next_number();
+    if line.is_overlong() {
+        return write_reply(sink, number, &Err(Rule::S1.denial()));
+    }
+    match Line::parse(alloc, line.bytes()) {
+        Ok(Line::Silent) => Ok(()),
+        Ok(Line::Call(task, call)) => {
+            let answer = world.call(&task, call);
+            write_reply(sink, number, &answer)
+        }
+        Err(deny) => write_reply(sink, number, &Err(deny)),
+    }
+}
+
+impl Session {
+    /// The opening world, before the first byte. `Memory`: the world or the line's buffer was refused.
+    pub fn new(alloc: Global) -> Result<Session, RunFault>
+        ensures opening { IfOk result (λ session. moment (state_of session) [] ≡ opening_moment) }
+        ensures reading { IfOk result (λ session. IsReading (state_of session) []) }
+        ensures begun { IfOk result (λ session. lines_begun (state_of session) ≡ 0) }
+        ensures memory { IfErr result (λ fault. fault ≡ RunFault.Memory) }
+    {
+        let Ok(world) = World::new(alloc) else {
+            return Err(RunFault::Memory);
+        };
+        let Ok(line) = LineBuffer::new(alloc) else {
+            return Err(RunFault::Memory);
+        };
+        Ok(Session {
+            world,
+            answered: 0,
+            line,
+            alloc,
+        })
+    }
+
+    // Answers the line that a newline ends.
+    fn end_line<W: Sink>(&mut self, sink: &mut W) -> Result<(), RunFault>
+        requires countable { W.failures sink.old + 1 < 2 ^ 64 }
+        requires lines { lines_begun (state_of self.old) + 1 < 2 ^ 64 }
+        ensures feeds { (line : List ℕ) → IsReading (state_of self.old) line
+            → Feeds W.Sink (moment (state_of self.old) line) (10 ∷ []) result (state_of self.new) sink.old sink.new }
+        ensures begun { OnOk result (lines_begun (state_of self.new) ≤ lines_begun (state_of self.old) + 1) }
+        ensures kept { OnOk result (W.failures sink.new ≡ W.failures sink.old) }
+        ensures counted { OnErr result (W.failures sink.new ≡ W.failures sink.old + 1) }
+        ensures fault { IfErr result (λ fault. fault ≡ RunFault.Write) }
+    {
+        let number = self.answered + 1;
+        answer(self.alloc, &mut self.world, number, &self.line, sink)?;
+        self.answered = number;
+        self.line.clear();
+        Ok(())
+    }
+
+    // Takes the next byte.
+    fn take<W: Sink>(&mut self, byte: u8, sink: &mut W) -> Result<(), RunFault>
+        requires countable { W.failures sink.old + 1 < 2 ^ 64 }
+        requires lines { lines_begun (state_of self.old) + 1 < 2 ^ 64 }
+        ensures feeds { (line : List ℕ) → IsReading (state_of self.old) line
+            → Feeds W.Sink (moment (state_of self.old) line) (byte ∷ []) result (state_of self.new) sink.old sink.new }
+        ensures begun { OnOk result (lines_begun (state_of self.new) ≤ lines_begun (state_of self.old) + 1) }
+        ensures kept { OnOk result (W.failures sink.new ≡ W.failures sink.old) }
+        ensures counted { OnErr result (W.failures sink.new ≡ W.failures sink.old + 1) }
+        ensures fault { IfErr result (λ fault. fault ≡ RunFault.Write) }
+    {
+        if byte == b'\n' {
+            return self.end_line(sink);
+        }
+        self.line.push(byte);
+        Ok(())
+    }
+
+    /// Takes the next bytes of the script, and answers each line that ends among them. `Write`: the sink failed.
+    pub fn feed<W: Sink>(&mut self, bytes: &[u8], sink: &mut W) -> Result<(), RunFault>
+        requires countable { W.failures sink.old + 1 < 2 ^ 64 }
+        requires lines { lines_begun (state_of self.old) + length bytes.now < 2 ^ 64 }
+        ensures feeds { (line : List ℕ) → IsReading (state_of self.old) line
+            → Feeds W.Sink (moment (state_of self.old) line) bytes.now result (state_of self.new) sink.old sink.new }
+        ensures begun { OnOk result (lines_begun (state_of self.new) ≤ lines_begun (state_of self.old) + length bytes.now) }
+        ensures kept { OnOk result (W.failures sink.new ≡ W.failures sink.old) }
+        ensures counted { OnErr result (W.failures sink.new ≡ W.failures sink.old + 1) }
+        ensures fault { IfErr result (λ fault. fault ≡ RunFault.Write) }
+    {
+        for byte in bytes {
+            self.take(*byte, sink)?;
+        }
+        Ok(())
+    }
+
+    /// Answers a last line that ends without a newline. `Write`: the sink failed.
+    pub fn finish<W: Sink>(mut self, sink: &mut W) -> Result<(), RunFault>
+        requires countable { W.failures sink.old + 1 < 2 ^ 64 }
+        requires lines { lines_begun (state_of self) < 2 ^ 64 }
+        ensures closes { (line : List ℕ) → IsReading (state_of self) line
+            → Closes W.Sink (moment (state_of self) line) result sink.old sink.new }
+        ensures counted { OnErr result (W.failures sink.new ≡ W.failures sink.old + 1) }
+        ensures fault { IfErr result (λ fault. fault ≡ RunFault.Write) }
+    {
+        if self.line.is_empty() {
+            return Ok(());
+        }
+        answer(
+            self.alloc,
+            &mut self.world,
+            self.answered + 1,
+            &self.line,
+            sink,
+        )
+    }
+}

@@ -1,0 +1,190 @@
+//! `Slots`, and the slot of one node.
+ghost use Rattle.std.specs.Prelude.{◌≡◌, [], ◌+◌, ◌<◌, ◌≤◌, None, Some, IsSome, IsOk, IfOk, IfErr, OnOk, OnErr, option_copied, option_and_then, if◌then◌else◌};
+ghost use Rattle.std.specs.Option.{option_map, option_copied_mut};
+ghost use Rattle.std.specs.Borrow.{Lends, sem};
+ghost use Rattle.vt_spec.specs.Errors.{denial};
+ghost use Rattle.vt_spec.specs.declared.errors.Rule.TheVariants.{S5};
+
+use slab::Slab;
+use std::alloc::Global;
+use std::marker::Model;
+use vt_node::{Node, NodeId};
+use vt_spec::errors::{Deny, Rule};
+
+/// A node and how often it is in use.
+#[derive(Debug, Drop)]
+pub struct Slot {
+    pub node: Node,
+    pub uses: u64,
+}
+
+impl Slot {
+    ghost use Rattle.vt_slots.specs.Slots.{with_slot_node};
+    ghost use Rattle.vt_slots.specs.contracts.table.Slot.{the_row};
+    ghost use Rattle.vt_node.specs.contracts.nodes.Node.{the_row as node_row};
+
+    fn node_mut(&mut self) -> &mut Node
+        ensures* lends { sem 𝓛 (Lends the_row node_row self.entry result (with_slot_node self.old)) }
+        ensures value { result.now ≡ self.old.node }
+    {
+        &mut self.node
+    }
+}
+
+/// Nodes by number.
+///
+/// Each use of a node counts: an entry that leads to it, an open file, a place where a task stands. Like a `refcount_t` of
+/// the kernel the count stays at 2^64 - 1 once it is there, and such a node never goes.
+#[derive(Debug, Drop)]
+pub struct Slots {
+    slab: Slab<Slot>,
+}
+
+impl Model for Slots {
+    ghost use Rattle.std.specs.Prelude.{◌-◌};
+    ghost use Rattle.slab.specs.Slab.{slab_len};
+    ghost use Rattle.vt_slots.specs.Slots.{Slots as Table};
+
+    ghost Value = { Table };
+
+    ghost view = { λ s. record {
+      slots = s.slab.slots;
+      next = s.slab.vacant_key;
+      room = s.slab.capacity - slab_len s.slab;
+    } };
+}
+
+impl Slots {
+    ghost use Rattle.vt_slots.specs.Slots.{Slots as Table, slot_at, node_at, uses_of, put_at, with_uses, acquired, released, goes};
+    ghost use Rattle.vt_slots.specs.Lends.{lends_node, lends_present};
+
+    /// No nodes. It takes no memory.
+    pub fn new(alloc: Global) -> Self
+        ensures { result ≡ record { slots = []; next = 0; room = 0 } }
+    {
+        Slots {
+            slab: Slab::new(alloc),
+        }
+    }
+
+    /// The node with this number.
+    pub fn get(&self, id: NodeId) -> Option<&Node>
+        ensures { option_copied result ≡ node_at self.now id }
+    {
+        let slot = self.slab.get(id.index())?;
+        Some(&slot.node)
+    }
+
+    /// The node with this number, for a change.
+    pub fn get_mut(&mut self, id: NodeId) -> Option<&mut Node>
+        ensures* writes_back { sem 𝓛 (lends_node self.entry id result) }
+        ensures value { option_copied_mut result ≡ node_at self.old id }
+    {
+        if self.slab.contains(id.index()) {
+            Some(self.node_mut(id))
+        } else {
+            None
+        }
+    }
+
+    fn node_mut(&mut self, id: NodeId) -> &mut Node
+        requires { IsSome (slot_at self.old id) }
+        ensures* writes_back { sem 𝓛 (lends_present self.entry id result) }
+        ensures value { node_at self.old id ≡ Some result.now }
+    {
+        self.slab[id.index()].node_mut()
+    }
+
+    /// How often the node with this number is in use: 0 where there is none.
+    pub fn uses(&self, id: NodeId) -> u64
+        ensures { result ≡ uses_of (slot_at self.now id) }
+    {
+        match self.slab.get(id.index()) {
+            Some(slot) => slot.uses,
+            None => 0,
+        }
+    }
+
+    /// The number that the next insert gives out.
+    pub fn next(&self) -> NodeId
+        ensures value { result ≡ self.now.next }
+        ensures vacant { slot_at self.now result ≡ None }
+    {
+        NodeId::new(self.slab.vacant_key())
+    }
+
+    /// Makes room for so many more nodes. S5: memory was refused.
+    pub fn reserve(&mut self, additional: usize) -> Result<(), Deny>
+        ensures ok { OnOk result (additional ≤ self.new.room) }
+        ensures succeeds { additional ≤ self.old.room → IsOk result }
+        ensures memory { IfErr result (λ deny. deny ≡ denial S5) }
+        ensures room { self.old.room ≤ self.new.room }
+        ensures rest_kept { self.new ≡ record self.old { room = self.new.room } }
+    {
+        // Its clause says that the nodes fit, on which `succeeds` rests.
+        let _capacity = self.slab.capacity();
+        self.slab
+            .reserve(additional)
+            .map_err(|_error| Rule::S5.denial())
+    }
+
+    /// Gives a node with one use the next number, for a caller that has made room.
+    pub fn insert_reserved(&mut self, node: Node) -> NodeId
+        requires { 0 < self.old.room }
+        ensures number { result ≡ self.old.next }
+        ensures vacant { slot_at self.old result ≡ None }
+        ensures inserted { slot_at self.new ≡ put_at (slot_at self.old) result (Some (record { node = node; uses = 1 })) }
+        ensures room { self.new.room + 1 ≡ self.old.room }
+    {
+        NodeId::new(self.slab.insert_reserved(Slot { node, uses: 1 }))
+    }
+
+    /// Gives a node with one use the next number. S5: memory was refused.
+    pub fn insert(&mut self, node: Node) -> Result<NodeId, Deny>
+        ensures number { IfOk result (λ id. id ≡ self.old.next) }
+        ensures vacant { IfOk result (λ id. slot_at self.old id ≡ None) }
+        ensures inserted { IfOk result (λ id. slot_at self.new ≡ put_at (slot_at self.old) id (Some (record { node = node; uses = 1 }))) }
+        ensures succeeds { 0 < self.old.room → IsOk result }
+        ensures memory { IfErr result (λ deny. deny ≡ denial S5) }
+        ensures err { OnErr result (self.new ≡ record self.old { room = self.new.room }) }
+    {
+        self.reserve(1)?;
+        Ok(self.insert_reserved(node))
+    }
+
+    /// Counts one use more of a node that is there.
+    pub fn acquire(&mut self, id: NodeId)
+        ensures acquired { slot_at self.new ≡ put_at (slot_at self.old) id (option_map acquired (slot_at self.old id)) }
+        ensures next { self.new.next ≡ self.old.next }
+        ensures room { self.new.room ≡ self.old.room }
+    {
+        let uses = self.uses(id);
+        self.set_uses(id, uses.saturating_add(1));
+    }
+
+    /// Counts one use less of a node that is there. With its last use the node goes, and its number is the next to be given out.
+    pub fn release(&mut self, id: NodeId)
+        ensures released { slot_at self.new ≡ put_at (slot_at self.old) id (option_and_then released (slot_at self.old id)) }
+        ensures next { self.new.next ≡ (if goes (slot_at self.old id) then id else self.old.next) }
+        ensures room { self.old.room ≤ self.new.room }
+    {
+        match self.uses(id) {
+            0 | 1 => {
+                self.slab.try_remove(id.index());
+            }
+            u64::MAX => {}
+            uses => self.set_uses(id, uses - 1),
+        }
+    }
+
+    // Sets the count of a node that is there.
+    fn set_uses(&mut self, id: NodeId, uses: u64)
+        ensures set { slot_at self.new ≡ put_at (slot_at self.old) id (option_map (with_uses uses) (slot_at self.old id)) }
+        ensures next { self.new.next ≡ self.old.next }
+        ensures room { self.new.room ≡ self.old.room }
+    {
+        if let Some(slot) = self.slab.get_mut(id.index()) {
+            slot.uses = uses;
+        }
+    }
+}

@@ -1,0 +1,145 @@
+-- A change of a filesystem in the world, and what the mounter of an overlay is asked for it.
+use Rattle.std.specs.Prelude.{Bool, List, None, Option, Some, [], filter, find, flat_map, if◌then◌else◌, is_some, map, not, option_map, option_to_list, ℕ, ◌&&◌, ◌++◌, ◌+◌, ◌==◌, ◌||◌, ◌∷◌}
+use Rattle.std.specs.List.{list_any}
+use Rattle.vt_spec.specs.declared.attributes.Attr.{Attr}
+use Rattle.vt_spec.specs.declared.attributes.Kind.TheVariants.{File}
+use Rattle.vt_spec.specs.declared.errors.Rule.TheVariants.{B1, B2}
+use Rattle.vt_spec.specs.Machine.Changes.{Change, changed}
+use Rattle.vt_spec.specs.Machine.Changes.Change.{AddName, CopyUp, Make, Move, Remove, SetAttr, SetBytes, SetMark}
+use Rattle.vt_spec.specs.Machine.CopyUp.{Merge, Stack, merge_changed}
+use Rattle.vt_spec.specs.Errors.{Rules}
+use Rattle.vt_spec.specs.Machine.FileTree.{FileTree, a_name, ancestors, attr_in, is_kind_in}
+use Rattle.vt_spec.specs.Machine.Lists.{Fresh, before_first}
+use Rattle.vt_spec.specs.Machine.Locked.{of_overlay}
+use Rattle.vt_spec.specs.Machine.Mounts.{Location}
+use Rattle.vt_spec.specs.Machine.Rightful.{node_allows}
+use Rattle.vt_spec.specs.Rights.{Credentials, cap_chown, execute_right, has_all, is_member, read_right, write_right}
+use Rattle.vt_spec.specs.Machine.World.{Filesystem, Layer, Overlay, World, filesystem_at, filesystem_numbered, open_layer, upper_object, with_filesystem}
+
+-- a change number stays at the largest one: 2^64 - 1
+abbrev pub raised : ℕ → ℕ
+raised number = if number == 18446744073709551615 then number else number + 1
+
+-- the capability, or the same owner and a group of his: what a copy's owner takes
+abbrev pub can_give_owner : Credentials → Attr → Bool
+can_give_owner who attr =
+    has_all who.capabilities cap_chown || (who.uid == attr.uid && is_member who attr.gid)
+
+module _ {N : Type 0} where
+  -- the objects that a change of an overlay copies where they lie only below: the object itself, if it is one that is there
+  abbrev pub object_copied : Change N → List N
+  object_copied (Make directory name number node) = []
+  object_copied (AddName directory name object) = object ∷ []
+  object_copied (Remove directory name object) = []
+  object_copied (Move from old to new object) = object ∷ []
+  object_copied (SetBytes file bytes) = file ∷ []
+  object_copied (SetAttr object attr) = object ∷ []
+  object_copied (SetMark directory opaque) = directory ∷ []
+  object_copied (CopyUp object) = object ∷ []
+
+  -- the directories in which a change makes, removes or renames
+  abbrev pub directories_changed : Change N → List N
+  directories_changed (Make directory name number node) = directory ∷ []
+  directories_changed (AddName directory name object) = directory ∷ []
+  directories_changed (Remove directory name object) = directory ∷ []
+  directories_changed (Move from old to new object) = from ∷ to ∷ []
+  directories_changed (SetBytes file bytes) = []
+  directories_changed (SetAttr object attr) = []
+  directories_changed (SetMark directory opaque) = []
+  directories_changed (CopyUp object) = []
+
+  abbrev pub with_files : Filesystem N → FileTree N → Filesystem N
+  with_files filesystem files = record filesystem { files = files; change = raised filesystem.change }
+
+  abbrev pub lies_below : Overlay N → N → Bool
+  lies_below overlay number = not (is_some (upper_object (overlay.real number)))
+
+  abbrev pub objects_copied : Filesystem N → Overlay N → Change N → List N
+  objects_copied filesystem overlay change = filter (lies_below overlay) (object_copied change)
+
+  abbrev pub cannot_read_copied : Filesystem N → Overlay N → N → Bool
+  cannot_read_copied filesystem overlay number =
+      is_kind_in File (filesystem.files.tree.node number)
+      && not (node_allows overlay.mounter read_right (filesystem.files.tree.node number))
+
+  abbrev pub cannot_change_directory : Filesystem N → Overlay N → N → Bool
+  cannot_change_directory filesystem overlay number =
+      not (node_allows overlay.mounter (write_right + execute_right) (filesystem.files.tree.node number))
+
+  abbrev pub cannot_give_owner : Filesystem N → Overlay N → N → Bool
+  cannot_give_owner filesystem overlay number =
+      not (can_give_owner overlay.mounter (attr_in (filesystem.files.tree.node number)))
+
+module _ {N : Type 0} (eq : N → N → Bool) where
+  abbrev pub stack_of : World N → Overlay N → Layer N → Stack N
+  stack_of world overlay upper =
+      record { directory = upper.directory; lowers = map (open_layer eq world) overlay.lowers; mounter = overlay.mounter }
+
+  abbrev pub merge_of : World N → Filesystem N → Overlay N → Layer N → Merge N
+  merge_of world filesystem overlay upper =
+      record { files = filesystem.files; real = overlay.real; upper = (filesystem_numbered eq world upper.filesystem).files }
+
+  -- the world with a merged tree and its upper layer changed
+  abbrev pub with_merge : World N → Filesystem N → Overlay N → Layer N → Merge N → World N
+  with_merge world filesystem overlay upper merge =
+      with_filesystem eq
+      (with_filesystem eq world (record filesystem {
+        files = merge.files;
+        overlay = Some (record overlay { real = merge.real });
+        change = raised filesystem.change;
+      }))
+      (with_files (filesystem_numbered eq world upper.filesystem) merge.upper)
+
+  abbrev pub overlay_changed : Fresh N → World N → Filesystem N → Overlay N → Option (Layer N) → Change N → World N
+  overlay_changed fresh world filesystem overlay None change = world
+  overlay_changed fresh world filesystem overlay (Some upper) change =
+      with_merge world filesystem overlay upper
+      (merge_changed eq fresh (stack_of world overlay upper) (merge_of world filesystem overlay upper) change)
+
+  abbrev pub filesystem_changed : Fresh N → World N → Filesystem N → Option (Overlay N) → Change N → World N
+  filesystem_changed fresh world filesystem None change =
+      with_filesystem eq world (with_files filesystem (changed eq filesystem.files change))
+  filesystem_changed fresh world filesystem (Some overlay) change =
+      overlay_changed fresh world filesystem overlay overlay.upper change
+
+  -- the world with a change of the filesystem that a location is in
+  abbrev pub with_change : Fresh N → World N → Location N → Change N → World N
+  with_change fresh world location change =
+      filesystem_changed fresh world (filesystem_at eq world location) (filesystem_at eq world location).overlay change
+
+  -- What the mounter of an overlay is asked (profile), on real objects as they are before the call
+
+  -- the directory that has a name of an object
+  abbrev pub directory_of_name : FileTree N → N → List N
+  directory_of_name files object = option_to_list (option_map (λ name. name.0) (a_name eq files object))
+
+  -- the directories whose names, or whose objects' copies, are made, removed or renamed
+  abbrev pub directories_asked : Filesystem N → Overlay N → Change N → List N
+  directories_asked filesystem overlay change =
+      flat_map (directory_of_name filesystem.files) (objects_copied filesystem overlay change) ++ directories_changed change
+
+  -- the directories above, from the nearest one in the upper layer down
+  abbrev pub from_nearest_upper : FileTree N → Overlay N → N → List N
+  from_nearest_upper files overlay directory =
+      before_first (λ d. not (lies_below overlay d)) (ancestors eq files directory)
+      ++ option_to_list (find (λ d. not (lies_below overlay d)) (ancestors eq files directory))
+
+  abbrev pub parents_asked : Filesystem N → Overlay N → Change N → List N
+  parents_asked filesystem overlay change =
+      flat_map (from_nearest_upper filesystem.files overlay) (directories_asked filesystem overlay change)
+
+  abbrev pub copies : Filesystem N → Overlay N → Change N → List N
+  copies filesystem overlay change =
+      objects_copied filesystem overlay change ++ filter (lies_below overlay) (parents_asked filesystem overlay change)
+
+  abbrev pub overlay_rules : Filesystem N → Change N → Overlay N → Rules
+  overlay_rules filesystem change overlay =
+      (list_any (cannot_read_copied filesystem overlay) (copies filesystem overlay change), B1)
+      ∷ (list_any (cannot_change_directory filesystem overlay) (parents_asked filesystem overlay change), B1)
+      ∷ (list_any (cannot_give_owner filesystem overlay) (copies filesystem overlay change), B2)
+      ∷ []
+
+  -- B1 and B2 of a change, beside the rights that the caller is asked for
+  abbrev pub mounter_rules : World N → Location N → Change N → Rules
+  mounter_rules world location change =
+      of_overlay [] (overlay_rules (filesystem_at eq world location) change) (filesystem_at eq world location)

@@ -1,0 +1,99 @@
+-- The lists of mounts and of peer groups: mountinfo of proc(5), in the profile's form. Filesystems and groups are
+-- numbered by where they first stand in the list, from left to right.
+use Rattle.std.specs.Prelude.{Bool, List, None, Option, Some, [], filter, flat_map, map, not, option_map, option_to_list, unwrap_or, ℕ, ◌&&◌, ◌∷◌}
+use Rattle.vt_spec.specs.Machine.FileTree.{path_down}
+use Rattle.vt_spec.specs.Machine.Lists.{counted_from, each_once, holds_of, place_from}
+use Rattle.vt_spec.specs.Machine.Mounts.{Location, Mount, Propagation, is_shared, source_of}
+use Rattle.vt_spec.specs.Machine.Mounts.Propagation.{Private, Shared, Slave, Unbindable}
+use Rattle.vt_spec.specs.Machine.Outcomes.{MountLine, Outcome, PeerLine, Spot, TypeLine, granted}
+use Rattle.vt_spec.specs.Machine.Outcomes.Answer.{MountList}
+use Rattle.vt_spec.specs.Machine.Outcomes.Spot.{Gone, Reached}
+use Rattle.vt_spec.specs.Machine.Outcomes.TypeLine.{PrivateLine, SharedLine, SlaveLine, UnbindableLine}
+use Rattle.vt_spec.specs.Machine.Receives.{is_member_of}
+use Rattle.vt_spec.specs.Machine.World.{Namespace, Task, World, files_at, filesystem_numbered, is_overlay, mount_at, mounts_of}
+
+-- the path from one directory of a filesystem to another, or that there is none any more
+abbrev pub spot_of : Option (List (List ℕ)) → Spot
+spot_of None = Gone
+spot_of (Some path) = Reached path
+
+module _ {N : Type 0} where
+  -- the groups of a mount as its line shows them
+  abbrev pub groups_in_type : World N → Propagation N → List N
+  groups_in_type world (Shared group) = group ∷ option_to_list (world.master group)
+  groups_in_type world (Slave master) = master ∷ []
+  groups_in_type world Private = []
+  groups_in_type world Unbindable = []
+
+  abbrev pub groups_shown : World N → Mount N → List N
+  groups_shown world mount = groups_in_type world mount.propagation
+
+module _ {N : Type 0} (eq : N → N → Bool) where
+  abbrev pub number_among : List N → N → ℕ
+  number_among seen number = unwrap_or (place_from (eq number) 1 seen) 0
+
+  abbrev pub groups_seen : World N → List (Mount N) → List N
+  groups_seen world mounts = each_once eq (flat_map (groups_shown world) mounts)
+
+  abbrev pub filesystems_seen : List (Mount N) → List N
+  filesystems_seen mounts = each_once eq (map (λ mount. mount.filesystem) mounts)
+
+  abbrev pub type_line : World N → List N → Propagation N → TypeLine
+  type_line world seen (Shared group) =
+      SharedLine (number_among seen group) (option_map (number_among seen) (world.master group))
+  type_line world seen (Slave master) = SlaveLine (number_among seen master)
+  type_line world seen Private = PrivateLine
+  type_line world seen Unbindable = UnbindableLine
+
+  abbrev pub place_spot : World N → Location N → Spot
+  place_spot world place =
+      spot_of (path_down eq (files_at eq world place) (mount_at eq world place).root place.node)
+
+  abbrev pub root_spot : World N → Mount N → Spot
+  root_spot world mount =
+      spot_of (path_down eq (filesystem_numbered eq world mount.filesystem).files
+      (filesystem_numbered eq world mount.filesystem).files.tree.root mount.root)
+
+  abbrev pub mount_line : World N → List (Mount N) → Mount N → MountLine
+  mount_line world mounts mount = record {
+    place = option_map (λ place. (number_among (map (λ other. other.number) mounts) place.mount, place_spot world place)) mount.place;
+    overlay = is_overlay (filesystem_numbered eq world mount.filesystem);
+    filesystem = number_among (filesystems_seen mounts) mount.filesystem;
+    root = root_spot world mount;
+    flags = mount.flags;
+    kind = type_line world (groups_seen world mounts) mount.propagation;
+  }
+
+  -- the mounts attached in a namespace, in order of attachment
+  abbrev pub mount_lines : World N → N → List MountLine
+  mount_lines world namespace = map (mount_line world (mounts_of eq world namespace)) (mounts_of eq world namespace)
+
+  -- The mounts of all namespaces, those in order of creation, each with the place of its namespace and its own in it
+  abbrev pub attached_in : World N → ℕ × Namespace N → List (ℕ × ℕ × Mount N)
+  attached_in world namespace =
+      map (λ mount. (namespace.0, mount.0, mount.1)) (counted_from 1 (mounts_of eq world namespace.1.number))
+
+  abbrev pub all_attached : World N → List (ℕ × ℕ × Mount N)
+  all_attached world = flat_map (attached_in world) (counted_from 1 world.namespaces)
+
+  abbrev pub is_slave_of : N → Mount N → Bool
+  is_slave_of group mount = not (is_shared mount.propagation) && holds_of (eq group) (source_of mount.propagation)
+
+  abbrev pub places_with : World N → (Mount N → Bool) → List (ℕ × ℕ)
+  places_with world test = map (λ mount. (mount.0, mount.1)) (filter (λ mount. test mount.2) (all_attached world))
+
+  abbrev pub peer_line : World N → List N → N → PeerLine
+  peer_line world seen group = record {
+    group = number_among seen group;
+    master = option_map (number_among seen) (world.master group);
+    peers = places_with world (is_member_of eq group);
+    slaves = places_with world (is_slave_of group);
+  }
+
+  abbrev pub peer_lines : World N → List PeerLine
+  peer_lines world =
+      map (peer_line world (groups_seen world (map (λ mount. mount.2) (all_attached world))))
+      (groups_seen world (map (λ mount. mount.2) (all_attached world)))
+
+  unfoldable pub mounts_outcome : World N → Task N → Outcome N
+  mounts_outcome world task = granted (MountList (mount_lines world task.namespace)) world

@@ -1,0 +1,107 @@
+-- Words on lists and options that the definitions share.
+use Rattle.std.specs.Prelude.{Bool, List, None, Option, Some, [], false, filter, if◌then◌else◌, map, not, suc, take_while, true, zero, ℕ, ◌&&◌, ◌*◌, ◌+◌, ◌||◌, ◌∷◌}
+use Rattle.std.specs.List.{list_any}
+
+abbrev pub then_some : {A B : Type 0} → Option A → (A → Option B) → Option B
+then_some None next = None
+then_some (Some a) next = next a
+
+-- the first of two that is there
+abbrev pub or_else : {A : Type 0} → Option A → Option A → Option A
+or_else (Some a) other = Some a
+or_else None other = other
+
+abbrev pub when : {A : Type 0} → Bool → A → Option A
+when true a = Some a
+when false a = None
+
+abbrev pub holds_of : {A : Type 0} → (A → Bool) → Option A → Bool
+holds_of test None = false
+holds_of test (Some a) = test a
+
+abbrev pub is_among : {A : Type 0} → (A → A → Bool) → A → List A → Bool
+is_among eq a list = list_any (eq a) list
+
+-- the list without its last
+abbrev pub front_of : {A : Type 0} → List A → List A
+front_of [] = []
+front_of (a ∷ []) = []
+front_of (a ∷ b ∷ rest) = a ∷ front_of (b ∷ rest)
+
+abbrev pub last_or : {A : Type 0} → A → List A → A
+last_or default [] = default
+last_or default (a ∷ rest) = last_or a rest
+
+abbrev pub first_of_list : {A : Type 0} → List A → Option A
+first_of_list [] = None
+first_of_list (a ∷ rest) = Some a
+
+abbrev pub rest_of : {A : Type 0} → List A → List A
+rest_of [] = []
+rest_of (a ∷ rest) = rest
+
+-- the non-empty fronts of a list, the shortest first
+abbrev pub fronts : {A : Type 0} → List A → List (List A)
+fronts [] = []
+fronts (a ∷ rest) = (a ∷ []) ∷ map (λ front. a ∷ front) (fronts rest)
+
+-- each with its place in the list, from a number on
+abbrev pub counted_from : {A : Type 0} → ℕ → List A → List (ℕ × A)
+counted_from k [] = []
+counted_from k (a ∷ rest) = (k, a) ∷ counted_from (k + 1) rest
+
+-- the place of the first that passes, from a number on
+abbrev pub place_from : {A : Type 0} → (A → Bool) → ℕ → List A → Option ℕ
+place_from test k [] = None
+place_from test k (a ∷ rest) = if test a then Some k else place_from test (k + 1) rest
+
+-- some two of the list pass
+abbrev pub any_pair : {A : Type 0} → (A → A → Bool) → List A → Bool
+any_pair test [] = false
+any_pair test (a ∷ rest) = list_any (test a) rest || any_pair test rest
+
+-- without those that were there before
+abbrev pub each_once : {A : Type 0} → (A → A → Bool) → List A → List A
+each_once eq [] = []
+each_once eq (a ∷ rest) = a ∷ filter (λ b. not (eq a b)) (each_once eq rest)
+
+-- the elements before the first that passes
+abbrev pub before_first : {A : Type 0} → (A → Bool) → List A → List A
+before_first test list = take_while (λ a. not (test a)) list
+
+abbrev pub folded : {A B : Type 0} → (B → A → B) → B → List A → B
+folded add b [] = b
+folded add b (a ∷ rest) = folded add (add b a) rest
+
+-- a start and what follows it step by step, at most so many steps
+abbrev pub chain : {A : Type 0} → ℕ → (A → Option A) → A → List A
+chain zero next a = a ∷ []
+chain (suc most) next a = elim (next a) [ None ↦ a ∷ [] | Some b ↦ a ∷ chain most next b ]
+
+-- no element
+abbrev pub is_empty_list : {A : Type 0} → List A → Bool
+is_empty_list [] = true
+is_empty_list (a ∷ rest) = false
+
+abbrev pub same_option : {A : Type 0} → (A → A → Bool) → Option A → Option A → Bool
+same_option eq None None = true
+same_option eq None (Some b) = false
+same_option eq (Some a) None = false
+same_option eq (Some a) (Some b) = eq a b
+
+abbrev pub same_list : {A : Type 0} → (A → A → Bool) → List A → List A → Bool
+same_list eq [] [] = true
+same_list eq [] (b ∷ bs) = false
+same_list eq (a ∷ as_list) [] = false
+same_list eq (a ∷ as_list) (b ∷ bs) = eq a b && same_list eq as_list bs
+
+-- a supply of new numbers, of which each call takes as many as it needs
+abbrev pub Fresh : Type 0 → Type 0
+Fresh N = ℕ → N
+
+-- two supplies out of one
+abbrev pub evens : {N : Type 0} → Fresh N → Fresh N
+evens fresh k = fresh (2 * k)
+
+abbrev pub odds : {N : Type 0} → Fresh N → Fresh N
+odds fresh k = fresh (2 * k + 1)

@@ -1,0 +1,106 @@
+-- An overlay is one tree: at every path it has what its layers show, with a real object for each of its inodes (the
+-- kernel's overlayfs document, "upper and lower", "directories", "non-directories").
+use Rattle.std.specs.Prelude.{Bool, List, Option, [], false, filter_map, find, map, not, option_map, slice_get, suc, true, unwrap_or, zero, ℕ, ◌&&◌, ◌∷◌}
+use Rattle.std.specs.Str.{bytes_eq}
+use Rattle.vt_spec.specs.Machine.FileTree.{FileTree}
+use Rattle.vt_spec.specs.Machine.Layers.{OpenLayer, Shown, paths_from, shown}
+use Rattle.vt_spec.specs.Machine.Lists.{Fresh, each_once, front_of, last_or, place_from, same_list, then_some, when}
+use Rattle.vt_spec.specs.Tree.{Content, Node}
+use Rattle.vt_spec.specs.Tree.Content.{Directory, Regular, Symlink, Whiteout}
+use Rattle.vt_spec.specs.Machine.World.{Real}
+use Rattle.vt_spec.specs.Machine.World.Real.{Below, Upper}
+
+-- an object of the merged tree: where it stands, and what is shown there
+pub record Merged (N : Type 0) : Type 0 where
+  pub path : List (List ℕ)
+  pub seen : Shown N
+
+-- an inode of the merged tree, with its number and its real object
+pub record MergedInode (N : Type 0) : Type 0 where
+  pub number : N
+  pub node : Node N
+  pub real : Real N
+
+abbrev pub same_path : List (List ℕ) → List (List ℕ) → Bool
+same_path a b = same_list bytes_eq a b
+
+abbrev pub is_root_path : List (List ℕ) → Bool
+is_root_path [] = true
+is_root_path (name ∷ rest) = false
+
+module _ {N : Type 0} where
+  abbrev pub merged_at : List (OpenLayer N) → List (List ℕ) → Option (Merged N)
+  merged_at layers path = option_map (λ seen. record { path = path; seen = seen }) (shown layers path)
+
+  -- everything that is shown; no path is longer than there are inodes in all layers
+  abbrev pub merged_objects : List (OpenLayer N) → ℕ → List (Merged N)
+  merged_objects layers longest = filter_map (merged_at layers) (paths_from longest layers [])
+
+  -- The real object, where the top layer is an upper one or not
+  abbrev pub real_object : Bool → ℕ → Merged N → Real N
+  real_object true zero object = Upper object.seen.object
+  real_object true (suc layer) object = Below layer object.path
+  real_object false layer object = Below layer object.path
+
+  abbrev pub layer_node : List (OpenLayer N) → Shown N → Option (Node N)
+  layer_node layers seen = then_some (slice_get layers seen.layer) (λ layer. layer.tree.node seen.object)
+
+  abbrev pub inode_of : List (MergedInode N) → N → (N → N → Bool) → Option (MergedInode N)
+  inode_of inodes number eq = find (λ inode. eq number inode.number) inodes
+
+  abbrev pub number_at : Fresh N → Bool → List (Merged N) → List (List ℕ) → N
+  number_at fresh has_upper objects path =
+      fresh (unwrap_or (place_from (λ object. same_path path object.path) 0 objects) 0)
+
+module _ {N : Type 0} (eq : N → N → Bool) where
+  -- two paths lead to one inode only where they show one object of the upper layer
+  abbrev pub same_real : Real N → Real N → Bool
+  same_real (Upper a) (Upper b) = eq a b
+  same_real (Upper a) (Below layer path) = false
+  same_real (Below layer path) (Upper b) = false
+  same_real (Below layer path) (Below other_layer other) = same_path path other
+
+  abbrev pub is_one_inode : Bool → Merged N → Merged N → Bool
+  is_one_inode has_upper a b =
+      same_real (real_object has_upper a.seen.layer a) (real_object has_upper b.seen.layer b)
+
+  -- the new number of an object: of all that are one inode, the first one's
+  abbrev pub merged_number : Fresh N → Bool → List (Merged N) → Merged N → N
+  merged_number fresh has_upper objects object =
+      fresh (unwrap_or (place_from (is_one_inode has_upper object) 0 objects) 0)
+
+  -- the entry of an object in the directory at a path, if it stands there
+  abbrev pub entry_below : Fresh N → Bool → List (Merged N) → List (List ℕ) → Merged N → Option (List ℕ × N)
+  entry_below fresh has_upper objects path object =
+      when (not (is_root_path object.path) && same_path path (front_of object.path))
+      (last_or [] object.path, merged_number fresh has_upper objects object)
+
+  -- a directory has what is shown in it, and no mark
+  abbrev pub merged_content : Fresh N → Bool → List (Merged N) → List (List ℕ) → Content N → Content N
+  merged_content fresh has_upper objects path (Directory parent entries opaque) =
+      Directory (number_at fresh has_upper objects (front_of path)) (filter_map (entry_below fresh has_upper objects path) objects) false
+  merged_content fresh has_upper objects path (Regular bytes) = Regular bytes
+  merged_content fresh has_upper objects path (Symlink text) = Symlink text
+  merged_content fresh has_upper objects path Whiteout = Whiteout
+
+  abbrev pub merged_inode : Fresh N → Bool → List (OpenLayer N) → List (Merged N) → Merged N → Option (MergedInode N)
+  merged_inode fresh has_upper layers objects object =
+      option_map (λ node. record {
+        number = merged_number fresh has_upper objects object;
+        node = record { attr = node.attr; content = merged_content fresh has_upper objects object.path node.content };
+        real = real_object has_upper object.seen.layer object;
+      })
+      (layer_node layers object.seen)
+
+  abbrev pub merged_inodes : Fresh N → Bool → List (OpenLayer N) → List (Merged N) → List (MergedInode N)
+  merged_inodes fresh has_upper layers objects = filter_map (merged_inode fresh has_upper layers objects) objects
+
+  -- the tree of these inodes
+  abbrev pub tree_of : N → List (MergedInode N) → FileTree N
+  tree_of root inodes = record {
+    tree = record { root = root; node = λ number. option_map (λ inode. inode.node) (inode_of inodes number eq) };
+    numbers = each_once eq (map (λ inode. inode.number) inodes);
+  }
+
+  abbrev pub real_of : List (MergedInode N) → N → Option (Real N)
+  real_of inodes number = option_map (λ inode. inode.real) (inode_of inodes number eq)

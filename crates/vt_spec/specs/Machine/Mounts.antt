@@ -1,0 +1,115 @@
+-- Mounts: mount(2), mount_namespaces(7) and the kernel's document sharedsubtree.
+use Rattle.std.specs.Prelude.{Bool, List, None, Option, Some, [], false, filter, find, flat_map, if◌then◌else◌, is_some, length, map, option_map, suc, true, unwrap_or, zero, ℕ, ◌&&◌, ◌∷◌}
+use Rattle.vt_spec.specs.Machine.Lists.{chain, holds_of, last_or}
+
+-- a place in the tree of mounts: an inode, seen through a mount
+pub record Location (N : Type 0) : Type 0 where
+  pub mount : N
+  pub node : N
+
+-- MS_RDONLY, MS_NOEXEC and MS_NOSYMFOLLOW of one mount: mount(2)
+pub record MountFlags : Type 0 where
+  pub read_only : Bool
+  pub noexec : Bool
+  pub nosymfollow : Bool
+
+-- Propagation types: sharedsubtree, "Shared mount", "Slave mount" and so on. A shared mount is a member of a peer
+-- group; where that group has a master it is slave and shared. A slave has a master group.
+pub data Propagation (N : Type 0) : Type 0 where
+  Shared : (group : N) → Propagation N
+  Slave : (master : N) → Propagation N
+  Private : Propagation N
+  Unbindable : Propagation N
+
+-- A mount shows a filesystem from a root directory on. It stands at a place, a directory of another mount, unless it
+-- is a namespace's root mount. One outside every namespace stands nowhere and is private.
+pub record Mount (N : Type 0) : Type 0 where
+  pub number : N
+  pub namespace : Option N
+  pub place : Option (Location N)
+  pub filesystem : N
+  pub root : N
+  pub flags : MountFlags
+  pub propagation : Propagation N
+
+abbrev pub plain_flags : MountFlags
+plain_flags = record { read_only = false; noexec = false; nosymfollow = false }
+
+module _ {N : Type 0} where
+  abbrev pub group_of : Propagation N → Option N
+  group_of (Shared group) = Some group
+  group_of (Slave master) = None
+  group_of Private = None
+  group_of Unbindable = None
+
+  -- the group that a mount hears of events from: its own, or its master
+  abbrev pub source_of : Propagation N → Option N
+  source_of (Shared group) = Some group
+  source_of (Slave master) = Some master
+  source_of Private = None
+  source_of Unbindable = None
+
+  abbrev pub is_shared : Propagation N → Bool
+  is_shared kind = is_some (group_of kind)
+
+  abbrev pub is_unbindable : Propagation N → Bool
+  is_unbindable (Shared group) = false
+  is_unbindable (Slave master) = false
+  is_unbindable Private = false
+  is_unbindable Unbindable = true
+
+  abbrev pub root_of : Mount N → Location N
+  root_of mount = record { mount = mount.number; node = mount.root }
+
+  -- a mount that is taken away has no place, namespace or group: umount(2) with MNT_DETACH
+  abbrev pub detached : Mount N → Mount N
+  detached mount = record mount { namespace = None; place = None; propagation = Private }
+
+  -- what a number stands for where no mount has it
+  abbrev pub no_mount : N → Mount N
+  no_mount number =
+      record { number = number; namespace = None; place = None; filesystem = number; root = number; flags = plain_flags; propagation = Private }
+
+module _ {N : Type 0} (eq : N → N → Bool) where
+  abbrev pub same_location : Location N → Location N → Bool
+  same_location a b = eq a.mount b.mount && eq a.node b.node
+
+  abbrev pub mount_in : List (Mount N) → N → Mount N
+  mount_in mounts number = unwrap_or (find (λ mount. eq number mount.number) mounts) (no_mount number)
+
+  abbrev pub stands_at : Location N → Mount N → Bool
+  stands_at location mount = holds_of (same_location location) mount.place
+
+  abbrev pub stands_on : N → Mount N → Bool
+  stands_on number mount = holds_of (λ place. eq number place.mount) mount.place
+
+  -- the one mount that stands at a place
+  abbrev pub child_at : List (Mount N) → Location N → Option (Mount N)
+  child_at mounts location = find (stands_at location) mounts
+
+  -- the mounts that stand on a mount, in order of attachment
+  abbrev pub children : List (Mount N) → N → List (Mount N)
+  children mounts number = filter (stands_on number) mounts
+
+  -- a mount and all below it: a mount before its children, and those in order of attachment
+  abbrev pub tree_from : ℕ → List (Mount N) → Mount N → List (Mount N)
+  tree_from zero mounts mount = mount ∷ []
+  tree_from (suc depth) mounts mount = mount ∷ flat_map (tree_from depth mounts) (children mounts mount.number)
+
+  abbrev pub mount_tree : List (Mount N) → Mount N → List (Mount N)
+  mount_tree mounts mount = tree_from (length mounts) mounts mount
+
+  -- a place, and then each mount that stands over the one before
+  abbrev pub mounts_over : List (Mount N) → Location N → List (Location N)
+  mounts_over mounts location = chain (length mounts) (λ here. option_map root_of (child_at mounts here)) location
+
+  -- a place through every mount over it
+  abbrev pub topmost : List (Mount N) → Location N → Location N
+  topmost mounts location = last_or location (mounts_over mounts location)
+
+  abbrev pub replaced_if_same : Mount N → Mount N → Mount N
+  replaced_if_same new old = if eq new.number old.number then new else old
+
+  -- a mount in the place of the one with its number
+  abbrev pub with_mount : List (Mount N) → Mount N → List (Mount N)
+  with_mount mounts mount = map (replaced_if_same mount) mounts

@@ -1,0 +1,88 @@
+-- Calls that look: their rules, and what they answer.
+use Rattle.std.specs.Prelude.{Bool, List, Option, [], length, not, ℕ, ◌∷◌}
+use Rattle.vt_spec.specs.declared.attributes.Kind.TheVariants.{File, Link, White}
+use Rattle.vt_spec.specs.declared.errors.Rule.TheVariants.{B1, C1, E2, E5, E8, E9, F3}
+use Rattle.vt_spec.specs.Errors.{Rules}
+use Rattle.vt_spec.specs.Machine.FileTree.{attr_in, is_opaque_in, kind_in}
+use Rattle.vt_spec.specs.Machine.Mounts.{Location}
+use Rattle.vt_spec.specs.Machine.Outcomes.{Outcome, StatLine, after, granted, judged}
+use Rattle.vt_spec.specs.Machine.Outcomes.Answer.{Bytes, Done, Names, Told}
+use Rattle.vt_spec.specs.Rights.{execute_right, read_right}
+use Rattle.vt_spec.specs.Machine.Rows.{kind_at, may_not, mounter_may_not}
+use Rattle.vt_spec.specs.Tree.{Node, bytes_in, names_in}
+use Rattle.vt_spec.specs.Machine.Walk.{directory_walk, link_walk, object_walk, walk_end}
+use Rattle.vt_spec.specs.Machine.World.{Task, World, is_directory_at, mount_at, node_at}
+
+module _ {N : Type 0} where
+  -- what stat(2) tells
+  abbrev pub stat_line : Option (Node N) → StatLine
+  stat_line node = record {
+    kind = kind_in node;
+    attr = attr_in node;
+    size = length (bytes_in node);
+    opaque = is_opaque_in node;
+  }
+
+module _ {N : Type 0} (eq : N → N → Bool) where
+  -- getdents(2) after open(2): EACCES
+  abbrev pub list_rules : World N → Task N → Location N → Rules
+  list_rules world task directory =
+      (may_not eq world task directory read_right, C1)
+      ∷ (mounter_may_not eq world directory read_right, B1)
+      ∷ []
+
+  -- open(2) for reading: EISDIR, ENXIO, EACCES
+  abbrev pub read_rules : World N → Task N → Location N → Rules
+  read_rules world task file =
+      (is_directory_at eq world file, E2)
+      ∷ (kind_at eq world file White, E9)
+      ∷ (may_not eq world task file read_right, C1)
+      ∷ (mounter_may_not eq world file read_right, B1)
+      ∷ []
+
+  -- execve(2): EACCES
+  abbrev pub exec_rules : World N → Task N → Location N → Rules
+  exec_rules world task file =
+      (not (kind_at eq world file File), E8)
+      ∷ ((mount_at eq world file).flags.noexec, F3)
+      ∷ (may_not eq world task file execute_right, C1)
+      ∷ (mounter_may_not eq world file execute_right, B1)
+      ∷ []
+
+  -- readlink(2): EINVAL
+  abbrev pub readlink_rules : World N → Location N → Rules
+  readlink_rules world object = (not (kind_at eq world object Link), E5) ∷ []
+
+  unfoldable pub list_outcome : World N → Task N → List ℕ → Outcome N
+  list_outcome world task path =
+      after world (walk_end (directory_walk eq world task path)) (λ here.
+      judged world (list_rules world task here.location)
+      (granted (Names (names_in (node_at eq world here.location))) world))
+
+  unfoldable pub stat_outcome : World N → Task N → List ℕ → Outcome N
+  stat_outcome world task path =
+      after world (walk_end (object_walk eq world task path)) (λ here.
+      granted (Told (stat_line (node_at eq world here.location))) world)
+
+  unfoldable pub lstat_outcome : World N → Task N → List ℕ → Outcome N
+  lstat_outcome world task path =
+      after world (walk_end (link_walk eq world task path)) (λ here.
+      granted (Told (stat_line (node_at eq world here.location))) world)
+
+  unfoldable pub readlink_outcome : World N → Task N → List ℕ → Outcome N
+  readlink_outcome world task path =
+      after world (walk_end (link_walk eq world task path)) (λ here.
+      judged world (readlink_rules world here.location)
+      (granted (Bytes (bytes_in (node_at eq world here.location))) world))
+
+  unfoldable pub read_outcome : World N → Task N → List ℕ → Outcome N
+  read_outcome world task path =
+      after world (walk_end (object_walk eq world task path)) (λ here.
+      judged world (read_rules world task here.location)
+      (granted (Bytes (bytes_in (node_at eq world here.location))) world))
+
+  unfoldable pub exec_outcome : World N → Task N → List ℕ → Outcome N
+  exec_outcome world task path =
+      after world (walk_end (object_walk eq world task path)) (λ here.
+      judged world (exec_rules world task here.location)
+      (granted Done world))

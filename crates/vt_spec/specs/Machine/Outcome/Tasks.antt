@@ -1,0 +1,121 @@
+-- Calls on tasks and namespaces: their rules, and what they change.
+use Rattle.std.specs.Prelude.{Bool, List, None, Option, Some, [], length, map, nat_le, not, ok_or, ℕ, ◌%◌, ◌&&◌, ◌++◌, ◌+◌, ◌==◌, ◌||◌, ◌∷◌}
+use Rattle.std.specs.Str.{bytes_eq}
+use Rattle.vt_spec.specs.declared.errors.Rule.TheVariants.{B1, C1, K1, S2, S6}
+use Rattle.vt_spec.specs.Machine.Calls.{CapabilityWord, ForkWords}
+use Rattle.vt_spec.specs.Machine.Calls.CapabilityWord.{Held, These}
+use Rattle.vt_spec.specs.Errors.{Rules, denial}
+use Rattle.vt_spec.specs.Machine.Lists.{Fresh}
+use Rattle.vt_spec.specs.Machine.Mounts.{Location}
+use Rattle.vt_spec.specs.Machine.Namespaces.{namespace_entered, namespaces_ended, unshared}
+use Rattle.vt_spec.specs.Machine.Outcomes.{Outcome, after, granted, judged}
+use Rattle.vt_spec.specs.Machine.Outcomes.Answer.{Child, Done}
+use Rattle.vt_spec.specs.PathText.{words}
+use Rattle.vt_spec.specs.Rights.{Credentials, cap_setgid, cap_setuid, cap_sys_admin, cap_sys_chroot, execute_right, without}
+use Rattle.vt_spec.specs.Machine.Rows.{lacks, may_not, mounter_may_not}
+use Rattle.vt_spec.specs.Machine.Walk.{directory_walk, walk_end}
+use Rattle.vt_spec.specs.Machine.World.{Task, TaskName, World, replaced_if_called, task_called, with_task, without_task}
+
+-- the most forks of a task, and the most numbers in a name (profile; RLIMIT_NPROC of setrlimit(2))
+abbrev pub most_forks : ℕ
+most_forks = 64
+
+abbrev pub deepest_name : ℕ
+deepest_name = 8
+
+-- the nine permission bits: umask(2)
+abbrev pub permission_bits : ℕ → ℕ
+permission_bits mode = mode % 512
+
+abbrev pub capabilities_of : CapabilityWord → Credentials → ℕ
+capabilities_of Held who = who.capabilities
+capabilities_of (These capabilities) who = capabilities
+
+-- the child's credentials: the caller's where none are given
+abbrev pub child_credentials : Credentials → Option ForkWords → Credentials
+child_credentials who None = who
+child_credentials who (Some words) = record {
+  uid = words.uid;
+  gid = words.gid;
+  groups = words.groups;
+  capabilities = capabilities_of words.capabilities who;
+}
+
+-- capset(2): capabilities only go
+abbrev pub with_dropped : Credentials → ℕ → Credentials
+with_dropped who dropped = record who { capabilities = without who.capabilities dropped }
+
+module _ {N : Type 0} where
+  -- EAGAIN of fork(2) is the profile's ENOSPC; EPERM of setuid(2), setgid(2), setgroups(2) and capset(2)
+  abbrev pub fork_rules : Task N → Credentials → Rules
+  fork_rules task child =
+      (nat_le most_forks task.forks || nat_le deepest_name (length task.name), S6)
+      ∷ (not (child.uid == task.credentials.uid) && lacks task cap_setuid, K1)
+      ∷ (not (child.gid == task.credentials.gid && bytes_eq child.groups task.credentials.groups) && lacks task cap_setgid, K1)
+      ∷ (lacks task child.capabilities, K1)
+      ∷ []
+
+  abbrev pub child_name : Task N → TaskName
+  child_name task = task.name ++ ((task.forks + 1) ∷ [])
+
+  -- a child has the parent's namespace, root, working directory and umask, and no descriptors (profile)
+  abbrev pub child_of : Task N → Credentials → Task N
+  child_of task credentials =
+      record task { name = child_name task; credentials = credentials; descriptors = []; forks = 0; change = 0 }
+
+  abbrev pub with_child : World N → Task N → Task N → World N
+  with_child world task child =
+      record world { tasks = map (replaced_if_called (record task { forks = task.forks + 1 })) world.tasks ++ (child ∷ []) }
+
+  unfoldable pub fork_outcome : World N → Task N → Option ForkWords → Outcome N
+  fork_outcome world task words =
+      judged world (fork_rules task (child_credentials task.credentials words))
+      (granted (Child (child_name task)) (with_child world task (child_of task (child_credentials task.credentials words))))
+
+  -- umask(2)
+  unfoldable pub umask_outcome : World N → Task N → ℕ → Outcome N
+  umask_outcome world task mode = granted Done (with_task world (record task { umask = permission_bits mode }))
+
+  unfoldable pub drop_outcome : World N → Task N → CapabilityWord → Outcome N
+  drop_outcome world task which =
+      granted Done (with_task world (record task {
+        credentials = with_dropped task.credentials (capabilities_of which task.credentials);
+      }))
+
+module _ {N : Type 0} (eq : N → N → Bool) where
+  -- chdir(2), chroot(2): EACCES
+  abbrev pub enter_rules : World N → Task N → Location N → Rules
+  enter_rules world task directory =
+      (may_not eq world task directory execute_right, C1)
+      ∷ (mounter_may_not eq world directory execute_right, B1)
+      ∷ []
+
+  unfoldable pub chdir_outcome : World N → Task N → List ℕ → Outcome N
+  chdir_outcome world task path =
+      after world (walk_end (directory_walk eq world task path)) (λ here.
+      judged world (enter_rules world task here.location)
+      (granted Done (with_task world (record task { directory = here.location }))))
+
+  unfoldable pub chroot_outcome : World N → Task N → List ℕ → Outcome N
+  chroot_outcome world task path =
+      judged world ((lacks task cap_sys_chroot, K1) ∷ [])
+      (after world (walk_end (directory_walk eq world task path)) (λ here.
+      judged world (enter_rules world task here.location)
+      (granted Done (with_task world (record task { root = here.location })))))
+
+  -- _exit(2): a namespace ends with its last task
+  unfoldable pub exit_outcome : World N → Task N → Outcome N
+  exit_outcome world task = granted Done (namespaces_ended eq (without_task world task.name))
+
+  -- unshare(2) with CLONE_NEWNS: EPERM
+  unfoldable pub unshare_outcome : Fresh N → World N → Task N → Outcome N
+  unshare_outcome fresh world task =
+      judged world ((lacks task cap_sys_admin, K1) ∷ [])
+      (granted Done (namespaces_ended eq (unshared eq world fresh task)))
+
+  -- setns(2): ESRCH, EPERM
+  unfoldable pub setns_outcome : World N → Task N → TaskName → Outcome N
+  setns_outcome world task name =
+      after world (ok_or (task_called world name) (denial S2)) (λ target.
+      judged world ((lacks task cap_sys_admin || lacks task cap_sys_chroot, K1) ∷ [])
+      (granted Done (namespaces_ended eq (namespace_entered eq world task target.namespace))))

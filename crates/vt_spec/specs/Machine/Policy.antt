@@ -1,0 +1,139 @@
+-- The policy: what each call does, in which world, for which task.
+use Rattle.std.specs.Prelude.{Bool, Option, false, if◌then◌else◌, is_ok, map, not, ok_or, true, ◌&&◌, ◌||◌}
+use Rattle.std.specs.FinMap.Entries.{put}
+use Rattle.vt_spec.specs.declared.errors.Rule.TheVariants.{S2}
+use Rattle.vt_spec.specs.Machine.Calls.{Call}
+use Rattle.vt_spec.specs.Machine.Calls.Call.{Bind, Chdir, Chmod, Chown, Chroot, Close, Drop, Exec, Exit, Fork, Lazy, LinkTo, ListMounts, Ls, Lstat, MakeWhiteout, Mkdir, MountOverlay, MountPlain, MoveMount, Opaque, OpenFile, PivotRoot, Pread, Pwrite, Read, Readlink, Remount, Rename, Rmdir, SetType, Setns, Stat, SymlinkAt, Umask, Umount, Unlink, Unshare, Write}
+use Rattle.vt_spec.specs.Errors.{denial}
+use Rattle.vt_spec.specs.Machine.Filesystems.{raised}
+use Rattle.vt_spec.specs.Machine.Listing.{mounts_outcome}
+use Rattle.vt_spec.specs.Machine.Lists.{Fresh, same_list, same_option, then_some}
+use Rattle.vt_spec.specs.Machine.Mounts.{Mount, MountFlags, Propagation, same_location, source_of}
+use Rattle.vt_spec.specs.Machine.Mounts.Propagation.{Private, Shared, Slave, Unbindable}
+use Rattle.vt_spec.specs.Machine.Outcome.Attributes.{chmod_outcome, chown_outcome, opaque_outcome}
+use Rattle.vt_spec.specs.Machine.Outcome.Descriptors.{close_outcome, open_outcome, pread_outcome, pwrite_outcome}
+use Rattle.vt_spec.specs.Machine.Outcome.Looking.{exec_outcome, list_outcome, lstat_outcome, read_outcome, readlink_outcome, stat_outcome}
+use Rattle.vt_spec.specs.Machine.Outcome.Making.{link_outcome, mkdir_outcome, symlink_outcome, whiteout_outcome, write_outcome}
+use Rattle.vt_spec.specs.Machine.Outcome.Mounting.{bind_outcome, lazy_outcome, mount_overlay_outcome, mount_plain_outcome, move_outcome, pivot_outcome, remount_outcome, type_outcome, umount_outcome}
+use Rattle.vt_spec.specs.Machine.Outcome.Removing.{rename_outcome, rmdir_outcome, unlink_outcome}
+use Rattle.vt_spec.specs.Machine.Outcome.Tasks.{chdir_outcome, chroot_outcome, drop_outcome, exit_outcome, fork_outcome, setns_outcome, umask_outcome, unshare_outcome}
+use Rattle.vt_spec.specs.Machine.Outcomes.{Outcome, after}
+use Rattle.vt_spec.specs.PathText.{words}
+use Rattle.vt_spec.specs.Machine.Settled.{settled}
+use Rattle.vt_spec.specs.Machine.World.{Namespace, Task, TaskName, World, mounts_of, same_name, task_called}
+
+-- a call that only looks changes nothing, no change number either
+abbrev pub only_looks : Call → Bool
+only_looks (Ls path) = true
+only_looks (Stat path) = true
+only_looks (Lstat path) = true
+only_looks (Readlink path) = true
+only_looks (Read path) = true
+only_looks (Exec path) = true
+only_looks (Pread descriptor offset size) = true
+only_looks ListMounts = true
+only_looks call = false
+
+abbrev pub same_bool : Bool → Bool → Bool
+same_bool true b = b
+same_bool false b = not b
+
+abbrev pub same_flags : MountFlags → MountFlags → Bool
+same_flags a b = same_bool a.read_only b.read_only && same_bool a.noexec b.noexec && same_bool a.nosymfollow b.nosymfollow
+
+module _ {N : Type 0} where
+  -- the master of a mount's group, or of the group whose slave it is
+  abbrev pub master_above : World N → Mount N → Option N
+  master_above world mount = then_some (source_of mount.propagation) world.master
+
+  abbrev pub raised_task : TaskName → Task N → Task N
+  raised_task name task = if same_name name task.name then record task { change = raised task.change } else task
+
+module _ {N : Type 0} (eq : N → N → Bool) where
+  -- the outcome of a call, to which new numbers are handed in for what it may make
+  abbrev pub call_outcome : Fresh N → World N → Task N → Call → Outcome N
+  call_outcome fresh world task (Ls path) = list_outcome eq world task path
+  call_outcome fresh world task (Stat path) = stat_outcome eq world task path
+  call_outcome fresh world task (Lstat path) = lstat_outcome eq world task path
+  call_outcome fresh world task (Readlink path) = readlink_outcome eq world task path
+  call_outcome fresh world task (Read path) = read_outcome eq world task path
+  call_outcome fresh world task (Write path bytes) = write_outcome eq fresh world task path bytes
+  call_outcome fresh world task (Exec path) = exec_outcome eq world task path
+  call_outcome fresh world task (Mkdir path mode) = mkdir_outcome eq fresh world task path mode
+  call_outcome fresh world task (SymlinkAt text path) = symlink_outcome eq fresh world task text path
+  call_outcome fresh world task (MakeWhiteout path) = whiteout_outcome eq fresh world task path
+  call_outcome fresh world task (LinkTo old new) = link_outcome eq fresh world task old new
+  call_outcome fresh world task (Unlink path) = unlink_outcome eq fresh world task path
+  call_outcome fresh world task (Rmdir path) = rmdir_outcome eq fresh world task path
+  call_outcome fresh world task (Rename old new) = rename_outcome eq fresh world task old new
+  call_outcome fresh world task (Chmod path mode) = chmod_outcome eq fresh world task path mode
+  call_outcome fresh world task (Chown path uid gid) = chown_outcome eq fresh world task path uid gid
+  call_outcome fresh world task (Opaque path mark) = opaque_outcome eq fresh world task path mark
+  call_outcome fresh world task (OpenFile path access creation) = open_outcome eq fresh world task path access creation
+  call_outcome fresh world task (Pread descriptor offset size) = pread_outcome eq world task descriptor offset size
+  call_outcome fresh world task (Pwrite descriptor offset bytes) = pwrite_outcome eq fresh world task descriptor offset bytes
+  call_outcome fresh world task (Close descriptor) = close_outcome world task descriptor
+  call_outcome fresh world task (Chdir path) = chdir_outcome eq world task path
+  call_outcome fresh world task (Chroot path) = chroot_outcome eq world task path
+  call_outcome fresh world task (Umask mode) = umask_outcome world task mode
+  call_outcome fresh world task (Drop which) = drop_outcome world task which
+  call_outcome fresh world task (Fork words) = fork_outcome world task words
+  call_outcome fresh world task Exit = exit_outcome eq world task
+  call_outcome fresh world task Unshare = unshare_outcome eq fresh world task
+  call_outcome fresh world task (Setns name) = setns_outcome eq world task name
+  call_outcome fresh world task (MountPlain path flags) = mount_plain_outcome eq fresh world task path flags
+  call_outcome fresh world task (MountOverlay path options flags) = mount_overlay_outcome eq fresh world task path options flags
+  call_outcome fresh world task (Bind source path recursive) = bind_outcome eq fresh world task source path recursive
+  call_outcome fresh world task (MoveMount source path) = move_outcome eq fresh world task source path
+  call_outcome fresh world task (Umount path) = umount_outcome eq world task path
+  call_outcome fresh world task (Lazy path) = lazy_outcome eq world task path
+  call_outcome fresh world task (Remount path flags) = remount_outcome eq world task path flags
+  call_outcome fresh world task (SetType path word recursive) = type_outcome eq fresh world task path word recursive
+  call_outcome fresh world task (PivotRoot new put) = pivot_outcome eq world task new put
+  call_outcome fresh world task ListMounts = mounts_outcome eq world task
+
+  -- Change numbers (profile). A call that succeeds and does not only look raises the world's and the caller's, and that
+  -- of each namespace in which a mount came, went, moved, or has other flags, type, group or master. Those of
+  -- filesystems are raised where they are changed.
+  abbrev pub same_propagation : Propagation N → Propagation N → Bool
+  same_propagation (Shared a) (Shared b) = eq a b
+  same_propagation (Slave a) (Slave b) = eq a b
+  same_propagation Private Private = true
+  same_propagation Unbindable Unbindable = true
+  same_propagation a b = false
+
+  abbrev pub same_mount : World N → World N → Mount N → Mount N → Bool
+  same_mount before after_call a b =
+      eq a.number b.number && same_option (same_location eq) a.place b.place && same_flags a.flags b.flags
+      && same_propagation a.propagation b.propagation && same_option eq (master_above before a) (master_above after_call b)
+
+  abbrev pub same_mounts_in : World N → World N → N → Bool
+  same_mounts_in before after_call namespace =
+      same_list (same_mount before after_call) (mounts_of eq before namespace) (mounts_of eq after_call namespace)
+
+  abbrev pub raised_namespace : World N → World N → Namespace N → Namespace N
+  raised_namespace before after_call namespace =
+      if same_mounts_in before after_call namespace.number then namespace
+      else record namespace { change = raised namespace.change }
+
+  abbrev pub numbers_raised : World N → TaskName → World N → World N
+  numbers_raised before name after_call = record after_call {
+    namespaces = map (raised_namespace before after_call) after_call.namespaces;
+    tasks = map (raised_task name) after_call.tasks;
+    change = raised after_call.change;
+  }
+
+  -- a call that changed the world leaves nothing that nothing uses
+  abbrev pub finished_by : Bool → World N → TaskName → Outcome N → Outcome N
+  finished_by true before name outcome = outcome
+  finished_by false before name outcome =
+      record outcome { world = numbers_raised before name (settled eq outcome.world) }
+
+  abbrev pub finished : World N → TaskName → Call → Outcome N → Outcome N
+  finished before name call outcome = finished_by (only_looks call || not (is_ok outcome.answer)) before name outcome
+
+  -- the policy: a call of a task that is not there is refused, and changes nothing
+  abbrev pub policy : Fresh N → World N → TaskName → Call → Outcome N
+  policy fresh world name call =
+      after world (ok_or (task_called world name) (denial S2)) (λ task.
+      finished world name call (call_outcome fresh world task call))

@@ -1,0 +1,73 @@
+-- Who hears of events in a peer group: the kernel's document sharedsubtree, "Propagation", and mount_namespaces(7).
+use Rattle.std.specs.Prelude.{Bool, List, None, Option, Some, false, filter, find, length, map, not, true, ◌||◌, ◌≡◌}
+use Rattle.std.specs.List.{list_any}
+use Rattle.vt_spec.specs.Machine.Lists.{chain, holds_of, is_among, then_some}
+use Rattle.vt_spec.specs.Machine.Mounts.{Mount, Propagation, group_of, source_of}
+use Rattle.vt_spec.specs.Machine.Mounts.Propagation.{Private, Shared, Slave, Unbindable}
+use Rattle.vt_spec.specs.Machine.World.{World}
+
+module _ {N : Type 0} where
+  abbrev pub slave_of_heir : Option N → Propagation N
+  slave_of_heir None = Private
+  slave_of_heir (Some master) = Slave master
+
+-- What receives from a group: the least set of mounts that holds its members, its slaves, and what receives from every
+-- group whose master it is
+pub data Receives {N : Type 0} (world : World N) : N → Mount N → Type 0 where
+  member : (group : N) (mount : Mount N) → mount.propagation ≡ Shared group → Receives world group mount
+  slave : (group : N) (mount : Mount N) → mount.propagation ≡ Slave group → Receives world group mount
+  further_down : (group lower : N) (mount : Mount N) → world.master lower ≡ Some group → Receives world lower mount → Receives world group mount
+
+module _ {N : Type 0} where
+  -- a group, its master, the master of that, and so on; each group has a member, so there are no more than mounts
+  abbrev pub groups_up : World N → N → List N
+  groups_up world group = chain (length world.mounts) world.master group
+
+module _ {N : Type 0} (eq : N → N → Bool) where
+  -- So a mount receives from its own group or its master, and from all groups up the masters.
+  abbrev pub receives : World N → N → Mount N → Bool
+  receives world group mount = holds_of (λ source. is_among eq group (groups_up world source)) (source_of mount.propagation)
+
+  abbrev pub receivers : World N → N → List (Mount N)
+  receivers world group = filter (receives world group) world.mounts
+
+  abbrev pub is_member_of : N → Mount N → Bool
+  is_member_of group mount = holds_of (eq group) (group_of mount.propagation)
+
+  abbrev pub has_members : List (Mount N) → N → Bool
+  has_members mounts group = list_any (is_member_of group) mounts
+
+  -- A group that lost its last member hands its slaves to its master: the nearest group up that has members
+  abbrev pub heir : World N → Option N → Option N
+  heir world None = None
+  heir world (Some group) = find (has_members world.mounts) (groups_up world group)
+
+  abbrev pub inherited : World N → Propagation N → Propagation N
+  inherited world (Shared group) = Shared group
+  inherited world (Slave master) = slave_of_heir (heir world (Some master))
+  inherited world Private = Private
+  inherited world Unbindable = Unbindable
+
+  -- The world without groups that have no member: their slaves get their master; where there is none, pure slaves become
+  -- private and groups lose their master (mount_namespaces(7), "slave")
+  abbrev pub inheriting : World N → Mount N → Mount N
+  inheriting world mount = record mount { propagation = inherited world mount.propagation }
+
+  abbrev pub is_lost_group : World N → Option N → Bool
+  is_lost_group world group = holds_of (λ number. not (has_members world.mounts number)) group
+
+  -- a mount's group or master, or the master of its group, has no member left
+  abbrev pub lost_a_group : World N → Mount N → Bool
+  lost_a_group world mount =
+      is_lost_group world (source_of mount.propagation)
+      || is_lost_group world (then_some (source_of mount.propagation) world.master)
+
+  abbrev pub regrouped_by : Bool → World N → World N
+  regrouped_by false world = world
+  regrouped_by true world = record world {
+    mounts = map (inheriting world) world.mounts;
+    master = λ group. heir world (world.master group);
+  }
+
+  abbrev pub regrouped : World N → World N
+  regrouped world = regrouped_by (list_any (lost_a_group world) world.mounts) world

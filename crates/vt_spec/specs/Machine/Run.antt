@@ -1,0 +1,142 @@
+-- A script's answers: the policy folded over its lines (profile).
+use Rattle.std.specs.Prelude.{Bool, List, None, Option, Some, [], false, flat_map, length, map, nat_eq, nat_lt, option_to_list, true, ℕ, ◌*◌, ◌++◌, ◌+◌, ◌∷◌, ◌≡◌}
+use Rattle.std.specs.Fmt.{digits}
+use Rattle.vt_spec.specs.declared.errors.Rule.TheVariants.{S1, S5}
+use Rattle.vt_spec.specs.Errors.{denial}
+use Rattle.vt_spec.specs.Machine.Listing.{mounts_outcome}
+use Rattle.vt_spec.specs.Machine.Lists.{Fresh, is_among}
+use Rattle.vt_spec.specs.Machine.Mounts.{Mount, source_of}
+use Rattle.vt_spec.specs.Machine.Outcome.Attributes.{chmod_outcome, chown_outcome, opaque_outcome}
+use Rattle.vt_spec.specs.Machine.Outcome.Descriptors.{close_outcome, open_outcome, pread_outcome, pwrite_outcome}
+use Rattle.vt_spec.specs.Machine.Outcome.Looking.{exec_outcome, list_outcome, lstat_outcome, read_outcome, readlink_outcome, stat_outcome}
+use Rattle.vt_spec.specs.Machine.Outcome.Making.{link_outcome, mkdir_outcome, symlink_outcome, whiteout_outcome, write_outcome}
+use Rattle.vt_spec.specs.Machine.Outcome.Mounting.{bind_outcome, lazy_outcome, mount_overlay_outcome, mount_plain_outcome, move_outcome, pivot_outcome, remount_outcome, type_outcome, umount_outcome}
+use Rattle.vt_spec.specs.Machine.Outcome.Removing.{rename_outcome, rmdir_outcome, unlink_outcome}
+use Rattle.vt_spec.specs.Machine.Outcome.Tasks.{chdir_outcome, chroot_outcome, drop_outcome, exit_outcome, fork_outcome, setns_outcome, umask_outcome, unshare_outcome}
+use Rattle.vt_spec.specs.Machine.Outcomes.{Outcome, denied}
+use Rattle.vt_spec.specs.Machine.Policy.{policy}
+use Rattle.vt_spec.specs.Machine.Printed.{reply_line}
+use Rattle.vt_spec.specs.Machine.Script.{Grammar, Request, Version, is_silent, lines_of, longest_line, request_of, today, whole}
+use Rattle.vt_spec.specs.Machine.Script.Request.{Asking, Calling}
+use Rattle.vt_spec.specs.Machine.Sealed.{directed, sealed}
+use Rattle.vt_spec.specs.Machine.World.{Filesystem, World, opening}
+
+-- what a line leads to: nothing, or an outcome that is answered
+pub data Step (N : Type 0) : Type 0 where
+  Silent : Step N
+  Answered : (outcome : Outcome N) → Step N
+
+module _ {N : Type 0} where
+  -- the text that a step writes for the line of this number
+  abbrev pub step_text : ℕ → Step N → List ℕ
+  step_text number Silent = []
+  step_text number (Answered outcome) = reply_line number outcome.answer
+
+  -- the world after a step
+  abbrev pub step_world : World N → Step N → World N
+  step_world world Silent = world
+  step_world world (Answered outcome) = outcome.world
+
+  -- a number is in use: by a mount, a group, a filesystem, a namespace, or an inode
+  abbrev pub used_by_mount : Mount N → List N
+  used_by_mount mount = mount.number ∷ option_to_list (source_of mount.propagation)
+
+  abbrev pub used_by_filesystem : Filesystem N → List N
+  used_by_filesystem filesystem = filesystem.number ∷ filesystem.files.numbers
+
+  abbrev pub numbers_in_use : World N → List N
+  numbers_in_use world =
+      flat_map used_by_mount world.mounts ++ flat_map used_by_filesystem world.filesystems
+      ++ map (λ namespace. namespace.number) world.namespaces
+
+module _ {N : Type 0} (eq : N → N → Bool) where
+  -- a request is the policy's, or a directive; a line that is none is S1
+  abbrev pub requested : World N → Option Request → Fresh N → Outcome N
+  requested world None fresh = denied world (denial S1)
+  requested world (Some (Calling task call)) fresh = policy eq fresh world task call
+  requested world (Some (Asking directive)) fresh = directed eq world directive
+
+  -- A line that was refused memory is S5, and counts as no call.
+  abbrev pub spoken_step : Grammar → World N → List ℕ → Option (Fresh N) → Step N
+  spoken_step grammar world line None = Answered (denied world (denial S5))
+  spoken_step grammar world line (Some fresh) = Answered (requested world (request_of grammar line) fresh)
+
+  abbrev pub line_step_by : Bool → Bool → Grammar → World N → List ℕ → Option (Fresh N) → Step N
+  line_step_by true silent grammar world line fresh = Answered (denied world (denial S1))
+  line_step_by false true grammar world line fresh = Silent
+  line_step_by false false grammar world line fresh = spoken_step grammar world line fresh
+
+  -- the step of a line, to which new numbers are handed in for what its call may make, or none where memory was refused
+  abbrev pub line_step : Grammar → World N → List ℕ → Option (Fresh N) → Step N
+  line_step grammar world line fresh =
+      line_step_by (nat_lt longest_line (length line)) (is_silent line) grammar world line fresh
+
+  -- a supply serves where its numbers are not in use, and each is another one
+  pub record Serves (world : World N) (fresh : Fresh N) : Type 0 where
+    pub unused : (k : ℕ) → is_among eq (fresh k) (numbers_in_use world) ≡ false
+    pub apart : (j k : ℕ) → eq (fresh j) (fresh k) ≡ true → j ≡ k
+
+  -- Which text may be written for these lines, of which the refused ones are given from the first line on: each line is
+  -- handed some numbers that are not in use.
+  abbrev pub Tells : Grammar → World N → ℕ → List (List ℕ) → List Bool → List ℕ → Type 0
+  Tells grammar world number [] refused text = text ≡ []
+  Tells grammar world number (line ∷ lines) [] text = ⊥
+  Tells grammar world number (line ∷ lines) (true ∷ refused) text =
+      (rest : List ℕ) × (text ≡ step_text number (line_step grammar world line None) ++ rest)
+      × Tells grammar (step_world world (line_step grammar world line None)) (number + 1) lines refused rest
+  Tells grammar world number (line ∷ lines) (false ∷ refused) text =
+      (fresh : Fresh N) × Serves world fresh
+      × (rest : List ℕ) × (text ≡ step_text number (line_step grammar world line (Some fresh)) ++ rest)
+      × Tells grammar (step_world world (line_step grammar world line (Some fresh))) (number + 1) lines refused rest
+
+-- Numbers for a line, counted on from those of the line before: a line makes fewer than 2^64 things
+abbrev pub counted_on : ℕ → Fresh ℕ
+counted_on number k = 18446744073709551616 * number + k
+
+abbrev pub first_world : World ℕ
+first_world = opening nat_eq (counted_on 0)
+
+-- what the line of this number is handed, if it was not refused memory
+abbrev pub handed : ℕ → List Bool → Option (Fresh ℕ)
+handed number [] = Some (counted_on number)
+handed number (true ∷ refused) = None
+handed number (false ∷ refused) = Some (counted_on number)
+
+abbrev pub later : List Bool → List Bool
+later [] = []
+later (line ∷ lines) = lines
+
+-- the text of the answers to these lines, of which some were refused memory
+abbrev pub text_from : Grammar → World ℕ → ℕ → List (List ℕ) → List Bool → List ℕ
+text_from grammar world number [] refused = []
+text_from grammar world number (line ∷ lines) refused =
+    step_text number (line_step nat_eq grammar world line (handed number refused))
+    ++ text_from grammar (step_world world (line_step nat_eq grammar world line (handed number refused))) (number + 1) lines (later refused)
+
+-- the world after these lines, none refused
+abbrev pub world_from : Grammar → World ℕ → ℕ → List (List ℕ) → World ℕ
+world_from grammar world number [] = world
+world_from grammar world number (line ∷ lines) =
+    world_from grammar (step_world world (line_step nat_eq grammar world line (handed number []))) (number + 1) lines
+
+-- the answers to a script: of its lines, those are refused memory whose place in the list is `true`
+abbrev pub text_of : Grammar → List Bool → List ℕ → List ℕ
+text_of grammar refused script = text_from grammar first_world 1 (lines_of script) refused
+
+-- the answers of the product as it is today
+unfoldable pub script_text : List Bool → List ℕ → List ℕ
+script_text refused script = text_of today refused script
+
+-- the answers of the whole machine, in a version of the script's language
+unfoldable pub machine_text : Version → List Bool → List ℕ → List ℕ
+machine_text version refused script = text_of (whole version) refused script
+
+-- what a proof by computation opens
+unfoldable pub everything : Unit {0}
+unfolding digits script_text machine_text request_of sealed list_outcome stat_outcome lstat_outcome readlink_outcome
+    read_outcome exec_outcome mkdir_outcome symlink_outcome whiteout_outcome link_outcome write_outcome unlink_outcome
+    rmdir_outcome rename_outcome chmod_outcome chown_outcome opaque_outcome open_outcome pread_outcome pwrite_outcome
+    close_outcome fork_outcome umask_outcome drop_outcome chdir_outcome chroot_outcome exit_outcome unshare_outcome
+    setns_outcome mount_plain_outcome mount_overlay_outcome bind_outcome move_outcome umount_outcome lazy_outcome
+    remount_outcome type_outcome pivot_outcome mounts_outcome
+everything = tt

@@ -1,0 +1,389 @@
+-- Calls in turns: each task, and `!`, has a queue of its lines. A turn walks one word of a call, or judges and acts
+-- (profile).
+use Rattle.std.specs.Prelude.{Bool, Err, List, None, Ok, Option, Result, Some, [], false, filter, filter_map, find, if◌then◌else◌, length, map, nat_eq, nat_le, nat_lt, not, option_map, option_to_list, reverse, slice_get, true, unwrap_or, ℕ, ◌&&◌, ◌++◌, ◌+◌, ◌==◌, ◌||◌, ◌∷◌}
+use Rattle.std.specs.FinMap.Entries.{put}
+use Rattle.std.specs.List.{list_any}
+use Rattle.vt_spec.specs.declared.errors.Deny.{Deny}
+use Rattle.vt_spec.specs.declared.errors.Rule.TheVariants.{K1, S1, S5}
+use Rattle.vt_spec.specs.Machine.Calls.{Call, Creation, Directive, OverlayWords}
+use Rattle.vt_spec.specs.Machine.Calls.Call.{Bind, Chdir, Chmod, Chown, Chroot, Exec, Lazy, LinkTo, Ls, Lstat, MakeWhiteout, Mkdir, MountOverlay, MountPlain, MoveMount, Opaque, OpenFile, PivotRoot, Read, Readlink, Remount, Rename, Rmdir, SetType, Stat, SymlinkAt, Umount, Unlink, Write}
+use Rattle.vt_spec.specs.Machine.Calls.Creation.{Exclusive, NoCreation, OrCreate}
+use Rattle.vt_spec.specs.Errors.{Rules, denial, unless}
+use Rattle.vt_spec.specs.Machine.Lists.{Fresh, counted_from, first_of_list, folded, is_empty_list, rest_of}
+use Rattle.vt_spec.specs.Machine.Outcome.Descriptors.{descriptor_rules}
+use Rattle.vt_spec.specs.Machine.Outcome.Mounting.{admin_rules, destination_walk, source_walk, work_walked}
+use Rattle.vt_spec.specs.Machine.Outcome.Removing.{rename_new_walk}
+use Rattle.vt_spec.specs.Machine.Outcomes.{Answer, Outcome, denied}
+use Rattle.vt_spec.specs.PathText.{words}
+use Rattle.vt_spec.specs.Machine.Policy.{policy}
+use Rattle.vt_spec.specs.Machine.Printed.{reply_line}
+use Rattle.vt_spec.specs.Rights.{cap_sys_chroot}
+use Rattle.vt_spec.specs.Machine.Rows.{lacks}
+use Rattle.vt_spec.specs.Machine.Run.{everything, first_world, handed, later}
+use Rattle.vt_spec.specs.Machine.Script.{Grammar, Request, Version, Who, each_of, is_silent, lines_of, longest_line, raw_tokens, request_of, token_text, who_of, whole}
+use Rattle.vt_spec.specs.Machine.Script.Request.{Asking, Calling}
+use Rattle.vt_spec.specs.Machine.Script.Who.{Nobody, Someone}
+use Rattle.vt_spec.specs.Machine.Sealed.{directed}
+use Rattle.vt_spec.specs.Machine.Walk.{Here, Place, Stop, directory_walk, file_walk, is_directory_there, link_walk, new_leaf_walk, new_walk, object_walk, old_leaf_walk, old_walk}
+use Rattle.vt_spec.specs.Machine.World.{Task, TaskName, World, same_name, task_called}
+
+-- what stands in a queue: a call, a directive, or a line that is refused
+pub data Item : Type 0 where
+  Calls : (call : Call) → Item
+  Asks : (directive : Directive) → Item
+  Refused : (deny : Deny) → Item
+
+pub record Queued : Type 0 where
+  pub line : ℕ
+  pub item : Item
+
+pub record Queue : Type 0 where
+  pub who : Who
+  pub items : List Queued
+
+pub record Reply : Type 0 where
+  pub line : ℕ
+  pub answer : Result Answer Deny
+
+-- The first call of a task's queue under way: how many words were walked, how often it restarted, and the change numbers
+-- that it holds: of its task, of its namespace, and of each filesystem on its way, as first met.
+pub record Progress (N : Type 0) : Type 0 where
+  pub task : TaskName
+  pub walked : ℕ
+  pub restarts : ℕ
+  pub task_change : ℕ
+  pub namespace_change : ℕ
+  pub filesystems : List (N × ℕ)
+
+pub record Sched (N : Type 0) : Type 0 where
+  pub world : World N
+  pub queues : List Queue
+  pub under_way : List (Progress N)
+
+-- what a turn leaves, and the reply, if it was a call's last
+pub record Turned (N : Type 0) : Type 0 where
+  pub sched : Sched N
+  pub reply : Option Reply
+
+abbrev pub same_who : Who → Who → Bool
+same_who (Someone a) (Someone b) = same_name a b
+same_who (Someone a) Nobody = false
+same_who Nobody (Someone b) = false
+same_who Nobody Nobody = true
+
+-- the most restarts of one call: a fourth one runs it whole
+abbrev pub most_restarts : ℕ
+most_restarts = 3
+
+-- a change number that can rise no more tells nothing
+abbrev pub last_number : ℕ
+last_number = 18446744073709551615
+
+-- The walk of one path as turns take it: the filesystems that each word meets, and whether the last of them fails
+pub record Route (N : Type 0) : Type 0 where
+  pub steps : List (List N)
+  pub fails : Bool
+
+abbrev pub is_stale : ℕ → ℕ → Bool
+is_stale held now = not (held == now) || now == last_number
+
+abbrev pub queue_of : List Queue → Who → List Queued
+queue_of queues who = unwrap_or (option_map (λ queue. queue.items) (find (λ queue. same_who who queue.who) queues)) []
+
+abbrev pub shortened : Who → Queue → Queue
+shortened who queue = if same_who who queue.who then record queue { items = rest_of queue.items } else queue
+
+module _ {N : Type 0} where
+  abbrev pub route_of : {A : Type 0} → (A → List (List N)) → Result A (Stop N) → Route N
+  route_of steps_of (Ok a) = record { steps = reverse (steps_of a); fails = false }
+  route_of steps_of (Err stop) = record { steps = reverse stop.steps; fails = not (is_empty_list stop.steps) }
+
+  abbrev pub here_route : Result (Here N) (Stop N) → Route N
+  here_route walk = route_of (λ here. here.steps) walk
+
+  abbrev pub place_route : Result (Place N) (Stop N) → Route N
+  place_route walk = route_of (λ place. place.steps) walk
+
+  -- the S and K rules of a call that walks a path
+  abbrev pub entry_rules : Task N → Call → Rules
+  entry_rules task (OpenFile path access how) = descriptor_rules task
+  entry_rules task (Opaque path mark) = admin_rules task
+  entry_rules task (Chroot path) = (lacks task cap_sys_chroot, K1) ∷ []
+  entry_rules task (MountPlain path given) = admin_rules task
+  entry_rules task (MountOverlay path options given) = admin_rules task
+  entry_rules task (Bind source path recursive) = admin_rules task
+  entry_rules task (MoveMount source path) = admin_rules task
+  entry_rules task (Umount path) = admin_rules task
+  entry_rules task (Lazy path) = admin_rules task
+  entry_rules task (Remount path given) = admin_rules task
+  entry_rules task (SetType path word recursive) = admin_rules task
+  entry_rules task (PivotRoot new put) = admin_rules task
+  entry_rules task call = []
+
+  -- the words of a call's paths in their order, as far as they go
+  abbrev pub words_of : List (Route N) → List (List N)
+  words_of [] = []
+  words_of (route ∷ rest) = if route.fails then route.steps else route.steps ++ words_of rest
+
+  abbrev pub some_fails : List (Route N) → Bool
+  some_fails routes = list_any (λ route. route.fails) routes
+
+  abbrev pub without_progress : TaskName → List (Progress N) → List (Progress N)
+  without_progress name under_way = filter (λ progress. not (same_name name progress.task)) under_way
+
+  -- the first of a queue is answered, and the world is its outcome's
+  abbrev pub replied : Sched N → Who → ℕ → List (Progress N) → Outcome N → Turned N
+  replied sched who line under_way outcome = record {
+    sched = record { world = outcome.world; queues = map (shortened who) sched.queues; under_way = under_way };
+    reply = Some (record { line = line; answer = outcome.answer });
+  }
+
+  abbrev pub call_replied : Sched N → TaskName → ℕ → Outcome N → Turned N
+  call_replied sched name line outcome =
+      replied sched (Someone name) line (without_progress name sched.under_way) outcome
+
+  abbrev pub went_on : Sched N → Progress N → Turned N
+  went_on sched progress = record {
+    sched = record sched { under_way = progress ∷ without_progress progress.task sched.under_way };
+    reply = None;
+  }
+
+  -- one word is walked; where that step fails, or no word is left, the turn is the last
+  abbrev pub is_failing : List (Route N) → ℕ → Bool
+  is_failing ways walked = some_fails ways && length (words_of ways) == walked + 1
+
+module _ {N : Type 0} (eq : N → N → Bool) where
+  -- The paths of a call, in the order in which it walks them
+
+  abbrev pub rename_from_directory : World N → Result (Place N) (Stop N) → Bool
+  rename_from_directory world (Ok place) = is_directory_there eq world place
+  rename_from_directory world (Err stop) = true
+
+  abbrev pub open_route : World N → Task N → List ℕ → Creation → Route N
+  open_route world task path NoCreation = here_route (object_walk eq world task path)
+  open_route world task path (OrCreate mode) = place_route (file_walk eq world task path)
+  open_route world task path (Exclusive mode) = place_route (new_walk eq world task path)
+
+  abbrev pub layer_routes : World N → Task N → Option OverlayWords → List (Route N)
+  layer_routes world task None = []
+  layer_routes world task (Some words) =
+      map (λ path. here_route (source_walk eq world task path))
+      (words.lowers ++ option_to_list words.upper ++ option_to_list (work_walked words))
+
+  abbrev pub routes : World N → Task N → Call → List (Route N)
+  routes world task (Ls path) = here_route (directory_walk eq world task path) ∷ []
+  routes world task (Stat path) = here_route (object_walk eq world task path) ∷ []
+  routes world task (Lstat path) = here_route (link_walk eq world task path) ∷ []
+  routes world task (Readlink path) = here_route (link_walk eq world task path) ∷ []
+  routes world task (Read path) = here_route (object_walk eq world task path) ∷ []
+  routes world task (Write path bytes) = place_route (file_walk eq world task path) ∷ []
+  routes world task (Exec path) = here_route (object_walk eq world task path) ∷ []
+  routes world task (Mkdir path mode) = place_route (new_walk eq world task path) ∷ []
+  routes world task (SymlinkAt text path) = place_route (new_leaf_walk eq world task path) ∷ []
+  routes world task (MakeWhiteout path) = place_route (new_leaf_walk eq world task path) ∷ []
+  routes world task (LinkTo old new) =
+      here_route (link_walk eq world task old) ∷ place_route (new_leaf_walk eq world task new) ∷ []
+  routes world task (Unlink path) = place_route (old_leaf_walk eq world task path) ∷ []
+  routes world task (Rmdir path) = place_route (old_walk eq world task path) ∷ []
+  routes world task (Rename old new) =
+      place_route (old_leaf_walk eq world task old)
+      ∷ place_route (rename_new_walk eq world task new (rename_from_directory world (old_leaf_walk eq world task old))) ∷ []
+  routes world task (Chmod path mode) = here_route (object_walk eq world task path) ∷ []
+  routes world task (Chown path uid gid) = here_route (object_walk eq world task path) ∷ []
+  routes world task (Opaque path mark) = here_route (directory_walk eq world task path) ∷ []
+  routes world task (OpenFile path access creation) = open_route world task path creation ∷ []
+  routes world task (Chdir path) = here_route (directory_walk eq world task path) ∷ []
+  routes world task (Chroot path) = here_route (directory_walk eq world task path) ∷ []
+  routes world task (MountPlain path given) = here_route (destination_walk eq world task path) ∷ []
+  routes world task (MountOverlay path options given) =
+      here_route (destination_walk eq world task path) ∷ layer_routes world task options
+  routes world task (Bind source path recursive) =
+      here_route (source_walk eq world task source) ∷ here_route (destination_walk eq world task path) ∷ []
+  routes world task (MoveMount source path) =
+      here_route (source_walk eq world task source) ∷ here_route (destination_walk eq world task path) ∷ []
+  routes world task (Umount path) = here_route (directory_walk eq world task path) ∷ []
+  routes world task (Lazy path) = here_route (directory_walk eq world task path) ∷ []
+  routes world task (Remount path given) = here_route (directory_walk eq world task path) ∷ []
+  routes world task (SetType path word recursive) = here_route (directory_walk eq world task path) ∷ []
+  routes world task (PivotRoot new put) =
+      here_route (source_walk eq world task new) ∷ here_route (destination_walk eq world task put) ∷ []
+  routes world task call = []
+
+  -- Change numbers that are held
+
+  abbrev pub namespace_change_of : World N → N → ℕ
+  namespace_change_of world number =
+      unwrap_or (option_map (λ namespace. namespace.change) (find (λ namespace. eq number namespace.number) world.namespaces)) last_number
+
+  abbrev pub filesystem_change_of : World N → N → ℕ
+  filesystem_change_of world number =
+      unwrap_or (option_map (λ filesystem. filesystem.change) (find (λ filesystem. eq number filesystem.number) world.filesystems)) last_number
+
+  -- one of the numbers held is another now, or can rise no more
+  abbrev pub is_overtaken : World N → Task N → Progress N → Bool
+  is_overtaken world task progress =
+      is_stale progress.task_change task.change
+      || is_stale progress.namespace_change (namespace_change_of world task.namespace)
+      || list_any (λ held. is_stale held.1 (filesystem_change_of world held.0)) progress.filesystems
+
+  abbrev pub hold_one : World N → List (N × ℕ) → N → List (N × ℕ)
+  hold_one world held number =
+      if list_any (λ other. eq number other.0) held then held else held ++ ((number, filesystem_change_of world number) ∷ [])
+
+  abbrev pub first_progress : World N → Task N → ℕ → Progress N
+  first_progress world task restarts = record {
+    task = task.name;
+    walked = 0;
+    restarts = restarts;
+    task_change = task.change;
+    namespace_change = namespace_change_of world task.namespace;
+    filesystems = [];
+  }
+
+  -- one word more was walked, and what it met is held
+  abbrev pub one_further : World N → List N → Progress N → Progress N
+  one_further world met progress = record progress {
+    walked = progress.walked + 1;
+    filesystems = folded (hold_one world) progress.filesystems met;
+  }
+
+  -- Queues
+
+  -- the call is run whole: its last turn
+  abbrev pub run_whole : Sched N → TaskName → ℕ → Call → Fresh N → Turned N
+  run_whole sched name line call fresh = call_replied sched name line (policy eq fresh sched.world name call)
+
+  abbrev pub word_walked_by : Bool → Sched N → ℕ → Call → Fresh N → Progress N → List N → Turned N
+  word_walked_by true sched line call fresh progress met = run_whole sched progress.task line call fresh
+  word_walked_by false sched line call fresh progress met = went_on sched (one_further sched.world met progress)
+
+  abbrev pub next_word : Sched N → ℕ → Call → Fresh N → Progress N → List (Route N) → Option (List N) → Turned N
+  next_word sched line call fresh progress ways None = run_whole sched progress.task line call fresh
+  next_word sched line call fresh progress ways (Some met) =
+      word_walked_by (is_failing ways progress.walked) sched line call fresh progress met
+
+  abbrev pub further : Sched N → Task N → ℕ → Call → Fresh N → Progress N → Turned N
+  further sched task line call fresh progress =
+      next_word sched line call fresh progress (routes sched.world task call)
+      (slice_get (words_of (routes sched.world task call)) progress.walked)
+
+  -- a first turn, or a restart, asks the S and K rules and walks the first word
+  abbrev pub first_turn_by : Result Call Deny → Sched N → Task N → ℕ → Call → Fresh N → ℕ → Turned N
+  first_turn_by (Err deny) sched task line call fresh restarts = run_whole sched task.name line call fresh
+  first_turn_by (Ok same) sched task line call fresh restarts =
+      further sched task line call fresh (first_progress sched.world task restarts)
+
+  abbrev pub first_turn : Sched N → Task N → ℕ → Call → Fresh N → ℕ → Turned N
+  first_turn sched task line call fresh restarts =
+      first_turn_by (unless (entry_rules task call) (Ok call)) sched task line call fresh restarts
+
+  abbrev pub restarted : Bool → Sched N → Task N → ℕ → Call → Fresh N → Progress N → Turned N
+  restarted true sched task line call fresh progress = run_whole sched task.name line call fresh
+  restarted false sched task line call fresh progress = first_turn sched task line call fresh (progress.restarts + 1)
+
+  abbrev pub later_turn : Bool → Sched N → Task N → ℕ → Call → Fresh N → Progress N → Turned N
+  later_turn true sched task line call fresh progress =
+      restarted (nat_le most_restarts progress.restarts) sched task line call fresh progress
+  later_turn false sched task line call fresh progress = further sched task line call fresh progress
+
+  abbrev pub turn_under_way : Sched N → Task N → ℕ → Call → Fresh N → Option (Progress N) → Turned N
+  turn_under_way sched task line call fresh None = first_turn sched task line call fresh 0
+  turn_under_way sched task line call fresh (Some progress) =
+      later_turn (is_overtaken sched.world task progress) sched task line call fresh progress
+
+  abbrev pub call_turn_of : Sched N → TaskName → ℕ → Call → Fresh N → Option (Task N) → Turned N
+  call_turn_of sched name line call fresh None = run_whole sched name line call fresh
+  call_turn_of sched name line call fresh (Some task) =
+      turn_under_way sched task line call fresh (find (λ progress. same_name name progress.task) sched.under_way)
+
+  -- a turn that was refused memory ends the call with S5
+  abbrev pub call_turn : Sched N → TaskName → ℕ → Call → Option (Fresh N) → Turned N
+  call_turn sched name line call None = call_replied sched name line (denied sched.world (denial S5))
+  call_turn sched name line call (Some fresh) = call_turn_of sched name line call fresh (task_called sched.world name)
+
+  abbrev pub directive_turn : Sched N → Who → ℕ → Directive → Option (Fresh N) → Turned N
+  directive_turn sched who line directive None = replied sched who line sched.under_way (denied sched.world (denial S5))
+  directive_turn sched who line directive (Some fresh) =
+      replied sched who line sched.under_way (directed eq sched.world directive)
+
+  abbrev pub item_turn : Sched N → Who → ℕ → Item → Option (Fresh N) → Turned N
+  item_turn sched (Someone name) line (Calls call) fresh = call_turn sched name line call fresh
+  item_turn sched Nobody line (Calls call) fresh = record { sched = sched; reply = None }
+  item_turn sched who line (Asks directive) fresh = directive_turn sched who line directive fresh
+  item_turn sched who line (Refused deny) fresh = replied sched who line sched.under_way (denied sched.world deny)
+
+  -- a turn for an empty queue does nothing
+  abbrev pub queue_turn : Sched N → Who → List Queued → Option (Fresh N) → Turned N
+  queue_turn sched who [] fresh = record { sched = sched; reply = None }
+  queue_turn sched who (first ∷ rest) fresh = item_turn sched who first.line first.item fresh
+
+  unfoldable pub turn : Sched N → Who → Option (Fresh N) → Turned N
+  turn sched who fresh = queue_turn sched who (queue_of sched.queues who) fresh
+
+-- The queues of a script. A line that is not of the grammar stands in the queue of its first token, if that names one and
+-- the line is not too long.
+abbrev pub queued : ℕ → Who → Item → Who × Queued
+queued number who item = (who, record { line = number; item = item })
+
+abbrev pub first_who : Option (List (List ℕ)) → Option Who
+first_who None = None
+first_who (Some []) = None
+first_who (Some (token ∷ tokens)) = who_of token
+
+abbrev pub first_token : List ℕ → List (List ℕ)
+first_token line = option_to_list (first_of_list (raw_tokens line))
+
+abbrev pub refused_line : ℕ → List ℕ → Option (Who × Queued)
+refused_line number line =
+    option_map (λ who. queued number who (Refused (denial S1))) (first_who (each_of token_text (first_token line)))
+
+abbrev pub queued_request : ℕ → List ℕ → Option Request → Option (Who × Queued)
+queued_request number line None = refused_line number line
+queued_request number line (Some (Calling task call)) = Some (queued number (Someone task) (Calls call))
+queued_request number line (Some (Asking directive)) = Some (queued number Nobody (Asks directive))
+
+abbrev pub queued_line : Grammar → ℕ × List ℕ → Option (Who × Queued)
+queued_line grammar line =
+    if nat_lt longest_line (length line.1) || is_silent line.1 then None
+    else queued_request line.0 line.1 (request_of grammar line.1)
+
+abbrev pub with_item_last : List Queue → Who × Queued → List Queue
+with_item_last [] entry = record { who = entry.0; items = entry.1 ∷ [] } ∷ []
+with_item_last (queue ∷ queues) entry =
+    if same_who entry.0 queue.who then record queue { items = queue.items ++ (entry.1 ∷ []) } ∷ queues
+    else queue ∷ with_item_last queues entry
+
+abbrev pub queues_of : Grammar → List ℕ → List Queue
+queues_of grammar script =
+    folded with_item_last [] (filter_map (queued_line grammar) (counted_from 1 (lines_of script)))
+
+-- A schedule names a task or `!` a line, without spaces or escapes; any other line does nothing
+abbrev pub schedule_who : List ℕ → Option Who
+schedule_who line = if nat_lt longest_line (length line) then None else who_of line
+
+-- the schedule's turns, of which some were refused memory, and the text of their replies
+abbrev pub reply_text : Option Reply → List ℕ
+reply_text None = []
+reply_text (Some reply) = reply_line reply.line reply.answer
+
+abbrev pub turn_of_line : Sched ℕ → Option Who → Option (Fresh ℕ) → Turned ℕ
+turn_of_line sched None fresh = record { sched = sched; reply = None }
+turn_of_line sched (Some who) fresh = turn nat_eq sched who fresh
+
+abbrev pub played : ℕ → Sched ℕ → List (List ℕ) → List Bool → List ℕ
+played number sched [] refused = []
+played number sched (line ∷ lines) refused =
+    reply_text (turn_of_line sched (schedule_who line) (handed number refused)).reply
+    ++ played (number + 1) (turn_of_line sched (schedule_who line) (handed number refused)).sched lines (later refused)
+
+abbrev pub first_sched : Grammar → List ℕ → Sched ℕ
+first_sched grammar script = record { world = first_world; queues = queues_of grammar script; under_way = [] }
+
+-- the replies that a script's queues give in the order of a schedule
+unfoldable pub turns_text : Version → List Bool → List ℕ → List ℕ → List ℕ
+turns_text version refused script schedule =
+    played 1 (first_sched (whole version) script) (lines_of schedule) refused
+
+unfoldable pub everything_in_turns : Unit {0}
+unfolding everything turn turns_text
+everything_in_turns = tt

@@ -1,0 +1,141 @@
+-- The conditions of a world, which every call keeps.
+use Rattle.std.specs.Prelude.{All, Bool, List, None, Option, Some, false, is_some, length, map, nat_le, nat_lt, not, option_map, option_to_list, true, ℕ, ⊤, ◌&&◌, ◌||◌, ◌≡◌}
+use Rattle.std.specs.List.{list_all}
+use Rattle.std.specs.Str.{bytes_eq}
+use Rattle.vt_spec.specs.declared.attributes.Kind.TheVariants.{File, White}
+use Rattle.vt_spec.specs.Machine.Attach.{has_too_many}
+use Rattle.vt_spec.specs.Machine.FileTree.{FileTree, is_kind_in, is_opaque_in}
+use Rattle.vt_spec.specs.Machine.Layers.{shown}
+use Rattle.vt_spec.specs.Machine.Lists.{any_pair, chain, is_among, last_or, same_option, then_some}
+use Rattle.vt_spec.specs.Machine.Locked.{of_overlay}
+use Rattle.vt_spec.specs.Machine.Merging.{layer_node, merged_at, real_object}
+use Rattle.vt_spec.specs.Machine.Mounts.{Location, Mount, same_location, source_of}
+use Rattle.vt_spec.specs.Machine.Namespaces.{has_tasks}
+use Rattle.vt_spec.specs.Machine.Outcome.Descriptors.{most_descriptors}
+use Rattle.vt_spec.specs.Machine.Outcome.Making.{largest_file}
+use Rattle.vt_spec.specs.Machine.Outcome.Tasks.{deepest_name, most_forks}
+use Rattle.vt_spec.specs.Machine.Receives.{groups_up, has_members}
+use Rattle.vt_spec.specs.Tree.{Content, Node, bytes_in, is_directory_node}
+use Rattle.vt_spec.specs.Tree.Content.{Directory, Regular, Symlink}
+use Rattle.vt_spec.specs.TreeLaws.{IsTree, led}
+use Rattle.vt_spec.specs.Machine.World.{Filesystem, Layer, Overlay, Real, Task, World, all_locations, filesystem_numbered, is_directory_at, is_overlay, layers_of, mount_at, open_layer, shown_layers}
+
+module _ {N : Type 0} where
+  -- what the merged tree has of a shown object: its owner, mode, kind, bytes or text; a directory's names are the tree's
+  abbrev pub same_content : Content N → Content N → Bool
+  same_content (Directory parent entries opaque) (Directory other_parent other_entries other_opaque) = true
+  same_content (Regular bytes) (Regular other) = bytes_eq bytes other
+  same_content (Symlink text) (Symlink other) = bytes_eq text other
+  same_content a b = false
+
+  abbrev pub SameObject : Option (Node N) → Option (Node N) → Type 0
+  SameObject None None = ⊤
+  SameObject None (Some other) = ⊥
+  SameObject (Some node) None = ⊥
+  SameObject (Some node) (Some other) = (node.attr ≡ other.attr) × (same_content node.content other.content ≡ true)
+
+  -- a mount outside every namespace has no place and is private
+  abbrev pub is_nowhere_or_attached : Mount N → Bool
+  is_nowhere_or_attached mount =
+      is_some mount.namespace || (not (is_some mount.place) && not (is_some (source_of mount.propagation)))
+
+  -- the limits of a task
+  abbrev pub is_within_limits : Task N → Bool
+  is_within_limits task =
+      nat_le (length task.descriptors) most_descriptors && nat_le task.forks most_forks
+      && nat_le (length task.name) deepest_name && nat_le (length task.credentials.groups) 32 && nat_lt task.umask 512
+
+  abbrev pub is_no_larger : FileTree N → N → Bool
+  is_no_larger files number = not (is_kind_in File (files.tree.node number)) || nat_le (length (bytes_in (files.tree.node number))) largest_file
+
+  -- where names lead from the root of a tree
+  abbrev pub number_at_path : FileTree N → List (List ℕ) → Option N
+  number_at_path files path = led files.tree files.tree.root path
+
+module _ {N : Type 0} (eq : N → N → Bool) where
+  -- Mounts
+
+  abbrev pub stand_at_one_place : Mount N → Mount N → Bool
+  stand_at_one_place a b = is_some a.place && same_option (same_location eq) a.place b.place
+
+  -- the places below places come to an end, at a mount without one, in the same namespace
+  abbrev pub last_below : World N → Mount N → Mount N
+  last_below world mount = last_or mount (chain (length world.mounts) (λ below. option_map (mount_at eq world) below.place) mount)
+
+  abbrev pub stands_in_its_namespace : World N → Mount N → Bool
+  stands_in_its_namespace world mount =
+      not (is_some (last_below world mount).place) && same_option eq mount.namespace (last_below world mount).namespace
+
+  -- the masters above a group come to an end, and each group has a member
+  abbrev pub masters_end : World N → N → Bool
+  masters_end world group = not (is_some (world.master (last_or group (groups_up world group))))
+
+  abbrev pub has_living_groups : World N → Mount N → Bool
+  has_living_groups world mount =
+      list_all (λ group. list_all (has_members eq world.mounts) (groups_up world group) && masters_end world group)
+      (option_to_list (source_of mount.propagation))
+
+  -- what a location, a mount or a layer uses is there
+  abbrev pub is_there : World N → N → N → Bool
+  is_there world filesystem number = is_some ((filesystem_numbered eq world filesystem).files.tree.node number)
+
+  abbrev pub is_located_well : World N → Location N → Bool
+  is_located_well world location =
+      is_among eq location.mount (map (λ mount. mount.number) world.mounts)
+      && is_there world (mount_at eq world location).filesystem location.node
+
+  abbrev pub has_its_root : World N → Mount N → Bool
+  has_its_root world mount =
+      is_directory_node ((filesystem_numbered eq world mount.filesystem).files.tree.node mount.root)
+      && list_all (is_directory_at eq world) (option_to_list mount.place)
+
+  -- layers are directories of plain trees
+  abbrev pub is_plain_layer : World N → Layer N → Bool
+  is_plain_layer world layer =
+      not (is_overlay (filesystem_numbered eq world layer.filesystem))
+      && is_directory_node ((filesystem_numbered eq world layer.filesystem).files.tree.node layer.directory)
+
+  -- The numbers that stand beside a tree are those of its inodes
+  abbrev pub ListsNumbers : FileTree N → Type 0
+  ListsNumbers files = (number : N) → is_among eq number files.numbers ≡ is_some (files.tree.node number)
+
+  -- An overlay is one tree: at every path it has what its layers show, and no whiteout and no mark; two inodes have two
+  -- real objects; and the real object of an inode with a name is the one that is shown there.
+  abbrev pub real_shown : World N → Overlay N → List (List ℕ) → Option (Real N)
+  real_shown world overlay path =
+      option_map (λ object. real_object (is_some overlay.upper) object.seen.layer object)
+      (merged_at (map (open_layer eq world) (shown_layers overlay)) path)
+
+  abbrev pub node_shown : World N → Overlay N → List (List ℕ) → Option (Node N)
+  node_shown world overlay path =
+      then_some (shown (map (open_layer eq world) (shown_layers overlay)) path)
+      (layer_node (map (open_layer eq world) (shown_layers overlay)))
+
+  pub record IsMerged (world : World N) (filesystem : Filesystem N) (overlay : Overlay N) : Type 0 where
+    pub shows : (path : List (List ℕ)) → SameObject (then_some (number_at_path filesystem.files path) filesystem.files.tree.node) (node_shown world overlay path)
+    pub names : (path : List (List ℕ)) (number : N) → number_at_path filesystem.files path ≡ Some number → overlay.real number ≡ real_shown world overlay path
+    pub no_whiteout : (number : N) → is_kind_in White (filesystem.files.tree.node number) ≡ false
+    pub no_mark : (number : N) → is_opaque_in (filesystem.files.tree.node number) ≡ false
+    pub one_to_one : (a b : N) → is_some (overlay.real a) ≡ true → overlay.real a ≡ overlay.real b → a ≡ b
+
+  pub record IsWorld (world : World N) : Type 0 where
+    -- trees: path_resolution(7)
+    pub trees : All (λ filesystem. IsTree filesystem.files.tree) world.filesystems
+    pub numbers : All (λ filesystem. ListsNumbers filesystem.files) world.filesystems
+    -- overlays: overlayfs
+    pub overlays_merge : (number : N) (overlay : Overlay N) → (filesystem_numbered eq world number).overlay ≡ Some overlay → IsMerged world (filesystem_numbered eq world number) overlay
+    pub plain_layers : list_all (of_overlay true (λ overlay. list_all (is_plain_layer world) (layers_of overlay))) world.filesystems ≡ true
+    -- mounts: mount_namespaces(7), sharedsubtree
+    pub one_number : any_pair (λ a b. eq a.number b.number) world.mounts ≡ false
+    pub one_child : any_pair stand_at_one_place world.mounts ≡ false
+    pub no_cycle : list_all (stands_in_its_namespace world) world.mounts ≡ true
+    pub nowhere : list_all is_nowhere_or_attached world.mounts ≡ true
+    pub groups : list_all (has_living_groups world) world.mounts ≡ true
+    pub roots : list_all (has_its_root world) world.mounts ≡ true
+    -- tasks: credentials(7)
+    pub locations_live : list_all (is_located_well world) (all_locations world) ≡ true
+    pub namespaces_live : list_all (has_tasks eq world) world.namespaces ≡ true
+    -- limits
+    pub few_mounts : has_too_many eq world ≡ false
+    pub small_tasks : list_all is_within_limits world.tasks ≡ true
+    pub small_files : list_all (λ filesystem. list_all (is_no_larger filesystem.files) filesystem.files.numbers) world.filesystems ≡ true
