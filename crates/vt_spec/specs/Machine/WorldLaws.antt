@@ -1,24 +1,29 @@
 -- The conditions of a world, which every call keeps.
-use Rattle.std.specs.Prelude.{All, Bool, List, None, Option, Some, false, is_some, length, map, nat_le, nat_lt, not, option_map, option_to_list, true, ℕ, ⊤, ◌&&◌, ◌||◌, ◌≡◌}
+use Rattle.std.specs.Prelude.{All, Bool, List, None, Option, Some, [], false, filter, is_some, length, map, nat_le, nat_lt, not, option_map, option_to_list, true, ℕ, ⊤, ◌&&◌, ◌+◌, ◌==◌, ◌||◌, ◌≡◌, ◌∷◌}
 use Rattle.std.specs.List.{list_all}
 use Rattle.std.specs.Str.{bytes_eq}
 use Rattle.vt_spec.specs.declared.attributes.Kind.TheVariants.{File, White}
 use Rattle.vt_spec.specs.Machine.Attach.{has_too_many}
-use Rattle.vt_spec.specs.Machine.FileTree.{FileTree, is_kind_in, is_opaque_in}
+use Rattle.vt_spec.specs.Machine.FileTree.{FileTree, is_kind_in, is_opaque_in, link_text}
 use Rattle.vt_spec.specs.Machine.Layers.{shown}
-use Rattle.vt_spec.specs.Machine.Lists.{any_pair, chain, is_among, last_or, same_option, then_some}
+use Rattle.vt_spec.specs.Machine.Lists.{any_pair, chain, holds_of, is_among, is_empty_list, last_or, same_option, then_some}
 use Rattle.vt_spec.specs.Machine.Locked.{of_overlay}
 use Rattle.vt_spec.specs.Machine.Merging.{layer_node, merged_at, real_object}
-use Rattle.vt_spec.specs.Machine.Mounts.{Location, Mount, same_location, source_of}
+use Rattle.vt_spec.specs.Machine.Mounts.{Location, Mount, Propagation, same_location, source_of}
+use Rattle.vt_spec.specs.Machine.Mounts.Propagation.{Private, Shared, Slave, Unbindable}
 use Rattle.vt_spec.specs.Machine.Namespaces.{has_tasks}
 use Rattle.vt_spec.specs.Machine.Outcome.Descriptors.{most_descriptors}
 use Rattle.vt_spec.specs.Machine.Outcome.Making.{largest_file}
+use Rattle.vt_spec.specs.Machine.Outcome.Mounting.{most_lowers}
 use Rattle.vt_spec.specs.Machine.Outcome.Tasks.{deepest_name, most_forks}
+use Rattle.vt_spec.specs.Machine.Policy.{same_bool}
 use Rattle.vt_spec.specs.Machine.Receives.{groups_up, has_members}
-use Rattle.vt_spec.specs.Tree.{Content, Node, bytes_in, is_directory_node}
+use Rattle.vt_spec.specs.PathText.{is_empty, longest_name, longest_path}
+use Rattle.vt_spec.specs.Tree.{Content, Node, bytes_in, is_directory_node, names_in}
 use Rattle.vt_spec.specs.Tree.Content.{Directory, Regular, Symlink}
 use Rattle.vt_spec.specs.TreeLaws.{IsTree, led}
-use Rattle.vt_spec.specs.Machine.World.{Filesystem, Layer, Overlay, Real, Task, World, all_locations, filesystem_numbered, is_directory_at, is_overlay, layers_of, mount_at, open_layer, shown_layers}
+use Rattle.vt_spec.specs.Machine.World.{Descriptor, Filesystem, Layer, Namespace, Overlay, Real, Task, World, all_locations, filesystem_numbered, is_directory_at, is_overlay, layers_of, mount_at, mounts_of, open_layer, same_name, shown_layers}
+use Rattle.vt_spec.specs.Machine.World.Real.{Upper}
 
 module _ {N : Type 0} where
   -- what the merged tree has of a shown object: its owner, mode, kind, bytes or text; a directory's names are the tree's
@@ -34,19 +39,51 @@ module _ {N : Type 0} where
   SameObject (Some node) None = ⊥
   SameObject (Some node) (Some other) = (node.attr ≡ other.attr) × (same_content node.content other.content ≡ true)
 
+  abbrev pub is_private : Propagation N → Bool
+  is_private (Shared group) = false
+  is_private (Slave master) = false
+  is_private Private = true
+  is_private Unbindable = false
+
   -- a mount outside every namespace has no place and is private
   abbrev pub is_nowhere_or_attached : Mount N → Bool
-  is_nowhere_or_attached mount =
-      is_some mount.namespace || (not (is_some mount.place) && not (is_some (source_of mount.propagation)))
+  is_nowhere_or_attached mount = is_some mount.namespace || (not (is_some mount.place) && is_private mount.propagation)
+
+  -- descriptors stand in the order of their numbers, each once
+  abbrev pub are_ascending_from : ℕ → List (Descriptor N) → Bool
+  are_ascending_from least [] = true
+  are_ascending_from least (descriptor ∷ rest) =
+      nat_le least descriptor.number && are_ascending_from (descriptor.number + 1) rest
 
   -- the limits of a task
   abbrev pub is_within_limits : Task N → Bool
   is_within_limits task =
-      nat_le (length task.descriptors) most_descriptors && nat_le task.forks most_forks
+      nat_le (length task.descriptors) most_descriptors && are_ascending_from 0 task.descriptors
+      && list_all (λ descriptor. nat_lt descriptor.number most_descriptors) task.descriptors && nat_le task.forks most_forks
       && nat_le (length task.name) deepest_name && nat_le (length task.credentials.groups) 32 && nat_lt task.umask 512
 
   abbrev pub is_no_larger : FileTree N → N → Bool
   is_no_larger files number = not (is_kind_in File (files.tree.node number)) || nat_le (length (bytes_in (files.tree.node number))) largest_file
+
+  -- a name of a directory, and the text of a link, are not empty and not too long: path_resolution(7), symlink(2)
+  abbrev pub has_fit_names : FileTree N → N → Bool
+  has_fit_names files number =
+      list_all (λ name. not (is_empty name) && nat_le (length name) longest_name) (names_in (files.tree.node number))
+
+  abbrev pub has_fit_text : FileTree N → N → Bool
+  has_fit_text files number =
+      list_all (λ text. not (is_empty text) && nat_le (length text) longest_path) (option_to_list (link_text (files.tree.node number)))
+
+  abbrev pub is_fit_filesystem : Filesystem N → Bool
+  is_fit_filesystem filesystem =
+      list_all (λ number. is_no_larger filesystem.files number && has_fit_names filesystem.files number && has_fit_text filesystem.files number)
+      filesystem.files.numbers
+
+  -- an overlay has 1 to 128 lower layers, and a work directory just where it has an upper layer: overlayfs
+  abbrev pub has_fit_layers : Overlay N → Bool
+  has_fit_layers overlay =
+      not (is_empty_list overlay.lowers) && nat_le (length overlay.lowers) most_lowers
+      && same_bool (is_some overlay.upper) (is_some overlay.work)
 
   -- where names lead from the root of a tree
   abbrev pub number_at_path : FileTree N → List (List ℕ) → Option N
@@ -74,6 +111,17 @@ module _ {N : Type 0} (eq : N → N → Bool) where
   has_living_groups world mount =
       list_all (λ group. list_all (has_members eq world.mounts) (groups_up world group) && masters_end world group)
       (option_to_list (source_of mount.propagation))
+
+  -- the namespace of a mount or a task is there
+  abbrev pub is_listed : World N → N → Bool
+  is_listed world number = is_among eq number (map (λ namespace. namespace.number) world.namespaces)
+
+  abbrev pub is_root_mount : Mount N → Bool
+  is_root_mount mount = not (is_some mount.place)
+
+  -- a namespace has one root mount
+  abbrev pub has_one_root : World N → Namespace N → Bool
+  has_one_root world namespace = length (filter is_root_mount (mounts_of eq world namespace.number)) == 1
 
   -- what a location, a mount or a layer uses is there
   abbrev pub is_there : World N → N → N → Bool
@@ -116,6 +164,7 @@ module _ {N : Type 0} (eq : N → N → Bool) where
     pub names : (path : List (List ℕ)) (number : N) → number_at_path filesystem.files path ≡ Some number → overlay.real number ≡ real_shown world overlay path
     pub no_whiteout : (number : N) → is_kind_in White (filesystem.files.tree.node number) ≡ false
     pub no_mark : (number : N) → is_opaque_in (filesystem.files.tree.node number) ≡ false
+    pub upper_there : (number object : N) → overlay.real number ≡ Some (Upper object) → holds_of (λ layer. is_there world layer.filesystem object) overlay.upper ≡ true
     pub one_to_one : (a b : N) → is_some (overlay.real a) ≡ true → overlay.real a ≡ overlay.real b → a ≡ b
 
   pub record IsWorld (world : World N) : Type 0 where
@@ -124,6 +173,9 @@ module _ {N : Type 0} (eq : N → N → Bool) where
     pub numbers : All (λ filesystem. ListsNumbers filesystem.files) world.filesystems
     -- overlays: overlayfs
     pub overlays_merge : (number : N) (overlay : Overlay N) → (filesystem_numbered eq world number).overlay ≡ Some overlay → IsMerged world (filesystem_numbered eq world number) overlay
+    pub one_filesystem : any_pair (λ a b. eq a.number b.number) world.filesystems ≡ false
+    pub fit_filesystems : list_all is_fit_filesystem world.filesystems ≡ true
+    pub fit_layers : list_all (of_overlay true has_fit_layers) world.filesystems ≡ true
     pub plain_layers : list_all (of_overlay true (λ overlay. list_all (is_plain_layer world) (layers_of overlay))) world.filesystems ≡ true
     -- mounts: mount_namespaces(7), sharedsubtree
     pub one_number : any_pair (λ a b. eq a.number b.number) world.mounts ≡ false
@@ -132,10 +184,15 @@ module _ {N : Type 0} (eq : N → N → Bool) where
     pub nowhere : list_all is_nowhere_or_attached world.mounts ≡ true
     pub groups : list_all (has_living_groups world) world.mounts ≡ true
     pub roots : list_all (has_its_root world) world.mounts ≡ true
+    -- namespaces: mount_namespaces(7)
+    pub one_namespace : any_pair (λ a b. eq a.number b.number) world.namespaces ≡ false
+    pub mounts_listed : list_all (λ mount. list_all (is_listed world) (option_to_list mount.namespace)) world.mounts ≡ true
+    pub tasks_listed : list_all (λ task. is_listed world task.namespace) world.tasks ≡ true
+    pub root_mounts : list_all (has_one_root world) world.namespaces ≡ true
     -- tasks: credentials(7)
+    pub one_task : any_pair (λ a b. same_name a.name b.name) world.tasks ≡ false
     pub locations_live : list_all (is_located_well world) (all_locations world) ≡ true
     pub namespaces_live : list_all (has_tasks eq world) world.namespaces ≡ true
     -- limits
     pub few_mounts : has_too_many eq world ≡ false
     pub small_tasks : list_all is_within_limits world.tasks ≡ true
-    pub small_files : list_all (λ filesystem. list_all (is_no_larger filesystem.files) filesystem.files.numbers) world.filesystems ≡ true
