@@ -1,0 +1,4 @@
+//! Laws of the whole machine: each public function is a theorem of the written policy, and does nothing.
+#![tactic(auto)]
+
+pub mod denials;
