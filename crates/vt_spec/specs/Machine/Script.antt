@@ -438,6 +438,23 @@ today = record {
   directs = λ name. false;
 }
 
+-- the names of the calls on files and tasks, in one tree
+abbrev pub file_call_names : List (List ℕ)
+file_call_names =
+    codes "ls" ∷ codes "stat" ∷ codes "lstat" ∷ codes "readlink" ∷ codes "read" ∷ codes "write" ∷ codes "exec"
+    ∷ codes "mkdir" ∷ codes "symlink" ∷ codes "link" ∷ codes "unlink" ∷ codes "rmdir" ∷ codes "rename"
+    ∷ codes "chmod" ∷ codes "chown" ∷ codes "open" ∷ codes "pread" ∷ codes "pwrite" ∷ codes "close"
+    ∷ codes "umask" ∷ codes "drop" ∷ codes "fork" ∷ codes "exit" ∷ []
+
+-- the calls on files and tasks alone
+abbrev pub files : Grammar
+files = record {
+  version = One;
+  knows = λ name. list_any (bytes_eq name) file_call_names;
+  takes = λ call. Some call;
+  directs = λ name. false;
+}
+
 -- the whole language
 abbrev pub whole : Version → Grammar
 whole version = record { version = version; knows = λ name. true; takes = λ call. Some call; directs = λ name. true }
