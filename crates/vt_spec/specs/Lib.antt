@@ -11,4 +11,5 @@ pub mod Script
 pub mod Printed
 pub mod Run
 pub mod Machine
+pub mod OneTree
 pub mod Laws

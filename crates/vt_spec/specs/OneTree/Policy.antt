@@ -1,0 +1,283 @@
+-- The policy in one tree: what each call is permitted, and what it then does. A call is judged by its walks and its tables of
+-- rules, and what it is permitted is then done.
+use Rattle.std.specs.Prelude.{Bool, Err, List, None, Ok, Option, Result, Some, [], drop, false, if◌then◌else◌, not, ok_or, option_map, take, true, unwrap_or, ◌+◌, ◌++◌, ◌∷◌, ℕ, length, map}
+use Rattle.vt_spec.specs.declared.attributes.Attr.{Attr}
+use Rattle.vt_spec.specs.declared.errors.Deny.{Deny}
+use Rattle.vt_spec.specs.declared.errors.Rule.TheVariants.{C2, P1, S1, S2}
+use Rattle.vt_spec.specs.Errors.{and_then, denial, unless}
+use Rattle.vt_spec.specs.Machine.Calls.{Access, Call, CapabilityWord, Creation, ForkWords}
+use Rattle.vt_spec.specs.Machine.Calls.Call.{Chmod, Chown, Close, Drop, Exec, Exit, Fork, LinkTo, Ls, Lstat, Mkdir, OpenFile, Pread, Pwrite, Read, Readlink, Rename, Rmdir, Stat, SymlinkAt, Umask, Unlink, Write}
+use Rattle.vt_spec.specs.Machine.Calls.Creation.{Exclusive, NoCreation, OrCreate}
+use Rattle.vt_spec.specs.Machine.Changes.Change.{AddName, Make, Move, Remove, SetAttr, SetBytes}
+use Rattle.vt_spec.specs.Machine.Outcome.Attributes.{attr_with_mode, attr_with_owner, may_chown}
+use Rattle.vt_spec.specs.Machine.Outcome.Descriptors.{overwritten}
+use Rattle.vt_spec.specs.Machine.Outcome.Looking.{stat_line}
+use Rattle.vt_spec.specs.Machine.Outcome.Making.{directory_mode, file_mode, link_mode, link_text_rules}
+use Rattle.vt_spec.specs.Machine.Outcome.Tasks.{capabilities_of, child_credentials, permission_bits, with_dropped}
+use Rattle.vt_spec.specs.Machine.Outcomes.Answer.{Bytes, Child, Done, Names, Opened, Told}
+use Rattle.vt_spec.specs.Machine.Walk.{is_special, name_of}
+use Rattle.vt_spec.specs.Machine.World.{TaskName}
+use Rattle.vt_spec.specs.OneTree.Inodes.{Inodes, changed, pinned, unpinned, with_new}
+use Rattle.vt_spec.specs.OneTree.Permits.{Permit}
+use Rattle.vt_spec.specs.OneTree.Permits.Permit.{Allowed, ToChange, ToClose, ToExit, ToFork, ToList, ToOpen, ToOpenNew, ToRead, ToReadPart, ToSetCredentials, ToSetUmask, ToTell}
+use Rattle.vt_spec.specs.OneTree.Rules.{attr_at, chmod_rules, descriptor_at, descriptor_rules, exclusive_rules, exec_rules, file_word_rules, fork_rules, is_one_object, link_rules, list_rules, new_rules, open_new_rules, open_rules, pwrite_rules, read_rules, readlink_rules, rename_rules, rewrite_rules, rmdir_rules, unlink_rules, write_new_rules}
+use Rattle.vt_spec.specs.OneTree.Walk.{Place, directory_walk, file_walk, is_directory_there, link_walk, new_leaf_walk, new_walk, object_walk, old_leaf_walk, old_walk, rename_new_walk}
+use Rattle.vt_spec.specs.OneTree.World.{Descriptor, Outcome, Task, World, after, descriptor_numbered, free_number, granted, node_at, replaced_if_called, task_called, with_descriptor, with_inodes, with_task, without_descriptor, without_task}
+use Rattle.vt_spec.specs.Rights.{Credentials, masked}
+use Rattle.vt_spec.specs.Tree.{Content, Node, bytes_in, names_in, new_directory}
+use Rattle.vt_spec.specs.Tree.Content.{Regular, Symlink}
+
+module _ {N : Type 0} where
+  -- a new object belongs to the caller, and its mode loses the umask's bits: umask(2)
+  abbrev pub new_attr : Task N → ℕ → Attr
+  new_attr task mode = record { uid = task.credentials.uid; gid = task.credentials.gid; mode = masked task.umask mode }
+
+  -- a link has mode 0777, whatever the umask: symlink(7)
+  abbrev pub link_attr : Task N → Attr
+  link_attr task = record { uid = task.credentials.uid; gid = task.credentials.gid; mode = link_mode }
+
+  abbrev pub new_file : Task N → ℕ → List ℕ → Node N
+  new_file task mode bytes = record { attr = new_attr task mode; content = Regular bytes }
+
+  abbrev pub making : Place N → N → Node N → Permit N
+  making place number node = ToChange (Make place.parent (name_of place.last) number node)
+
+  abbrev pub object_there : Place N → N
+  object_there place = unwrap_or place.object place.parent
+
+  -- Calls that look
+  unfoldable pub list_permit : World N → Task N → List ℕ → Result (Permit N) Deny
+  list_permit world task path =
+      and_then (directory_walk world task path) (λ here.
+      unless (list_rules world task here.node) (Ok (ToList here.node)))
+
+  unfoldable pub stat_permit : World N → Task N → List ℕ → Result (Permit N) Deny
+  stat_permit world task path = and_then (object_walk world task path) (λ here. Ok (ToTell here.node))
+
+  unfoldable pub lstat_permit : World N → Task N → List ℕ → Result (Permit N) Deny
+  lstat_permit world task path = and_then (link_walk world task path) (λ here. Ok (ToTell here.node))
+
+  unfoldable pub readlink_permit : World N → Task N → List ℕ → Result (Permit N) Deny
+  readlink_permit world task path =
+      and_then (link_walk world task path) (λ here.
+      unless (readlink_rules world here.node) (Ok (ToRead here.node)))
+
+  unfoldable pub read_permit : World N → Task N → List ℕ → Result (Permit N) Deny
+  read_permit world task path =
+      and_then (object_walk world task path) (λ here.
+      unless (read_rules world task here.node) (Ok (ToRead here.node)))
+
+  unfoldable pub exec_permit : World N → Task N → List ℕ → Result (Permit N) Deny
+  exec_permit world task path =
+      and_then (object_walk world task path) (λ here.
+      unless (exec_rules world task here.node) (Ok Allowed))
+
+  -- Calls that make a name; a number is at hand for what they make
+  unfoldable pub mkdir_permit : N → World N → Task N → List ℕ → Option ℕ → Result (Permit N) Deny
+  mkdir_permit number world task path mode =
+      and_then (new_walk world task path) (λ place.
+      unless (new_rules world task place) (Ok (making place number
+      (record { attr = new_attr task (unwrap_or mode directory_mode); content = new_directory place.parent }))))
+
+  unfoldable pub symlink_permit : N → World N → Task N → List ℕ → List ℕ → Result (Permit N) Deny
+  symlink_permit number world task text path =
+      unless (link_text_rules text)
+      (and_then (new_leaf_walk world task path) (λ place.
+      unless (new_rules world task place) (Ok (making place number (record { attr = link_attr task; content = Symlink text })))))
+
+  unfoldable pub link_permit : World N → Task N → List ℕ → List ℕ → Result (Permit N) Deny
+  link_permit world task old new =
+      and_then (link_walk world task old) (λ from.
+      and_then (new_leaf_walk world task new) (λ place.
+      unless (link_rules world task from.node place)
+      (Ok (ToChange (AddName place.parent (name_of place.last) from.node)))))
+
+  -- Calls that write
+  abbrev pub written : N → World N → Task N → Place N → List ℕ → Option N → Result (Permit N) Deny
+  written number world task place bytes (Some file) =
+      unless (rewrite_rules world task file bytes) (Ok (ToChange (SetBytes file bytes)))
+  written number world task place bytes None =
+      unless (write_new_rules world task place bytes) (Ok (making place number (new_file task file_mode bytes)))
+
+  unfoldable pub write_permit : N → World N → Task N → List ℕ → List ℕ → Result (Permit N) Deny
+  write_permit number world task path bytes =
+      and_then (file_walk world task path) (λ place.
+      unless (file_word_rules place) (written number world task place bytes place.object))
+
+  -- Calls that remove
+  unfoldable pub unlink_permit : World N → Task N → List ℕ → Result (Permit N) Deny
+  unlink_permit world task path =
+      and_then (old_leaf_walk world task path) (λ place.
+      unless (unlink_rules world task place (object_there place))
+      (Ok (ToChange (Remove place.parent (name_of place.last) (object_there place)))))
+
+  unfoldable pub rmdir_permit : World N → Task N → List ℕ → Result (Permit N) Deny
+  rmdir_permit world task path =
+      and_then (old_walk world task path) (λ place.
+      unless (rmdir_rules world task place (object_there place))
+      (Ok (ToChange (Remove place.parent (name_of place.last) (object_there place)))))
+
+  -- Calls that set attributes
+  unfoldable pub chmod_permit : World N → Task N → List ℕ → ℕ → Result (Permit N) Deny
+  chmod_permit world task path mode =
+      and_then (object_walk world task path) (λ here.
+      unless (chmod_rules world task here.node)
+      (Ok (ToChange (SetAttr here.node (attr_with_mode (attr_at world here.node) mode)))))
+
+  unfoldable pub chown_permit : World N → Task N → List ℕ → Option ℕ → Option ℕ → Result (Permit N) Deny
+  chown_permit world task path uid gid =
+      and_then (object_walk world task path) (λ here.
+      unless ((not (may_chown task.credentials (attr_at world here.node) (attr_with_owner (attr_at world here.node) uid gid)), C2) ∷ [])
+      (Ok (ToChange (SetAttr here.node (attr_with_owner (attr_at world here.node) uid gid)))))
+
+  -- Descriptors
+  abbrev pub open_file : World N → Task N → N → Access → Result (Permit N) Deny
+  open_file world task file access = unless (open_rules world task file access) (Ok (ToOpen file access))
+
+  abbrev pub opening_new : N → Task N → Place N → Access → ℕ → Permit N
+  opening_new number task place access mode =
+      ToOpenNew place.parent (name_of place.last) number (new_file task mode []) access
+
+  abbrev pub opened_or_made : N → World N → Task N → Place N → Access → ℕ → Option N → Result (Permit N) Deny
+  opened_or_made number world task place access mode (Some file) = open_file world task file access
+  opened_or_made number world task place access mode None =
+      unless (open_new_rules world task place) (Ok (opening_new number task place access mode))
+
+  abbrev pub open_by : N → World N → Task N → List ℕ → Access → Creation → Result (Permit N) Deny
+  open_by number world task path access NoCreation =
+      and_then (object_walk world task path) (λ here. open_file world task here.node access)
+  open_by number world task path access (OrCreate mode) =
+      and_then (file_walk world task path) (λ place.
+      unless (file_word_rules place) (opened_or_made number world task place access mode place.object))
+  open_by number world task path access (Exclusive mode) =
+      and_then (new_walk world task path) (λ place.
+      unless (exclusive_rules world task place) (Ok (opening_new number task place access mode)))
+
+  unfoldable pub open_permit : N → World N → Task N → List ℕ → Access → Creation → Result (Permit N) Deny
+  open_permit number world task path access creation =
+      unless (descriptor_rules task) (open_by number world task path access creation)
+
+  unfoldable pub pread_permit : Task N → ℕ → ℕ → ℕ → Result (Permit N) Deny
+  pread_permit task number offset size =
+      and_then (descriptor_at task number (λ descriptor. descriptor.reads)) (λ descriptor.
+      Ok (ToReadPart descriptor.file offset size))
+
+  -- no bytes change nothing
+  abbrev pub pwriting : World N → N → ℕ → List ℕ → Permit N
+  pwriting world file offset [] = Allowed
+  pwriting world file offset (byte ∷ bytes) =
+      ToChange (SetBytes file (overwritten offset (byte ∷ bytes) (bytes_in (node_at world file))))
+
+  unfoldable pub pwrite_permit : World N → Task N → ℕ → ℕ → List ℕ → Result (Permit N) Deny
+  pwrite_permit world task number offset bytes =
+      and_then (descriptor_at task number (λ descriptor. descriptor.writes)) (λ descriptor.
+      unless (pwrite_rules offset bytes) (Ok (pwriting world descriptor.file offset bytes)))
+
+  unfoldable pub close_permit : Task N → ℕ → Result (Permit N) Deny
+  close_permit task number =
+      and_then (descriptor_at task number (λ descriptor. true)) (λ descriptor. Ok (ToClose number))
+
+  -- Tasks
+  unfoldable pub fork_permit : Task N → Option ForkWords → Result (Permit N) Deny
+  fork_permit task words =
+      unless (fork_rules task (child_credentials task.credentials words))
+      (Ok (ToFork (child_credentials task.credentials words)))
+
+  -- What is done with a permit
+
+  abbrev pub child_name : Task N → TaskName
+  child_name task = task.name ++ ((task.forks + 1) ∷ [])
+
+  -- a child has the parent's umask and no descriptors (profile)
+  abbrev pub child_of : Task N → Credentials → Task N
+  child_of task credentials =
+      record { name = child_name task; credentials = credentials; umask = task.umask; descriptors = []; forks = 0 }
+
+  abbrev pub with_child : World N → Task N → Task N → World N
+  with_child world task child =
+      record world { tasks = map (replaced_if_called (record task { forks = task.forks + 1 })) world.tasks ++ (child ∷ []) }
+
+  abbrev pub descriptor_on : Task N → N → Access → Descriptor N
+  descriptor_on task file access =
+      record { number = free_number task; file = file; reads = access.reads; writes = access.writes }
+
+  -- the task has a descriptor more
+  abbrev pub with_opened : World N → Task N → N → Access → World N
+  with_opened world task file access = with_task world (with_descriptor task (descriptor_on task file access))
+
+module _ {N : Type 0} (eq : N → N → Bool) where
+  abbrev pub renamed_by : Bool → World N → Task N → Place N → Place N → N → Result (Permit N) Deny
+  renamed_by true world task from to old = Ok Allowed
+  renamed_by false world task from to old =
+      unless (rename_rules eq world task from to old)
+      (Ok (ToChange (Move from.parent (name_of from.last) to.parent (name_of to.last) old)))
+
+  unfoldable pub rename_permit : World N → Task N → List ℕ → List ℕ → Result (Permit N) Deny
+  rename_permit world task old new =
+      and_then (old_leaf_walk world task old) (λ from.
+      unless ((is_special from.last, P1) ∷ [])
+      (and_then (rename_new_walk world task new (is_directory_there world from)) (λ to.
+      unless ((is_special to.last, P1) ∷ [])
+      (renamed_by (is_one_object eq (object_there from) to.object) world task from to (object_there from)))))
+
+  -- what a call of the task is permitted, or the first rule that refuses it
+  abbrev pub judge : N → World N → Task N → Call → Result (Permit N) Deny
+  judge number world task (Ls path) = list_permit world task path
+  judge number world task (Stat path) = stat_permit world task path
+  judge number world task (Lstat path) = lstat_permit world task path
+  judge number world task (Readlink path) = readlink_permit world task path
+  judge number world task (Read path) = read_permit world task path
+  judge number world task (Write path bytes) = write_permit number world task path bytes
+  judge number world task (Exec path) = exec_permit world task path
+  judge number world task (Mkdir path mode) = mkdir_permit number world task path mode
+  judge number world task (SymlinkAt text path) = symlink_permit number world task text path
+  judge number world task (LinkTo old new) = link_permit world task old new
+  judge number world task (Unlink path) = unlink_permit world task path
+  judge number world task (Rmdir path) = rmdir_permit world task path
+  judge number world task (Rename old new) = rename_permit world task old new
+  judge number world task (Chmod path mode) = chmod_permit world task path mode
+  judge number world task (Chown path uid gid) = chown_permit world task path uid gid
+  judge number world task (OpenFile path access creation) = open_permit number world task path access creation
+  judge number world task (Pread descriptor offset size) = pread_permit task descriptor offset size
+  judge number world task (Pwrite descriptor offset bytes) = pwrite_permit world task descriptor offset bytes
+  judge number world task (Close descriptor) = close_permit task descriptor
+  judge number world task (Umask mode) = Ok (ToSetUmask (permission_bits mode))
+  judge number world task (Drop which) = Ok (ToSetCredentials (with_dropped task.credentials (capabilities_of which task.credentials)))
+  judge number world task (Fork words) = fork_permit task words
+  judge number world task Exit = Ok ToExit
+  judge number world task call = Err (denial S1)
+
+  -- descriptors end one by one: close(2), _exit(2)
+  abbrev pub without_uses : Inodes N → List (Descriptor N) → Inodes N
+  without_uses inodes [] = inodes
+  without_uses inodes (descriptor ∷ rest) = without_uses (unpinned eq inodes descriptor.file) rest
+
+  abbrev pub closed : World N → Task N → Option (Descriptor N) → World N
+  closed world task None = world
+  closed world task (Some descriptor) =
+      with_inodes (with_task world (without_descriptor task descriptor.number)) (unpinned eq world.inodes descriptor.file)
+
+  abbrev pub spent : World N → Task N → Permit N → Outcome N
+  spent world task Allowed = granted Done world
+  spent world task (ToList directory) = granted (Names (names_in (node_at world directory))) world
+  spent world task (ToTell object) = granted (Told (stat_line (node_at world object))) world
+  spent world task (ToRead file) = granted (Bytes (bytes_in (node_at world file))) world
+  spent world task (ToReadPart file offset size) = granted (Bytes (take size (drop offset (bytes_in (node_at world file))))) world
+  spent world task (ToChange change) = granted Done (with_inodes world (changed eq world.inodes change))
+  spent world task (ToOpen file access) =
+      granted (Opened (free_number task)) (with_inodes (with_opened world task file access) (pinned eq world.inodes file))
+  spent world task (ToOpenNew directory name number node access) =
+      granted (Opened (free_number task)) (with_inodes (with_opened world task number access)
+      (pinned eq (with_new eq world.inodes directory name number node) number))
+  spent world task (ToClose number) = granted Done (closed world task (descriptor_numbered task number))
+  spent world task (ToSetUmask umask) = granted Done (with_task world (record task { umask = umask }))
+  spent world task (ToSetCredentials credentials) = granted Done (with_task world (record task { credentials = credentials }))
+  spent world task (ToFork credentials) = granted (Child (child_name task)) (with_child world task (child_of task credentials))
+  spent world task ToExit =
+      granted Done (with_inodes (without_task world task.name) (without_uses world.inodes task.descriptors))
+
+  -- the policy: a call is judged, and what it is permitted is done
+  abbrev pub policy : World N → TaskName → Call → N → Outcome N
+  policy world name call number =
+      after world (ok_or (task_called world name) (denial S2)) (λ task.
+      after world (judge number world task call) (spent world task))

@@ -1,0 +1,208 @@
+-- Where a path leads in one tree: path_resolution(7). A walk is by recursion on the front of its path, and a link that is
+-- followed is a walk of its own text.
+use Rattle.std.specs.Prelude.{Bool, Err, List, None, Ok, Option, Result, Some, [], false, if◌then◌else◌, is_some, length, nat_lt, not, ok_or, option_map, reverse, suc, true, unwrap_or, zero, ◌&&◌, ◌+◌, ◌-◌, ◌==◌, ◌||◌, ◌∷◌, ℕ}
+use Rattle.std.specs.List.{list_any}
+use Rattle.vt_spec.specs.declared.errors.Deny.{Deny}
+use Rattle.vt_spec.specs.declared.errors.Rule.TheVariants.{W2, W3, W4, W6, W7}
+use Rattle.vt_spec.specs.Errors.{Rules, and_then, denial, unless}
+use Rattle.vt_spec.specs.Machine.FileTree.{link_text}
+use Rattle.vt_spec.specs.Machine.Lists.{holds_of, then_some}
+use Rattle.vt_spec.specs.Machine.Walk.{LastWord, final_word, is_special, last_word, most_links}
+use Rattle.vt_spec.specs.Machine.Walk.LastWord.{Dot, DotDot, Named, NoWord}
+use Rattle.vt_spec.specs.OneTree.World.{Task, World, may, node_at}
+use Rattle.vt_spec.specs.PathText.{ends_in_slash, is_absolute, longest_name, parsed_path, words}
+use Rattle.vt_spec.specs.Rights.{execute_right}
+use Rattle.vt_spec.specs.Tree.{entries_in, entry_named, is_directory_node, parent_in}
+
+-- where a walk stands, and how many links it may still follow
+pub record Here (N : Type 0) : Type 0 where
+  pub node : N
+  pub left : ℕ
+
+-- where a parent walk ends: the directory, the last word in it, the object there, if any, and whether a slash follows
+pub record Place (N : Type 0) : Type 0 where
+  pub parent : N
+  pub last : LastWord
+  pub object : Option N
+  pub slash : Bool
+
+-- how a link's text is walked: from the directory that the link stands in
+abbrev pub Follow : Type 0 → Type 0
+Follow N = N → Here N → List ℕ → Result (Here N) Deny
+
+module _ {N : Type 0} where
+  abbrev pub is_directory_at : World N → N → Bool
+  is_directory_at world number = is_directory_node (node_at world number)
+
+  -- before a word is looked up, the place reached must be a directory that the task may search
+  abbrev pub search_rules : World N → Task N → N → Rules
+  search_rules world task here =
+      (not (is_directory_at world here), W3)
+      ∷ (not (may world task here execute_right), W4)
+      ∷ []
+
+  -- what a last word stands for: `.` the directory itself, `..` its parent, a name its entry
+  abbrev pub object_named : World N → N → LastWord → Option N
+  object_named world here NoWord = Some here
+  object_named world here Dot = Some here
+  object_named world here DotDot = Some (parent_in here (node_at world here))
+  object_named world here (Named name) = entry_named name (entries_in (node_at world here))
+
+  -- one step by a word
+  abbrev pub stepped : World N → N → LastWord → Result N Deny
+  stepped world here word = ok_or (object_named world here word) (denial W6)
+
+  abbrev pub word_walked : World N → Task N → Here N → LastWord → Result (Here N) Deny
+  word_walked world task here word =
+      unless (search_rules world task here.node)
+      (and_then (stepped world here.node word) (λ next. Ok (record { node = next; left = here.left })))
+
+  -- a link's text may be walked: W7 before W2 (profile)
+  abbrev pub follow_rules : Here N → List ℕ → Rules
+  follow_rules link text =
+      (link.left == 0, W7)
+      ∷ (list_any (λ word. nat_lt longest_name (length word)) (words text), W2)
+      ∷ []
+
+  -- the start of a path, or of the text of a link in a directory
+  abbrev pub start_of : World N → N → List ℕ → N
+  start_of world directory text = if is_absolute text then world.inodes.root else directory
+
+  abbrev pub link_start : World N → N → Here N → List ℕ → Here N
+  link_start world directory link text = record { node = start_of world directory text; left = link.left - 1 }
+
+  -- what is no link is reached; a link is followed
+  abbrev pub if_link : Here N → Option (List ℕ) → (List ℕ → Result (Here N) Deny) → Result (Here N) Deny
+  if_link here None follow = Ok here
+  if_link here (Some text) follow = follow text
+
+  -- a trailing slash asks for a directory
+  abbrev pub slash_rules : World N → List ℕ → N → Rules
+  slash_rules world path here = (ends_in_slash path && not (is_directory_at world here), W3) ∷ []
+
+  -- The walk by words, of which the last comes first; every link is followed, a link's text by the walk given.
+  abbrev pub words_walked : World N → Task N → Follow N → Here N → List (List ℕ) → Result (Here N) Deny
+  words_walked world task follow here [] = Ok here
+  words_walked world task follow here (word ∷ front) =
+      and_then (words_walked world task follow here front) (λ reached.
+      and_then (word_walked world task reached (last_word word)) (λ next.
+      if_link next (link_text (node_at world next.node)) (follow reached.node next)))
+
+  -- A link is a walk of its text from its directory or the root, with what is left of the links. Links stand in one another's
+  -- texts no deeper than there are links to follow.
+  abbrev pub link_walked : ℕ → World N → Task N → N → Here N → List ℕ → Result (Here N) Deny
+  link_walked zero world task directory link text = Ok link
+  link_walked (suc depth) world task directory link text =
+      unless (follow_rules link text)
+      (and_then (words_walked world task (λ inside next inner. link_walked depth world task inside next inner)
+      (link_start world directory link text) (reverse (words text))) (λ reached.
+      unless (slash_rules world text reached.node) (Ok reached)))
+
+  abbrev pub followed : World N → Task N → N → Here N → List ℕ → Result (Here N) Deny
+  followed world task directory link text = link_walked (most_links + 1) world task directory link text
+
+  -- every path begins at the root
+  abbrev pub walk_start : World N → Here N
+  walk_start world = record { node = world.inodes.root; left = most_links }
+
+  -- every word of the path walked, a final link too
+  abbrev pub path_walked : World N → Task N → List ℕ → Result (Here N) Deny
+  path_walked world task text = words_walked world task (followed world task) (walk_start world) (reverse (words text))
+
+  -- the object that a path leads to, a final link followed
+  abbrev pub object_walk : World N → Task N → List ℕ → Result (Here N) Deny
+  object_walk world task path =
+      and_then (parsed_path path) (λ text.
+      and_then (path_walked world task text) (λ here. unless (slash_rules world text here.node) (Ok here)))
+
+  -- the directory that a path leads to
+  abbrev pub directory_walk : World N → Task N → List ℕ → Result (Here N) Deny
+  directory_walk world task path =
+      and_then (parsed_path path) (λ text.
+      and_then (path_walked world task text) (λ here.
+      unless ((not (is_directory_at world here.node), W3) ∷ []) (Ok here)))
+
+  -- all words but the last walked
+  abbrev pub front_walked : World N → Task N → Here N → List (List ℕ) → Result (Here N) Deny
+  front_walked world task here [] = Ok here
+  front_walked world task here (word ∷ front) = words_walked world task (followed world task) here front
+
+  -- the object that a path leads to, a final link itself unless a slash follows: lstat(2)
+  abbrev pub last_walked : World N → Task N → Here N → LastWord → Result (Here N) Deny
+  last_walked world task here NoWord = Ok here
+  last_walked world task here word = word_walked world task here word
+
+  abbrev pub unfollowed_walk : World N → Task N → List ℕ → Result (Here N) Deny
+  unfollowed_walk world task text =
+      and_then (front_walked world task (walk_start world) (reverse (words text))) (λ here.
+      last_walked world task here (final_word (reverse (words text))))
+
+  abbrev pub link_walk : World N → Task N → List ℕ → Result (Here N) Deny
+  link_walk world task path =
+      if ends_in_slash path then object_walk world task path
+      else and_then (parsed_path path) (unfollowed_walk world task)
+
+  -- Parent walks: what a last word stands for, without a link followed
+  abbrev pub placed : World N → Task N → N → LastWord → Bool → Result (Place N) Deny
+  placed world task here NoWord slash = Ok (record { parent = here; last = NoWord; object = Some here; slash = slash })
+  placed world task here word slash =
+      unless (search_rules world task here)
+      (Ok (record { parent = here; last = word; object = object_named world here word; slash = slash }))
+
+  -- the parent that a path leads to, and what its last word names there
+  abbrev pub new_walk : World N → Task N → List ℕ → Result (Place N) Deny
+  new_walk world task path =
+      and_then (parsed_path path) (λ text.
+      and_then (front_walked world task (walk_start world) (reverse (words text))) (λ here.
+      placed world task here.node (final_word (reverse (words text))) (ends_in_slash text)))
+
+  -- as that, but a slash behind a missing name is refused: symlink(2), link(2)
+  abbrev pub new_leaf_walk : World N → Task N → List ℕ → Result (Place N) Deny
+  new_leaf_walk world task path =
+      and_then (new_walk world task path) (λ place.
+      unless ((place.slash && not (is_some place.object), W6) ∷ []) (Ok place))
+
+  -- a name that must be there
+  abbrev pub old_walk : World N → Task N → List ℕ → Result (Place N) Deny
+  old_walk world task path =
+      and_then (new_walk world task path) (λ place.
+      unless ((not (is_some place.object), W6) ∷ []) (Ok place))
+
+  abbrev pub is_directory_there : World N → Place N → Bool
+  is_directory_there world place = holds_of (is_directory_at world) place.object
+
+  -- as that, and a slash asks for a directory: unlink(2), rename(2)
+  abbrev pub old_leaf_walk : World N → Task N → List ℕ → Result (Place N) Deny
+  old_leaf_walk world task path =
+      and_then (old_walk world task path) (λ place.
+      unless ((place.slash && not (is_directory_there world place), W3) ∷ []) (Ok place))
+
+  -- the second path of a rename: rename(2)
+  abbrev pub rename_new_walk : World N → Task N → List ℕ → Bool → Result (Place N) Deny
+  rename_new_walk world task path old_is_directory =
+      and_then (new_walk world task path) (λ place.
+      unless ((place.slash && not old_is_directory, W3) ∷ []) (Ok place))
+
+  -- The place of a file that is opened or made: a final link is followed, also to a missing name: open(2) with O_CREAT
+  abbrev pub link_there : World N → Place N → Option (List ℕ)
+  link_there world place = then_some place.object (λ object. link_text (node_at world object))
+
+  abbrev pub link_of : Here N → Place N → Here N
+  link_of here place = record { node = unwrap_or place.object place.parent; left = here.left }
+
+  abbrev pub file_or_link : Place N → Option (List ℕ) → (List ℕ → Result (Place N) Deny) → Result (Place N) Deny
+  file_or_link place None follow = Ok place
+  file_or_link place (Some text) follow = follow text
+
+  abbrev pub file_walked : ℕ → World N → Task N → Here N → List ℕ → Bool → Result (Place N) Deny
+  file_walked zero world task start text slash = Err (denial W7)
+  file_walked (suc depth) world task start text slash =
+      and_then (front_walked world task start (reverse (words text))) (λ here.
+      and_then (placed world task here.node (final_word (reverse (words text))) (slash || ends_in_slash text)) (λ place.
+      file_or_link place (link_there world place) (λ inner.
+      unless (follow_rules (link_of here place) inner)
+      (file_walked depth world task (link_start world here.node (link_of here place) inner) inner (slash || ends_in_slash text)))))
+
+  abbrev pub file_walk : World N → Task N → List ℕ → Result (Place N) Deny
+  file_walk world task path =
+      and_then (parsed_path path) (λ text. file_walked (most_links + 1) world task (walk_start world) text false)

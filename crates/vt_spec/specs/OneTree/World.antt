@@ -1,0 +1,102 @@
+-- The state of the machine of one tree: its inodes, and the tasks. Tasks are those of credentials(7).
+use Rattle.std.specs.Prelude.{Bool, Err, List, None, Ok, Option, Result, Some, [], filter, find, if◌then◌else◌, length, map, nat_le, nat_lt, not, ◌==◌, ◌∷◌, ◌+◌, ℕ}
+use Rattle.vt_spec.specs.declared.errors.Deny.{Deny}
+use Rattle.vt_spec.specs.Machine.Outcomes.{Answer}
+use Rattle.vt_spec.specs.Machine.Rightful.{node_allows}
+use Rattle.vt_spec.specs.Machine.World.{TaskName, first_credentials, root_attr, same_name}
+use Rattle.vt_spec.specs.OneTree.Inodes.{Inodes, node_in, one_directory}
+use Rattle.vt_spec.specs.Rights.{Credentials}
+use Rattle.vt_spec.specs.Tree.{Node}
+
+-- an open file description: open(2). Those of a task stand in order of their numbers.
+pub record Descriptor (N : Type 0) : Type 0 where
+  pub number : ℕ
+  pub file : N
+  pub reads : Bool
+  pub writes : Bool
+
+-- The root and the working directory of each task are the root of the tree.
+pub record Task (N : Type 0) : Type 0 where
+  pub name : TaskName
+  pub credentials : Credentials
+  pub umask : ℕ
+  pub descriptors : List (Descriptor N)
+  pub forks : ℕ
+
+-- tasks stand in the order in which they were forked
+pub record World (N : Type 0) : Type 0 where
+  pub inodes : Inodes N
+  pub tasks : List (Task N)
+
+-- how a call ends: its answer or refusal, and the world that it leaves
+pub record Outcome (N : Type 0) : Type 0 where
+  pub answer : Result Answer Deny
+  pub world : World N
+
+module _ {N : Type 0} where
+  -- a refused call changes nothing
+  abbrev pub denied : World N → Deny → Outcome N
+  denied world deny = record { answer = Err deny; world = world }
+
+  abbrev pub granted : Answer → World N → Outcome N
+  granted answer world = record { answer = Ok answer; world = world }
+
+  -- the outcome after a step that may be refused
+  abbrev pub after : {A : Type 0} → World N → Result A Deny → (A → Outcome N) → Outcome N
+  after world (Ok a) next = next a
+  after world (Err deny) next = denied world deny
+
+  abbrev pub node_at : World N → N → Option (Node N)
+  node_at world number = node_in (world.inodes.inode number)
+
+  -- the task may do this to the object: path_resolution(7)
+  abbrev pub may : World N → Task N → N → ℕ → Bool
+  may world task number wanted = node_allows task.credentials wanted (node_at world number)
+
+  abbrev pub task_called : World N → TaskName → Option (Task N)
+  task_called world name = find (λ task. same_name name task.name) world.tasks
+
+  abbrev pub replaced_if_called : Task N → Task N → Task N
+  replaced_if_called new old = if same_name new.name old.name then new else old
+
+  -- a task in the place of the one with its name
+  abbrev pub with_task : World N → Task N → World N
+  with_task world task = record world { tasks = map (replaced_if_called task) world.tasks }
+
+  abbrev pub without_task : World N → TaskName → World N
+  without_task world name = record world { tasks = filter (λ task. not (same_name name task.name)) world.tasks }
+
+  abbrev pub with_inodes : World N → Inodes N → World N
+  with_inodes world inodes = record world { inodes = inodes }
+
+  -- Descriptors: open(2), close(2)
+  abbrev pub descriptor_numbered : Task N → ℕ → Option (Descriptor N)
+  descriptor_numbered task number = find (λ descriptor. number == descriptor.number) task.descriptors
+
+  -- the least number that is free
+  abbrev pub free_from : ℕ → List (Descriptor N) → ℕ
+  free_from number [] = number
+  free_from number (descriptor ∷ rest) = if descriptor.number == number then free_from (number + 1) rest else number
+
+  abbrev pub free_number : Task N → ℕ
+  free_number task = free_from 0 task.descriptors
+
+  abbrev pub inserted : Descriptor N → List (Descriptor N) → List (Descriptor N)
+  inserted new [] = new ∷ []
+  inserted new (descriptor ∷ rest) =
+      if nat_lt new.number descriptor.number then new ∷ descriptor ∷ rest else descriptor ∷ inserted new rest
+
+  abbrev pub with_descriptor : Task N → Descriptor N → Task N
+  with_descriptor task descriptor = record task { descriptors = inserted descriptor task.descriptors }
+
+  abbrev pub without_descriptor : Task N → ℕ → Task N
+  without_descriptor task number =
+      record task { descriptors = filter (λ descriptor. not (number == descriptor.number)) task.descriptors }
+
+-- The opening world: an empty root directory of mode 0755, and a task with uid 0, gid 0, no further groups, all
+-- capabilities and umask 022 (profile).
+abbrev pub first_task : {N : Type 0} → Task N
+first_task = record { name = []; credentials = first_credentials; umask = 18; descriptors = []; forks = 0 }
+
+abbrev pub opening : {N : Type 0} → (N → N → Bool) → N → World N
+opening eq root = record { inodes = one_directory eq root root_attr; tasks = first_task ∷ [] }
