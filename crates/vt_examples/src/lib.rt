@@ -2,6 +2,7 @@
 #![tactic(auto)]
 
 pub mod answers;
+pub mod files;
 pub mod grammar;
 pub mod paths;
 pub mod rights;

@@ -5,5 +5,6 @@ pub mod World
 pub mod Walk
 pub mod Permits
 pub mod Rules
+pub mod Fits
 pub mod Policy
 pub mod Run

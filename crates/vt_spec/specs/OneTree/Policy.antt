@@ -17,14 +17,14 @@ use Rattle.vt_spec.specs.Machine.Outcome.Tasks.{capabilities_of, child_credentia
 use Rattle.vt_spec.specs.Machine.Outcomes.Answer.{Bytes, Child, Done, Names, Opened, Told}
 use Rattle.vt_spec.specs.Machine.Walk.{is_special, name_of}
 use Rattle.vt_spec.specs.Machine.World.{TaskName}
-use Rattle.vt_spec.specs.OneTree.Inodes.{Inodes, changed, pinned, unpinned, with_new}
+use Rattle.vt_spec.specs.OneTree.Inodes.{Inodes, changed, pinned, tree_of, unpinned, with_new}
 use Rattle.vt_spec.specs.OneTree.Permits.{Permit}
 use Rattle.vt_spec.specs.OneTree.Permits.Permit.{Allowed, ToChange, ToClose, ToExit, ToFork, ToList, ToOpen, ToOpenNew, ToRead, ToReadPart, ToSetCredentials, ToSetUmask, ToTell}
 use Rattle.vt_spec.specs.OneTree.Rules.{attr_at, chmod_rules, descriptor_at, descriptor_rules, exclusive_rules, exec_rules, file_word_rules, fork_rules, is_one_object, link_rules, list_rules, new_rules, open_new_rules, open_rules, pwrite_rules, read_rules, readlink_rules, rename_rules, rewrite_rules, rmdir_rules, unlink_rules, write_new_rules}
 use Rattle.vt_spec.specs.OneTree.Walk.{Place, directory_walk, file_walk, is_directory_there, link_walk, new_leaf_walk, new_walk, object_walk, old_leaf_walk, old_walk, rename_new_walk}
 use Rattle.vt_spec.specs.OneTree.World.{Descriptor, Outcome, Task, World, after, descriptor_numbered, free_number, granted, node_at, replaced_if_called, task_called, with_descriptor, with_inodes, with_task, without_descriptor, without_task}
 use Rattle.vt_spec.specs.Rights.{Credentials, masked}
-use Rattle.vt_spec.specs.Tree.{Content, Node, bytes_in, names_in, new_directory}
+use Rattle.vt_spec.specs.Tree.{Content, Node, Tree, bytes_in, names_in, new_directory}
 use Rattle.vt_spec.specs.Tree.Content.{Regular, Symlink}
 
 module _ {N : Type 0} where
@@ -46,116 +46,116 @@ module _ {N : Type 0} where
   object_there place = unwrap_or place.object place.parent
 
   -- Calls that look
-  unfoldable pub list_permit : World N → Task N → List ℕ → Result (Permit N) Deny
-  list_permit world task path =
-      and_then (directory_walk world task path) (λ here.
-      unless (list_rules world task here.node) (Ok (ToList here.node)))
+  unfoldable pub list_permit : Tree N → Task N → List ℕ → Result (Permit N) Deny
+  list_permit tree task path =
+      and_then (directory_walk tree task.credentials path) (λ here.
+      unless (list_rules tree task.credentials here.node) (Ok (ToList here.node)))
 
-  unfoldable pub stat_permit : World N → Task N → List ℕ → Result (Permit N) Deny
-  stat_permit world task path = and_then (object_walk world task path) (λ here. Ok (ToTell here.node))
+  unfoldable pub stat_permit : Tree N → Task N → List ℕ → Result (Permit N) Deny
+  stat_permit tree task path = and_then (object_walk tree task.credentials path) (λ here. Ok (ToTell here.node))
 
-  unfoldable pub lstat_permit : World N → Task N → List ℕ → Result (Permit N) Deny
-  lstat_permit world task path = and_then (link_walk world task path) (λ here. Ok (ToTell here.node))
+  unfoldable pub lstat_permit : Tree N → Task N → List ℕ → Result (Permit N) Deny
+  lstat_permit tree task path = and_then (link_walk tree task.credentials path) (λ here. Ok (ToTell here.node))
 
-  unfoldable pub readlink_permit : World N → Task N → List ℕ → Result (Permit N) Deny
-  readlink_permit world task path =
-      and_then (link_walk world task path) (λ here.
-      unless (readlink_rules world here.node) (Ok (ToRead here.node)))
+  unfoldable pub readlink_permit : Tree N → Task N → List ℕ → Result (Permit N) Deny
+  readlink_permit tree task path =
+      and_then (link_walk tree task.credentials path) (λ here.
+      unless (readlink_rules tree here.node) (Ok (ToRead here.node)))
 
-  unfoldable pub read_permit : World N → Task N → List ℕ → Result (Permit N) Deny
-  read_permit world task path =
-      and_then (object_walk world task path) (λ here.
-      unless (read_rules world task here.node) (Ok (ToRead here.node)))
+  unfoldable pub read_permit : Tree N → Task N → List ℕ → Result (Permit N) Deny
+  read_permit tree task path =
+      and_then (object_walk tree task.credentials path) (λ here.
+      unless (read_rules tree task.credentials here.node) (Ok (ToRead here.node)))
 
-  unfoldable pub exec_permit : World N → Task N → List ℕ → Result (Permit N) Deny
-  exec_permit world task path =
-      and_then (object_walk world task path) (λ here.
-      unless (exec_rules world task here.node) (Ok Allowed))
+  unfoldable pub exec_permit : Tree N → Task N → List ℕ → Result (Permit N) Deny
+  exec_permit tree task path =
+      and_then (object_walk tree task.credentials path) (λ here.
+      unless (exec_rules tree task.credentials here.node) (Ok Allowed))
 
   -- Calls that make a name; a number is at hand for what they make
-  unfoldable pub mkdir_permit : N → World N → Task N → List ℕ → Option ℕ → Result (Permit N) Deny
-  mkdir_permit number world task path mode =
-      and_then (new_walk world task path) (λ place.
-      unless (new_rules world task place) (Ok (making place number
+  unfoldable pub mkdir_permit : N → Tree N → Task N → List ℕ → Option ℕ → Result (Permit N) Deny
+  mkdir_permit number tree task path mode =
+      and_then (new_walk tree task.credentials path) (λ place.
+      unless (new_rules tree task.credentials place) (Ok (making place number
       (record { attr = new_attr task (unwrap_or mode directory_mode); content = new_directory place.parent }))))
 
-  unfoldable pub symlink_permit : N → World N → Task N → List ℕ → List ℕ → Result (Permit N) Deny
-  symlink_permit number world task text path =
+  unfoldable pub symlink_permit : N → Tree N → Task N → List ℕ → List ℕ → Result (Permit N) Deny
+  symlink_permit number tree task text path =
       unless (link_text_rules text)
-      (and_then (new_leaf_walk world task path) (λ place.
-      unless (new_rules world task place) (Ok (making place number (record { attr = link_attr task; content = Symlink text })))))
+      (and_then (new_leaf_walk tree task.credentials path) (λ place.
+      unless (new_rules tree task.credentials place) (Ok (making place number (record { attr = link_attr task; content = Symlink text })))))
 
-  unfoldable pub link_permit : World N → Task N → List ℕ → List ℕ → Result (Permit N) Deny
-  link_permit world task old new =
-      and_then (link_walk world task old) (λ from.
-      and_then (new_leaf_walk world task new) (λ place.
-      unless (link_rules world task from.node place)
+  unfoldable pub link_permit : Tree N → Task N → List ℕ → List ℕ → Result (Permit N) Deny
+  link_permit tree task old new =
+      and_then (link_walk tree task.credentials old) (λ from.
+      and_then (new_leaf_walk tree task.credentials new) (λ place.
+      unless (link_rules tree task.credentials from.node place)
       (Ok (ToChange (AddName place.parent (name_of place.last) from.node)))))
 
   -- Calls that write
-  abbrev pub written : N → World N → Task N → Place N → List ℕ → Option N → Result (Permit N) Deny
-  written number world task place bytes (Some file) =
-      unless (rewrite_rules world task file bytes) (Ok (ToChange (SetBytes file bytes)))
-  written number world task place bytes None =
-      unless (write_new_rules world task place bytes) (Ok (making place number (new_file task file_mode bytes)))
+  abbrev pub written : N → Tree N → Task N → Place N → List ℕ → Option N → Result (Permit N) Deny
+  written number tree task place bytes (Some file) =
+      unless (rewrite_rules tree task.credentials file bytes) (Ok (ToChange (SetBytes file bytes)))
+  written number tree task place bytes None =
+      unless (write_new_rules tree task.credentials place bytes) (Ok (making place number (new_file task file_mode bytes)))
 
-  unfoldable pub write_permit : N → World N → Task N → List ℕ → List ℕ → Result (Permit N) Deny
-  write_permit number world task path bytes =
-      and_then (file_walk world task path) (λ place.
-      unless (file_word_rules place) (written number world task place bytes place.object))
+  unfoldable pub write_permit : N → Tree N → Task N → List ℕ → List ℕ → Result (Permit N) Deny
+  write_permit number tree task path bytes =
+      and_then (file_walk tree task.credentials path) (λ place.
+      unless (file_word_rules place) (written number tree task place bytes place.object))
 
   -- Calls that remove
-  unfoldable pub unlink_permit : World N → Task N → List ℕ → Result (Permit N) Deny
-  unlink_permit world task path =
-      and_then (old_leaf_walk world task path) (λ place.
-      unless (unlink_rules world task place (object_there place))
+  unfoldable pub unlink_permit : Tree N → Task N → List ℕ → Result (Permit N) Deny
+  unlink_permit tree task path =
+      and_then (old_leaf_walk tree task.credentials path) (λ place.
+      unless (unlink_rules tree task.credentials place (object_there place))
       (Ok (ToChange (Remove place.parent (name_of place.last) (object_there place)))))
 
-  unfoldable pub rmdir_permit : World N → Task N → List ℕ → Result (Permit N) Deny
-  rmdir_permit world task path =
-      and_then (old_walk world task path) (λ place.
-      unless (rmdir_rules world task place (object_there place))
+  unfoldable pub rmdir_permit : Tree N → Task N → List ℕ → Result (Permit N) Deny
+  rmdir_permit tree task path =
+      and_then (old_walk tree task.credentials path) (λ place.
+      unless (rmdir_rules tree task.credentials place (object_there place))
       (Ok (ToChange (Remove place.parent (name_of place.last) (object_there place)))))
 
   -- Calls that set attributes
-  unfoldable pub chmod_permit : World N → Task N → List ℕ → ℕ → Result (Permit N) Deny
-  chmod_permit world task path mode =
-      and_then (object_walk world task path) (λ here.
-      unless (chmod_rules world task here.node)
-      (Ok (ToChange (SetAttr here.node (attr_with_mode (attr_at world here.node) mode)))))
+  unfoldable pub chmod_permit : Tree N → Task N → List ℕ → ℕ → Result (Permit N) Deny
+  chmod_permit tree task path mode =
+      and_then (object_walk tree task.credentials path) (λ here.
+      unless (chmod_rules tree task.credentials here.node)
+      (Ok (ToChange (SetAttr here.node (attr_with_mode (attr_at tree here.node) mode)))))
 
-  unfoldable pub chown_permit : World N → Task N → List ℕ → Option ℕ → Option ℕ → Result (Permit N) Deny
-  chown_permit world task path uid gid =
-      and_then (object_walk world task path) (λ here.
-      unless ((not (may_chown task.credentials (attr_at world here.node) (attr_with_owner (attr_at world here.node) uid gid)), C2) ∷ [])
-      (Ok (ToChange (SetAttr here.node (attr_with_owner (attr_at world here.node) uid gid)))))
+  unfoldable pub chown_permit : Tree N → Task N → List ℕ → Option ℕ → Option ℕ → Result (Permit N) Deny
+  chown_permit tree task path uid gid =
+      and_then (object_walk tree task.credentials path) (λ here.
+      unless ((not (may_chown task.credentials (attr_at tree here.node) (attr_with_owner (attr_at tree here.node) uid gid)), C2) ∷ [])
+      (Ok (ToChange (SetAttr here.node (attr_with_owner (attr_at tree here.node) uid gid)))))
 
   -- Descriptors
-  abbrev pub open_file : World N → Task N → N → Access → Result (Permit N) Deny
-  open_file world task file access = unless (open_rules world task file access) (Ok (ToOpen file access))
+  abbrev pub open_file : Tree N → Task N → N → Access → Result (Permit N) Deny
+  open_file tree task file access = unless (open_rules tree task.credentials file access) (Ok (ToOpen file access))
 
   abbrev pub opening_new : N → Task N → Place N → Access → ℕ → Permit N
   opening_new number task place access mode =
       ToOpenNew place.parent (name_of place.last) number (new_file task mode []) access
 
-  abbrev pub opened_or_made : N → World N → Task N → Place N → Access → ℕ → Option N → Result (Permit N) Deny
-  opened_or_made number world task place access mode (Some file) = open_file world task file access
-  opened_or_made number world task place access mode None =
-      unless (open_new_rules world task place) (Ok (opening_new number task place access mode))
+  abbrev pub opened_or_made : N → Tree N → Task N → Place N → Access → ℕ → Option N → Result (Permit N) Deny
+  opened_or_made number tree task place access mode (Some file) = open_file tree task file access
+  opened_or_made number tree task place access mode None =
+      unless (open_new_rules tree task.credentials place) (Ok (opening_new number task place access mode))
 
-  abbrev pub open_by : N → World N → Task N → List ℕ → Access → Creation → Result (Permit N) Deny
-  open_by number world task path access NoCreation =
-      and_then (object_walk world task path) (λ here. open_file world task here.node access)
-  open_by number world task path access (OrCreate mode) =
-      and_then (file_walk world task path) (λ place.
-      unless (file_word_rules place) (opened_or_made number world task place access mode place.object))
-  open_by number world task path access (Exclusive mode) =
-      and_then (new_walk world task path) (λ place.
-      unless (exclusive_rules world task place) (Ok (opening_new number task place access mode)))
+  abbrev pub open_by : N → Tree N → Task N → List ℕ → Access → Creation → Result (Permit N) Deny
+  open_by number tree task path access NoCreation =
+      and_then (object_walk tree task.credentials path) (λ here. open_file tree task here.node access)
+  open_by number tree task path access (OrCreate mode) =
+      and_then (file_walk tree task.credentials path) (λ place.
+      unless (file_word_rules place) (opened_or_made number tree task place access mode place.object))
+  open_by number tree task path access (Exclusive mode) =
+      and_then (new_walk tree task.credentials path) (λ place.
+      unless (exclusive_rules tree task.credentials place) (Ok (opening_new number task place access mode)))
 
-  unfoldable pub open_permit : N → World N → Task N → List ℕ → Access → Creation → Result (Permit N) Deny
-  open_permit number world task path access creation =
-      unless (descriptor_rules task) (open_by number world task path access creation)
+  unfoldable pub open_permit : N → Tree N → Task N → List ℕ → Access → Creation → Result (Permit N) Deny
+  open_permit number tree task path access creation =
+      unless (descriptor_rules task) (open_by number tree task path access creation)
 
   unfoldable pub pread_permit : Task N → ℕ → ℕ → ℕ → Result (Permit N) Deny
   pread_permit task number offset size =
@@ -163,15 +163,15 @@ module _ {N : Type 0} where
       Ok (ToReadPart descriptor.file offset size))
 
   -- no bytes change nothing
-  abbrev pub pwriting : World N → N → ℕ → List ℕ → Permit N
-  pwriting world file offset [] = Allowed
-  pwriting world file offset (byte ∷ bytes) =
-      ToChange (SetBytes file (overwritten offset (byte ∷ bytes) (bytes_in (node_at world file))))
+  abbrev pub pwriting : Tree N → N → ℕ → List ℕ → Permit N
+  pwriting tree file offset [] = Allowed
+  pwriting tree file offset (byte ∷ bytes) =
+      ToChange (SetBytes file (overwritten offset (byte ∷ bytes) (bytes_in (tree.node file))))
 
-  unfoldable pub pwrite_permit : World N → Task N → ℕ → ℕ → List ℕ → Result (Permit N) Deny
-  pwrite_permit world task number offset bytes =
+  unfoldable pub pwrite_permit : Tree N → Task N → ℕ → ℕ → List ℕ → Result (Permit N) Deny
+  pwrite_permit tree task number offset bytes =
       and_then (descriptor_at task number (λ descriptor. descriptor.writes)) (λ descriptor.
-      unless (pwrite_rules offset bytes) (Ok (pwriting world descriptor.file offset bytes)))
+      unless (pwrite_rules offset bytes) (Ok (pwriting tree descriptor.file offset bytes)))
 
   unfoldable pub close_permit : Task N → ℕ → Result (Permit N) Deny
   close_permit task number =
@@ -206,40 +206,40 @@ module _ {N : Type 0} where
   with_opened world task file access = with_task world (with_descriptor task (descriptor_on task file access))
 
 module _ {N : Type 0} (eq : N → N → Bool) where
-  abbrev pub renamed_by : Bool → World N → Task N → Place N → Place N → N → Result (Permit N) Deny
-  renamed_by true world task from to old = Ok Allowed
-  renamed_by false world task from to old =
-      unless (rename_rules eq world task from to old)
+  abbrev pub renamed_by : Bool → Inodes N → Task N → Place N → Place N → N → Result (Permit N) Deny
+  renamed_by true inodes task from to old = Ok Allowed
+  renamed_by false inodes task from to old =
+      unless (rename_rules eq inodes task.credentials from to old)
       (Ok (ToChange (Move from.parent (name_of from.last) to.parent (name_of to.last) old)))
 
-  unfoldable pub rename_permit : World N → Task N → List ℕ → List ℕ → Result (Permit N) Deny
-  rename_permit world task old new =
-      and_then (old_leaf_walk world task old) (λ from.
+  unfoldable pub rename_permit : Inodes N → Task N → List ℕ → List ℕ → Result (Permit N) Deny
+  rename_permit inodes task old new =
+      and_then (old_leaf_walk (tree_of inodes) task.credentials old) (λ from.
       unless ((is_special from.last, P1) ∷ [])
-      (and_then (rename_new_walk world task new (is_directory_there world from)) (λ to.
+      (and_then (rename_new_walk (tree_of inodes) task.credentials new (is_directory_there (tree_of inodes) from)) (λ to.
       unless ((is_special to.last, P1) ∷ [])
-      (renamed_by (is_one_object eq (object_there from) to.object) world task from to (object_there from)))))
+      (renamed_by (is_one_object eq (object_there from) to.object) inodes task from to (object_there from)))))
 
   -- what a call of the task is permitted, or the first rule that refuses it
   abbrev pub judge : N → World N → Task N → Call → Result (Permit N) Deny
-  judge number world task (Ls path) = list_permit world task path
-  judge number world task (Stat path) = stat_permit world task path
-  judge number world task (Lstat path) = lstat_permit world task path
-  judge number world task (Readlink path) = readlink_permit world task path
-  judge number world task (Read path) = read_permit world task path
-  judge number world task (Write path bytes) = write_permit number world task path bytes
-  judge number world task (Exec path) = exec_permit world task path
-  judge number world task (Mkdir path mode) = mkdir_permit number world task path mode
-  judge number world task (SymlinkAt text path) = symlink_permit number world task text path
-  judge number world task (LinkTo old new) = link_permit world task old new
-  judge number world task (Unlink path) = unlink_permit world task path
-  judge number world task (Rmdir path) = rmdir_permit world task path
-  judge number world task (Rename old new) = rename_permit world task old new
-  judge number world task (Chmod path mode) = chmod_permit world task path mode
-  judge number world task (Chown path uid gid) = chown_permit world task path uid gid
-  judge number world task (OpenFile path access creation) = open_permit number world task path access creation
+  judge number world task (Ls path) = list_permit (tree_of world.inodes) task path
+  judge number world task (Stat path) = stat_permit (tree_of world.inodes) task path
+  judge number world task (Lstat path) = lstat_permit (tree_of world.inodes) task path
+  judge number world task (Readlink path) = readlink_permit (tree_of world.inodes) task path
+  judge number world task (Read path) = read_permit (tree_of world.inodes) task path
+  judge number world task (Write path bytes) = write_permit number (tree_of world.inodes) task path bytes
+  judge number world task (Exec path) = exec_permit (tree_of world.inodes) task path
+  judge number world task (Mkdir path mode) = mkdir_permit number (tree_of world.inodes) task path mode
+  judge number world task (SymlinkAt text path) = symlink_permit number (tree_of world.inodes) task text path
+  judge number world task (LinkTo old new) = link_permit (tree_of world.inodes) task old new
+  judge number world task (Unlink path) = unlink_permit (tree_of world.inodes) task path
+  judge number world task (Rmdir path) = rmdir_permit (tree_of world.inodes) task path
+  judge number world task (Rename old new) = rename_permit world.inodes task old new
+  judge number world task (Chmod path mode) = chmod_permit (tree_of world.inodes) task path mode
+  judge number world task (Chown path uid gid) = chown_permit (tree_of world.inodes) task path uid gid
+  judge number world task (OpenFile path access creation) = open_permit number (tree_of world.inodes) task path access creation
   judge number world task (Pread descriptor offset size) = pread_permit task descriptor offset size
-  judge number world task (Pwrite descriptor offset bytes) = pwrite_permit world task descriptor offset bytes
+  judge number world task (Pwrite descriptor offset bytes) = pwrite_permit (tree_of world.inodes) task descriptor offset bytes
   judge number world task (Close descriptor) = close_permit task descriptor
   judge number world task (Umask mode) = Ok (ToSetUmask (permission_bits mode))
   judge number world task (Drop which) = Ok (ToSetCredentials (with_dropped task.credentials (capabilities_of which task.credentials)))

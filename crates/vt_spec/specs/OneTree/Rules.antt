@@ -14,136 +14,136 @@ use Rattle.vt_spec.specs.Machine.Outcome.Descriptors.{access_rights, most_descri
 use Rattle.vt_spec.specs.Machine.Outcome.Making.{largest_file}
 use Rattle.vt_spec.specs.Machine.Outcome.Tasks.{deepest_name, most_forks}
 use Rattle.vt_spec.specs.Machine.Walk.{is_dot, is_dot_dot, is_no_word, is_special}
-use Rattle.vt_spec.specs.OneTree.Inodes.{is_directory_under}
-use Rattle.vt_spec.specs.OneTree.Walk.{Place, is_directory_at}
-use Rattle.vt_spec.specs.OneTree.World.{Descriptor, Task, World, descriptor_numbered, may, node_at}
+use Rattle.vt_spec.specs.OneTree.Inodes.{Inodes, is_directory_under, tree_of}
+use Rattle.vt_spec.specs.OneTree.Walk.{Place, is_directory_at, may}
+use Rattle.vt_spec.specs.OneTree.World.{Descriptor, Task, descriptor_numbered}
 use Rattle.vt_spec.specs.PathText.{is_empty}
 use Rattle.vt_spec.specs.Rights.{Credentials, cap_setgid, cap_setuid, execute_right, has_all, may_delete_sticky, owns, read_right, write_right}
-use Rattle.vt_spec.specs.Tree.{entries_in}
+use Rattle.vt_spec.specs.Tree.{Tree, entries_in}
 
 -- EFBIG of pwrite(2); no bytes change nothing, at whatever offset
 abbrev pub pwrite_rules : ℕ → List ℕ → Rules
 pwrite_rules offset bytes = (not (is_empty bytes) && nat_lt largest_file (offset + length bytes), E6) ∷ []
 
 module _ {N : Type 0} where
-  abbrev pub may_not : World N → Task N → N → ℕ → Bool
-  may_not world task number wanted = not (may world task number wanted)
+  abbrev pub may_not : Tree N → Credentials → N → ℕ → Bool
+  may_not tree who number wanted = not (may tree who number wanted)
 
-  abbrev pub is_kind_at : World N → N → Kind → Bool
-  is_kind_at world number kind = is_kind_in kind (node_at world number)
+  abbrev pub is_kind_at : Tree N → N → Kind → Bool
+  is_kind_at tree number kind = is_kind_in kind (tree.node number)
 
-  abbrev pub attr_at : World N → N → Attr
-  attr_at world number = attr_in (node_at world number)
+  abbrev pub attr_at : Tree N → N → Attr
+  attr_at tree number = attr_in (tree.node number)
 
   -- a sticky directory keeps the object: unlink(2), EPERM
-  abbrev pub is_kept : World N → Task N → N → N → Bool
-  is_kept world task directory object =
-      not (may_delete_sticky task.credentials (attr_at world directory) (attr_at world object))
+  abbrev pub is_kept : Tree N → Credentials → N → N → Bool
+  is_kept tree who directory object =
+      not (may_delete_sticky who (attr_at tree directory) (attr_at tree object))
 
-  abbrev pub is_filled : World N → N → Bool
-  is_filled world directory = not (is_empty_list (entries_in (node_at world directory)))
+  abbrev pub is_filled : Tree N → N → Bool
+  is_filled tree directory = not (is_empty_list (entries_in (tree.node directory)))
 
   abbrev pub lacks : Task N → ℕ → Bool
   lacks task capability = not (has_all task.credentials.capabilities capability)
 
   -- Calls that look
-  abbrev pub list_rules : World N → Task N → N → Rules
-  list_rules world task directory = (may_not world task directory read_right, C1) ∷ []
+  abbrev pub list_rules : Tree N → Credentials → N → Rules
+  list_rules tree who directory = (may_not tree who directory read_right, C1) ∷ []
 
-  abbrev pub read_rules : World N → Task N → N → Rules
-  read_rules world task file =
-      (is_directory_at world file, E2)
-      ∷ (is_kind_at world file White, E9)
-      ∷ (may_not world task file read_right, C1)
+  abbrev pub read_rules : Tree N → Credentials → N → Rules
+  read_rules tree who file =
+      (is_directory_at tree file, E2)
+      ∷ (is_kind_at tree file White, E9)
+      ∷ (may_not tree who file read_right, C1)
       ∷ []
 
-  abbrev pub exec_rules : World N → Task N → N → Rules
-  exec_rules world task file =
-      (not (is_kind_at world file File), E8)
-      ∷ (may_not world task file execute_right, C1)
+  abbrev pub exec_rules : Tree N → Credentials → N → Rules
+  exec_rules tree who file =
+      (not (is_kind_at tree file File), E8)
+      ∷ (may_not tree who file execute_right, C1)
       ∷ []
 
-  abbrev pub readlink_rules : World N → N → Rules
-  readlink_rules world object = (not (is_kind_at world object Link), E5) ∷ []
+  abbrev pub readlink_rules : Tree N → N → Rules
+  readlink_rules tree object = (not (is_kind_at tree object Link), E5) ∷ []
 
   -- Calls that make a name
-  abbrev pub new_rules : World N → Task N → Place N → Rules
-  new_rules world task place =
+  abbrev pub new_rules : Tree N → Credentials → Place N → Rules
+  new_rules tree who place =
       (is_special place.last, E1)
       ∷ (is_some place.object, E1)
-      ∷ (may_not world task place.parent write_right, C1)
+      ∷ (may_not tree who place.parent write_right, C1)
       ∷ []
 
-  abbrev pub link_rules : World N → Task N → N → Place N → Rules
-  link_rules world task old place =
+  abbrev pub link_rules : Tree N → Credentials → N → Place N → Rules
+  link_rules tree who old place =
       (is_special place.last, E1)
       ∷ (is_some place.object, E1)
-      ∷ (is_directory_at world old, E7)
-      ∷ (may_not world task place.parent write_right, C1)
+      ∷ (is_directory_at tree old, E7)
+      ∷ (may_not tree who place.parent write_right, C1)
       ∷ []
 
   -- Calls that write
   abbrev pub file_word_rules : Place N → Rules
   file_word_rules place = (is_special place.last || place.slash, E2) ∷ []
 
-  abbrev pub rewrite_rules : World N → Task N → N → List ℕ → Rules
-  rewrite_rules world task file bytes =
-      (is_directory_at world file, E2)
+  abbrev pub rewrite_rules : Tree N → Credentials → N → List ℕ → Rules
+  rewrite_rules tree who file bytes =
+      (is_directory_at tree file, E2)
       ∷ (nat_lt largest_file (length bytes), E6)
-      ∷ (is_kind_at world file White, E9)
-      ∷ (may_not world task file write_right, C1)
+      ∷ (is_kind_at tree file White, E9)
+      ∷ (may_not tree who file write_right, C1)
       ∷ []
 
-  abbrev pub write_new_rules : World N → Task N → Place N → List ℕ → Rules
-  write_new_rules world task place bytes =
+  abbrev pub write_new_rules : Tree N → Credentials → Place N → List ℕ → Rules
+  write_new_rules tree who place bytes =
       (nat_lt largest_file (length bytes), E6)
-      ∷ (may_not world task place.parent write_right, C1)
+      ∷ (may_not tree who place.parent write_right, C1)
       ∷ []
 
   -- Calls that remove
-  abbrev pub unlink_rules : World N → Task N → Place N → N → Rules
-  unlink_rules world task place object =
+  abbrev pub unlink_rules : Tree N → Credentials → Place N → N → Rules
+  unlink_rules tree who place object =
       (is_special place.last, E2)
-      ∷ (is_directory_at world object, E2)
-      ∷ (may_not world task place.parent write_right, C1)
-      ∷ (is_kept world task place.parent object, C3)
+      ∷ (is_directory_at tree object, E2)
+      ∷ (may_not tree who place.parent write_right, C1)
+      ∷ (is_kept tree who place.parent object, C3)
       ∷ []
 
-  abbrev pub rmdir_rules : World N → Task N → Place N → N → Rules
-  rmdir_rules world task place object =
+  abbrev pub rmdir_rules : Tree N → Credentials → Place N → N → Rules
+  rmdir_rules tree who place object =
       (is_dot_dot place.last, E4)
       ∷ (is_dot place.last, E5)
       ∷ (is_no_word place.last, P1)
-      ∷ (not (is_directory_at world object), E3)
-      ∷ (is_filled world object, E4)
-      ∷ (may_not world task place.parent write_right, C1)
-      ∷ (is_kept world task place.parent object, C3)
+      ∷ (not (is_directory_at tree object), E3)
+      ∷ (is_filled tree object, E4)
+      ∷ (may_not tree who place.parent write_right, C1)
+      ∷ (is_kept tree who place.parent object, C3)
       ∷ []
 
   -- Calls that set attributes
-  abbrev pub chmod_rules : World N → Task N → N → Rules
-  chmod_rules world task object = (not (owns task.credentials (attr_at world object)), C2) ∷ []
+  abbrev pub chmod_rules : Tree N → Credentials → N → Rules
+  chmod_rules tree who object = (not (owns who (attr_at tree object)), C2) ∷ []
 
   -- Descriptors
   abbrev pub descriptor_rules : Task N → Rules
   descriptor_rules task = (nat_le most_descriptors (length task.descriptors), S3) ∷ []
 
-  abbrev pub open_rules : World N → Task N → N → Access → Rules
-  open_rules world task file access =
-      (is_directory_at world file, E2)
-      ∷ (is_kind_at world file White, E9)
-      ∷ (may_not world task file (access_rights access), C1)
+  abbrev pub open_rules : Tree N → Credentials → N → Access → Rules
+  open_rules tree who file access =
+      (is_directory_at tree file, E2)
+      ∷ (is_kind_at tree file White, E9)
+      ∷ (may_not tree who file (access_rights access), C1)
       ∷ []
 
-  abbrev pub open_new_rules : World N → Task N → Place N → Rules
-  open_new_rules world task place = (may_not world task place.parent write_right, C1) ∷ []
+  abbrev pub open_new_rules : Tree N → Credentials → Place N → Rules
+  open_new_rules tree who place = (may_not tree who place.parent write_right, C1) ∷ []
 
-  abbrev pub exclusive_rules : World N → Task N → Place N → Rules
-  exclusive_rules world task place =
+  abbrev pub exclusive_rules : Tree N → Credentials → Place N → Rules
+  exclusive_rules tree who place =
       (is_special place.last, E1)
       ∷ (place.slash, E2)
       ∷ (is_some place.object, E1)
-      ∷ (may_not world task place.parent write_right, C1)
+      ∷ (may_not tree who place.parent write_right, C1)
       ∷ []
 
   -- EBADF of pread(2), pwrite(2) and close(2): no such descriptor, or not opened for this
@@ -160,20 +160,20 @@ module _ {N : Type 0} where
       ∷ []
 
 module _ {N : Type 0} (eq : N → N → Bool) where
-  abbrev pub changes_parent : World N → Place N → Place N → N → Bool
-  changes_parent world from to old = is_directory_at world old && not (eq from.parent to.parent)
+  abbrev pub changes_parent : Tree N → Place N → Place N → N → Bool
+  changes_parent tree from to old = is_directory_at tree old && not (eq from.parent to.parent)
 
   abbrev pub is_one_object : N → Option N → Bool
   is_one_object old new = holds_of (eq old) new
 
   -- rename(2): EISDIR, ENOTDIR, ENOTEMPTY, EINVAL, EACCES, EPERM
-  abbrev pub rename_rules : World N → Task N → Place N → Place N → N → Rules
-  rename_rules world task from to old =
-      (not (is_directory_at world old) && holds_of (is_directory_at world) to.object, E2)
-      ∷ (is_directory_at world old && holds_of (λ new. not (is_directory_at world new)) to.object, E3)
-      ∷ (is_directory_at world old && holds_of (is_filled world) to.object, E4)
-      ∷ (is_directory_at world old && is_directory_under eq world.inodes old to.parent, E5)
-      ∷ (may_not world task from.parent write_right || may_not world task to.parent write_right, C1)
-      ∷ (changes_parent world from to old && may_not world task old write_right, C1)
-      ∷ (is_kept world task from.parent old || holds_of (is_kept world task to.parent) to.object, C3)
+  abbrev pub rename_rules : Inodes N → Credentials → Place N → Place N → N → Rules
+  rename_rules inodes who from to old =
+      (not (is_directory_at (tree_of inodes) old) && holds_of (is_directory_at (tree_of inodes)) to.object, E2)
+      ∷ (is_directory_at (tree_of inodes) old && holds_of (λ new. not (is_directory_at (tree_of inodes) new)) to.object, E3)
+      ∷ (is_directory_at (tree_of inodes) old && holds_of (is_filled (tree_of inodes)) to.object, E4)
+      ∷ (is_directory_at (tree_of inodes) old && is_directory_under eq inodes old to.parent, E5)
+      ∷ (may_not (tree_of inodes) who from.parent write_right || may_not (tree_of inodes) who to.parent write_right, C1)
+      ∷ (changes_parent (tree_of inodes) from to old && may_not (tree_of inodes) who old write_right, C1)
+      ∷ (is_kept (tree_of inodes) who from.parent old || holds_of (is_kept (tree_of inodes) who to.parent) to.object, C3)
       ∷ []

@@ -9,10 +9,10 @@ use Rattle.vt_spec.specs.Machine.FileTree.{link_text}
 use Rattle.vt_spec.specs.Machine.Lists.{holds_of, then_some}
 use Rattle.vt_spec.specs.Machine.Walk.{LastWord, final_word, is_special, last_word, most_links}
 use Rattle.vt_spec.specs.Machine.Walk.LastWord.{Dot, DotDot, Named, NoWord}
-use Rattle.vt_spec.specs.OneTree.World.{Task, World, may, node_at}
+use Rattle.vt_spec.specs.Machine.Rightful.{node_allows}
 use Rattle.vt_spec.specs.PathText.{ends_in_slash, is_absolute, longest_name, parsed_path, words}
-use Rattle.vt_spec.specs.Rights.{execute_right}
-use Rattle.vt_spec.specs.Tree.{entries_in, entry_named, is_directory_node, parent_in}
+use Rattle.vt_spec.specs.Rights.{Credentials, execute_right}
+use Rattle.vt_spec.specs.Tree.{Tree, entries_in, entry_named, is_directory_node, parent_in}
 
 -- where a walk stands, and how many links it may still follow
 pub record Here (N : Type 0) : Type 0 where
@@ -31,31 +31,35 @@ abbrev pub Follow : Type 0 → Type 0
 Follow N = N → Here N → List ℕ → Result (Here N) Deny
 
 module _ {N : Type 0} where
-  abbrev pub is_directory_at : World N → N → Bool
-  is_directory_at world number = is_directory_node (node_at world number)
+  -- the caller may do this to the object: path_resolution(7)
+  abbrev pub may : Tree N → Credentials → N → ℕ → Bool
+  may tree who number wanted = node_allows who wanted (tree.node number)
+
+  abbrev pub is_directory_at : Tree N → N → Bool
+  is_directory_at tree number = is_directory_node (tree.node number)
 
   -- before a word is looked up, the place reached must be a directory that the task may search
-  abbrev pub search_rules : World N → Task N → N → Rules
-  search_rules world task here =
-      (not (is_directory_at world here), W3)
-      ∷ (not (may world task here execute_right), W4)
+  abbrev pub search_rules : Tree N → Credentials → N → Rules
+  search_rules tree who here =
+      (not (is_directory_at tree here), W3)
+      ∷ (not (may tree who here execute_right), W4)
       ∷ []
 
   -- what a last word stands for: `.` the directory itself, `..` its parent, a name its entry
-  abbrev pub object_named : World N → N → LastWord → Option N
-  object_named world here NoWord = Some here
-  object_named world here Dot = Some here
-  object_named world here DotDot = Some (parent_in here (node_at world here))
-  object_named world here (Named name) = entry_named name (entries_in (node_at world here))
+  abbrev pub object_named : Tree N → N → LastWord → Option N
+  object_named tree here NoWord = Some here
+  object_named tree here Dot = Some here
+  object_named tree here DotDot = Some (parent_in here (tree.node here))
+  object_named tree here (Named name) = entry_named name (entries_in (tree.node here))
 
   -- one step by a word
-  abbrev pub stepped : World N → N → LastWord → Result N Deny
-  stepped world here word = ok_or (object_named world here word) (denial W6)
+  abbrev pub stepped : Tree N → N → LastWord → Result N Deny
+  stepped tree here word = ok_or (object_named tree here word) (denial W6)
 
-  abbrev pub word_walked : World N → Task N → Here N → LastWord → Result (Here N) Deny
-  word_walked world task here word =
-      unless (search_rules world task here.node)
-      (and_then (stepped world here.node word) (λ next. Ok (record { node = next; left = here.left })))
+  abbrev pub word_walked : Tree N → Credentials → Here N → LastWord → Result (Here N) Deny
+  word_walked tree who here word =
+      unless (search_rules tree who here.node)
+      (and_then (stepped tree here.node word) (λ next. Ok (record { node = next; left = here.left })))
 
   -- a link's text may be walked: W7 before W2 (profile)
   abbrev pub follow_rules : Here N → List ℕ → Rules
@@ -65,11 +69,11 @@ module _ {N : Type 0} where
       ∷ []
 
   -- the start of a path, or of the text of a link in a directory
-  abbrev pub start_of : World N → N → List ℕ → N
-  start_of world directory text = if is_absolute text then world.inodes.root else directory
+  abbrev pub start_of : Tree N → N → List ℕ → N
+  start_of tree directory text = if is_absolute text then tree.root else directory
 
-  abbrev pub link_start : World N → N → Here N → List ℕ → Here N
-  link_start world directory link text = record { node = start_of world directory text; left = link.left - 1 }
+  abbrev pub link_start : Tree N → N → Here N → List ℕ → Here N
+  link_start tree directory link text = record { node = start_of tree directory text; left = link.left - 1 }
 
   -- what is no link is reached; a link is followed
   abbrev pub if_link : Here N → Option (List ℕ) → (List ℕ → Result (Here N) Deny) → Result (Here N) Deny
@@ -77,115 +81,115 @@ module _ {N : Type 0} where
   if_link here (Some text) follow = follow text
 
   -- a trailing slash asks for a directory
-  abbrev pub slash_rules : World N → List ℕ → N → Rules
-  slash_rules world path here = (ends_in_slash path && not (is_directory_at world here), W3) ∷ []
+  abbrev pub slash_rules : Tree N → List ℕ → N → Rules
+  slash_rules tree path here = (ends_in_slash path && not (is_directory_at tree here), W3) ∷ []
 
   -- The walk by words, of which the last comes first; every link is followed, a link's text by the walk given.
-  abbrev pub words_walked : World N → Task N → Follow N → Here N → List (List ℕ) → Result (Here N) Deny
-  words_walked world task follow here [] = Ok here
-  words_walked world task follow here (word ∷ front) =
-      and_then (words_walked world task follow here front) (λ reached.
-      and_then (word_walked world task reached (last_word word)) (λ next.
-      if_link next (link_text (node_at world next.node)) (follow reached.node next)))
+  abbrev pub words_walked : Tree N → Credentials → Follow N → Here N → List (List ℕ) → Result (Here N) Deny
+  words_walked tree who follow here [] = Ok here
+  words_walked tree who follow here (word ∷ front) =
+      and_then (words_walked tree who follow here front) (λ reached.
+      and_then (word_walked tree who reached (last_word word)) (λ next.
+      if_link next (link_text (tree.node next.node)) (follow reached.node next)))
 
   -- A link is a walk of its text from its directory or the root, with what is left of the links. Links stand in one another's
   -- texts no deeper than there are links to follow.
-  abbrev pub link_walked : ℕ → World N → Task N → N → Here N → List ℕ → Result (Here N) Deny
-  link_walked zero world task directory link text = Ok link
-  link_walked (suc depth) world task directory link text =
+  abbrev pub link_walked : ℕ → Tree N → Credentials → N → Here N → List ℕ → Result (Here N) Deny
+  link_walked zero tree who directory link text = Ok link
+  link_walked (suc depth) tree who directory link text =
       unless (follow_rules link text)
-      (and_then (words_walked world task (λ inside next inner. link_walked depth world task inside next inner)
-      (link_start world directory link text) (reverse (words text))) (λ reached.
-      unless (slash_rules world text reached.node) (Ok reached)))
+      (and_then (words_walked tree who (λ inside next inner. link_walked depth tree who inside next inner)
+      (link_start tree directory link text) (reverse (words text))) (λ reached.
+      unless (slash_rules tree text reached.node) (Ok reached)))
 
-  abbrev pub followed : World N → Task N → N → Here N → List ℕ → Result (Here N) Deny
-  followed world task directory link text = link_walked (most_links + 1) world task directory link text
+  abbrev pub followed : Tree N → Credentials → N → Here N → List ℕ → Result (Here N) Deny
+  followed tree who directory link text = link_walked (most_links + 1) tree who directory link text
 
   -- every path begins at the root
-  abbrev pub walk_start : World N → Here N
-  walk_start world = record { node = world.inodes.root; left = most_links }
+  abbrev pub walk_start : Tree N → Here N
+  walk_start tree = record { node = tree.root; left = most_links }
 
   -- every word of the path walked, a final link too
-  abbrev pub path_walked : World N → Task N → List ℕ → Result (Here N) Deny
-  path_walked world task text = words_walked world task (followed world task) (walk_start world) (reverse (words text))
+  abbrev pub path_walked : Tree N → Credentials → List ℕ → Result (Here N) Deny
+  path_walked tree who text = words_walked tree who (followed tree who) (walk_start tree) (reverse (words text))
 
   -- the object that a path leads to, a final link followed
-  abbrev pub object_walk : World N → Task N → List ℕ → Result (Here N) Deny
-  object_walk world task path =
+  abbrev pub object_walk : Tree N → Credentials → List ℕ → Result (Here N) Deny
+  object_walk tree who path =
       and_then (parsed_path path) (λ text.
-      and_then (path_walked world task text) (λ here. unless (slash_rules world text here.node) (Ok here)))
+      and_then (path_walked tree who text) (λ here. unless (slash_rules tree text here.node) (Ok here)))
 
   -- the directory that a path leads to
-  abbrev pub directory_walk : World N → Task N → List ℕ → Result (Here N) Deny
-  directory_walk world task path =
+  abbrev pub directory_walk : Tree N → Credentials → List ℕ → Result (Here N) Deny
+  directory_walk tree who path =
       and_then (parsed_path path) (λ text.
-      and_then (path_walked world task text) (λ here.
-      unless ((not (is_directory_at world here.node), W3) ∷ []) (Ok here)))
+      and_then (path_walked tree who text) (λ here.
+      unless ((not (is_directory_at tree here.node), W3) ∷ []) (Ok here)))
 
   -- all words but the last walked
-  abbrev pub front_walked : World N → Task N → Here N → List (List ℕ) → Result (Here N) Deny
-  front_walked world task here [] = Ok here
-  front_walked world task here (word ∷ front) = words_walked world task (followed world task) here front
+  abbrev pub front_walked : Tree N → Credentials → Here N → List (List ℕ) → Result (Here N) Deny
+  front_walked tree who here [] = Ok here
+  front_walked tree who here (word ∷ front) = words_walked tree who (followed tree who) here front
 
   -- the object that a path leads to, a final link itself unless a slash follows: lstat(2)
-  abbrev pub last_walked : World N → Task N → Here N → LastWord → Result (Here N) Deny
-  last_walked world task here NoWord = Ok here
-  last_walked world task here word = word_walked world task here word
+  abbrev pub last_walked : Tree N → Credentials → Here N → LastWord → Result (Here N) Deny
+  last_walked tree who here NoWord = Ok here
+  last_walked tree who here word = word_walked tree who here word
 
-  abbrev pub unfollowed_walk : World N → Task N → List ℕ → Result (Here N) Deny
-  unfollowed_walk world task text =
-      and_then (front_walked world task (walk_start world) (reverse (words text))) (λ here.
-      last_walked world task here (final_word (reverse (words text))))
+  abbrev pub unfollowed_walk : Tree N → Credentials → List ℕ → Result (Here N) Deny
+  unfollowed_walk tree who text =
+      and_then (front_walked tree who (walk_start tree) (reverse (words text))) (λ here.
+      last_walked tree who here (final_word (reverse (words text))))
 
-  abbrev pub link_walk : World N → Task N → List ℕ → Result (Here N) Deny
-  link_walk world task path =
-      if ends_in_slash path then object_walk world task path
-      else and_then (parsed_path path) (unfollowed_walk world task)
+  abbrev pub link_walk : Tree N → Credentials → List ℕ → Result (Here N) Deny
+  link_walk tree who path =
+      if ends_in_slash path then object_walk tree who path
+      else and_then (parsed_path path) (unfollowed_walk tree who)
 
   -- Parent walks: what a last word stands for, without a link followed
-  abbrev pub placed : World N → Task N → N → LastWord → Bool → Result (Place N) Deny
-  placed world task here NoWord slash = Ok (record { parent = here; last = NoWord; object = Some here; slash = slash })
-  placed world task here word slash =
-      unless (search_rules world task here)
-      (Ok (record { parent = here; last = word; object = object_named world here word; slash = slash }))
+  abbrev pub placed : Tree N → Credentials → N → LastWord → Bool → Result (Place N) Deny
+  placed tree who here NoWord slash = Ok (record { parent = here; last = NoWord; object = Some here; slash = slash })
+  placed tree who here word slash =
+      unless (search_rules tree who here)
+      (Ok (record { parent = here; last = word; object = object_named tree here word; slash = slash }))
 
   -- the parent that a path leads to, and what its last word names there
-  abbrev pub new_walk : World N → Task N → List ℕ → Result (Place N) Deny
-  new_walk world task path =
+  abbrev pub new_walk : Tree N → Credentials → List ℕ → Result (Place N) Deny
+  new_walk tree who path =
       and_then (parsed_path path) (λ text.
-      and_then (front_walked world task (walk_start world) (reverse (words text))) (λ here.
-      placed world task here.node (final_word (reverse (words text))) (ends_in_slash text)))
+      and_then (front_walked tree who (walk_start tree) (reverse (words text))) (λ here.
+      placed tree who here.node (final_word (reverse (words text))) (ends_in_slash text)))
 
   -- as that, but a slash behind a missing name is refused: symlink(2), link(2)
-  abbrev pub new_leaf_walk : World N → Task N → List ℕ → Result (Place N) Deny
-  new_leaf_walk world task path =
-      and_then (new_walk world task path) (λ place.
+  abbrev pub new_leaf_walk : Tree N → Credentials → List ℕ → Result (Place N) Deny
+  new_leaf_walk tree who path =
+      and_then (new_walk tree who path) (λ place.
       unless ((place.slash && not (is_some place.object), W6) ∷ []) (Ok place))
 
   -- a name that must be there
-  abbrev pub old_walk : World N → Task N → List ℕ → Result (Place N) Deny
-  old_walk world task path =
-      and_then (new_walk world task path) (λ place.
+  abbrev pub old_walk : Tree N → Credentials → List ℕ → Result (Place N) Deny
+  old_walk tree who path =
+      and_then (new_walk tree who path) (λ place.
       unless ((not (is_some place.object), W6) ∷ []) (Ok place))
 
-  abbrev pub is_directory_there : World N → Place N → Bool
-  is_directory_there world place = holds_of (is_directory_at world) place.object
+  abbrev pub is_directory_there : Tree N → Place N → Bool
+  is_directory_there tree place = holds_of (is_directory_at tree) place.object
 
   -- as that, and a slash asks for a directory: unlink(2), rename(2)
-  abbrev pub old_leaf_walk : World N → Task N → List ℕ → Result (Place N) Deny
-  old_leaf_walk world task path =
-      and_then (old_walk world task path) (λ place.
-      unless ((place.slash && not (is_directory_there world place), W3) ∷ []) (Ok place))
+  abbrev pub old_leaf_walk : Tree N → Credentials → List ℕ → Result (Place N) Deny
+  old_leaf_walk tree who path =
+      and_then (old_walk tree who path) (λ place.
+      unless ((place.slash && not (is_directory_there tree place), W3) ∷ []) (Ok place))
 
   -- the second path of a rename: rename(2)
-  abbrev pub rename_new_walk : World N → Task N → List ℕ → Bool → Result (Place N) Deny
-  rename_new_walk world task path old_is_directory =
-      and_then (new_walk world task path) (λ place.
+  abbrev pub rename_new_walk : Tree N → Credentials → List ℕ → Bool → Result (Place N) Deny
+  rename_new_walk tree who path old_is_directory =
+      and_then (new_walk tree who path) (λ place.
       unless ((place.slash && not old_is_directory, W3) ∷ []) (Ok place))
 
   -- The place of a file that is opened or made: a final link is followed, also to a missing name: open(2) with O_CREAT
-  abbrev pub link_there : World N → Place N → Option (List ℕ)
-  link_there world place = then_some place.object (λ object. link_text (node_at world object))
+  abbrev pub link_there : Tree N → Place N → Option (List ℕ)
+  link_there tree place = then_some place.object (λ object. link_text (tree.node object))
 
   abbrev pub link_of : Here N → Place N → Here N
   link_of here place = record { node = unwrap_or place.object place.parent; left = here.left }
@@ -194,15 +198,15 @@ module _ {N : Type 0} where
   file_or_link place None follow = Ok place
   file_or_link place (Some text) follow = follow text
 
-  abbrev pub file_walked : ℕ → World N → Task N → Here N → List ℕ → Bool → Result (Place N) Deny
-  file_walked zero world task start text slash = Err (denial W7)
-  file_walked (suc depth) world task start text slash =
-      and_then (front_walked world task start (reverse (words text))) (λ here.
-      and_then (placed world task here.node (final_word (reverse (words text))) (slash || ends_in_slash text)) (λ place.
-      file_or_link place (link_there world place) (λ inner.
+  abbrev pub file_walked : ℕ → Tree N → Credentials → Here N → List ℕ → Bool → Result (Place N) Deny
+  file_walked zero tree who start text slash = Err (denial W7)
+  file_walked (suc depth) tree who start text slash =
+      and_then (front_walked tree who start (reverse (words text))) (λ here.
+      and_then (placed tree who here.node (final_word (reverse (words text))) (slash || ends_in_slash text)) (λ place.
+      file_or_link place (link_there tree place) (λ inner.
       unless (follow_rules (link_of here place) inner)
-      (file_walked depth world task (link_start world here.node (link_of here place) inner) inner (slash || ends_in_slash text)))))
+      (file_walked depth tree who (link_start tree here.node (link_of here place) inner) inner (slash || ends_in_slash text)))))
 
-  abbrev pub file_walk : World N → Task N → List ℕ → Result (Place N) Deny
-  file_walk world task path =
-      and_then (parsed_path path) (λ text. file_walked (most_links + 1) world task (walk_start world) text false)
+  abbrev pub file_walk : Tree N → Credentials → List ℕ → Result (Place N) Deny
+  file_walk tree who path =
+      and_then (parsed_path path) (λ text. file_walked (most_links + 1) tree who (walk_start tree) text false)

@@ -2,7 +2,6 @@
 use Rattle.std.specs.Prelude.{Bool, Err, List, None, Ok, Option, Result, Some, [], filter, find, if◌then◌else◌, length, map, nat_le, nat_lt, not, ◌==◌, ◌∷◌, ◌+◌, ℕ}
 use Rattle.vt_spec.specs.declared.errors.Deny.{Deny}
 use Rattle.vt_spec.specs.Machine.Outcomes.{Answer}
-use Rattle.vt_spec.specs.Machine.Rightful.{node_allows}
 use Rattle.vt_spec.specs.Machine.World.{TaskName, first_credentials, root_attr, same_name}
 use Rattle.vt_spec.specs.OneTree.Inodes.{Inodes, node_in, one_directory}
 use Rattle.vt_spec.specs.Rights.{Credentials}
@@ -48,10 +47,6 @@ module _ {N : Type 0} where
 
   abbrev pub node_at : World N → N → Option (Node N)
   node_at world number = node_in (world.inodes.inode number)
-
-  -- the task may do this to the object: path_resolution(7)
-  abbrev pub may : World N → Task N → N → ℕ → Bool
-  may world task number wanted = node_allows task.credentials wanted (node_at world number)
 
   abbrev pub task_called : World N → TaskName → Option (Task N)
   task_called world name = find (λ task. same_name name task.name) world.tasks
