@@ -1,5 +1,5 @@
 -- What a change or a permit needs of the tree, and what the rules of its call have seen to.
-use Rattle.std.specs.Prelude.{Bool, List, None, Option, Some, [], false, is_some, length, nat_eq, true, ℕ, ⊤, ◌≡◌, ◌≢◌, ◌≤◌}
+use Rattle.std.specs.Prelude.{List, None, Option, Some, false, is_some, length, nat_eq, true, ℕ, ⊤, ◌≡◌, ◌≢◌, ◌≤◌}
 use Rattle.vt_spec.specs.Laws.Trees.{IsNewIn}
 use Rattle.vt_spec.specs.Machine.Changes.{Change}
 use Rattle.vt_spec.specs.Machine.Changes.Change.{AddName, CopyUp, Make, Move, Remove, SetAttr, SetBytes, SetMark}

@@ -1,11 +1,11 @@
 -- The policy in one tree: what each call is permitted, and what it then does. A call is judged by its walks and its tables of
 -- rules, and what it is permitted is then done.
-use Rattle.std.specs.Prelude.{Bool, Err, List, None, Ok, Option, Result, Some, [], drop, false, if◌then◌else◌, not, ok_or, option_map, take, true, unwrap_or, ◌+◌, ◌++◌, ◌∷◌, ℕ, length, map}
+use Rattle.std.specs.Prelude.{Bool, Err, List, None, Ok, Option, Result, Some, [], drop, false, not, ok_or, take, true, unwrap_or, ◌+◌, ◌++◌, ◌∷◌, ℕ, map}
 use Rattle.vt_spec.specs.declared.attributes.Attr.{Attr}
 use Rattle.vt_spec.specs.declared.errors.Deny.{Deny}
 use Rattle.vt_spec.specs.declared.errors.Rule.TheVariants.{C2, P1, S1, S2}
 use Rattle.vt_spec.specs.Errors.{and_then, denial, unless}
-use Rattle.vt_spec.specs.Machine.Calls.{Access, Call, CapabilityWord, Creation, ForkWords}
+use Rattle.vt_spec.specs.Machine.Calls.{Access, Call, Creation, ForkWords}
 use Rattle.vt_spec.specs.Machine.Calls.Call.{Chmod, Chown, Close, Drop, Exec, Exit, Fork, LinkTo, Ls, Lstat, Mkdir, OpenFile, Pread, Pwrite, Read, Readlink, Rename, Rmdir, Stat, SymlinkAt, Umask, Unlink, Write}
 use Rattle.vt_spec.specs.Machine.Calls.Creation.{Exclusive, NoCreation, OrCreate}
 use Rattle.vt_spec.specs.Machine.Changes.Change.{AddName, Make, Move, Remove, SetAttr, SetBytes}
@@ -22,9 +22,9 @@ use Rattle.vt_spec.specs.OneTree.Permits.{Permit}
 use Rattle.vt_spec.specs.OneTree.Permits.Permit.{Allowed, ToChange, ToClose, ToExit, ToFork, ToList, ToOpen, ToOpenNew, ToRead, ToReadPart, ToSetCredentials, ToSetUmask, ToTell}
 use Rattle.vt_spec.specs.OneTree.Rules.{attr_at, chmod_rules, descriptor_at, descriptor_rules, exclusive_rules, exec_rules, file_word_rules, fork_rules, is_one_object, link_rules, list_rules, new_rules, open_new_rules, open_rules, pwrite_rules, read_rules, readlink_rules, rename_rules, rewrite_rules, rmdir_rules, unlink_rules, write_new_rules}
 use Rattle.vt_spec.specs.OneTree.Walk.{Place, directory_walk, file_walk, is_directory_there, link_walk, new_leaf_walk, new_walk, object_walk, old_leaf_walk, old_walk, rename_new_walk}
-use Rattle.vt_spec.specs.OneTree.World.{Descriptor, Outcome, Task, World, after, descriptor_numbered, free_number, granted, node_at, replaced_if_called, task_called, with_descriptor, with_inodes, with_task, without_descriptor, without_task}
+use Rattle.vt_spec.specs.OneTree.World.{Descriptor, Outcome, Task, World, after, descriptor_numbered, free_number, granted, node_at, changed_if_called, task_called, with_descriptor, with_inodes, with_task, without_descriptor, without_task}
 use Rattle.vt_spec.specs.Rights.{Credentials, masked}
-use Rattle.vt_spec.specs.Tree.{Content, Node, Tree, bytes_in, names_in, new_directory}
+use Rattle.vt_spec.specs.Tree.{Node, Tree, bytes_in, names_in, new_directory}
 use Rattle.vt_spec.specs.Tree.Content.{Regular, Symlink}
 
 module _ {N : Type 0} where
@@ -178,32 +178,34 @@ module _ {N : Type 0} where
       and_then (descriptor_at task number (λ descriptor. true)) (λ descriptor. Ok (ToClose number))
 
   -- Tasks
-  unfoldable pub fork_permit : Task N → Option ForkWords → Result (Permit N) Deny
-  fork_permit task words =
-      unless (fork_rules task (child_credentials task.credentials words))
+  unfoldable pub fork_permit : TaskName → Task N → Option ForkWords → Result (Permit N) Deny
+  fork_permit name task words =
+      unless (fork_rules name task (child_credentials task.credentials words))
       (Ok (ToFork (child_credentials task.credentials words)))
 
   -- What is done with a permit
 
-  abbrev pub child_name : Task N → TaskName
-  child_name task = task.name ++ ((task.forks + 1) ∷ [])
+  abbrev pub child_name : TaskName → Task N → TaskName
+  child_name name task = name ++ ((task.forks + 1) ∷ [])
 
   -- a child has the parent's umask and no descriptors (profile)
   abbrev pub child_of : Task N → Credentials → Task N
   child_of task credentials =
-      record { name = child_name task; credentials = credentials; umask = task.umask; descriptors = []; forks = 0 }
+      record { credentials = credentials; umask = task.umask; descriptors = []; forks = 0 }
 
-  abbrev pub with_child : World N → Task N → Task N → World N
-  with_child world task child =
-      record world { tasks = map (replaced_if_called (record task { forks = task.forks + 1 })) world.tasks ++ (child ∷ []) }
+  abbrev pub with_child : World N → TaskName → Task N → Task N → World N
+  with_child world name task child =
+      record world {
+        tasks = map (changed_if_called name (record task { forks = task.forks + 1 })) world.tasks ++ ((child_name name task, child) ∷ []);
+      }
 
   abbrev pub descriptor_on : Task N → N → Access → Descriptor N
   descriptor_on task file access =
       record { number = free_number task; file = file; reads = access.reads; writes = access.writes }
 
   -- the task has a descriptor more
-  abbrev pub with_opened : World N → Task N → N → Access → World N
-  with_opened world task file access = with_task world (with_descriptor task (descriptor_on task file access))
+  abbrev pub with_opened : World N → TaskName → Task N → N → Access → World N
+  with_opened world name task file access = with_task world name (with_descriptor task (descriptor_on task file access))
 
 module _ {N : Type 0} (eq : N → N → Bool) where
   abbrev pub renamed_by : Bool → Inodes N → Task N → Place N → Place N → N → Result (Permit N) Deny
@@ -221,63 +223,63 @@ module _ {N : Type 0} (eq : N → N → Bool) where
       (renamed_by (is_one_object eq (object_there from) to.object) inodes task from to (object_there from)))))
 
   -- what a call of the task is permitted, or the first rule that refuses it
-  abbrev pub judge : N → World N → Task N → Call → Result (Permit N) Deny
-  judge number world task (Ls path) = list_permit (tree_of world.inodes) task path
-  judge number world task (Stat path) = stat_permit (tree_of world.inodes) task path
-  judge number world task (Lstat path) = lstat_permit (tree_of world.inodes) task path
-  judge number world task (Readlink path) = readlink_permit (tree_of world.inodes) task path
-  judge number world task (Read path) = read_permit (tree_of world.inodes) task path
-  judge number world task (Write path bytes) = write_permit number (tree_of world.inodes) task path bytes
-  judge number world task (Exec path) = exec_permit (tree_of world.inodes) task path
-  judge number world task (Mkdir path mode) = mkdir_permit number (tree_of world.inodes) task path mode
-  judge number world task (SymlinkAt text path) = symlink_permit number (tree_of world.inodes) task text path
-  judge number world task (LinkTo old new) = link_permit (tree_of world.inodes) task old new
-  judge number world task (Unlink path) = unlink_permit (tree_of world.inodes) task path
-  judge number world task (Rmdir path) = rmdir_permit (tree_of world.inodes) task path
-  judge number world task (Rename old new) = rename_permit world.inodes task old new
-  judge number world task (Chmod path mode) = chmod_permit (tree_of world.inodes) task path mode
-  judge number world task (Chown path uid gid) = chown_permit (tree_of world.inodes) task path uid gid
-  judge number world task (OpenFile path access creation) = open_permit number (tree_of world.inodes) task path access creation
-  judge number world task (Pread descriptor offset size) = pread_permit task descriptor offset size
-  judge number world task (Pwrite descriptor offset bytes) = pwrite_permit (tree_of world.inodes) task descriptor offset bytes
-  judge number world task (Close descriptor) = close_permit task descriptor
-  judge number world task (Umask mode) = Ok (ToSetUmask (permission_bits mode))
-  judge number world task (Drop which) = Ok (ToSetCredentials (with_dropped task.credentials (capabilities_of which task.credentials)))
-  judge number world task (Fork words) = fork_permit task words
-  judge number world task Exit = Ok ToExit
-  judge number world task call = Err (denial S1)
+  abbrev pub judge : N → World N → TaskName → Task N → Call → Result (Permit N) Deny
+  judge number world name task (Ls path) = list_permit (tree_of world.inodes) task path
+  judge number world name task (Stat path) = stat_permit (tree_of world.inodes) task path
+  judge number world name task (Lstat path) = lstat_permit (tree_of world.inodes) task path
+  judge number world name task (Readlink path) = readlink_permit (tree_of world.inodes) task path
+  judge number world name task (Read path) = read_permit (tree_of world.inodes) task path
+  judge number world name task (Write path bytes) = write_permit number (tree_of world.inodes) task path bytes
+  judge number world name task (Exec path) = exec_permit (tree_of world.inodes) task path
+  judge number world name task (Mkdir path mode) = mkdir_permit number (tree_of world.inodes) task path mode
+  judge number world name task (SymlinkAt text path) = symlink_permit number (tree_of world.inodes) task text path
+  judge number world name task (LinkTo old new) = link_permit (tree_of world.inodes) task old new
+  judge number world name task (Unlink path) = unlink_permit (tree_of world.inodes) task path
+  judge number world name task (Rmdir path) = rmdir_permit (tree_of world.inodes) task path
+  judge number world name task (Rename old new) = rename_permit world.inodes task old new
+  judge number world name task (Chmod path mode) = chmod_permit (tree_of world.inodes) task path mode
+  judge number world name task (Chown path uid gid) = chown_permit (tree_of world.inodes) task path uid gid
+  judge number world name task (OpenFile path access creation) = open_permit number (tree_of world.inodes) task path access creation
+  judge number world name task (Pread descriptor offset size) = pread_permit task descriptor offset size
+  judge number world name task (Pwrite descriptor offset bytes) = pwrite_permit (tree_of world.inodes) task descriptor offset bytes
+  judge number world name task (Close descriptor) = close_permit task descriptor
+  judge number world name task (Umask mode) = Ok (ToSetUmask (permission_bits mode))
+  judge number world name task (Drop which) = Ok (ToSetCredentials (with_dropped task.credentials (capabilities_of which task.credentials)))
+  judge number world name task (Fork words) = fork_permit name task words
+  judge number world name task Exit = Ok ToExit
+  judge number world name task call = Err (denial S1)
 
   -- descriptors end one by one: close(2), _exit(2)
   abbrev pub without_uses : Inodes N → List (Descriptor N) → Inodes N
   without_uses inodes [] = inodes
   without_uses inodes (descriptor ∷ rest) = without_uses (unpinned eq inodes descriptor.file) rest
 
-  abbrev pub closed : World N → Task N → Option (Descriptor N) → World N
-  closed world task None = world
-  closed world task (Some descriptor) =
-      with_inodes (with_task world (without_descriptor task descriptor.number)) (unpinned eq world.inodes descriptor.file)
+  abbrev pub closed : World N → TaskName → Task N → Option (Descriptor N) → World N
+  closed world name task None = world
+  closed world name task (Some descriptor) =
+      with_inodes (with_task world name (without_descriptor task descriptor.number)) (unpinned eq world.inodes descriptor.file)
 
-  abbrev pub spent : World N → Task N → Permit N → Outcome N
-  spent world task Allowed = granted Done world
-  spent world task (ToList directory) = granted (Names (names_in (node_at world directory))) world
-  spent world task (ToTell object) = granted (Told (stat_line (node_at world object))) world
-  spent world task (ToRead file) = granted (Bytes (bytes_in (node_at world file))) world
-  spent world task (ToReadPart file offset size) = granted (Bytes (take size (drop offset (bytes_in (node_at world file))))) world
-  spent world task (ToChange change) = granted Done (with_inodes world (changed eq world.inodes change))
-  spent world task (ToOpen file access) =
-      granted (Opened (free_number task)) (with_inodes (with_opened world task file access) (pinned eq world.inodes file))
-  spent world task (ToOpenNew directory name number node access) =
-      granted (Opened (free_number task)) (with_inodes (with_opened world task number access)
-      (pinned eq (with_new eq world.inodes directory name number node) number))
-  spent world task (ToClose number) = granted Done (closed world task (descriptor_numbered task number))
-  spent world task (ToSetUmask umask) = granted Done (with_task world (record task { umask = umask }))
-  spent world task (ToSetCredentials credentials) = granted Done (with_task world (record task { credentials = credentials }))
-  spent world task (ToFork credentials) = granted (Child (child_name task)) (with_child world task (child_of task credentials))
-  spent world task ToExit =
-      granted Done (with_inodes (without_task world task.name) (without_uses world.inodes task.descriptors))
+  abbrev pub spent : World N → TaskName → Task N → Permit N → Outcome N
+  spent world name task Allowed = granted Done world
+  spent world name task (ToList directory) = granted (Names (names_in (node_at world directory))) world
+  spent world name task (ToTell object) = granted (Told (stat_line (node_at world object))) world
+  spent world name task (ToRead file) = granted (Bytes (bytes_in (node_at world file))) world
+  spent world name task (ToReadPart file offset size) = granted (Bytes (take size (drop offset (bytes_in (node_at world file))))) world
+  spent world name task (ToChange change) = granted Done (with_inodes world (changed eq world.inodes change))
+  spent world name task (ToOpen file access) =
+      granted (Opened (free_number task)) (with_inodes (with_opened world name task file access) (pinned eq world.inodes file))
+  spent world name task (ToOpenNew directory entry number node access) =
+      granted (Opened (free_number task)) (with_inodes (with_opened world name task number access)
+      (pinned eq (with_new eq world.inodes directory entry number node) number))
+  spent world name task (ToClose number) = granted Done (closed world name task (descriptor_numbered task number))
+  spent world name task (ToSetUmask umask) = granted Done (with_task world name (record task { umask = umask }))
+  spent world name task (ToSetCredentials credentials) = granted Done (with_task world name (record task { credentials = credentials }))
+  spent world name task (ToFork credentials) = granted (Child (child_name name task)) (with_child world name task (child_of task credentials))
+  spent world name task ToExit =
+      granted Done (with_inodes (without_task world name) (without_uses world.inodes task.descriptors))
 
   -- the policy: a call is judged, and what it is permitted is done
   abbrev pub policy : World N → TaskName → Call → N → Outcome N
   policy world name call number =
       after world (ok_or (task_called world name) (denial S2)) (λ task.
-      after world (judge number world task call) (spent world task))
+      after world (judge number world name task call) (spent world name task))

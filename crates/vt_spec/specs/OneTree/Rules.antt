@@ -1,5 +1,5 @@
 -- The rules of each call, in the order of the policy: error by error, as the system call's man page has them.
-use Rattle.std.specs.Prelude.{Bool, List, None, Option, Some, [], find, is_some, length, nat_le, nat_lt, not, ok_or, option_to_list, Result, ◌&&◌, ◌+◌, ◌==◌, ◌||◌, ◌∷◌, ℕ}
+use Rattle.std.specs.Prelude.{Bool, List, Option, [], find, is_some, length, nat_le, nat_lt, not, ok_or, option_to_list, Result, ◌&&◌, ◌+◌, ◌==◌, ◌||◌, ◌∷◌, ℕ}
 use Rattle.std.specs.Str.{bytes_eq}
 use Rattle.vt_spec.specs.declared.attributes.Attr.{Attr}
 use Rattle.vt_spec.specs.declared.attributes.Kind.{Kind}
@@ -14,6 +14,7 @@ use Rattle.vt_spec.specs.Machine.Outcome.Descriptors.{access_rights, most_descri
 use Rattle.vt_spec.specs.Machine.Outcome.Making.{largest_file}
 use Rattle.vt_spec.specs.Machine.Outcome.Tasks.{deepest_name, most_forks}
 use Rattle.vt_spec.specs.Machine.Walk.{is_dot, is_dot_dot, is_no_word, is_special}
+use Rattle.vt_spec.specs.Machine.World.{TaskName}
 use Rattle.vt_spec.specs.OneTree.Inodes.{Inodes, is_directory_under, tree_of}
 use Rattle.vt_spec.specs.OneTree.Walk.{Place, is_directory_at, may}
 use Rattle.vt_spec.specs.OneTree.World.{Descriptor, Task, descriptor_numbered}
@@ -151,9 +152,9 @@ module _ {N : Type 0} where
   descriptor_at task number fits = ok_or (find fits (option_to_list (descriptor_numbered task number))) (denial S4)
 
   -- Tasks: EAGAIN of fork(2) is the profile's ENOSPC; EPERM of setuid(2), setgid(2), setgroups(2) and capset(2)
-  abbrev pub fork_rules : Task N → Credentials → Rules
-  fork_rules task child =
-      (nat_le most_forks task.forks || nat_le deepest_name (length task.name), S6)
+  abbrev pub fork_rules : TaskName → Task N → Credentials → Rules
+  fork_rules name task child =
+      (nat_le most_forks task.forks || nat_le deepest_name (length name), S6)
       ∷ (not (child.uid == task.credentials.uid) && lacks task cap_setuid, K1)
       ∷ (not (child.gid == task.credentials.gid && bytes_eq child.groups task.credentials.groups) && lacks task cap_setgid, K1)
       ∷ (lacks task child.capabilities, K1)

@@ -1,13 +1,13 @@
 -- Where a path leads in one tree: path_resolution(7). A walk is by recursion on the front of its path, and a link that is
 -- followed is a walk of its own text.
-use Rattle.std.specs.Prelude.{Bool, Err, List, None, Ok, Option, Result, Some, [], false, if◌then◌else◌, is_some, length, nat_lt, not, ok_or, option_map, reverse, suc, true, unwrap_or, zero, ◌&&◌, ◌+◌, ◌-◌, ◌==◌, ◌||◌, ◌∷◌, ℕ}
+use Rattle.std.specs.Prelude.{Bool, Err, List, None, Ok, Option, Result, Some, [], false, if◌then◌else◌, is_some, length, nat_lt, not, ok_or, reverse, suc, unwrap_or, zero, ◌&&◌, ◌+◌, ◌-◌, ◌==◌, ◌||◌, ◌∷◌, ℕ}
 use Rattle.std.specs.List.{list_any}
 use Rattle.vt_spec.specs.declared.errors.Deny.{Deny}
 use Rattle.vt_spec.specs.declared.errors.Rule.TheVariants.{W2, W3, W4, W6, W7}
 use Rattle.vt_spec.specs.Errors.{Rules, and_then, denial, unless}
 use Rattle.vt_spec.specs.Machine.FileTree.{link_text}
 use Rattle.vt_spec.specs.Machine.Lists.{holds_of, then_some}
-use Rattle.vt_spec.specs.Machine.Walk.{LastWord, final_word, is_special, last_word, most_links}
+use Rattle.vt_spec.specs.Machine.Walk.{LastWord, final_word, last_word, most_links}
 use Rattle.vt_spec.specs.Machine.Walk.LastWord.{Dot, DotDot, Named, NoWord}
 use Rattle.vt_spec.specs.Machine.Rightful.{node_allows}
 use Rattle.vt_spec.specs.PathText.{ends_in_slash, is_absolute, longest_name, parsed_path, words}

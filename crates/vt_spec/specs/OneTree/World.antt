@@ -1,5 +1,5 @@
 -- The state of the machine of one tree: its inodes, and the tasks. Tasks are those of credentials(7).
-use Rattle.std.specs.Prelude.{Bool, Err, List, None, Ok, Option, Result, Some, [], filter, find, if◌then◌else◌, length, map, nat_le, nat_lt, not, ◌==◌, ◌∷◌, ◌+◌, ℕ}
+use Rattle.std.specs.Prelude.{Bool, Err, List, Ok, Option, Result, [], filter, find, if◌then◌else◌, map, nat_lt, not, option_map, ◌==◌, ◌∷◌, ◌+◌, ℕ}
 use Rattle.vt_spec.specs.declared.errors.Deny.{Deny}
 use Rattle.vt_spec.specs.Machine.Outcomes.{Answer}
 use Rattle.vt_spec.specs.Machine.World.{TaskName, first_credentials, root_attr, same_name}
@@ -16,16 +16,15 @@ pub record Descriptor (N : Type 0) : Type 0 where
 
 -- The root and the working directory of each task are the root of the tree.
 pub record Task (N : Type 0) : Type 0 where
-  pub name : TaskName
   pub credentials : Credentials
   pub umask : ℕ
   pub descriptors : List (Descriptor N)
   pub forks : ℕ
 
--- tasks stand in the order in which they were forked
+-- tasks stand with their names in the order in which they were forked
 pub record World (N : Type 0) : Type 0 where
   pub inodes : Inodes N
-  pub tasks : List (Task N)
+  pub tasks : List (TaskName × Task N)
 
 -- how a call ends: its answer or refusal, and the world that it leaves
 pub record Outcome (N : Type 0) : Type 0 where
@@ -48,18 +47,21 @@ module _ {N : Type 0} where
   abbrev pub node_at : World N → N → Option (Node N)
   node_at world number = node_in (world.inodes.inode number)
 
-  abbrev pub task_called : World N → TaskName → Option (Task N)
-  task_called world name = find (λ task. same_name name task.name) world.tasks
+  abbrev pub is_called : TaskName → TaskName × Task N → Bool
+  is_called name entry = same_name name entry.0
 
-  abbrev pub replaced_if_called : Task N → Task N → Task N
-  replaced_if_called new old = if same_name new.name old.name then new else old
+  abbrev pub task_called : World N → TaskName → Option (Task N)
+  task_called world name = option_map (λ entry. entry.1) (find (is_called name) world.tasks)
+
+  abbrev pub changed_if_called : TaskName → Task N → TaskName × Task N → TaskName × Task N
+  changed_if_called name task entry = if is_called name entry then (entry.0, task) else entry
 
   -- a task in the place of the one with its name
-  abbrev pub with_task : World N → Task N → World N
-  with_task world task = record world { tasks = map (replaced_if_called task) world.tasks }
+  abbrev pub with_task : World N → TaskName → Task N → World N
+  with_task world name task = record world { tasks = map (changed_if_called name task) world.tasks }
 
   abbrev pub without_task : World N → TaskName → World N
-  without_task world name = record world { tasks = filter (λ task. not (same_name name task.name)) world.tasks }
+  without_task world name = record world { tasks = filter (λ entry. not (is_called name entry)) world.tasks }
 
   abbrev pub with_inodes : World N → Inodes N → World N
   with_inodes world inodes = record world { inodes = inodes }
@@ -91,7 +93,7 @@ module _ {N : Type 0} where
 -- The opening world: an empty root directory of mode 0755, and a task with uid 0, gid 0, no further groups, all
 -- capabilities and umask 022 (profile).
 abbrev pub first_task : {N : Type 0} → Task N
-first_task = record { name = []; credentials = first_credentials; umask = 18; descriptors = []; forks = 0 }
+first_task = record { credentials = first_credentials; umask = 18; descriptors = []; forks = 0 }
 
 abbrev pub opening : {N : Type 0} → (N → N → Bool) → N → World N
-opening eq root = record { inodes = one_directory eq root root_attr; tasks = first_task ∷ [] }
+opening eq root = record { inodes = one_directory eq root root_attr; tasks = ([], first_task) ∷ [] }
