@@ -223,31 +223,31 @@ module _ {N : Type 0} (eq : N → N → Bool) where
       (renamed_by (is_one_object eq (object_there from) to.object) inodes task from to (object_there from)))))
 
   -- what a call of the task is permitted, or the first rule that refuses it
-  abbrev pub judge : N → World N → TaskName → Task N → Call → Result (Permit N) Deny
-  judge number world name task (Ls path) = list_permit (tree_of world.inodes) task path
-  judge number world name task (Stat path) = stat_permit (tree_of world.inodes) task path
-  judge number world name task (Lstat path) = lstat_permit (tree_of world.inodes) task path
-  judge number world name task (Readlink path) = readlink_permit (tree_of world.inodes) task path
-  judge number world name task (Read path) = read_permit (tree_of world.inodes) task path
-  judge number world name task (Write path bytes) = write_permit number (tree_of world.inodes) task path bytes
-  judge number world name task (Exec path) = exec_permit (tree_of world.inodes) task path
-  judge number world name task (Mkdir path mode) = mkdir_permit number (tree_of world.inodes) task path mode
-  judge number world name task (SymlinkAt text path) = symlink_permit number (tree_of world.inodes) task text path
-  judge number world name task (LinkTo old new) = link_permit (tree_of world.inodes) task old new
-  judge number world name task (Unlink path) = unlink_permit (tree_of world.inodes) task path
-  judge number world name task (Rmdir path) = rmdir_permit (tree_of world.inodes) task path
-  judge number world name task (Rename old new) = rename_permit world.inodes task old new
-  judge number world name task (Chmod path mode) = chmod_permit (tree_of world.inodes) task path mode
-  judge number world name task (Chown path uid gid) = chown_permit (tree_of world.inodes) task path uid gid
-  judge number world name task (OpenFile path access creation) = open_permit number (tree_of world.inodes) task path access creation
-  judge number world name task (Pread descriptor offset size) = pread_permit task descriptor offset size
-  judge number world name task (Pwrite descriptor offset bytes) = pwrite_permit (tree_of world.inodes) task descriptor offset bytes
-  judge number world name task (Close descriptor) = close_permit task descriptor
-  judge number world name task (Umask mode) = Ok (ToSetUmask (permission_bits mode))
-  judge number world name task (Drop which) = Ok (ToSetCredentials (with_dropped task.credentials (capabilities_of which task.credentials)))
-  judge number world name task (Fork words) = fork_permit name task words
-  judge number world name task Exit = Ok ToExit
-  judge number world name task call = Err (denial S1)
+  abbrev pub judge : N → Inodes N → TaskName → Task N → Call → Result (Permit N) Deny
+  judge number inodes name task (Ls path) = list_permit (tree_of inodes) task path
+  judge number inodes name task (Stat path) = stat_permit (tree_of inodes) task path
+  judge number inodes name task (Lstat path) = lstat_permit (tree_of inodes) task path
+  judge number inodes name task (Readlink path) = readlink_permit (tree_of inodes) task path
+  judge number inodes name task (Read path) = read_permit (tree_of inodes) task path
+  judge number inodes name task (Write path bytes) = write_permit number (tree_of inodes) task path bytes
+  judge number inodes name task (Exec path) = exec_permit (tree_of inodes) task path
+  judge number inodes name task (Mkdir path mode) = mkdir_permit number (tree_of inodes) task path mode
+  judge number inodes name task (SymlinkAt text path) = symlink_permit number (tree_of inodes) task text path
+  judge number inodes name task (LinkTo old new) = link_permit (tree_of inodes) task old new
+  judge number inodes name task (Unlink path) = unlink_permit (tree_of inodes) task path
+  judge number inodes name task (Rmdir path) = rmdir_permit (tree_of inodes) task path
+  judge number inodes name task (Rename old new) = rename_permit inodes task old new
+  judge number inodes name task (Chmod path mode) = chmod_permit (tree_of inodes) task path mode
+  judge number inodes name task (Chown path uid gid) = chown_permit (tree_of inodes) task path uid gid
+  judge number inodes name task (OpenFile path access creation) = open_permit number (tree_of inodes) task path access creation
+  judge number inodes name task (Pread descriptor offset size) = pread_permit task descriptor offset size
+  judge number inodes name task (Pwrite descriptor offset bytes) = pwrite_permit (tree_of inodes) task descriptor offset bytes
+  judge number inodes name task (Close descriptor) = close_permit task descriptor
+  judge number inodes name task (Umask mode) = Ok (ToSetUmask (permission_bits mode))
+  judge number inodes name task (Drop which) = Ok (ToSetCredentials (with_dropped task.credentials (capabilities_of which task.credentials)))
+  judge number inodes name task (Fork words) = fork_permit name task words
+  judge number inodes name task Exit = Ok ToExit
+  judge number inodes name task call = Err (denial S1)
 
   -- descriptors end one by one: close(2), _exit(2)
   abbrev pub without_uses : Inodes N → List (Descriptor N) → Inodes N
@@ -282,4 +282,4 @@ module _ {N : Type 0} (eq : N → N → Bool) where
   abbrev pub policy : World N → TaskName → Call → N → Outcome N
   policy world name call number =
       after world (ok_or (task_called world name) (denial S2)) (λ task.
-      after world (judge number world name task call) (spent world name task))
+      after world (judge number world.inodes name task call) (spent world name task))
