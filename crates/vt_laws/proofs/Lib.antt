@@ -1,1 +1,4 @@
 pub mod Outcomes
+pub mod OwnRules
+pub mod Unchanged
+pub mod WalkRules
