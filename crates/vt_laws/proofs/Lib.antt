@@ -1,4 +1,9 @@
+pub mod AskedRules
+pub mod LeastAnswers
+pub mod LeastRule
 pub mod Outcomes
 pub mod OwnRules
+pub mod TableOrder
 pub mod Unchanged
+pub mod WalkOrder
 pub mod WalkRules

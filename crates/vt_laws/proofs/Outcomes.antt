@@ -24,6 +24,15 @@ among_more (one ∷ own) rule rules e = either (bytes_eq (rule_name one) (rule_n
     either true e = refl
     either false e = e
 
+-- and where it is among the first of them
+pub among_front : (rules more : List Rule) (rule : Rule) → is_among rule rules ≡ true → is_among rule (rules ++ more) ≡ true
+among_front [] more rule e = cc
+among_front (one ∷ rules) more rule e = either (bytes_eq (rule_name one) (rule_name rule)) e (among_front rules more rule)
+  where
+    either : (b : Bool) {c d : Bool} → (b || c) ≡ true → (c ≡ true → d ≡ true) → (b || d) ≡ true
+    either true e f = refl
+    either false e f = f e
+
 module _ (rules : List Rule) where
   -- a refusal by one of the rules, with its error
   abbrev pub IsOwn : Deny → Type 0

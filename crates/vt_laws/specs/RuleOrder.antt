@@ -1,16 +1,22 @@
--- Which rules a call is refused by.
-use Rattle.std.specs.Prelude.{Bool, Err, List, [], false, if◌then◌else◌, nat_eq, true, ℕ, ◌++◌, ◌∷◌, ◌≡◌}
-use Rattle.vt_spec.specs.Laws.RuleOrder.{is_among}
+-- Which rules a call is refused by, and by which of several that fail.
+use Rattle.std.specs.Prelude.{Bool, Err, IfOk, IsErrAnd, List, None, Ok, Some, [], false, if◌then◌else◌, map, nat_eq, true, ℕ, ◌++◌, ◌∷◌, ◌≡◌, ◌≢◌}
+use Rattle.vt_laws.specs.Asked.{IsAnsweredByLeast, IsLeastOf, asked_first, asked_last, exclusive_last_words, failing, last_word_rules}
+use Rattle.vt_spec.specs.Laws.RuleOrder.{IsInOrder, IsInOrderAfterWalk, is_among}
 use Rattle.vt_spec.specs.declared.errors.Deny.{Deny}
 use Rattle.vt_spec.specs.declared.errors.Rule.{Rule}
 use Rattle.vt_spec.specs.declared.errors.Rule.TheVariants.{B1, B2, C1, C2, C3, E1, E2, E3, E4, E5, E6, E7, E8, E9, F1, F2, F3, K1, L1, M10, M11, M12, M2, M3, M4, M5, M6, M7, M8, M9, O1, O2, O3, O4, O5, P1, P2, S2, S3, S4, S6, W1, W2, W3, W4, W5, W6, W7, W8, W9}
-use Rattle.vt_spec.specs.Errors.{denial}
+use Rattle.vt_spec.specs.Errors.{Rules, denial}
 use Rattle.vt_spec.specs.Machine.Calls.{Call, Creation}
 use Rattle.vt_spec.specs.Machine.Calls.Call.{Bind, Chdir, Chmod, Chown, Chroot, Close, Drop, Exec, Exit, Fork, Lazy, LinkTo, ListMounts, Ls, Lstat, MakeWhiteout, Mkdir, MountOverlay, MountPlain, MoveMount, Opaque, OpenFile, PivotRoot, Pread, Pwrite, Read, Readlink, Remount, Rename, Rmdir, SetType, Setns, Stat, SymlinkAt, Umask, Umount, Unlink, Unshare, Write}
 use Rattle.vt_spec.specs.Machine.Calls.Creation.{Exclusive, NoCreation, OrCreate}
 use Rattle.vt_spec.specs.Machine.Lists.{Fresh}
 use Rattle.vt_spec.specs.Machine.Policy.{policy}
-use Rattle.vt_spec.specs.Machine.World.{TaskName, World}
+use Rattle.vt_spec.specs.Machine.Mounts.{Location}
+use Rattle.vt_spec.specs.Machine.Outcome.Making.{link_text_rules}
+use Rattle.vt_spec.specs.Machine.Outcome.Removing.{rmdir_word_rules}
+use Rattle.vt_spec.specs.Machine.Walk.{Here, LastWord, Place, follow_rules, new_leaf_walk, old_leaf_walk, place_walk, search_rules, stepped, walk_end}
+use Rattle.vt_spec.specs.Machine.World.{Task, TaskName, World, is_removed_at, task_called}
+use Rattle.vt_spec.specs.PathText.{path_rules}
 
 -- the rules of walks, which each call with a path has: path_resolution(7); those of a removed directory and of nosymfollow too
 abbrev pub walk_rules : List Rule
@@ -96,3 +102,91 @@ DenialHasErrorOfRule =
     (fresh : Fresh ℕ) (world : World ℕ) (name : TaskName) (call : Call) (deny : Deny)
     → (policy nat_eq fresh world name call).answer ≡ Err deny
     → deny ≡ denial deny.rule
+
+-- a call of a task that is not there is refused: ESRCH
+abbrev pub NoTaskIsRefused : Type 0
+NoTaskIsRefused =
+    (fresh : Fresh ℕ) (world : World ℕ) (name : TaskName) (call : Call)
+    → task_called world name ≡ None
+    → (policy nat_eq fresh world name call).answer ≡ Err (denial S2)
+
+-- where a rule fails that is asked before the walks, the call is refused by the least of those that fail (profile)
+abbrev pub FirstRulesAnswer : Type 0
+FirstRulesAnswer =
+    (fresh : Fresh ℕ) (world : World ℕ) (name : TaskName) (task : Task ℕ) (call : Call)
+    → task_called world name ≡ Some task
+    → failing (asked_first world task call) ≢ []
+    → IsErrAnd (policy nat_eq fresh world name call).answer (λ deny. IsLeastOf deny.rule (failing (asked_first world task call)))
+
+-- where none of those fails, a walk that is refused is the call's refusal, path by path (profile)
+abbrev pub WalksAnswerNext : Type 0
+WalksAnswerNext =
+    (fresh : Fresh ℕ) (world : World ℕ) (name : TaskName) (task : Task ℕ) (call : Call) (deny : Deny)
+    → task_called world name ≡ Some task
+    → failing (asked_first world task call) ≡ []
+    → asked_last fresh world task call ≡ Err deny
+    → (policy nat_eq fresh world name call).answer ≡ Err deny
+
+-- Where the walks are done too, the call is refused by the least of the rules of its last table that fail, and granted
+-- where none fails (profile).
+abbrev pub LastRulesAnswer : Type 0
+LastRulesAnswer =
+    (fresh : Fresh ℕ) (world : World ℕ) (name : TaskName) (task : Task ℕ) (call : Call) (rules : Rules)
+    → task_called world name ≡ Some task
+    → failing (asked_first world task call) ≡ []
+    → asked_last fresh world task call ≡ Ok rules
+    → IsAnsweredByLeast (policy nat_eq fresh world name call).answer (failing rules)
+
+-- a walk is refused by a rule of walks, or by its last word where that is out of the table's order
+abbrev pub WalksRefuseAsWalks : Type 0
+WalksRefuseAsWalks =
+    (fresh : Fresh ℕ) (world : World ℕ) (task : Task ℕ) (call : Call) (deny : Deny)
+    → failing (asked_first world task call) ≡ []
+    → asked_last fresh world task call ≡ Err deny
+    → is_among deny.rule (walk_rules ++ last_word_rules call) ≡ true
+
+-- the rules that a call asks before its walks are in the policy's order, and before those of walks
+abbrev pub FirstTablesInOrder : Type 0
+FirstTablesInOrder = (world : World ℕ) (task : Task ℕ) (call : Call) → IsInOrder (asked_first world task call ++ ((true, W1) ∷ []))
+
+-- the rules that a call asks after its walks are in the policy's order, and after those of walks
+abbrev pub LastTablesInOrder : Type 0
+LastTablesInOrder = (fresh : Fresh ℕ) (world : World ℕ) (task : Task ℕ) (call : Call) → IfOk (asked_last fresh world task call) IsInOrderAfterWalk
+
+-- a path's text, and the text of a link that is made
+abbrev pub TextRulesInOrder : Type 0
+TextRulesInOrder = (text : List ℕ) → IsInOrder (path_rules text) × IsInOrder (link_text_rules text)
+
+-- the rules of one word: the directory that it is looked up in, and then the step itself, by W6 or W8
+abbrev pub StepRulesInOrder : Type 0
+StepRulesInOrder =
+    (world : World ℕ) (task : Task ℕ) (here : Location ℕ) (word : LastWord) (deny : Deny)
+    → stepped nat_eq world task here word ≡ Err deny
+    → IsInOrder (search_rules nat_eq world task here ++ ((true, deny.rule) ∷ []))
+
+-- special last words of rmdir and of an exclusive open, each before the call's last table: though that begins with E1 or E3
+abbrev pub LastWordRulesInOrder : Type 0
+LastWordRulesInOrder = (place : Place ℕ) → IsInOrderAfterWalk (rmdir_word_rules place) × IsInOrderAfterWalk (exclusive_last_words place)
+
+-- The one table in another order: whether a link is followed at all, and how many were, is asked before its text is looked
+-- at, so W9 before W7 before W2 (profile).
+abbrev pub FollowRulesInReverse : Type 0
+FollowRulesInReverse =
+    (world : World ℕ) (link : Here ℕ) (text : List ℕ) → map (λ row. row.1) (follow_rules nat_eq world link text) ≡ (W9 ∷ W7 ∷ W2 ∷ [])
+
+-- a slash behind a missing name is asked last: a removed directory, W8, answers before it, though W6 is the lesser rule (profile)
+abbrev pub RemovedBeforeSlash : Type 0
+RemovedBeforeSlash =
+    (world : World ℕ) (task : Task ℕ) (path : List ℕ) (place : Place ℕ)
+    → place_walk nat_eq world task path ≡ Ok place
+    → place.object ≡ None
+    → is_removed_at nat_eq world place.parent ≡ true
+    → walk_end (new_leaf_walk nat_eq world task path) ≡ Err (denial W8)
+
+-- a missing name, W6, answers before the slash behind it asks for a directory, though W3 is the lesser rule (profile)
+abbrev pub MissingBeforeSlash : Type 0
+MissingBeforeSlash =
+    (world : World ℕ) (task : Task ℕ) (path : List ℕ) (place : Place ℕ)
+    → place_walk nat_eq world task path ≡ Ok place
+    → place.object ≡ None
+    → walk_end (old_leaf_walk nat_eq world task path) ≡ Err (denial W6)

@@ -1,8 +1,34 @@
 //! A call is refused by its own rules, and of several that fail by the first in the policy's order.
-ghost use Rattle.vt_laws.specs.RuleOrder.{DenialHasErrorOfRule, DenialIsOwn};
+ghost use Rattle.vt_laws.specs.RuleOrder.{DenialHasErrorOfRule, DenialIsOwn, FirstRulesAnswer, FirstTablesInOrder, FollowRulesInReverse, LastRulesAnswer, LastTablesInOrder, LastWordRulesInOrder, MissingBeforeSlash, NoTaskIsRefused, RemovedBeforeSlash, StepRulesInOrder, TextRulesInOrder, WalksAnswerNext, WalksRefuseAsWalks};
 
 /// A call is refused by its own rules alone, and with the error of the rule.
 pub fn denials_are_by_own_rules()
     ensures own { DenialIsOwn }
     ensures error { DenialHasErrorOfRule }
+{}
+
+/// Of several rules that fail, the least in the policy's order refuses the call, and a call that fails none is granted.
+///
+/// The rules of the script and of capabilities are asked before the walks, those of walks as each path is walked, and all
+/// others of the places that the walks led to.
+pub fn the_least_rule_answers()
+    ensures no_task { NoTaskIsRefused }
+    ensures first { FirstRulesAnswer }
+    ensures walks { WalksAnswerNext }
+    ensures last { LastRulesAnswer }
+    ensures walk_rules { WalksRefuseAsWalks }
+{}
+
+/// Each table of rules is in the policy's order: those asked before the walks, those of walks, and those asked after them.
+///
+/// A link's own rules are in the other order, and a slash behind a last word is asked last.
+pub fn tables_are_in_order()
+    ensures first { FirstTablesInOrder }
+    ensures last { LastTablesInOrder }
+    ensures texts { TextRulesInOrder }
+    ensures steps { StepRulesInOrder }
+    ensures last_words { LastWordRulesInOrder }
+    ensures links { FollowRulesInReverse }
+    ensures removed_before_slash { RemovedBeforeSlash }
+    ensures missing_before_slash { MissingBeforeSlash }
 {}
