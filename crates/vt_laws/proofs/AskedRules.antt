@@ -37,6 +37,7 @@ use Rattle.vt_spec.specs.Machine.Outcome.Tasks.{chdir_outcome, chroot_outcome, d
 use Rattle.vt_spec.specs.Machine.Outcomes.{Outcome, after, judged}
 use Rattle.vt_spec.specs.Machine.Policy.{call_outcome, finished, finished_by, only_looks, policy}
 use Rattle.vt_spec.specs.Machine.World.{TaskName}
+
 -- what is left of a call once its walks are done
 abbrev pub decided : Result Rules Deny → Result Bool Deny
 decided last = and_then last (λ rules. unless rules (Ok true))

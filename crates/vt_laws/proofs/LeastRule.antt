@@ -50,14 +50,13 @@ from_least least ((false, rule) ∷ rows) other order among =
 
 -- the first that fails is the least
 first_is_least : (least : ℕ) (rule : Rule) (rows : Rules) → is_in_order_from least ((true, rule) ∷ rows) ≡ true → IsLeastOf rule (failing ((true, rule) ∷ rows))
-first_is_least least rule rows order =
-    (
-      either_first (bytes_eq (rule_name rule) (rule_name rule)) _ ((bytes_eq-Decides (rule_name rule) (rule_name rule)).1 refl),
-      λ other among.
+first_is_least least rule rows order = (
+  either_first (bytes_eq (rule_name rule) (rule_name rule)) _ ((bytes_eq-Decides (rule_name rule) (rule_name rule)).1 refl),
+  λ other among.
       either_so (bytes_eq (rule_name rule) (rule_name other)) (is_among other (failing rows)) among
       (λ same. subst (λ n. rank rule ≤ n) (same_rank rule other same) (omega arith))
       (λ later. from_least (rank rule) rows other (both_second (nat_le least (rank rule)) _ order) later),
-    )
+)
 
 pub table_least : (least : ℕ) (rows : Rules) → is_in_order_from least rows ≡ true → IsAnsweredByLeast (unless rows (Ok true)) (failing rows)
 table_least least [] order = refl

@@ -326,13 +326,16 @@ module _ {N : Type 0} (eq : N → N → Bool) where
       finished_own (rules_of call) eq world name (only_looks call) (call_outcome eq fresh world task call).answer (call_outcome eq fresh world task call).world
       (call_own fresh world task call))
 
-pub policy_keeps_if_denied : (fresh : Fresh ℕ) (world : World ℕ) (name : TaskName) (call : Call)
+-- of a denial that leaves the world and is by its own rules, either holds
+parts_denied : {A : Type 0} (P : Type 0) (Q : Deny → Type 0) (answer : Result A Deny) → IfErr answer (λ deny. P × Q deny) → IfErr answer (λ deny. P) × IfErr answer Q
+parts_denied P Q (Ok a) h = (tt, tt)
+parts_denied P Q (Err deny) h = h
+
+pub policy_refuses_own : (fresh : Fresh ℕ) (world : World ℕ) (name : TaskName) (call : Call)
     → IfErr (policy nat_eq fresh world name call).answer (λ deny. (policy nat_eq fresh world name call).world ≡ world)
-policy_keeps_if_denied fresh world name call = first_part ((policy nat_eq fresh world name call).world ≡ world) (policy nat_eq fresh world name call).answer (policy_own nat_eq fresh world name call)
-  where
-    first_part : {A : Type 0} (P : Type 0) (answer : Result A Deny) → IfErr answer (λ deny. P × IsOwn (rules_of call) deny) → IfErr answer (λ deny. P)
-    first_part P (Ok a) h = tt
-    first_part P (Err deny) h = h.0
+    × IfErr (policy nat_eq fresh world name call).answer (IsOwn (rules_of call))
+policy_refuses_own fresh world name call =
+    parts_denied ((policy nat_eq fresh world name call).world ≡ world) (IsOwn (rules_of call)) (policy nat_eq fresh world name call).answer (policy_own nat_eq fresh world name call)
 
 -- what holds of a denial of the policy
 denied_own : (fresh : Fresh ℕ) (world : World ℕ) (name : TaskName) (call : Call) (deny : Deny)

@@ -58,6 +58,7 @@ mounter_in_order least e world location change = by_layers (filesystem_at nat_eq
     both : (b : Bool) → b ≡ true → (b && true) ≡ true
     both true f = refl
     both false f = f
+
     by_layers : (overlay : Option (Overlay ℕ)) → is_in_order_from least (overlay_or [] (overlay_rules nat_eq (filesystem_at nat_eq world location) change) overlay) ≡ true
     by_layers None = refl
     by_layers (Some overlay) = both (nat_le least (rank B1)) e

@@ -1,7 +1,7 @@
 -- What lines, looks and directives leave as it was.
 use Rattle.std.proofs.Common.{◌≡◌, refl, subst, ℕ, nat_eq, Bool, true, false, ◌||◌, nat_lt, length, List, [], ◌∷◌, Option, Some, None, Result, Ok, Err, IfErr, ok_or}
 use Rattle.vt_laws.proofs.Outcomes.{after_keeps, error_is, judged_keeps}
-use Rattle.vt_laws.proofs.OwnRules.{policy_keeps_if_denied}
+use Rattle.vt_laws.proofs.OwnRules.{policy_refuses_own}
 use Rattle.vt_laws.specs.Denials.{DeniedLineChangesNothing, DirectiveChangesNothing, LookChangesNothing, RefusedMemoryChangesNothing}
 use Rattle.vt_spec.specs.declared.errors.Deny.{Deny}
 use Rattle.vt_spec.specs.declared.errors.Rule.TheVariants.{S2}
@@ -69,7 +69,7 @@ denial_keeps (Err deny) p = p
 
 request_keeps : (world : World ℕ) (request : Option Request) (fresh : Fresh ℕ) → KeepsIfDenied world (requested nat_eq world request fresh)
 request_keeps world None fresh = refl
-request_keeps world (Some (Calling task call)) fresh = policy_keeps_if_denied fresh world task call
+request_keeps world (Some (Calling task call)) fresh = (policy_refuses_own fresh world task call).0
 request_keeps world (Some (Asking directive)) fresh = denial_keeps (directed nat_eq world directive).answer (directive_changes_nothing world directive)
 
 spoken_keeps : (grammar : Grammar) (world : World ℕ) (line : List ℕ) (fresh : Option (Fresh ℕ)) → StepKeepsIfDenied world (spoken_step nat_eq grammar world line fresh)

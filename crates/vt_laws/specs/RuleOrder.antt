@@ -1,16 +1,21 @@
 -- Which rules a call is refused by, and by which of several that fail.
-use Rattle.std.specs.Prelude.{Bool, Err, IfOk, IsErrAnd, List, None, Ok, Some, [], false, if◌then◌else◌, map, nat_eq, true, ℕ, ◌++◌, ◌∷◌, ◌≡◌, ◌≢◌}
+use Rattle.std.specs.Prelude.{Bool, Err, IfOk, IsErrAnd, List, None, Ok, Option, Some, [], false, if◌then◌else◌, map, nat_eq, true, ℕ, ◌++◌, ◌∷◌, ◌≡◌, ◌≢◌}
 use Rattle.vt_laws.specs.Asked.{IsAnsweredByLeast, IsLeastOf, asked_first, asked_last, exclusive_last_words, failing, last_word_rules}
 use Rattle.vt_spec.specs.Laws.RuleOrder.{IsInOrder, IsInOrderAfterWalk, is_among}
 use Rattle.vt_spec.specs.declared.errors.Deny.{Deny}
 use Rattle.vt_spec.specs.declared.errors.Rule.{Rule}
-use Rattle.vt_spec.specs.declared.errors.Rule.TheVariants.{B1, B2, C1, C2, C3, E1, E2, E3, E4, E5, E6, E7, E8, E9, F1, F2, F3, K1, L1, M10, M11, M12, M2, M3, M4, M5, M6, M7, M8, M9, O1, O2, O3, O4, O5, P1, P2, S2, S3, S4, S6, W1, W2, W3, W4, W5, W6, W7, W8, W9}
+use Rattle.vt_spec.specs.declared.errors.Rule.TheVariants.{B1, B2, C1, C2, C3, E1, E2, E3, E4, E5, E6, E7, E8, E9, F1, F2, F3, K1, L1, M10, M11, M12, M2, M3, M4, M5, M6, M7, M8, M9, O1, O2, O3, O4, O5, P1, P2, S1, S2, S3, S4, S5, S6, W1, W2, W3, W4, W5, W6, W7, W8, W9}
 use Rattle.vt_spec.specs.Errors.{Rules, denial}
 use Rattle.vt_spec.specs.Machine.Calls.{Call, Creation}
 use Rattle.vt_spec.specs.Machine.Calls.Call.{Bind, Chdir, Chmod, Chown, Chroot, Close, Drop, Exec, Exit, Fork, Lazy, LinkTo, ListMounts, Ls, Lstat, MakeWhiteout, Mkdir, MountOverlay, MountPlain, MoveMount, Opaque, OpenFile, PivotRoot, Pread, Pwrite, Read, Readlink, Remount, Rename, Rmdir, SetType, Setns, Stat, SymlinkAt, Umask, Umount, Unlink, Unshare, Write}
 use Rattle.vt_spec.specs.Machine.Calls.Creation.{Exclusive, NoCreation, OrCreate}
 use Rattle.vt_spec.specs.Machine.Lists.{Fresh}
+use Rattle.vt_spec.specs.Machine.Outcomes.{Outcome}
 use Rattle.vt_spec.specs.Machine.Policy.{policy}
+use Rattle.vt_spec.specs.Machine.Run.{line_step}
+use Rattle.vt_spec.specs.Machine.Run.Step.{Answered}
+use Rattle.vt_spec.specs.Machine.Script.{Grammar, Request, request_of}
+use Rattle.vt_spec.specs.Machine.Script.Request.{Asking, Calling}
 use Rattle.vt_spec.specs.Machine.Mounts.{Location}
 use Rattle.vt_spec.specs.Machine.Outcome.Making.{link_text_rules}
 use Rattle.vt_spec.specs.Machine.Outcome.Removing.{rmdir_word_rules}
@@ -102,6 +107,21 @@ DenialHasErrorOfRule =
     (fresh : Fresh ℕ) (world : World ℕ) (name : TaskName) (call : Call) (deny : Deny)
     → (policy nat_eq fresh world name call).answer ≡ Err deny
     → deny ≡ denial deny.rule
+
+-- The rules that a line may be refused by: of the grammar, of memory, and those of what it asks for. A line that is too long
+-- is of none of the grammar, whatever it asks for (profile).
+abbrev pub rules_of_request : Option Request → List Rule
+rules_of_request None = S1 ∷ S5 ∷ []
+rules_of_request (Some (Calling name call)) = S1 ∷ S5 ∷ rules_of call
+rules_of_request (Some (Asking directive)) = S1 ∷ S5 ∷ S2 ∷ []
+
+-- each refusal of a line is by one of its rules, with the error of the rule
+abbrev pub DeniedLineIsOwn : Type 0
+DeniedLineIsOwn =
+    (grammar : Grammar) (world : World ℕ) (line : List ℕ) (fresh : Option (Fresh ℕ)) (outcome : Outcome ℕ) (deny : Deny)
+    → line_step nat_eq grammar world line fresh ≡ Answered outcome
+    → outcome.answer ≡ Err deny
+    → (deny ≡ denial deny.rule) × (is_among deny.rule (rules_of_request (request_of grammar line)) ≡ true)
 
 -- a call of a task that is not there is refused: ESRCH
 abbrev pub NoTaskIsRefused : Type 0

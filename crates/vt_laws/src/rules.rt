@@ -1,10 +1,13 @@
 //! A call is refused by its own rules, and of several that fail by the first in the policy's order.
-ghost use Rattle.vt_laws.specs.RuleOrder.{DenialHasErrorOfRule, DenialIsOwn, FirstRulesAnswer, FirstTablesInOrder, FollowRulesInReverse, LastRulesAnswer, LastTablesInOrder, LastWordRulesInOrder, MissingBeforeSlash, NoTaskIsRefused, RemovedBeforeSlash, StepRulesInOrder, TextRulesInOrder, WalksAnswerNext, WalksRefuseAsWalks};
+ghost use Rattle.vt_laws.specs.RuleOrder.{DenialHasErrorOfRule, DenialIsOwn, DeniedLineIsOwn, FirstRulesAnswer, FirstTablesInOrder, FollowRulesInReverse, LastRulesAnswer, LastTablesInOrder, LastWordRulesInOrder, MissingBeforeSlash, NoTaskIsRefused, RemovedBeforeSlash, StepRulesInOrder, TextRulesInOrder, WalksAnswerNext, WalksRefuseAsWalks};
 
 /// A call is refused by its own rules alone, and with the error of the rule.
+///
+/// So is a line of a script, which the grammar and memory may refuse beside.
 pub fn denials_are_by_own_rules()
     ensures own { DenialIsOwn }
     ensures error { DenialHasErrorOfRule }
+    ensures line { DeniedLineIsOwn }
 {}
 
 /// Of several rules that fail, the least in the policy's order refuses the call, and a call that fails none is granted.
