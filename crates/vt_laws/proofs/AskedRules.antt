@@ -89,7 +89,8 @@ module _ (world : World ℕ) where
   descriptor_asked rule None next last e = refl
 
   -- one of which no more is asked
-  descriptor_asked_alone : {A : Type 0} (rule : Rule) (object : Option A) (next : A → Outcome ℕ) → ((a : A) → IsAnsweredAs (next a) (Ok true))
+  descriptor_asked_alone : {A : Type 0} (rule : Rule) (object : Option A) (next : A → Outcome ℕ)
+      → ((a : A) → IsAnsweredAs (next a) (Ok true))
       → IsAnsweredAs (after world (ok_or object (denial rule)) next) (unless ((is_err (ok_or object (denial rule)), rule) ∷ []) (Ok true))
   descriptor_asked_alone rule (Some a) next e = e a
   descriptor_asked_alone rule None next e = refl
@@ -116,7 +117,8 @@ write_asked fresh world task place bytes None =
     (tables_asked world ((nat_lt largest_file (length bytes), E6) ∷ []) rows _
     (table_asked world rows _ (Ok true) refl))
 
-open_asked : (fresh : Fresh ℕ) (world : World ℕ) (task : Task ℕ) (place : Place ℕ) (access : Access) (mode : ℕ) (object : Option (Location ℕ))
+open_asked : (fresh : Fresh ℕ) (world : World ℕ) (task : Task ℕ) (place : Place ℕ) (access : Access) (mode : ℕ)
+    (object : Option (Location ℕ))
     → IsAnsweredAs (judged world (file_word_rules place) (opened_or_created nat_eq fresh world task place access mode object))
     (decided (Ok (asked_of_open fresh world task place access mode object)))
 open_asked fresh world task place access mode (Some file) =
@@ -131,17 +133,21 @@ rename_asked : (fresh : Fresh ℕ) (world : World ℕ) (task : Task ℕ) (from t
 rename_asked fresh world task from to object true = table_asked world (same_object_rules nat_eq world from to) _ (Ok true) refl
 rename_asked fresh world task from to object false = table_asked world (rename_rules nat_eq world task from to object) _ (Ok true) refl
 
-overlay_asked : (fresh : Fresh ℕ) (world : World ℕ) (task : Task ℕ) (place : Location ℕ) (flags : MountFlags) (options : Option OverlayWords)
-    → IsAnsweredAs (overlay_by nat_eq fresh world task place options flags) (decided (asked_of_overlay fresh world task place flags options))
+overlay_asked : (fresh : Fresh ℕ) (world : World ℕ) (task : Task ℕ) (place : Location ℕ) (flags : MountFlags)
+    (options : Option OverlayWords)
+    → IsAnsweredAs (overlay_by nat_eq fresh world task place options flags)
+    (decided (asked_of_overlay fresh world task place flags options))
 overlay_asked fresh world task place flags None = refl
 overlay_asked fresh world task place flags (Some words) =
     walk_asked world (layers_walked nat_eq world task words) _ _ (λ places.
     let result = overlay_mounted nat_eq fresh world task place places flags in
-    tables_asked world (layer_rules nat_eq world places (overlay_at nat_eq world task places)) (new_mount_rules nat_eq world task place result) _
+    tables_asked world (layer_rules nat_eq world places (overlay_at nat_eq world task places))
+    (new_mount_rules nat_eq world task place result) _
     (table_asked world (new_mount_rules nat_eq world task place result) _ (Ok true) refl))
 
 -- each call is answered by what it asks
-call_asked : (fresh : Fresh ℕ) (world : World ℕ) (task : Task ℕ) (call : Call) → IsAnsweredAs (call_outcome nat_eq fresh world task call) (asked fresh world task call)
+call_asked : (fresh : Fresh ℕ) (world : World ℕ) (task : Task ℕ) (call : Call)
+    → IsAnsweredAs (call_outcome nat_eq fresh world task call) (asked fresh world task call)
 unfolding list_outcome stat_outcome lstat_outcome readlink_outcome read_outcome exec_outcome mkdir_outcome symlink_outcome
     whiteout_outcome link_outcome write_outcome unlink_outcome rmdir_outcome rename_outcome chmod_outcome chown_outcome
     opaque_outcome open_outcome pread_outcome pwrite_outcome close_outcome fork_outcome umask_outcome drop_outcome
@@ -178,7 +184,8 @@ call_asked fresh world task (Mkdir path mode) =
 call_asked fresh world task (SymlinkAt text path) =
     words_asked world (link_text_rules text) _ _
     (walk_asked world (walk_end (new_leaf_walk nat_eq world task path)) _ _ (λ place.
-    table_asked world (new_rules nat_eq fresh world task place (record { attr = exact_attr task link_mode; content = Symlink text })) _ (Ok true) refl))
+    table_asked world (new_rules nat_eq fresh world task place (record { attr = exact_attr task link_mode; content = Symlink text })) _
+    (Ok true) refl))
 call_asked fresh world task (MakeWhiteout path) =
     walk_asked world (walk_end (new_leaf_walk nat_eq world task path)) _ _ (λ place.
     table_asked world (whiteout_rules nat_eq world task place) _ (Ok true) refl)
@@ -207,7 +214,9 @@ call_asked fresh world task (Chmod path mode) =
     (attr_with_mode (attr_at nat_eq world here.location) mode)) _ (Ok true) refl)
 call_asked fresh world task (Chown path uid gid) =
     walk_asked world (walk_end (object_walk nat_eq world task path)) _ _ (λ here.
-    table_asked world (attr_rules nat_eq world here.location (may_chown task.credentials (attr_at nat_eq world here.location) (attr_with_owner (attr_at nat_eq world here.location) uid gid))
+    table_asked world
+    (attr_rules nat_eq world here.location
+    (may_chown task.credentials (attr_at nat_eq world here.location) (attr_with_owner (attr_at nat_eq world here.location) uid gid))
     (attr_with_owner (attr_at nat_eq world here.location) uid gid)) _ (Ok true) refl)
 call_asked fresh world task (Opaque path mark) =
     table_asked world (admin_rules task) _ (decided (asked_last fresh world task (Opaque path mark)))
@@ -265,12 +274,15 @@ call_asked fresh world task (Bind source path recursive) =
     table_asked world (admin_rules task) _ (decided (asked_last fresh world task (Bind source path recursive)))
     (walk_asked world (walk_end (source_walk nat_eq world task source)) _ _ (λ from.
     walk_asked world (walk_end (destination_walk nat_eq world task path)) _ _ (λ here.
-    table_asked world (bind_rules nat_eq world task from.location here.location (bound_at nat_eq fresh world from.location here.location recursive)) _ (Ok true) refl)))
+    table_asked world
+    (bind_rules nat_eq world task from.location here.location (bound_at nat_eq fresh world from.location here.location recursive)) _
+    (Ok true) refl)))
 call_asked fresh world task (MoveMount source path) =
     table_asked world (admin_rules task) _ (decided (asked_last fresh world task (MoveMount source path)))
     (walk_asked world (walk_end (source_walk nat_eq world task source)) _ _ (λ from.
     walk_asked world (walk_end (destination_walk nat_eq world task path)) _ _ (λ here.
-    table_asked world (move_rules nat_eq world task from.location here.location (moved_to nat_eq fresh world from.location here.location)) _ (Ok true) refl)))
+    table_asked world (move_rules nat_eq world task from.location here.location (moved_to nat_eq fresh world from.location here.location)) _
+    (Ok true) refl)))
 call_asked fresh world task (Umount path) =
     table_asked world (admin_rules task) _ (decided (asked_last fresh world task (Umount path)))
     (walk_asked world (walk_end (directory_walk nat_eq world task path)) _ _ (λ here.
@@ -294,7 +306,8 @@ call_asked fresh world task (PivotRoot new put) =
     table_asked world (pivot_rules nat_eq world task root.location here.location) _ (Ok true) refl)))
 
 -- change numbers do not change the answer
-finished_asked : (finished : Bool) (before : World ℕ) (name : TaskName) (outcome : Outcome ℕ) (result : Result Bool Deny) → IsAnsweredAs outcome result
+finished_asked : (finished : Bool) (before : World ℕ) (name : TaskName) (outcome : Outcome ℕ) (result : Result Bool Deny)
+    → IsAnsweredAs outcome result
     → IsAnsweredAs (finished_by nat_eq finished before name outcome) result
 finished_asked true before name outcome result e = e
 finished_asked false before name outcome result e = e
@@ -303,6 +316,9 @@ finished_asked false before name outcome result e = e
 pub policy_asked : (fresh : Fresh ℕ) (world : World ℕ) (name : TaskName) (task : Task ℕ) (call : Call) → task_called world name ≡ Some task
     → IsAnsweredAs (policy nat_eq fresh world name call) (asked fresh world task call)
 policy_asked fresh world name task call there =
-    subst (λ found. IsAnsweredAs (after world (ok_or found (denial S2)) (λ one. finished nat_eq world name call (call_outcome nat_eq fresh world one call))) (asked fresh world task call))
+    subst (λ found. IsAnsweredAs
+    (after world (ok_or found (denial S2)) (λ one. finished nat_eq world name call (call_outcome nat_eq fresh world one call)))
+    (asked fresh world task call))
     (sym there)
-    (finished_asked (only_looks call || not (is_ok (call_outcome nat_eq fresh world task call).answer)) world name (call_outcome nat_eq fresh world task call) (asked fresh world task call) (call_asked fresh world task call))
+    (finished_asked (only_looks call || not (is_ok (call_outcome nat_eq fresh world task call).answer)) world name
+    (call_outcome nat_eq fresh world task call) (asked fresh world task call) (call_asked fresh world task call))

@@ -19,12 +19,14 @@ use Rattle.vt_spec.specs.Machine.World.{Task, World}
 pub no_task_is_refused : NoTaskIsRefused
 no_task_is_refused fresh world name call none =
     subst
-    (λ found. (after world (ok_or found (denial S2)) (λ task. finished nat_eq world name call (call_outcome nat_eq fresh world task call))).answer ≡ Err (denial S2))
+    (λ found. (after world (ok_or found (denial S2))
+    (λ task. finished nat_eq world name call (call_outcome nat_eq fresh world task call))).answer ≡ Err (denial S2))
     (sym none) refl
 
 pub first_rules_answer : FirstRulesAnswer
 first_rules_answer fresh world name task call there some =
-    refused_as (λ deny. IsLeastOf deny.rule (failing (asked_first world task call))) (policy nat_eq fresh world name call).answer (asked fresh world task call)
+    refused_as (λ deny. IsLeastOf deny.rule (failing (asked_first world task call))) (policy nat_eq fresh world name call).answer
+    (asked fresh world task call)
     (policy_asked fresh world name task call there)
     (before_least 0 (asked_first world task call) (decided (asked_last fresh world task call))
     (front_in_order 0 (asked_first world task call) ((true, W1) ∷ []) (first_in_order world task call)) some)
@@ -37,7 +39,8 @@ left_to_decide fresh world task call last none e =
 
 pub walks_answer_next : WalksAnswerNext
 walks_answer_next fresh world name task call deny there none e =
-    denied_as (policy nat_eq fresh world name call).answer (asked fresh world task call) deny (policy_asked fresh world name task call there)
+    denied_as (policy nat_eq fresh world name call).answer (asked fresh world task call) deny
+    (policy_asked fresh world name task call there)
     (left_to_decide fresh world task call (Err deny) none e)
 
 -- the table at the end of the walks is in order

@@ -34,10 +34,12 @@ below_all e f = omega arith
 -- a rule stands where its name stands
 same_rank : (a b : Rule) → bytes_eq (rule_name a) (rule_name b) ≡ true → rank a ≡ rank b
 same_rank a b e =
-    ap (λ name. 100 * place_of_letter (slice_index name 0) letters + value_from 10 0 (drop 1 name)) ((bytes_eq-Decides (rule_name a) (rule_name b)).0 e)
+    ap (λ name. 100 * place_of_letter (slice_index name 0) letters + value_from 10 0 (drop 1 name))
+    ((bytes_eq-Decides (rule_name a) (rule_name b)).0 e)
 
 -- each rule of a table in order that fails stands at or after its begin
-from_least : (least : ℕ) (rows : Rules) (other : Rule) → is_in_order_from least rows ≡ true → is_among other (failing rows) ≡ true → least ≤ rank other
+from_least : (least : ℕ) (rows : Rules) (other : Rule) → is_in_order_from least rows ≡ true → is_among other (failing rows) ≡ true
+    → least ≤ rank other
 from_least least [] other order among = cc
 from_least least ((true, rule) ∷ rows) other order among =
     let below : least ≤ rank rule = leb-true least (rank rule) (both_first (nat_le least (rank rule)) _ order) in
@@ -49,7 +51,8 @@ from_least least ((false, rule) ∷ rows) other order among =
     (from_least (rank rule) rows other (both_second (nat_le least (rank rule)) _ order) among)
 
 -- the first that fails is the least
-first_is_least : (least : ℕ) (rule : Rule) (rows : Rules) → is_in_order_from least ((true, rule) ∷ rows) ≡ true → IsLeastOf rule (failing ((true, rule) ∷ rows))
+first_is_least : (least : ℕ) (rule : Rule) (rows : Rules) → is_in_order_from least ((true, rule) ∷ rows) ≡ true
+    → IsLeastOf rule (failing ((true, rule) ∷ rows))
 first_is_least least rule rows order = (
   either_first (bytes_eq (rule_name rule) (rule_name rule)) _ ((bytes_eq-Decides (rule_name rule) (rule_name rule)).1 refl),
   λ other among.
@@ -68,7 +71,8 @@ pub before_least : {A : Type 0} (least : ℕ) (rows : Rules) (answer : Result A 
     → IsErrAnd (unless rows answer) (λ deny. IsLeastOf deny.rule (failing rows))
 before_least least [] answer order some = absurd (some refl)
 before_least least ((true, rule) ∷ rows) answer order some = first_is_least least rule rows order
-before_least least ((false, rule) ∷ rows) answer order some = before_least (rank rule) rows answer (both_second (nat_le least (rank rule)) _ order) some
+before_least least ((false, rule) ∷ rows) answer order some =
+    before_least (rank rule) rows answer (both_second (nat_le least (rank rule)) _ order) some
 
 -- a table of which no rule fails
 pub none_fails : {A : Type 0} (rows : Rules) (answer : Result A Deny) → failing rows ≡ [] → unless rows answer ≡ answer
@@ -80,7 +84,8 @@ none_fails ((false, rule) ∷ rows) answer none = none_fails rows answer none
 pub front_in_order : (least : ℕ) (rows more : Rules) → is_in_order_from least (rows ++ more) ≡ true → is_in_order_from least rows ≡ true
 front_in_order least [] more order = refl
 front_in_order least ((fails, rule) ∷ rows) more order =
-    both (nat_le least (rank rule)) _ (both_first (nat_le least (rank rule)) _ order) (front_in_order (rank rule) rows more (both_second (nat_le least (rank rule)) _ order))
+    both (nat_le least (rank rule)) _ (both_first (nat_le least (rank rule)) _ order)
+    (front_in_order (rank rule) rows more (both_second (nat_le least (rank rule)) _ order))
   where
     both : (a b : Bool) → a ≡ true → b ≡ true → (a && b) ≡ true
     both true b e f = f
@@ -88,7 +93,8 @@ front_in_order least ((fails, rule) ∷ rows) more order =
 
 -- what is told of one result is told of another that is refused alike
 module _ {A B : Type 0} where
-  pub least_as : (answer : Result A Deny) (other : Result B Deny) (rules : List Rule) → result_err answer ≡ result_err other → IsAnsweredByLeast other rules → IsAnsweredByLeast answer rules
+  pub least_as : (answer : Result A Deny) (other : Result B Deny) (rules : List Rule) → result_err answer ≡ result_err other
+      → IsAnsweredByLeast other rules → IsAnsweredByLeast answer rules
   least_as (Ok a) (Ok b) [] e h = refl
   least_as (Ok a) (Ok b) (rule ∷ rules) e h = h
   least_as (Ok a) (Err deny) rules e h = cc
@@ -96,11 +102,13 @@ module _ {A B : Type 0} where
   least_as (Err deny) (Err other) [] e h = h
   least_as (Err deny) (Err other) (rule ∷ rules) e h = let same : other ≡ deny = cc in subst (λ d. IsLeastOf d.rule (rule ∷ rules)) same h
 
-  pub refused_as : (P : Deny → Type 0) (answer : Result A Deny) (other : Result B Deny) → result_err answer ≡ result_err other → IsErrAnd other P → IsErrAnd answer P
+  pub refused_as : (P : Deny → Type 0) (answer : Result A Deny) (other : Result B Deny) → result_err answer ≡ result_err other
+      → IsErrAnd other P → IsErrAnd answer P
   refused_as P answer (Ok b) e h = absurd h
   refused_as P (Ok a) (Err other) e h = cc
   refused_as P (Err deny) (Err other) e h = let same : other ≡ deny = cc in subst P same h
 
-  pub denied_as : (answer : Result A Deny) (other : Result B Deny) (deny : Deny) → result_err answer ≡ result_err other → other ≡ Err deny → answer ≡ Err deny
+  pub denied_as : (answer : Result A Deny) (other : Result B Deny) (deny : Deny) → result_err answer ≡ result_err other → other ≡ Err deny
+      → answer ≡ Err deny
   denied_as (Ok a) other deny e denied = cc
   denied_as (Err one) other deny e denied = cc

@@ -59,12 +59,14 @@ module _ (rules : List Rule) where
   rest_own true others e = e
   rest_own false others e = cc
 
-  pub unless_own : {A : Type 0} (rows : Rules) (answer : Result A Deny) → are_own rows ≡ true → RefusesOwn answer → RefusesOwn (unless rows answer)
+  pub unless_own : {A : Type 0} (rows : Rules) (answer : Result A Deny) → are_own rows ≡ true → RefusesOwn answer
+      → RefusesOwn (unless rows answer)
   unless_own [] answer own h = h
   unless_own ((true, rule) ∷ rows) answer own h = (refl, first_own (is_among rule rules) (are_own rows) own)
   unless_own ((false, rule) ∷ rows) answer own h = unless_own rows answer (rest_own (is_among rule rules || true) (are_own rows) own) h
 
-  pub and_then_own : {A B : Type 0} (first : Result A Deny) (next : A → Result B Deny) → RefusesOwn first → ((a : A) → RefusesOwn (next a)) → RefusesOwn (and_then first next)
+  pub and_then_own : {A B : Type 0} (first : Result A Deny) (next : A → Result B Deny) → RefusesOwn first → ((a : A) → RefusesOwn (next a))
+      → RefusesOwn (and_then first next)
   and_then_own (Ok a) next own h = h a
   and_then_own (Err deny) next own h = own
 
@@ -77,10 +79,12 @@ module _ (rules : List Rule) where
     stopped_own steps (Ok a) own = tt
     stopped_own steps (Err deny) own = own
 
-    pub walk_unless_own : {A : Type 0} (steps : List (List N)) (rows : Rules) (a : A) → are_own rows ≡ true → StopsOwn (walk_unless steps rows a)
+    pub walk_unless_own : {A : Type 0} (steps : List (List N)) (rows : Rules) (a : A) → are_own rows ≡ true
+        → StopsOwn (walk_unless steps rows a)
     walk_unless_own steps rows a own = stopped_own steps (unless rows (Ok a)) (unless_own rows (Ok a) own tt)
 
-    pub then_walk_own : {A B : Type 0} (first : Result A (Stop N)) (next : A → Result B (Stop N)) → StopsOwn first → ((a : A) → StopsOwn (next a)) → StopsOwn (then_walk first next)
+    pub then_walk_own : {A B : Type 0} (first : Result A (Stop N)) (next : A → Result B (Stop N)) → StopsOwn first
+        → ((a : A) → StopsOwn (next a)) → StopsOwn (then_walk first next)
     then_walk_own (Ok a) next own h = h a
     then_walk_own (Err stop) next own h = own
 
@@ -92,12 +96,15 @@ module _ (rules : List Rule) where
     abbrev pub DeniesOwn : World N → Outcome N → Type 0
     DeniesOwn world outcome = IfErr outcome.answer (λ deny. (outcome.world ≡ world) × IsOwn deny)
 
-    pub judged_own : (world : World N) (rows : Rules) (outcome : Outcome N) → are_own rows ≡ true → DeniesOwn world outcome → DeniesOwn world (judged world rows outcome)
+    pub judged_own : (world : World N) (rows : Rules) (outcome : Outcome N) → are_own rows ≡ true → DeniesOwn world outcome
+        → DeniesOwn world (judged world rows outcome)
     judged_own world [] outcome own h = h
     judged_own world ((true, rule) ∷ rows) outcome own h = (refl, (refl, first_own (is_among rule rules) (are_own rows) own))
-    judged_own world ((false, rule) ∷ rows) outcome own h = judged_own world rows outcome (rest_own (is_among rule rules || true) (are_own rows) own) h
+    judged_own world ((false, rule) ∷ rows) outcome own h =
+        judged_own world rows outcome (rest_own (is_among rule rules || true) (are_own rows) own) h
 
-    pub after_own : {A : Type 0} (world : World N) (first : Result A Deny) (next : A → Outcome N) → RefusesOwn first → ((a : A) → DeniesOwn world (next a)) → DeniesOwn world (after world first next)
+    pub after_own : {A : Type 0} (world : World N) (first : Result A Deny) (next : A → Outcome N) → RefusesOwn first
+        → ((a : A) → DeniesOwn world (next a)) → DeniesOwn world (after world first next)
     after_own world (Ok a) next own h = h a
     after_own world (Err deny) next own h = (refl, own)
 
@@ -111,11 +118,13 @@ module _ (rules : List Rule) where
 
 -- what leaves the world as it is
 module _ {N : Type 0} where
-  pub judged_keeps : (world : World N) (rules : Rules) (outcome : Outcome N) → outcome.world ≡ world → (judged world rules outcome).world ≡ world
+  pub judged_keeps : (world : World N) (rules : Rules) (outcome : Outcome N) → outcome.world ≡ world
+      → (judged world rules outcome).world ≡ world
   judged_keeps world [] outcome e = e
   judged_keeps world ((true, rule) ∷ rows) outcome e = refl
   judged_keeps world ((false, rule) ∷ rows) outcome e = judged_keeps world rows outcome e
 
-  pub after_keeps : {A : Type 0} (world : World N) (result : Result A Deny) (next : A → Outcome N) → ((a : A) → (next a).world ≡ world) → (after world result next).world ≡ world
+  pub after_keeps : {A : Type 0} (world : World N) (result : Result A Deny) (next : A → Outcome N) → ((a : A) → (next a).world ≡ world)
+      → (after world result next).world ≡ world
   after_keeps world (Ok a) next e = e a
   after_keeps world (Err deny) next e = refl

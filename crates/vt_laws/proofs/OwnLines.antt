@@ -32,14 +32,17 @@ directive_own : (world : World ℕ) (directive : Directive) → RefusesOwn (S1 �
 directive_own world AskPeers = tt
 directive_own world (AskSealed names) = by_test (list_any (no_such_task world) names) _ tt
   where
-    by_test : (test : Bool) (outcome : Outcome ℕ) → RefusesOwn (S1 ∷ S5 ∷ S2 ∷ []) outcome.answer → RefusesOwn (S1 ∷ S5 ∷ S2 ∷ []) (judged world ((test, S2) ∷ []) outcome).answer
+    by_test : (test : Bool) (outcome : Outcome ℕ) → RefusesOwn (S1 ∷ S5 ∷ S2 ∷ []) outcome.answer
+        → RefusesOwn (S1 ∷ S5 ∷ S2 ∷ []) (judged world ((test, S2) ∷ []) outcome).answer
     by_test true outcome h = (refl, refl)
     by_test false outcome h = h
 
-request_own : (world : World ℕ) (request : Option Request) (fresh : Fresh ℕ) → RefusesOwn (rules_of_request request) (requested nat_eq world request fresh).answer
+request_own : (world : World ℕ) (request : Option Request) (fresh : Fresh ℕ)
+    → RefusesOwn (rules_of_request request) (requested nat_eq world request fresh).answer
 request_own world None fresh = (refl, refl)
 request_own world (Some (Calling task call)) fresh =
-    own_among_more (S1 ∷ S5 ∷ []) (rules_of call) (requested nat_eq world (Some (Calling task call)) fresh).answer (policy_refuses_own fresh world task call).1
+    own_among_more (S1 ∷ S5 ∷ []) (rules_of call) (requested nat_eq world (Some (Calling task call)) fresh).answer
+    (policy_refuses_own fresh world task call).1
 request_own world (Some (Asking directive)) fresh = directive_own world directive
 
 -- S1 and S5 are rules of every line
@@ -48,11 +51,13 @@ line_rules None = ((refl, refl), (refl, refl))
 line_rules (Some (Calling task call)) = ((refl, refl), (refl, refl))
 line_rules (Some (Asking directive)) = ((refl, refl), (refl, refl))
 
-spoken_own : (grammar : Grammar) (world : World ℕ) (line : List ℕ) (fresh : Option (Fresh ℕ)) → StepRefusesOwn (rules_of_request (request_of grammar line)) (spoken_step nat_eq grammar world line fresh)
+spoken_own : (grammar : Grammar) (world : World ℕ) (line : List ℕ) (fresh : Option (Fresh ℕ))
+    → StepRefusesOwn (rules_of_request (request_of grammar line)) (spoken_step nat_eq grammar world line fresh)
 spoken_own grammar world line None = (line_rules (request_of grammar line)).1
 spoken_own grammar world line (Some fresh) = request_own world (request_of grammar line) fresh
 
-line_own : (long silent : Bool) (grammar : Grammar) (world : World ℕ) (line : List ℕ) (fresh : Option (Fresh ℕ)) → StepRefusesOwn (rules_of_request (request_of grammar line)) (line_step_by nat_eq long silent grammar world line fresh)
+line_own : (long silent : Bool) (grammar : Grammar) (world : World ℕ) (line : List ℕ) (fresh : Option (Fresh ℕ))
+    → StepRefusesOwn (rules_of_request (request_of grammar line)) (line_step_by nat_eq long silent grammar world line fresh)
 line_own true silent grammar world line fresh = (line_rules (request_of grammar line)).0
 line_own false true grammar world line fresh = tt
 line_own false false grammar world line fresh = spoken_own grammar world line fresh
@@ -60,4 +65,5 @@ line_own false false grammar world line fresh = spoken_own grammar world line fr
 pub denied_line_is_own : DeniedLineIsOwn
 denied_line_is_own grammar world line fresh outcome deny steps e =
     error_is (IsOwn (rules_of_request (request_of grammar line))) outcome.answer deny e
-    (subst (StepRefusesOwn (rules_of_request (request_of grammar line))) steps (line_own (nat_lt longest_line (length line)) (is_silent line) grammar world line fresh))
+    (subst (StepRefusesOwn (rules_of_request (request_of grammar line))) steps
+    (line_own (nat_lt longest_line (length line)) (is_silent line) grammar world line fresh))

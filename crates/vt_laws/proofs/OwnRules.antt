@@ -38,7 +38,8 @@ use Rattle.vt_spec.specs.Machine.World.{Overlay, Task, TaskName, World, filesyst
 -- A call's refusals, where its rules have those of walks among them
 module _ (rules : List Rule) where
   -- what the mounter of an overlay is asked, by a call that may be refused by B1 and B2
-  mounter_own : is_among B1 rules ≡ true → is_among B2 rules ≡ true → {N : Type 0} (eq : N → N → Bool) (world : World N) (location : Location N) (change : Change N)
+  mounter_own : is_among B1 rules ≡ true → is_among B2 rules ≡ true
+      → {N : Type 0} (eq : N → N → Bool) (world : World N) (location : Location N) (change : Change N)
       → are_own rules (mounter_rules eq world location change) ≡ true
   mounter_own b1 b2 {N = N} eq world location change = by_layers (filesystem_at eq world location).overlay
     where
@@ -48,7 +49,8 @@ module _ (rules : List Rule) where
       all true false first second third e f = cc
       all false among_b2 first second third e f = cc
 
-      by_layers : (overlay : Option (Overlay N)) → are_own rules (overlay_or [] (overlay_rules eq (filesystem_at eq world location) change) overlay) ≡ true
+      by_layers : (overlay : Option (Overlay N))
+          → are_own rules (overlay_or [] (overlay_rules eq (filesystem_at eq world location) change) overlay) ≡ true
       by_layers None = refl
       by_layers (Some overlay) = all (is_among B1 rules) (is_among B2 rules) _ _ _ b1 b2
 
@@ -65,7 +67,8 @@ module _ (rules : List Rule) where
   refuses_more more (Ok a) own = tt
   refuses_more more (Err deny) own = (own.0, more deny.rule own.1)
 
-  copy_own : is_among B1 rules ≡ true → is_among B2 rules ≡ true → {N : Type 0} (eq : N → N → Bool) (copied : Bool) (world : World N) (file : Location N)
+  copy_own : is_among B1 rules ≡ true → is_among B2 rules ≡ true
+      → {N : Type 0} (eq : N → N → Bool) (copied : Bool) (world : World N) (file : Location N)
       → are_own rules (copy_rules eq copied world file) ≡ true
   copy_own b1 b2 eq true world file = mounter_own b1 b2 eq world file (CopyUp file.node)
   copy_own b1 b2 eq false world file = refl
@@ -78,7 +81,8 @@ walks_of call path rule among = given (has_path call) path
     given true e = among_more (S2 ∷ own_rules call) rule walk_rules among
     given false e = cc
 
-found_own : {A : Type 0} (rules : List Rule) (rule : Rule) (object : Option A) → is_among rule rules ≡ true → RefusesOwn rules (ok_or object (denial rule))
+found_own : {A : Type 0} (rules : List Rule) (rule : Rule) (object : Option A) → is_among rule rules ≡ true
+    → RefusesOwn rules (ok_or object (denial rule))
 found_own rules rule None own = (refl, own)
 found_own rules rule (Some object) own = tt
 
@@ -87,7 +91,8 @@ module _ {N : Type 0} (eq : N → N → Bool) where
       → DeniesOwn (rules_of (Write path bytes)) world (written eq fresh world task place bytes object)
   write_own fresh world task path bytes place (Some file) =
       let own = rules_of (Write path bytes) in
-      judged_own own world (rewrite_rules eq world task file bytes) _ (mounter_own own refl refl eq world file (SetBytes file.node bytes)) tt
+      judged_own own world (rewrite_rules eq world task file bytes) _ (mounter_own own refl refl eq world file (SetBytes file.node bytes))
+      tt
   write_own fresh world task path bytes place None =
       let own = rules_of (Write path bytes) in
       let change = making place (evens fresh 0) (new_file task file_mode bytes) in
@@ -100,9 +105,11 @@ module _ {N : Type 0} (eq : N → N → Bool) where
       judged_own (rules_of (Rename old new)) world (same_object_rules eq world from to) _ refl tt
   rename_own fresh world task old new from to object false =
       let own = rules_of (Rename old new) in
-      judged_own own world (rename_rules eq world task from to object) _ (mounter_own own refl refl eq world from.parent (moving from to object)) tt
+      judged_own own world (rename_rules eq world task from to object) _
+      (mounter_own own refl refl eq world from.parent (moving from to object)) tt
 
-  overlay_own : (fresh : Fresh N) (world : World N) (task : Task N) (path : List ℕ) (options : Option OverlayWords) (flags : MountFlags) (place : Location N) (given : Option OverlayWords)
+  overlay_own : (fresh : Fresh N) (world : World N) (task : Task N) (path : List ℕ) (options : Option OverlayWords) (flags : MountFlags)
+      (place : Location N) (given : Option OverlayWords)
       → DeniesOwn (rules_of (MountOverlay path options flags)) world (overlay_by eq fresh world task place given flags)
   overlay_own fresh world task path options flags place None = (refl, (refl, refl))
   overlay_own fresh world task path options flags place (Some words) =
@@ -113,11 +120,13 @@ module _ {N : Type 0} (eq : N → N → Bool) where
       (judged_own own world (new_mount_rules eq world task place (overlay_mounted eq fresh world task place places flags)) _ refl tt))
 
   -- open(2) of a file that is there, or made, where the name may be made
-  opened_own : (fresh : Fresh N) (world : World N) (task : Task N) (path : List ℕ) (access : Access) (mode : ℕ) (place : Place N) (object : Option (Location N))
+  opened_own : (fresh : Fresh N) (world : World N) (task : Task N) (path : List ℕ) (access : Access) (mode : ℕ) (place : Place N)
+      (object : Option (Location N))
       → DeniesOwn (rules_of (OpenFile path access (OrCreate mode))) world (opened_or_created eq fresh world task place access mode object)
   opened_own fresh world task path access mode place (Some file) =
       let own = rules_of (OpenFile path access (OrCreate mode)) in
-      judged_own own world (open_rules eq world task file access) _ (copy_own own refl refl eq (is_copied_up eq world file access) world file) tt
+      judged_own own world (open_rules eq world task file access) _
+      (copy_own own refl refl eq (is_copied_up eq world file access) world file) tt
   opened_own fresh world task path access mode place None =
       let own = rules_of (OpenFile path access (OrCreate mode)) in
       let change = making place (evens fresh 0) (new_file task mode []) in
@@ -137,7 +146,8 @@ module _ {N : Type 0} (eq : N → N → Bool) where
       judged_own (rules_of call) world (descriptor_rules task) _ refl
       (walk_own (rules_of call) world (walks_of call refl) (object_walk eq world task path) _ (object_walks eq world task path) (λ here.
       judged_own (rules_of call) world (open_rules eq world task here.location (record { reads = reads; writes = true })) _
-      (copy_own (rules_of call) refl refl eq (is_copied_up eq world here.location (record { reads = reads; writes = true })) world here.location) tt))
+      (copy_own (rules_of call) refl refl eq (is_copied_up eq world here.location (record { reads = reads; writes = true })) world
+      here.location) tt))
   open_own fresh world task path reads writes (OrCreate mode) =
       let access : Access = record { reads = reads; writes = writes } in
       let call = OpenFile path access (OrCreate mode) in
@@ -154,7 +164,8 @@ module _ {N : Type 0} (eq : N → N → Bool) where
       (mounter_own (rules_of call) refl refl eq world place.parent (making place (evens fresh 0) (new_file task mode []))) tt)))
 
   -- the outcome of each call
-  call_own : (fresh : Fresh N) (world : World N) (task : Task N) (call : Call) → DeniesOwn (rules_of call) world (call_outcome eq fresh world task call)
+  call_own : (fresh : Fresh N) (world : World N) (task : Task N) (call : Call)
+      → DeniesOwn (rules_of call) world (call_outcome eq fresh world task call)
   unfolding list_outcome stat_outcome lstat_outcome readlink_outcome read_outcome exec_outcome mkdir_outcome symlink_outcome
       whiteout_outcome link_outcome write_outcome unlink_outcome rmdir_outcome rename_outcome chmod_outcome chown_outcome
       opaque_outcome pread_outcome pwrite_outcome close_outcome fork_outcome umask_outcome drop_outcome chdir_outcome
@@ -192,51 +203,74 @@ module _ {N : Type 0} (eq : N → N → Bool) where
   call_own fresh world task (Mkdir path mode) =
       let own = rules_of (Mkdir path mode) in
       walk_own own world (walks_of (Mkdir path mode) refl) (new_walk eq world task path) _ (new_walks eq world task path) (λ place.
-      judged_own own world (new_rules eq fresh world task place (record { attr = new_attr task (unwrap_or mode directory_mode); content = new_directory place.parent.node })) _ (mounter_own own refl refl eq world place.parent (making place (evens fresh 0) (record { attr = new_attr task (unwrap_or mode directory_mode); content = new_directory place.parent.node }))) tt)
+      judged_own own world
+      (new_rules eq fresh world task place
+      (record { attr = new_attr task (unwrap_or mode directory_mode); content = new_directory place.parent.node })) _
+      (mounter_own own refl refl eq world place.parent
+      (making place (evens fresh 0)
+      (record { attr = new_attr task (unwrap_or mode directory_mode); content = new_directory place.parent.node }))) tt)
   call_own fresh world task (SymlinkAt text path) =
       let own = rules_of (SymlinkAt text path) in
       judged_own own world (link_text_rules text) _ refl
-      (walk_own own world (walks_of (SymlinkAt text path) refl) (new_leaf_walk eq world task path) _ (new_leaf_walks eq world task path) (λ place.
-      judged_own own world (new_rules eq fresh world task place (record { attr = exact_attr task link_mode; content = Symlink text })) _ (mounter_own own refl refl eq world place.parent (making place (evens fresh 0) (record { attr = exact_attr task link_mode; content = Symlink text }))) tt))
+      (walk_own own world (walks_of (SymlinkAt text path) refl) (new_leaf_walk eq world task path) _ (new_leaf_walks eq world task path)
+      (λ place.
+      judged_own own world (new_rules eq fresh world task place (record { attr = exact_attr task link_mode; content = Symlink text })) _
+      (mounter_own own refl refl eq world place.parent
+      (making place (evens fresh 0) (record { attr = exact_attr task link_mode; content = Symlink text }))) tt))
   call_own fresh world task (MakeWhiteout path) =
       let own = rules_of (MakeWhiteout path) in
-      walk_own own world (walks_of (MakeWhiteout path) refl) (new_leaf_walk eq world task path) _ (new_leaf_walks eq world task path) (λ place.
+      walk_own own world (walks_of (MakeWhiteout path) refl) (new_leaf_walk eq world task path) _ (new_leaf_walks eq world task path)
+      (λ place.
       judged_own own world (whiteout_rules eq world task place) _ refl tt)
   call_own fresh world task (LinkTo old new) =
       let own = rules_of (LinkTo old new) in
       walk_own own world (walks_of (LinkTo old new) refl) (link_walk eq world task old) _ (leaf_walks eq world task old) (λ from.
       walk_own own world (walks_of (LinkTo old new) refl) (new_leaf_walk eq world task new) _ (new_leaf_walks eq world task new) (λ place.
       judged_own own world ((is_special place.last, E1) ∷ []) _ refl
-      (judged_own own world (link_rules eq world task from.location place (linking from.location place)) _ (mounter_own own refl refl eq world place.parent (linking from.location place)) tt)))
+      (judged_own own world (link_rules eq world task from.location place (linking from.location place)) _
+      (mounter_own own refl refl eq world place.parent (linking from.location place)) tt)))
   call_own fresh world task (Unlink path) =
       let own = rules_of (Unlink path) in
       walk_own own world (walks_of (Unlink path) refl) (old_leaf_walk eq world task path) _ (old_leaf_walks eq world task path) (λ place.
       judged_own own world ((is_special place.last, E2) ∷ []) _ refl
-      (judged_own own world (unlink_rules eq world task place (object_there place)) _ (mounter_own own refl refl eq world place.parent (removing place (object_there place))) tt))
+      (judged_own own world (unlink_rules eq world task place (object_there place)) _
+      (mounter_own own refl refl eq world place.parent (removing place (object_there place))) tt))
   call_own fresh world task (Rmdir path) =
       let own = rules_of (Rmdir path) in
       walk_own own world (walks_of (Rmdir path) refl) (old_walk eq world task path) _ (old_walks eq world task path) (λ place.
       judged_own own world (rmdir_word_rules place) _ refl
-      (judged_own own world (rmdir_rules eq world task place (object_there place)) _ (mounter_own own refl refl eq world place.parent (removing place (object_there place))) tt))
+      (judged_own own world (rmdir_rules eq world task place (object_there place)) _
+      (mounter_own own refl refl eq world place.parent (removing place (object_there place))) tt))
   call_own fresh world task (Rename old new) =
       let own = rules_of (Rename old new) in
       walk_own own world (walks_of (Rename old new) refl) (old_leaf_walk eq world task old) _ (old_leaf_walks eq world task old) (λ from.
       judged_own own world (old_word_rules from) _ refl
-      (walk_own own world (walks_of (Rename old new) refl) (rename_new_walk eq world task new (is_directory_there eq world from)) _ (rename_new_walks eq world task new (is_directory_there eq world from)) (λ to.
+      (walk_own own world (walks_of (Rename old new) refl) (rename_new_walk eq world task new (is_directory_there eq world from)) _
+      (rename_new_walks eq world task new (is_directory_there eq world from)) (λ to.
       judged_own own world (old_word_rules to) _ refl
       (rename_own fresh world task old new from to (object_there from) (is_one_object eq world (object_there from) to.object)))))
   call_own fresh world task (Chmod path mode) =
       let own = rules_of (Chmod path mode) in
       walk_own own world (walks_of (Chmod path mode) refl) (object_walk eq world task path) _ (object_walks eq world task path) (λ here.
-      judged_own own world (attr_rules eq world here.location (owns task.credentials (attr_at eq world here.location)) (attr_with_mode (attr_at eq world here.location) mode)) _ (mounter_own own refl refl eq world here.location (SetAttr here.location.node (attr_with_mode (attr_at eq world here.location) mode))) tt)
+      judged_own own world
+      (attr_rules eq world here.location (owns task.credentials (attr_at eq world here.location))
+      (attr_with_mode (attr_at eq world here.location) mode)) _
+      (mounter_own own refl refl eq world here.location
+      (SetAttr here.location.node (attr_with_mode (attr_at eq world here.location) mode))) tt)
   call_own fresh world task (Chown path uid gid) =
       let own = rules_of (Chown path uid gid) in
       walk_own own world (walks_of (Chown path uid gid) refl) (object_walk eq world task path) _ (object_walks eq world task path) (λ here.
-      judged_own own world (attr_rules eq world here.location (may_chown task.credentials (attr_at eq world here.location) (attr_with_owner (attr_at eq world here.location) uid gid)) (attr_with_owner (attr_at eq world here.location) uid gid)) _ (mounter_own own refl refl eq world here.location (SetAttr here.location.node (attr_with_owner (attr_at eq world here.location) uid gid))) tt)
+      judged_own own world
+      (attr_rules eq world here.location
+      (may_chown task.credentials (attr_at eq world here.location) (attr_with_owner (attr_at eq world here.location) uid gid))
+      (attr_with_owner (attr_at eq world here.location) uid gid)) _
+      (mounter_own own refl refl eq world here.location
+      (SetAttr here.location.node (attr_with_owner (attr_at eq world here.location) uid gid))) tt)
   call_own fresh world task (Opaque path mark) =
       let own = rules_of (Opaque path mark) in
       judged_own own world ((lacks task cap_sys_admin, K1) ∷ []) _ refl
-      (walk_own own world (walks_of (Opaque path mark) refl) (directory_walk eq world task path) _ (directory_walks eq world task path) (λ here.
+      (walk_own own world (walks_of (Opaque path mark) refl) (directory_walk eq world task path) _ (directory_walks eq world task path)
+      (λ here.
       judged_own own world (opaque_rules eq world here.location) _ refl tt))
   call_own fresh world task (OpenFile path access creation) = open_own fresh world task path access.reads access.writes creation
   call_own fresh world task (Pread number offset size) =
@@ -272,25 +306,36 @@ module _ {N : Type 0} (eq : N → N → Bool) where
   call_own fresh world task (MountPlain path flags) =
       let own = rules_of (MountPlain path flags) in
       judged_own own world (admin_rules task) _ refl
-      (walk_own own world (walks_of (MountPlain path flags) refl) (destination_walk eq world task path) _ (destination_walks eq world task path) (λ here.
-      judged_own own world (new_mount_rules eq world task here.location (mounted eq (odds fresh) world here.location (plain_filesystem eq fresh) flags)) _ refl tt))
+      (walk_own own world (walks_of (MountPlain path flags) refl) (destination_walk eq world task path) _
+      (destination_walks eq world task path) (λ here.
+      judged_own own world
+      (new_mount_rules eq world task here.location (mounted eq (odds fresh) world here.location (plain_filesystem eq fresh) flags)) _
+      refl tt))
   call_own fresh world task (MountOverlay path options flags) =
       let own = rules_of (MountOverlay path options flags) in
       judged_own own world (admin_rules task) _ refl
-      (walk_own own world (walks_of (MountOverlay path options flags) refl) (destination_walk eq world task path) _ (destination_walks eq world task path) (λ here.
+      (walk_own own world (walks_of (MountOverlay path options flags) refl) (destination_walk eq world task path) _
+      (destination_walks eq world task path) (λ here.
       overlay_own fresh world task path options flags here.location options))
   call_own fresh world task (Bind source path recursive) =
       let own = rules_of (Bind source path recursive) in
       judged_own own world (admin_rules task) _ refl
-      (walk_own own world (walks_of (Bind source path recursive) refl) (source_walk eq world task source) _ (source_walks eq world task source) (λ from.
-      walk_own own world (walks_of (Bind source path recursive) refl) (destination_walk eq world task path) _ (destination_walks eq world task path) (λ here.
-      judged_own own world (bind_rules eq world task from.location here.location (bound_at eq fresh world from.location here.location recursive)) _ refl tt)))
+      (walk_own own world (walks_of (Bind source path recursive) refl) (source_walk eq world task source) _
+      (source_walks eq world task source) (λ from.
+      walk_own own world (walks_of (Bind source path recursive) refl) (destination_walk eq world task path) _
+      (destination_walks eq world task path) (λ here.
+      judged_own own world
+      (bind_rules eq world task from.location here.location (bound_at eq fresh world from.location here.location recursive)) _ refl
+      tt)))
   call_own fresh world task (MoveMount source path) =
       let own = rules_of (MoveMount source path) in
       judged_own own world (admin_rules task) _ refl
-      (walk_own own world (walks_of (MoveMount source path) refl) (source_walk eq world task source) _ (source_walks eq world task source) (λ from.
-      walk_own own world (walks_of (MoveMount source path) refl) (destination_walk eq world task path) _ (destination_walks eq world task path) (λ here.
-      judged_own own world (move_rules eq world task from.location here.location (moved_to eq fresh world from.location here.location)) _ refl tt)))
+      (walk_own own world (walks_of (MoveMount source path) refl) (source_walk eq world task source) _ (source_walks eq world task source)
+      (λ from.
+      walk_own own world (walks_of (MoveMount source path) refl) (destination_walk eq world task path) _
+      (destination_walks eq world task path) (λ here.
+      judged_own own world (move_rules eq world task from.location here.location (moved_to eq fresh world from.location here.location)) _
+      refl tt)))
   call_own fresh world task (Umount path) =
       let own = rules_of (Umount path) in
       judged_own own world (admin_rules task) _ refl
@@ -304,30 +349,37 @@ module _ {N : Type 0} (eq : N → N → Bool) where
   call_own fresh world task (Remount path flags) =
       let own = rules_of (Remount path flags) in
       judged_own own world (admin_rules task) _ refl
-      (walk_own own world (walks_of (Remount path flags) refl) (directory_walk eq world task path) _ (directory_walks eq world task path) (λ here.
+      (walk_own own world (walks_of (Remount path flags) refl) (directory_walk eq world task path) _ (directory_walks eq world task path)
+      (λ here.
       judged_own own world (remount_rules eq world task here.location flags) _ refl tt))
   call_own fresh world task (SetType path word recursive) =
       let own = rules_of (SetType path word recursive) in
       judged_own own world (admin_rules task) _ refl
-      (walk_own own world (walks_of (SetType path word recursive) refl) (directory_walk eq world task path) _ (directory_walks eq world task path) (λ here.
+      (walk_own own world (walks_of (SetType path word recursive) refl) (directory_walk eq world task path) _
+      (directory_walks eq world task path) (λ here.
       judged_own own world (type_rules eq world task here.location) _ refl tt))
   call_own fresh world task (PivotRoot new put) =
       let own = rules_of (PivotRoot new put) in
       judged_own own world (admin_rules task) _ refl
       (walk_own own world (walks_of (PivotRoot new put) refl) (source_walk eq world task new) _ (source_walks eq world task new) (λ root.
-      walk_own own world (walks_of (PivotRoot new put) refl) (destination_walk eq world task put) _ (destination_walks eq world task put) (λ here.
+      walk_own own world (walks_of (PivotRoot new put) refl) (destination_walk eq world task put) _ (destination_walks eq world task put)
+      (λ here.
       judged_own own world (pivot_rules eq world task root.location here.location) _ refl tt)))
   call_own fresh world task ListMounts = tt
 
   -- the policy
-  policy_own : (fresh : Fresh N) (world : World N) (name : TaskName) (call : Call) → DeniesOwn (rules_of call) world (policy eq fresh world name call)
+  policy_own : (fresh : Fresh N) (world : World N) (name : TaskName) (call : Call)
+      → DeniesOwn (rules_of call) world (policy eq fresh world name call)
   policy_own fresh world name call =
-      after_own (rules_of call) world (ok_or (task_called world name) (denial S2)) _ (found_own (rules_of call) S2 (task_called world name) refl) (λ task.
-      finished_own (rules_of call) eq world name (only_looks call) (call_outcome eq fresh world task call).answer (call_outcome eq fresh world task call).world
+      after_own (rules_of call) world (ok_or (task_called world name) (denial S2)) _
+      (found_own (rules_of call) S2 (task_called world name) refl) (λ task.
+      finished_own (rules_of call) eq world name (only_looks call) (call_outcome eq fresh world task call).answer
+      (call_outcome eq fresh world task call).world
       (call_own fresh world task call))
 
 -- of a denial that leaves the world and is by its own rules, either holds
-parts_denied : {A : Type 0} (P : Type 0) (Q : Deny → Type 0) (answer : Result A Deny) → IfErr answer (λ deny. P × Q deny) → IfErr answer (λ deny. P) × IfErr answer Q
+parts_denied : {A : Type 0} (P : Type 0) (Q : Deny → Type 0) (answer : Result A Deny) → IfErr answer (λ deny. P × Q deny)
+    → IfErr answer (λ deny. P) × IfErr answer Q
 parts_denied P Q (Ok a) h = (tt, tt)
 parts_denied P Q (Err deny) h = h
 
@@ -335,14 +387,16 @@ pub policy_refuses_own : (fresh : Fresh ℕ) (world : World ℕ) (name : TaskNam
     → IfErr (policy nat_eq fresh world name call).answer (λ deny. (policy nat_eq fresh world name call).world ≡ world)
     × IfErr (policy nat_eq fresh world name call).answer (IsOwn (rules_of call))
 policy_refuses_own fresh world name call =
-    parts_denied ((policy nat_eq fresh world name call).world ≡ world) (IsOwn (rules_of call)) (policy nat_eq fresh world name call).answer (policy_own nat_eq fresh world name call)
+    parts_denied ((policy nat_eq fresh world name call).world ≡ world) (IsOwn (rules_of call)) (policy nat_eq fresh world name call).answer
+    (policy_own nat_eq fresh world name call)
 
 -- what holds of a denial of the policy
 denied_own : (fresh : Fresh ℕ) (world : World ℕ) (name : TaskName) (call : Call) (deny : Deny)
     → (policy nat_eq fresh world name call).answer ≡ Err deny
     → ((policy nat_eq fresh world name call).world ≡ world) × IsOwn (rules_of call) deny
 denied_own fresh world name call deny e =
-    error_is (λ d. ((policy nat_eq fresh world name call).world ≡ world) × IsOwn (rules_of call) d) (policy nat_eq fresh world name call).answer deny e
+    error_is (λ d. ((policy nat_eq fresh world name call).world ≡ world) × IsOwn (rules_of call) d)
+    (policy nat_eq fresh world name call).answer deny e
     (policy_own nat_eq fresh world name call)
 
 pub denial_changes_nothing : DenialChangesNothing

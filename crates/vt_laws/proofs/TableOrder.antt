@@ -37,11 +37,13 @@ use Rattle.vt_spec.specs.Tree.Content.{Symlink}
 abbrev IsInOrderAtEnd : Result Rules Deny → Type 0
 IsInOrderAtEnd last = IfOk last IsInOrderAfterWalk
 
-ok_then : {A : Type 0} (first : Result A Deny) (next : A → Result Rules Deny) → ((a : A) → IsInOrderAtEnd (next a)) → IsInOrderAtEnd (and_then first next)
+ok_then : {A : Type 0} (first : Result A Deny) (next : A → Result Rules Deny) → ((a : A) → IsInOrderAtEnd (next a))
+    → IsInOrderAtEnd (and_then first next)
 ok_then (Ok a) next h = h a
 ok_then (Err deny) next h = tt
 
-ok_walk : {A : Type 0} (walk : Result A (Stop ℕ)) (next : A → Result Rules Deny) → ((a : A) → IsInOrderAtEnd (next a)) → IsInOrderAtEnd (walked walk next)
+ok_walk : {A : Type 0} (walk : Result A (Stop ℕ)) (next : A → Result Rules Deny) → ((a : A) → IsInOrderAtEnd (next a))
+    → IsInOrderAtEnd (walked walk next)
 ok_walk (Ok a) next h = h a
 ok_walk (Err stop) next h = tt
 
@@ -59,11 +61,13 @@ mounter_in_order least e world location change = by_layers (filesystem_at nat_eq
     both true f = refl
     both false f = f
 
-    by_layers : (overlay : Option (Overlay ℕ)) → is_in_order_from least (overlay_or [] (overlay_rules nat_eq (filesystem_at nat_eq world location) change) overlay) ≡ true
+    by_layers : (overlay : Option (Overlay ℕ))
+        → is_in_order_from least (overlay_or [] (overlay_rules nat_eq (filesystem_at nat_eq world location) change) overlay) ≡ true
     by_layers None = refl
     by_layers (Some overlay) = both (nat_le least (rank B1)) e
 
-copy_in_order : (copied : Bool) (world : World ℕ) (file : Location ℕ) → is_in_order_from (rank B1) (copy_rules nat_eq copied world file) ≡ true
+copy_in_order : (copied : Bool) (world : World ℕ) (file : Location ℕ)
+    → is_in_order_from (rank B1) (copy_rules nat_eq copied world file) ≡ true
 copy_in_order true world file = mounter_in_order (rank B1) refl world file (CopyUp file.node)
 copy_in_order false world file = refl
 
@@ -73,7 +77,8 @@ write_in_order fresh world task place bytes (Some file) = mounter_in_order (rank
 write_in_order fresh world task place bytes None =
     mounter_in_order (rank B1) refl world place.parent (making place (evens fresh 0) (new_file task file_mode bytes))
 
-open_in_order : (fresh : Fresh ℕ) (world : World ℕ) (task : Task ℕ) (place : Place ℕ) (access : Access) (mode : ℕ) (object : Option (Location ℕ))
+open_in_order : (fresh : Fresh ℕ) (world : World ℕ) (task : Task ℕ) (place : Place ℕ) (access : Access) (mode : ℕ)
+    (object : Option (Location ℕ))
     → IsInOrderAfterWalk (asked_of_open fresh world task place access mode object)
 open_in_order fresh world task place access mode (Some file) = copy_in_order (is_copied_up nat_eq world file access) world file
 open_in_order fresh world task place access mode None =
@@ -84,7 +89,8 @@ rename_in_order : (world : World ℕ) (task : Task ℕ) (from to : Place ℕ) (o
 rename_in_order world task from to object true = refl
 rename_in_order world task from to object false = mounter_in_order (rank B1) refl world from.parent (moving from to object)
 
-overlay_in_order : (fresh : Fresh ℕ) (world : World ℕ) (task : Task ℕ) (place : Location ℕ) (flags : MountFlags) (options : Option OverlayWords)
+overlay_in_order : (fresh : Fresh ℕ) (world : World ℕ) (task : Task ℕ) (place : Location ℕ) (flags : MountFlags)
+    (options : Option OverlayWords)
     → IsInOrderAtEnd (asked_of_overlay fresh world task place flags options)
 overlay_in_order fresh world task place flags None = refl
 overlay_in_order fresh world task place flags (Some words) = ok_then (layers_walked nat_eq world task words) _ (λ places. refl)
@@ -116,30 +122,48 @@ last_in_order fresh world task (Mkdir path mode) =
     ok_walk (new_walk nat_eq world task path) _ (λ place. mounter_in_order (rank B1) refl world place.parent (making place (evens fresh 0)
     (record { attr = new_attr task (unwrap_or mode directory_mode); content = new_directory place.parent.node })))
 last_in_order fresh world task (SymlinkAt text path) =
-    ok_words (link_text_rules text) _ (ok_walk (new_leaf_walk nat_eq world task path) _ (λ place. mounter_in_order (rank B1) refl world place.parent (making place (evens fresh 0)
+    ok_words (link_text_rules text) _
+    (ok_walk (new_leaf_walk nat_eq world task path) _
+    (λ place. mounter_in_order (rank B1) refl world place.parent (making place (evens fresh 0)
     (record { attr = exact_attr task link_mode; content = Symlink text }))))
 last_in_order fresh world task (MakeWhiteout path) =
     ok_walk (new_leaf_walk nat_eq world task path) _ (λ place. refl)
 last_in_order fresh world task (LinkTo old new) =
-    ok_walk (link_walk nat_eq world task old) _ (λ from. ok_walk (new_leaf_walk nat_eq world task new) _ (λ place. mounter_in_order (rank B1) refl world place.parent (linking from.location place)))
+    ok_walk (link_walk nat_eq world task old) _
+    (λ from. ok_walk (new_leaf_walk nat_eq world task new) _
+    (λ place. mounter_in_order (rank B1) refl world place.parent (linking from.location place)))
 last_in_order fresh world task (Unlink path) =
-    ok_walk (old_leaf_walk nat_eq world task path) _ (λ place. mounter_in_order (rank B1) refl world place.parent (removing place (object_there place)))
+    ok_walk (old_leaf_walk nat_eq world task path) _
+    (λ place. mounter_in_order (rank B1) refl world place.parent (removing place (object_there place)))
 last_in_order fresh world task (Rmdir path) =
-    ok_walk (old_walk nat_eq world task path) _ (λ place. ok_words (rmdir_word_rules place) _ (mounter_in_order (rank B1) refl world place.parent (removing place (object_there place))))
+    ok_walk (old_walk nat_eq world task path) _
+    (λ place. ok_words (rmdir_word_rules place) _
+    (mounter_in_order (rank B1) refl world place.parent (removing place (object_there place))))
 last_in_order fresh world task (Rename old new) =
-    ok_walk (old_leaf_walk nat_eq world task old) _ (λ from. ok_words (old_word_rules from) _ (ok_walk (rename_new_walk nat_eq world task new (is_directory_there nat_eq world from)) _ (λ to. ok_words (old_word_rules to) _ (rename_in_order world task from to (object_there from) (is_one_object nat_eq world (object_there from) to.object)))))
+    ok_walk (old_leaf_walk nat_eq world task old) _
+    (λ from. ok_words (old_word_rules from) _
+    (ok_walk (rename_new_walk nat_eq world task new (is_directory_there nat_eq world from)) _
+    (λ to. ok_words (old_word_rules to) _
+    (rename_in_order world task from to (object_there from) (is_one_object nat_eq world (object_there from) to.object)))))
 last_in_order fresh world task (Chmod path mode) =
-    ok_walk (object_walk nat_eq world task path) _ (λ here. mounter_in_order (rank C2) refl world here.location (SetAttr here.location.node (attr_with_mode (attr_at nat_eq world here.location) mode)))
+    ok_walk (object_walk nat_eq world task path) _
+    (λ here. mounter_in_order (rank C2) refl world here.location
+    (SetAttr here.location.node (attr_with_mode (attr_at nat_eq world here.location) mode)))
 last_in_order fresh world task (Chown path uid gid) =
-    ok_walk (object_walk nat_eq world task path) _ (λ here. mounter_in_order (rank C2) refl world here.location (SetAttr here.location.node (attr_with_owner (attr_at nat_eq world here.location) uid gid)))
+    ok_walk (object_walk nat_eq world task path) _
+    (λ here. mounter_in_order (rank C2) refl world here.location
+    (SetAttr here.location.node (attr_with_owner (attr_at nat_eq world here.location) uid gid)))
 last_in_order fresh world task (Opaque path mark) =
     ok_walk (directory_walk nat_eq world task path) _ (λ here. refl)
 last_in_order fresh world task (OpenFile path access NoCreation) =
-    ok_walk (object_walk nat_eq world task path) _ (λ here. copy_in_order (is_copied_up nat_eq world here.location access) world here.location)
+    ok_walk (object_walk nat_eq world task path) _
+    (λ here. copy_in_order (is_copied_up nat_eq world here.location access) world here.location)
 last_in_order fresh world task (OpenFile path access (OrCreate mode)) =
     ok_walk (file_walk nat_eq world task path) _ (λ place. open_in_order fresh world task place access mode place.object)
 last_in_order fresh world task (OpenFile path access (Exclusive mode)) =
-    ok_walk (new_walk nat_eq world task path) _ (λ place. ok_words (exclusive_last_words place) _ (mounter_in_order (rank B1) refl world place.parent (making place (evens fresh 0) (new_file task mode []))))
+    ok_walk (new_walk nat_eq world task path) _
+    (λ place. ok_words (exclusive_last_words place) _
+    (mounter_in_order (rank B1) refl world place.parent (making place (evens fresh 0) (new_file task mode []))))
 last_in_order fresh world task (Pread number offset size) =
     refl
 last_in_order fresh world task (Pwrite number offset bytes) =
@@ -214,7 +238,8 @@ descriptor_refuses : {A : Type 0} (rules : List Rule) (object : Option A) (next 
 descriptor_refuses rules (Some a) next none h = h a
 descriptor_refuses rules None next none h = cc
 
-overlay_refuses : (fresh : Fresh ℕ) (world : World ℕ) (task : Task ℕ) (place : Location ℕ) (flags : MountFlags) (options : Option OverlayWords)
+overlay_refuses : (fresh : Fresh ℕ) (world : World ℕ) (task : Task ℕ) (place : Location ℕ) (flags : MountFlags)
+    (options : Option OverlayWords)
     → RefusesOwn (walk_rules ++ []) (asked_of_overlay fresh world task place flags options)
 overlay_refuses fresh world task place flags None = tt
 overlay_refuses fresh world task place flags (Some words) =
@@ -259,10 +284,13 @@ walks_refuse fresh world task (Mkdir path mode) none =
     walk_refuses (last_word_rules (Mkdir path mode)) (new_walk nat_eq world task path) _ (new_walks nat_eq world task path) (λ place.
     tt)
 walks_refuse fresh world task (SymlinkAt text path) none =
-    unless_own (walk_rules ++ last_word_rules (SymlinkAt text path)) (link_text_rules text) _ refl (walk_refuses (last_word_rules (SymlinkAt text path)) (new_leaf_walk nat_eq world task path) _ (new_leaf_walks nat_eq world task path) (λ place.
+    unless_own (walk_rules ++ last_word_rules (SymlinkAt text path)) (link_text_rules text) _ refl
+    (walk_refuses (last_word_rules (SymlinkAt text path)) (new_leaf_walk nat_eq world task path) _
+    (new_leaf_walks nat_eq world task path) (λ place.
     tt))
 walks_refuse fresh world task (MakeWhiteout path) none =
-    walk_refuses (last_word_rules (MakeWhiteout path)) (new_leaf_walk nat_eq world task path) _ (new_leaf_walks nat_eq world task path) (λ place.
+    walk_refuses (last_word_rules (MakeWhiteout path)) (new_leaf_walk nat_eq world task path) _ (new_leaf_walks nat_eq world task path)
+    (λ place.
     tt)
 walks_refuse fresh world task (LinkTo old new) none =
     walk_refuses (last_word_rules (LinkTo old new)) (link_walk nat_eq world task old) _ (leaf_walks nat_eq world task old) (λ from.
@@ -276,26 +304,32 @@ walks_refuse fresh world task (Rmdir path) none =
     unless_own (walk_rules ++ last_word_rules (Rmdir path)) (rmdir_word_rules place) _ refl (tt))
 walks_refuse fresh world task (Rename old new) none =
     walk_refuses (last_word_rules (Rename old new)) (old_leaf_walk nat_eq world task old) _ (old_leaf_walks nat_eq world task old) (λ from.
-    unless_own (walk_rules ++ last_word_rules (Rename old new)) (old_word_rules from) _ refl (walk_refuses (last_word_rules (Rename old new)) (rename_new_walk nat_eq world task new (is_directory_there nat_eq world from)) _
+    unless_own (walk_rules ++ last_word_rules (Rename old new)) (old_word_rules from) _ refl
+    (walk_refuses (last_word_rules (Rename old new)) (rename_new_walk nat_eq world task new (is_directory_there nat_eq world from)) _
     (rename_new_walks nat_eq world task new (is_directory_there nat_eq world from)) (λ to.
     unless_own (walk_rules ++ last_word_rules (Rename old new)) (old_word_rules to) _ refl (tt))))
 walks_refuse fresh world task (Chmod path mode) none =
     walk_refuses (last_word_rules (Chmod path mode)) (object_walk nat_eq world task path) _ (object_walks nat_eq world task path) (λ here.
     tt)
 walks_refuse fresh world task (Chown path uid gid) none =
-    walk_refuses (last_word_rules (Chown path uid gid)) (object_walk nat_eq world task path) _ (object_walks nat_eq world task path) (λ here.
+    walk_refuses (last_word_rules (Chown path uid gid)) (object_walk nat_eq world task path) _ (object_walks nat_eq world task path)
+    (λ here.
     tt)
 walks_refuse fresh world task (Opaque path mark) none =
-    walk_refuses (last_word_rules (Opaque path mark)) (directory_walk nat_eq world task path) _ (directory_walks nat_eq world task path) (λ here.
+    walk_refuses (last_word_rules (Opaque path mark)) (directory_walk nat_eq world task path) _ (directory_walks nat_eq world task path)
+    (λ here.
     tt)
 walks_refuse fresh world task (OpenFile path access NoCreation) none =
-    walk_refuses (last_word_rules (OpenFile path access NoCreation)) (object_walk nat_eq world task path) _ (object_walks nat_eq world task path) (λ here.
+    walk_refuses (last_word_rules (OpenFile path access NoCreation)) (object_walk nat_eq world task path) _
+    (object_walks nat_eq world task path) (λ here.
     tt)
 walks_refuse fresh world task (OpenFile path access (OrCreate mode)) none =
-    walk_refuses (last_word_rules (OpenFile path access (OrCreate mode))) (file_walk nat_eq world task path) _ (file_walks nat_eq world task path) (λ place.
+    walk_refuses (last_word_rules (OpenFile path access (OrCreate mode))) (file_walk nat_eq world task path) _
+    (file_walks nat_eq world task path) (λ place.
     tt)
 walks_refuse fresh world task (OpenFile path access (Exclusive mode)) none =
-    walk_refuses (last_word_rules (OpenFile path access (Exclusive mode))) (new_walk nat_eq world task path) _ (new_walks nat_eq world task path) (λ place.
+    walk_refuses (last_word_rules (OpenFile path access (Exclusive mode))) (new_walk nat_eq world task path) _
+    (new_walks nat_eq world task path) (λ place.
     unless_own (walk_rules ++ last_word_rules (OpenFile path access (Exclusive mode))) (exclusive_last_words place) _ refl (tt))
 walks_refuse fresh world task (Pread number offset size) none =
     tt
@@ -318,30 +352,40 @@ walks_refuse fresh world task (Setns name) none =
 walks_refuse fresh world task ListMounts none =
     tt
 walks_refuse fresh world task (MountPlain path flags) none =
-    walk_refuses (last_word_rules (MountPlain path flags)) (destination_walk nat_eq world task path) _ (destination_walks nat_eq world task path) (λ here.
+    walk_refuses (last_word_rules (MountPlain path flags)) (destination_walk nat_eq world task path) _
+    (destination_walks nat_eq world task path) (λ here.
     tt)
 walks_refuse fresh world task (MountOverlay path options flags) none =
-    walk_refuses (last_word_rules (MountOverlay path options flags)) (destination_walk nat_eq world task path) _ (destination_walks nat_eq world task path) (λ here.
+    walk_refuses (last_word_rules (MountOverlay path options flags)) (destination_walk nat_eq world task path) _
+    (destination_walks nat_eq world task path) (λ here.
     overlay_refuses fresh world task here.location flags options)
 walks_refuse fresh world task (Bind source path recursive) none =
-    walk_refuses (last_word_rules (Bind source path recursive)) (source_walk nat_eq world task source) _ (source_walks nat_eq world task source) (λ from.
-    walk_refuses (last_word_rules (Bind source path recursive)) (destination_walk nat_eq world task path) _ (destination_walks nat_eq world task path) (λ here.
+    walk_refuses (last_word_rules (Bind source path recursive)) (source_walk nat_eq world task source) _
+    (source_walks nat_eq world task source) (λ from.
+    walk_refuses (last_word_rules (Bind source path recursive)) (destination_walk nat_eq world task path) _
+    (destination_walks nat_eq world task path) (λ here.
     tt))
 walks_refuse fresh world task (MoveMount source path) none =
-    walk_refuses (last_word_rules (MoveMount source path)) (source_walk nat_eq world task source) _ (source_walks nat_eq world task source) (λ from.
-    walk_refuses (last_word_rules (MoveMount source path)) (destination_walk nat_eq world task path) _ (destination_walks nat_eq world task path) (λ here.
+    walk_refuses (last_word_rules (MoveMount source path)) (source_walk nat_eq world task source) _ (source_walks nat_eq world task source)
+    (λ from.
+    walk_refuses (last_word_rules (MoveMount source path)) (destination_walk nat_eq world task path) _
+    (destination_walks nat_eq world task path) (λ here.
     tt))
 walks_refuse fresh world task (Remount path flags) none =
-    walk_refuses (last_word_rules (Remount path flags)) (directory_walk nat_eq world task path) _ (directory_walks nat_eq world task path) (λ here.
+    walk_refuses (last_word_rules (Remount path flags)) (directory_walk nat_eq world task path) _ (directory_walks nat_eq world task path)
+    (λ here.
     tt)
 walks_refuse fresh world task (SetType path word recursive) none =
-    walk_refuses (last_word_rules (SetType path word recursive)) (directory_walk nat_eq world task path) _ (directory_walks nat_eq world task path) (λ here.
+    walk_refuses (last_word_rules (SetType path word recursive)) (directory_walk nat_eq world task path) _
+    (directory_walks nat_eq world task path) (λ here.
     tt)
 walks_refuse fresh world task (PivotRoot new put) none =
     walk_refuses (last_word_rules (PivotRoot new put)) (source_walk nat_eq world task new) _ (source_walks nat_eq world task new) (λ root.
-    walk_refuses (last_word_rules (PivotRoot new put)) (destination_walk nat_eq world task put) _ (destination_walks nat_eq world task put) (λ here.
+    walk_refuses (last_word_rules (PivotRoot new put)) (destination_walk nat_eq world task put) _ (destination_walks nat_eq world task put)
+    (λ here.
     tt))
 
 pub walks_refuse_as_walks : WalksRefuseAsWalks
 walks_refuse_as_walks fresh world task call deny none e =
-    (error_is (λ d. IsOwn (walk_rules ++ last_word_rules call) d) (asked_last fresh world task call) deny e (walks_refuse fresh world task call none)).1
+    (error_is (λ d. IsOwn (walk_rules ++ last_word_rules call) d) (asked_last fresh world task call) deny e
+    (walks_refuse fresh world task call none)).1

@@ -37,7 +37,8 @@ module _ (world : World ℕ) (task : Task ℕ) (here : Location ℕ) where
 
 pub step_rules_in_order : StepRulesInOrder
 step_rules_in_order world task here word deny e =
-    error_is (λ d. IsInOrder (search_rules nat_eq world task here ++ ((true, d.rule) ∷ []))) (stepped nat_eq world task here word) deny e (steps world task here word)
+    error_is (λ d. IsInOrder (search_rules nat_eq world task here ++ ((true, d.rule) ∷ []))) (stepped nat_eq world task here word) deny e
+    (steps world task here word)
 
 -- a place that a rule stops at goes no further
 stops : (fails : Bool) (rule : Rule) (place : Place ℕ) (next : Place ℕ → Result (Place ℕ) (Stop ℕ)) → fails ≡ true
@@ -48,7 +49,8 @@ stops false rule place next e = cc
 -- a walk to that place is refused so, whatever is asked behind it
 stops_there : (walk : Result (Place ℕ) (Stop ℕ)) (place : Place ℕ) (fails : Place ℕ → Bool) (rule : Rule) (more : Place ℕ → Rules)
     → walk ≡ Ok place → fails place ≡ true
-    → walk_end (then_walk (then_walk walk (λ p. walk_unless p.steps ((fails p, rule) ∷ []) p)) (λ p. walk_unless p.steps (more p) p)) ≡ Err (denial rule)
+    → walk_end (then_walk (then_walk walk (λ p. walk_unless p.steps ((fails p, rule) ∷ []) p)) (λ p. walk_unless p.steps (more p) p)) ≡ Err
+    (denial rule)
 stops_there (Ok found) place fails rule more leads e =
     let same : place ≡ found = cc in
     stops (fails found) rule found (λ p. walk_unless p.steps (more p) p) (subst (λ p. fails p ≡ true) same e)

@@ -43,18 +43,21 @@ module _ {N : Type 0} (eq : N → N → Bool) (world : World N) (task : Task N) 
   word_walks here word =
       stopped_own walk_rules _ _
       (and_then_own walk_rules _ _
-      (unless_own walk_rules (search_rules eq world task here.location) (stepped eq world task here.location word) refl (steps here.location word))
+      (unless_own walk_rules (search_rules eq world task here.location) (stepped eq world task here.location word) refl
+      (steps here.location word))
       (λ reached. tt))
 
   -- the walk of a link's text is stopped by a rule of walks
   abbrev FollowsAsWalk : Follow N → Type 0
   FollowsAsWalk follow = (inside : Location N) (next : Here N) (inner : List ℕ) → StopsAsWalk (follow inside next inner)
 
-  if_link_walks : (here : Here N) (text : Option (List ℕ)) (follow : List ℕ → Result (Here N) (Stop N)) → ((inner : List ℕ) → StopsAsWalk (follow inner)) → StopsAsWalk (if_link here text follow)
+  if_link_walks : (here : Here N) (text : Option (List ℕ)) (follow : List ℕ → Result (Here N) (Stop N))
+      → ((inner : List ℕ) → StopsAsWalk (follow inner)) → StopsAsWalk (if_link here text follow)
   if_link_walks here None follow h = tt
   if_link_walks here (Some text) follow h = h text
 
-  words_walk : (follow : Follow N) → FollowsAsWalk follow → (here : Here N) (front : List (List ℕ)) → StopsAsWalk (words_walked eq world task follow here front)
+  words_walk : (follow : Follow N) → FollowsAsWalk follow → (here : Here N) (front : List (List ℕ))
+      → StopsAsWalk (words_walked eq world task follow here front)
   words_walk follow h here [] = tt
   words_walk follow h here (word ∷ front) =
       then_walk_own walk_rules (words_walked eq world task follow here front) _ (words_walk follow h here front) (λ reached.
@@ -64,7 +67,9 @@ module _ {N : Type 0} (eq : N → N → Bool) (world : World N) (task : Task N) 
   link_walks : (depth : ℕ) → FollowsAsWalk (link_walked eq depth world task)
   link_walks zero directory link text = tt
   link_walks (suc depth) directory link text =
-      then_walk_own walk_rules _ _ (walk_unless_own walk_rules link.steps (follow_rules eq world link text) (link_start eq world task directory link text) refl) (λ start.
+      then_walk_own walk_rules _ _
+      (walk_unless_own walk_rules link.steps (follow_rules eq world link text) (link_start eq world task directory link text) refl)
+      (λ start.
       then_walk_own walk_rules (words_walked eq world task (link_walked eq depth world task) start (reverse (words text))) _
       (words_walk (link_walked eq depth world task) (link_walks depth) start (reverse (words text))) (λ reached.
       walk_unless_own walk_rules reached.steps (slash_rules eq world text reached.location) reached refl))
@@ -114,11 +119,15 @@ module _ {N : Type 0} (eq : N → N → Bool) (world : World N) (task : Task N) 
   names here (Named name) = tt
 
   named_places : (here : Here N) (word : LastWord) {A : Type 0} (met : List (List N)) (place : Option (Location N) → A)
-      → StopsAsWalk (stopped_by met (and_then (unless (search_rules eq world task here.location) (object_named eq world task here.location word)) (λ object. Ok (place object))))
+      → StopsAsWalk
+      (stopped_by met
+      (and_then (unless (search_rules eq world task here.location) (object_named eq world task here.location word))
+      (λ object. Ok (place object))))
   named_places here word met place =
       stopped_own walk_rules met _
       (and_then_own walk_rules _ _
-      (unless_own walk_rules (search_rules eq world task here.location) (object_named eq world task here.location word) refl (names here.location word))
+      (unless_own walk_rules (search_rules eq world task here.location) (object_named eq world task here.location word) refl
+      (names here.location word))
       (λ object. tt))
 
   places : (here : Here N) (word : LastWord) (slash : Bool) → StopsAsWalk (placed eq world task here word slash)
@@ -158,18 +167,21 @@ module _ {N : Type 0} (eq : N → N → Bool) (world : World N) (task : Task N) 
       then_walk_own walk_rules (new_walk eq world task path) _ (new_walks path) (λ place.
       walk_unless_own walk_rules place.steps (_ ∷ []) place refl)
 
-  file_or_link_walks : (place : Place N) (text : Option (List ℕ)) (follow : List ℕ → Result (Place N) (Stop N)) → ((inner : List ℕ) → StopsAsWalk (follow inner)) → StopsAsWalk (file_or_link eq world place text follow)
+  file_or_link_walks : (place : Place N) (text : Option (List ℕ)) (follow : List ℕ → Result (Place N) (Stop N))
+      → ((inner : List ℕ) → StopsAsWalk (follow inner)) → StopsAsWalk (file_or_link eq world place text follow)
   file_or_link_walks place None follow h = tt
   file_or_link_walks place (Some text) follow h = h text
 
-  file_walks_by : (depth : ℕ) (start : Here N) (text : List ℕ) (slash : Bool) → StopsAsWalk (file_walked eq depth world task start text slash)
+  file_walks_by : (depth : ℕ) (start : Here N) (text : List ℕ) (slash : Bool)
+      → StopsAsWalk (file_walked eq depth world task start text slash)
   file_walks_by zero start text slash = (refl, refl)
   file_walks_by (suc depth) start text slash =
       then_walk_own walk_rules _ _ (front_walks start (reverse (words text))) (λ here.
       then_walk_own walk_rules _ _ (places here (final_word (reverse (words text))) (slash || ends_in_slash text)) (λ place.
       file_or_link_walks place (link_there eq world place) _ (λ inner.
       then_walk_own walk_rules _ _
-      (walk_unless_own walk_rules place.steps (follow_rules eq world (link_of here place) inner) (link_start eq world task here.location (link_of here place) inner) refl)
+      (walk_unless_own walk_rules place.steps (follow_rules eq world (link_of here place) inner)
+      (link_start eq world task here.location (link_of here place) inner) refl)
       (λ next. file_walks_by depth next inner (slash || ends_in_slash text)))))
 
   pub file_walks : (path : List ℕ) → StopsAsWalk (file_walk eq world task path)
@@ -197,7 +209,8 @@ module _ {N : Type 0} (eq : N → N → Bool) (world : World N) (task : Task N) 
 
   given_walks : (path : Option (List ℕ)) → RefusesAsWalk (walked_if_given eq world task path)
   given_walks None = tt
-  given_walks (Some path) = and_then_own walk_rules _ _ (walk_end_own walk_rules (source_walk eq world task path) (source_walks path)) (λ here. tt)
+  given_walks (Some path) = and_then_own walk_rules _ _ (walk_end_own walk_rules (source_walk eq world task path) (source_walks path))
+      (λ here. tt)
 
   pub layer_walks : (words : OverlayWords) → RefusesAsWalk (layers_walked eq world task words)
   layer_walks words =

@@ -60,7 +60,8 @@ abbrev pub asked_of_write : Fresh ℕ → World ℕ → Task ℕ → Place ℕ �
 asked_of_write fresh world task place bytes (Some file) = file_word_rules place ++ rewrite_rules nat_eq world task file bytes
 asked_of_write fresh world task place bytes None =
     file_word_rules place
-    ++ ((nat_lt largest_file (length bytes), E6) ∷ make_rules nat_eq world task place (making place (evens fresh 0) (new_file task file_mode bytes)))
+    ++ ((nat_lt largest_file (length bytes), E6) ∷ make_rules nat_eq world task place
+    (making place (evens fresh 0) (new_file task file_mode bytes)))
 
 -- open(2) with O_CREAT: of a file that is there, or of one that is made
 abbrev pub asked_of_creation : Fresh ℕ → World ℕ → Task ℕ → Place ℕ → ℕ → Rules
@@ -93,14 +94,18 @@ asked_of_overlay fresh world task place flags (Some words) =
 -- The table that a call asks last, or how a walk refused it. The last word of a path is judged with the walk of that path
 -- where it stands out of the order of the table: rmdir, rename and exclusive open (profile).
 abbrev pub asked_last : Fresh ℕ → World ℕ → Task ℕ → Call → Result Rules Deny
-asked_last fresh world task (Ls path) = walked (directory_walk nat_eq world task path) (λ here. Ok (list_rules nat_eq world task here.location))
+asked_last fresh world task (Ls path) =
+    walked (directory_walk nat_eq world task path) (λ here. Ok (list_rules nat_eq world task here.location))
 asked_last fresh world task (Stat path) = walked (object_walk nat_eq world task path) (λ here. Ok [])
 asked_last fresh world task (Lstat path) = walked (link_walk nat_eq world task path) (λ here. Ok [])
-asked_last fresh world task (Readlink path) = walked (link_walk nat_eq world task path) (λ here. Ok (readlink_rules nat_eq world here.location))
-asked_last fresh world task (Read path) = walked (object_walk nat_eq world task path) (λ here. Ok (read_rules nat_eq world task here.location))
+asked_last fresh world task (Readlink path) =
+    walked (link_walk nat_eq world task path) (λ here. Ok (readlink_rules nat_eq world here.location))
+asked_last fresh world task (Read path) =
+    walked (object_walk nat_eq world task path) (λ here. Ok (read_rules nat_eq world task here.location))
 asked_last fresh world task (Write path bytes) =
     walked (file_walk nat_eq world task path) (λ place. Ok (asked_of_write fresh world task place bytes place.object))
-asked_last fresh world task (Exec path) = walked (object_walk nat_eq world task path) (λ here. Ok (exec_rules nat_eq world task here.location))
+asked_last fresh world task (Exec path) =
+    walked (object_walk nat_eq world task path) (λ here. Ok (exec_rules nat_eq world task here.location))
 asked_last fresh world task (Mkdir path mode) =
     walked (new_walk nat_eq world task path) (λ place.
     Ok (new_rules nat_eq fresh world task place
@@ -136,7 +141,8 @@ asked_last fresh world task (Chown path uid gid) =
     Ok (attr_rules nat_eq world here.location
     (may_chown task.credentials (attr_at nat_eq world here.location) (attr_with_owner (attr_at nat_eq world here.location) uid gid))
     (attr_with_owner (attr_at nat_eq world here.location) uid gid)))
-asked_last fresh world task (Opaque path mark) = walked (directory_walk nat_eq world task path) (λ here. Ok (opaque_rules nat_eq world here.location))
+asked_last fresh world task (Opaque path mark) =
+    walked (directory_walk nat_eq world task path) (λ here. Ok (opaque_rules nat_eq world here.location))
 asked_last fresh world task (OpenFile path access NoCreation) =
     walked (object_walk nat_eq world task path) (λ here. Ok (open_rules nat_eq world task here.location access))
 asked_last fresh world task (OpenFile path access (OrCreate mode)) =
@@ -150,8 +156,10 @@ asked_last fresh world task (Pwrite number offset bytes) =
     and_then (descriptor_at task number (λ descriptor. descriptor.writes)) (λ descriptor.
     Ok (pwrite_rules nat_eq world descriptor.location offset bytes))
 asked_last fresh world task (Close number) = Ok []
-asked_last fresh world task (Chdir path) = walked (directory_walk nat_eq world task path) (λ here. Ok (enter_rules nat_eq world task here.location))
-asked_last fresh world task (Chroot path) = walked (directory_walk nat_eq world task path) (λ here. Ok (enter_rules nat_eq world task here.location))
+asked_last fresh world task (Chdir path) =
+    walked (directory_walk nat_eq world task path) (λ here. Ok (enter_rules nat_eq world task here.location))
+asked_last fresh world task (Chroot path) =
+    walked (directory_walk nat_eq world task path) (λ here. Ok (enter_rules nat_eq world task here.location))
 asked_last fresh world task (Umask mode) = Ok []
 asked_last fresh world task (Drop which) = Ok []
 asked_last fresh world task (Fork words) = Ok []
@@ -172,8 +180,10 @@ asked_last fresh world task (MoveMount source path) =
     walked (source_walk nat_eq world task source) (λ from.
     walked (destination_walk nat_eq world task path) (λ here.
     Ok (move_rules nat_eq world task from.location here.location (moved_to nat_eq fresh world from.location here.location))))
-asked_last fresh world task (Umount path) = walked (directory_walk nat_eq world task path) (λ here. Ok (umount_rules nat_eq world task here.location))
-asked_last fresh world task (Lazy path) = walked (directory_walk nat_eq world task path) (λ here. Ok (lazy_rules nat_eq world task here.location))
+asked_last fresh world task (Umount path) =
+    walked (directory_walk nat_eq world task path) (λ here. Ok (umount_rules nat_eq world task here.location))
+asked_last fresh world task (Lazy path) =
+    walked (directory_walk nat_eq world task path) (λ here. Ok (lazy_rules nat_eq world task here.location))
 asked_last fresh world task (Remount path flags) =
     walked (directory_walk nat_eq world task path) (λ here. Ok (remount_rules nat_eq world task here.location flags))
 asked_last fresh world task (SetType path word recursive) =

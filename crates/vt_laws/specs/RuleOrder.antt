@@ -19,7 +19,7 @@ use Rattle.vt_spec.specs.Machine.Script.Request.{Asking, Calling}
 use Rattle.vt_spec.specs.Machine.Mounts.{Location}
 use Rattle.vt_spec.specs.Machine.Outcome.Making.{link_text_rules}
 use Rattle.vt_spec.specs.Machine.Outcome.Removing.{rmdir_word_rules}
-use Rattle.vt_spec.specs.Machine.Walk.{Here, LastWord, Place, follow_rules, new_leaf_walk, old_leaf_walk, place_walk, search_rules, stepped, walk_end}
+use Rattle.vt_spec.specs.Machine.Walk.{Here, LastWord, Place, follow_rules, new_leaf_walk, new_name_rules, old_leaf_walk, place_walk, search_rules, stepped, walk_end}
 use Rattle.vt_spec.specs.Machine.World.{Task, TaskName, World, is_removed_at, task_called}
 use Rattle.vt_spec.specs.PathText.{path_rules}
 
@@ -171,7 +171,8 @@ FirstTablesInOrder = (world : World ℕ) (task : Task ℕ) (call : Call) → IsI
 
 -- the rules that a call asks after its walks are in the policy's order, and after those of walks
 abbrev pub LastTablesInOrder : Type 0
-LastTablesInOrder = (fresh : Fresh ℕ) (world : World ℕ) (task : Task ℕ) (call : Call) → IfOk (asked_last fresh world task call) IsInOrderAfterWalk
+LastTablesInOrder = (fresh : Fresh ℕ) (world : World ℕ) (task : Task ℕ) (call : Call)
+    → IfOk (asked_last fresh world task call) IsInOrderAfterWalk
 
 -- a path's text, and the text of a link that is made
 abbrev pub TextRulesInOrder : Type 0
@@ -184,7 +185,14 @@ StepRulesInOrder =
     → stepped nat_eq world task here word ≡ Err deny
     → IsInOrder (search_rules nat_eq world task here ++ ((true, deny.rule) ∷ []))
 
--- special last words of rmdir and of an exclusive open, each before the call's last table: though that begins with E1 or E3
+-- the rules of a directory in which a name is made: whether it may be searched, and then whether it is removed
+abbrev pub ParentRulesInOrder : Type 0
+ParentRulesInOrder =
+    (world : World ℕ) (task : Task ℕ) (place : Place ℕ)
+    → IsInOrder (search_rules nat_eq world task place.parent ++ new_name_rules nat_eq world place)
+
+-- The special last words of rmdir and of an exclusive open. They are asked with the walk, so each before the call's last
+-- table, which begins with a lesser rule, E3 or E1 (profile). Those of rename are one rule, P1.
 abbrev pub LastWordRulesInOrder : Type 0
 LastWordRulesInOrder = (place : Place ℕ) → IsInOrderAfterWalk (rmdir_word_rules place) × IsInOrderAfterWalk (exclusive_last_words place)
 

@@ -1,5 +1,5 @@
 //! A call is refused by its own rules, and of several that fail by the first in the policy's order.
-ghost use Rattle.vt_laws.specs.RuleOrder.{DenialHasErrorOfRule, DenialIsOwn, DeniedLineIsOwn, FirstRulesAnswer, FirstTablesInOrder, FollowRulesInReverse, LastRulesAnswer, LastTablesInOrder, LastWordRulesInOrder, MissingBeforeSlash, NoTaskIsRefused, RemovedBeforeSlash, StepRulesInOrder, TextRulesInOrder, WalksAnswerNext, WalksRefuseAsWalks};
+ghost use Rattle.vt_laws.specs.RuleOrder.{DenialHasErrorOfRule, DenialIsOwn, DeniedLineIsOwn, FirstRulesAnswer, FirstTablesInOrder, FollowRulesInReverse, LastRulesAnswer, LastTablesInOrder, LastWordRulesInOrder, MissingBeforeSlash, NoTaskIsRefused, ParentRulesInOrder, RemovedBeforeSlash, StepRulesInOrder, TextRulesInOrder, WalksAnswerNext, WalksRefuseAsWalks};
 
 /// A call is refused by its own rules alone, and with the error of the rule.
 ///
@@ -24,12 +24,14 @@ pub fn the_least_rule_answers()
 
 /// Each table of rules is in the policy's order: those asked before the walks, those of walks, and those asked after them.
 ///
-/// A link's own rules are in the other order, and a slash behind a last word is asked last.
+/// A link's own rules are in the other order, the special last words of rmdir and of an exclusive open come before the table
+/// that begins with a lesser rule, and a slash behind a missing name is asked last.
 pub fn tables_are_in_order()
     ensures first { FirstTablesInOrder }
     ensures last { LastTablesInOrder }
     ensures texts { TextRulesInOrder }
     ensures steps { StepRulesInOrder }
+    ensures parents { ParentRulesInOrder }
     ensures last_words { LastWordRulesInOrder }
     ensures links { FollowRulesInReverse }
     ensures removed_before_slash { RemovedBeforeSlash }

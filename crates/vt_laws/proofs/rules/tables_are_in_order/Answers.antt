@@ -15,6 +15,9 @@ returns-clause-texts c text = (refl, refl)
 pub returns-clause-steps : goal.returns-clause-steps
 returns-clause-steps c = step_rules_in_order
 
+pub returns-clause-parents : goal.returns-clause-parents
+returns-clause-parents c world task place = refl
+
 pub returns-clause-last_words : goal.returns-clause-last_words
 returns-clause-last_words c place = (refl, refl)
 
