@@ -1,7 +1,7 @@
 -- The rules of walks are in order, but for those of links and of slashes.
 use Rattle.std.proofs.Common.{◌≡◌, refl, subst, ℕ, nat_eq, Bool, true, false, not, ◌&&◌, is_some, [], ◌∷◌, ◌++◌, Option, Some, None, option_map, ok_or, Result, Ok, Err, IfErr, cond}
 use Rattle.vt_laws.proofs.Outcomes.{error_is}
-use Rattle.vt_laws.specs.RuleOrder.{MissingBeforeSlash, RemovedBeforeSlash, StepRulesInOrder}
+use Rattle.vt_laws.specs.RuleOrder.{MissingBeforeSlash, RemovedBeforeSlash, RemovedBeforeSlashOfRename, StepRulesInOrder}
 use Rattle.vt_spec.specs.Laws.RuleOrder.{IsInOrder}
 use Rattle.vt_spec.specs.declared.errors.Deny.{Deny}
 use Rattle.vt_spec.specs.declared.errors.Rule.{Rule}
@@ -74,3 +74,9 @@ pub missing_before_slash : MissingBeforeSlash
 missing_before_slash world task path place leads none =
     stops_there (place_walk nat_eq world task path) place (λ p. not (is_some p.object)) W6
     (λ p. (p.slash && not (is_directory_there nat_eq world p), W3) ∷ []) leads (missing place.object none)
+
+pub removed_before_slash_of_rename : RemovedBeforeSlashOfRename
+removed_before_slash_of_rename world task path place old_is_directory leads none removed =
+    stops_there (place_walk nat_eq world task path) place (λ p. not (is_some p.object) && is_removed_at nat_eq world p.parent) W8
+    (λ p. (p.slash && not old_is_directory, W3) ∷ []) leads
+    (both_hold (not (is_some place.object)) (is_removed_at nat_eq world place.parent) (missing place.object none) removed)

@@ -18,7 +18,7 @@ use Rattle.vt_spec.specs.Machine.Script.{Grammar, Request, request_of}
 use Rattle.vt_spec.specs.Machine.Script.Request.{Asking, Calling}
 use Rattle.vt_spec.specs.Machine.Mounts.{Location}
 use Rattle.vt_spec.specs.Machine.Outcome.Making.{link_text_rules}
-use Rattle.vt_spec.specs.Machine.Outcome.Removing.{rmdir_word_rules}
+use Rattle.vt_spec.specs.Machine.Outcome.Removing.{rename_new_walk, rmdir_word_rules}
 use Rattle.vt_spec.specs.Machine.Walk.{Here, LastWord, Place, follow_rules, new_leaf_walk, new_name_rules, old_leaf_walk, place_walk, search_rules, stepped, walk_end}
 use Rattle.vt_spec.specs.Machine.World.{Task, TaskName, World, is_removed_at, task_called}
 use Rattle.vt_spec.specs.PathText.{path_rules}
@@ -218,3 +218,13 @@ MissingBeforeSlash =
     → place_walk nat_eq world task path ≡ Ok place
     → place.object ≡ None
     → walk_end (old_leaf_walk nat_eq world task path) ≡ Err (denial W6)
+
+-- the new name of a rename: a removed directory, W8, answers before the slash asks that the old object is a directory, though
+-- W3 is the lesser rule (profile)
+abbrev pub RemovedBeforeSlashOfRename : Type 0
+RemovedBeforeSlashOfRename =
+    (world : World ℕ) (task : Task ℕ) (path : List ℕ) (place : Place ℕ) (old_is_directory : Bool)
+    → place_walk nat_eq world task path ≡ Ok place
+    → place.object ≡ None
+    → is_removed_at nat_eq world place.parent ≡ true
+    → walk_end (rename_new_walk nat_eq world task path old_is_directory) ≡ Err (denial W8)

@@ -1,5 +1,5 @@
 //! A call is refused by its own rules, and of several that fail by the first in the policy's order.
-ghost use Rattle.vt_laws.specs.RuleOrder.{DenialHasErrorOfRule, DenialIsOwn, DeniedLineIsOwn, FirstRulesAnswer, FirstTablesInOrder, FollowRulesInReverse, LastRulesAnswer, LastTablesInOrder, LastWordRulesInOrder, MissingBeforeSlash, NoTaskIsRefused, ParentRulesInOrder, RemovedBeforeSlash, StepRulesInOrder, TextRulesInOrder, WalksAnswerNext, WalksRefuseAsWalks};
+ghost use Rattle.vt_laws.specs.RuleOrder.{DenialHasErrorOfRule, DenialIsOwn, DeniedLineIsOwn, FirstRulesAnswer, FirstTablesInOrder, FollowRulesInReverse, LastRulesAnswer, LastTablesInOrder, LastWordRulesInOrder, MissingBeforeSlash, NoTaskIsRefused, ParentRulesInOrder, RemovedBeforeSlash, RemovedBeforeSlashOfRename, StepRulesInOrder, TextRulesInOrder, WalksAnswerNext, WalksRefuseAsWalks};
 
 /// A call is refused by its own rules alone, and with the error of the rule.
 ///
@@ -35,5 +35,6 @@ pub fn tables_are_in_order()
     ensures last_words { LastWordRulesInOrder }
     ensures links { FollowRulesInReverse }
     ensures removed_before_slash { RemovedBeforeSlash }
+    ensures removed_before_slash_of_rename { RemovedBeforeSlashOfRename }
     ensures missing_before_slash { MissingBeforeSlash }
 {}

@@ -1,6 +1,6 @@
 use Rattle.std.proofs.Common.{refl}
 use Rattle.vt_laws.proofs.TableOrder.{first_in_order, last_in_order}
-use Rattle.vt_laws.proofs.WalkOrder.{missing_before_slash, removed_before_slash, step_rules_in_order}
+use Rattle.vt_laws.proofs.WalkOrder.{missing_before_slash, removed_before_slash, removed_before_slash_of_rename, step_rules_in_order}
 use Rattle.vt_laws.proofs.rules.tables_are_in_order.Goals as goal
 
 pub returns-clause-first : goal.returns-clause-first
@@ -29,3 +29,6 @@ returns-clause-removed_before_slash c = removed_before_slash
 
 pub returns-clause-missing_before_slash : goal.returns-clause-missing_before_slash
 returns-clause-missing_before_slash c = missing_before_slash
+
+pub returns-clause-removed_before_slash_of_rename : goal.returns-clause-removed_before_slash_of_rename
+returns-clause-removed_before_slash_of_rename c = removed_before_slash_of_rename
