@@ -1,8 +1,44 @@
--- What a refused call leaves as it was.
-use Rattle.std.specs.Prelude.{List, ℕ, nat_eq, ◌≡◌}
-use Rattle.vt_spec.specs.Machine.Outcome.Looking.{list_outcome}
+-- What a refused call, and a call that only looks, leave as they were.
+use Rattle.std.specs.Prelude.{Err, List, None, Option, true, ℕ, nat_eq, ◌≡◌}
+use Rattle.vt_spec.specs.declared.errors.Deny.{Deny}
+use Rattle.vt_spec.specs.Machine.Calls.{Call, Directive}
+use Rattle.vt_spec.specs.Machine.Lists.{Fresh}
 use Rattle.vt_spec.specs.Machine.Outcomes.{Outcome}
-use Rattle.vt_spec.specs.Machine.World.{Task, World}
+use Rattle.vt_spec.specs.Machine.Policy.{only_looks, policy}
+use Rattle.vt_spec.specs.Machine.Run.{line_step, step_world}
+use Rattle.vt_spec.specs.Machine.Run.Step.{Answered}
+use Rattle.vt_spec.specs.Machine.Script.{Grammar}
+use Rattle.vt_spec.specs.Machine.Sealed.{directed}
+use Rattle.vt_spec.specs.Machine.World.{TaskName, World}
 
-abbrev pub OnlyLooksChangesNothing : Type 0
-OnlyLooksChangesNothing = (world : World ℕ) (task : Task ℕ) (path : List ℕ) → (list_outcome nat_eq world task path).world ≡ world
+-- a call that is refused leaves the whole world (profile)
+abbrev pub DenialChangesNothing : Type 0
+DenialChangesNothing =
+    (fresh : Fresh ℕ) (world : World ℕ) (name : TaskName) (call : Call) (deny : Deny)
+    → (policy nat_eq fresh world name call).answer ≡ Err deny
+    → (policy nat_eq fresh world name call).world ≡ world
+
+-- a line of a script that is answered by a denial leaves the world, in each version of the language
+abbrev pub DeniedLineChangesNothing : Type 0
+DeniedLineChangesNothing =
+    (grammar : Grammar) (world : World ℕ) (line : List ℕ) (fresh : Option (Fresh ℕ)) (outcome : Outcome ℕ) (deny : Deny)
+    → line_step nat_eq grammar world line fresh ≡ Answered outcome
+    → outcome.answer ≡ Err deny
+    → outcome.world ≡ world
+
+-- a line that was refused memory leaves the world, whatever it asks for: ENOMEM
+abbrev pub RefusedMemoryChangesNothing : Type 0
+RefusedMemoryChangesNothing =
+    (grammar : Grammar) (world : World ℕ) (line : List ℕ)
+    → step_world world (line_step nat_eq grammar world line None) ≡ world
+
+-- a call that only looks leaves the world, granted or refused: no number of a change is raised either (profile)
+abbrev pub LookChangesNothing : Type 0
+LookChangesNothing =
+    (fresh : Fresh ℕ) (world : World ℕ) (name : TaskName) (call : Call)
+    → only_looks call ≡ true
+    → (policy nat_eq fresh world name call).world ≡ world
+
+-- what is asked of the machine itself leaves the world
+abbrev pub DirectiveChangesNothing : Type 0
+DirectiveChangesNothing = (world : World ℕ) (directive : Directive) → (directed nat_eq world directive).world ≡ world

@@ -1,1 +1,3 @@
+pub mod Asked
 pub mod Denials
+pub mod RuleOrder
