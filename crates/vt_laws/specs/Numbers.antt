@@ -1,14 +1,14 @@
 -- Numbers of inodes, mounts, groups, filesystems and namespaces do not matter. The kernel tells none of them to a task
 -- but to compare: an inode's number of stat(2), a mount's of proc(5) (profile).
-use Rattle.std.specs.Prelude.{Bool, List, Option, Some, false, map, nat_eq, option_map, true, ℕ, ◌≡◌, ◌≢◌}
+use Rattle.std.specs.Prelude.{Bool, List, None, Option, Some, [], false, length, map, nat_eq, nat_lt, option_map, true, ℕ, ⊤, ◌++◌, ◌+◌, ◌<◌, ◌∷◌, ◌≡◌, ◌≢◌}
 use Rattle.vt_spec.specs.Machine.Calls.{Call, Directive}
 use Rattle.vt_spec.specs.Machine.Lists.{Fresh, is_among}
 use Rattle.vt_spec.specs.Machine.Outcomes.{Outcome}
 use Rattle.vt_spec.specs.Machine.Policy.{policy}
 use Rattle.vt_spec.specs.Machine.Renaming.{SameWorld, renamed}
-use Rattle.vt_spec.specs.Machine.Run.{Step, line_step, numbers_in_use, step_world}
+use Rattle.vt_spec.specs.Machine.Run.{Step, counted_on, first_world, handed, later, line_step, numbers_in_use, step_text, step_world, text_of}
 use Rattle.vt_spec.specs.Machine.Run.Step.{Answered, Silent}
-use Rattle.vt_spec.specs.Machine.Script.{Grammar, Who}
+use Rattle.vt_spec.specs.Machine.Script.{Grammar, Who, lines_of}
 use Rattle.vt_spec.specs.Machine.Sealed.{directed}
 use Rattle.vt_spec.specs.Machine.Turns.{Progress, Sched, Turned, turn}
 use Rattle.vt_spec.specs.Machine.World.{TaskName, World, opening}
@@ -141,3 +141,115 @@ CallsMakeNoOtherNumber =
     (named : ℕ → Bool) (fresh : Fresh ℕ) (world : World ℕ) (name : TaskName) (call : Call)
     → KeepsTo named world → IsSuppliedFrom named fresh → LeavesOutTwo named
     → (number : ℕ) → is_among nat_eq number (numbers_in_use (policy nat_eq fresh world name call).world) ≡ true → named number ≡ true
+
+-- The text of a script is one, whatever unused numbers are handed in.
+
+-- What becomes of a number where a line is handed its new ones: it is kept, it is a new one, or it is left over.
+pub data Share : Type 0 where
+  Kept : Share
+  New : (place : ℕ) → Share
+  LeftOver : (place : ℕ) → Share
+
+-- A supply with room: each number is kept, or it is one of the new ones, or it is left over for later; endless are new,
+-- and endless are left over.
+pub record Sharing : Type 0 where
+  pub share : ℕ → Share
+  pub new : Fresh ℕ
+  pub left_over : Fresh ℕ
+  pub new_share : (place : ℕ) → share (new place) ≡ New place
+  pub left_over_share : (place : ℕ) → share (left_over place) ≡ LeftOver place
+  pub share_new : (number place : ℕ) → share number ≡ New place → new place ≡ number
+  pub share_left_over : (number place : ℕ) → share number ≡ LeftOver place → left_over place ≡ number
+
+abbrev pub is_kept_share : Share → Bool
+is_kept_share Kept = true
+is_kept_share (New place) = false
+is_kept_share (LeftOver place) = false
+
+abbrev pub is_in_hand_share : Share → Bool
+is_in_hand_share Kept = true
+is_in_hand_share (New place) = true
+is_in_hand_share (LeftOver place) = false
+
+-- the numbers that are kept, and those that are in hand after the line: the kept and the new ones
+abbrev pub is_kept : Sharing → ℕ → Bool
+is_kept sharing number = is_kept_share (sharing.share number)
+
+abbrev pub is_in_hand : Sharing → ℕ → Bool
+is_in_hand sharing number = is_in_hand_share (sharing.share number)
+
+-- Of the numbers in hand some may be given back, if the world keeps to those that are kept. So a number is used again only
+-- where nothing has it any more.
+pub record ServesWithRoom (in_hand : ℕ → Bool) (world : World ℕ) (sharing : Sharing) : Type 0 where
+  pub from_hand : (number : ℕ) → is_kept sharing number ≡ true → in_hand number ≡ true
+  pub keeps : KeepsTo (is_kept sharing) world
+
+-- Which text may be written for these lines, of which the refused ones are given from the first line on: each line is
+-- handed a supply with room, of numbers that the world does not keep to.
+abbrev pub TellsWithRoom : Grammar → (ℕ → Bool) → World ℕ → ℕ → List (List ℕ) → List Bool → List ℕ → Type 0
+TellsWithRoom grammar in_hand world number [] refused text = text ≡ []
+TellsWithRoom grammar in_hand world number (line ∷ lines) [] text = ⊥
+TellsWithRoom grammar in_hand world number (line ∷ lines) (true ∷ refused) text =
+    (rest : List ℕ) × (text ≡ step_text number (line_step nat_eq grammar world line None) ++ rest)
+    × TellsWithRoom grammar in_hand (step_world world (line_step nat_eq grammar world line None)) (number + 1) lines refused rest
+TellsWithRoom grammar in_hand world number (line ∷ lines) (false ∷ refused) text =
+    (sharing : Sharing) × ServesWithRoom in_hand world sharing
+    × (rest : List ℕ) × (text ≡ step_text number (line_step nat_eq grammar world line (Some sharing.new)) ++ rest)
+    × TellsWithRoom grammar (is_in_hand sharing) (step_world world (line_step nat_eq grammar world line (Some sharing.new)))
+    (number + 1) lines refused rest
+
+-- the opening world has the first four numbers in hand
+abbrev pub first_four : ℕ → Bool
+first_four number = nat_lt number 4
+
+-- the text may be what a script is answered with
+abbrev pub MayBeText : Grammar → List Bool → List ℕ → List ℕ → Type 0
+MayBeText grammar refused script text = TellsWithRoom grammar first_four first_world 1 (lines_of script) refused text
+
+-- Whatever numbers are handed in, a script has one text,
+abbrev pub AnyTwoTextsAreOne : Type 0
+AnyTwoTextsAreOne =
+    (grammar : Grammar) (refused : List Bool) (script text other : List ℕ)
+    → MayBeText grammar refused script text → MayBeText grammar refused script other → text ≡ other
+
+-- and it has a text.
+abbrev pub SomeTextIsThere : Type 0
+SomeTextIsThere =
+    (grammar : Grammar) (refused : List Bool) (script : List ℕ) → length refused ≡ length (lines_of script)
+    → (text : List ℕ) × MayBeText grammar refused script text
+
+-- A world keeps to the numbers in hand, line after line: one who gives no number back need show nothing.
+abbrev pub WorldsKeepToHand : Type 0
+WorldsKeepToHand =
+    (grammar : Grammar) (in_hand : ℕ → Bool) (world : World ℕ) (sharing : Sharing) (line : List ℕ)
+    → ServesWithRoom in_hand world sharing
+    → KeepsTo (is_in_hand sharing) (step_world world (line_step nat_eq grammar world line (Some sharing.new)))
+
+-- The text by numbers that are counted on from line to line
+
+-- a line takes fewer than 2^64 of the numbers that it is handed, so that others may stand behind those
+abbrev pub TakesFew : Grammar → World ℕ → ℕ → List ℕ → Type 0
+TakesFew grammar world number line =
+    (fresh : Fresh ℕ) → ((k : ℕ) → k < 18446744073709551616 → fresh k ≡ counted_on number k)
+    → line_step nat_eq grammar world line (Some fresh) ≡ line_step nat_eq grammar world line (Some (counted_on number))
+
+-- and so does each line that is not refused memory
+abbrev pub EachTakesFew : Grammar → World ℕ → ℕ → List (List ℕ) → List Bool → Type 0
+EachTakesFew grammar world number [] refused = ⊤
+EachTakesFew grammar world number (line ∷ lines) refused =
+    (handed number refused ≡ Some (counted_on number) → TakesFew grammar world number line)
+    × EachTakesFew grammar (step_world world (line_step nat_eq grammar world line (handed number refused))) (number + 1) lines (later refused)
+
+-- Then the text of the written policy may be told,
+abbrev pub TextOfMayBeText : Type 0
+TextOfMayBeText =
+    (grammar : Grammar) (refused : List Bool) (script : List ℕ) → length refused ≡ length (lines_of script)
+    → EachTakesFew grammar first_world 1 (lines_of script) refused
+    → MayBeText grammar refused script (text_of grammar refused script)
+
+-- and whatever numbers are handed in, it is the text.
+abbrev pub WholeMachineHasOneText : Type 0
+WholeMachineHasOneText =
+    (grammar : Grammar) (refused : List Bool) (script text : List ℕ)
+    → EachTakesFew grammar first_world 1 (lines_of script) refused
+    → MayBeText grammar refused script text → text ≡ text_of grammar refused script
