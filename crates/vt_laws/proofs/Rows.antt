@@ -149,3 +149,10 @@ module _ (blocks : ℕ) where
           (λ i. spread (row_high number is_high i) (col_high number is_high i))
           ∙ ap (λ t. spread a (col_above t b)) far
           ∙ spread_far a b (ltb-false a blocks far) ∙ whole number is_high
+
+  -- the first row has the first numbers
+  pub row_first : (number : ℕ) → 0 < blocks → number < size → row number ≡ 0
+  unfolding above
+  row_first number some small =
+      let low : number < size * blocks = omega arith in
+      row_low number low ∙ omega arith

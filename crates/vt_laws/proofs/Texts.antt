@@ -1,0 +1,179 @@
+-- A script has one text, whatever unused numbers are handed in.
+use Rattle.std.proofs.Common.{◌≡◌, refl, sym, ap, ◌∙◌, true≢false, ℕ, suc, nat_eq, ◌+◌, ◌≤◌, Bool, true, false, List, [], ◌∷◌, ◌++◌, length, Some, None, arith}
+use Rattle.vt_spec.specs.Machine.Lists.{Fresh}
+use Rattle.vt_spec.specs.Machine.Renaming.{renamed}
+use Rattle.vt_spec.specs.Machine.Run.{Step, line_step, step_text, step_world}
+use Rattle.vt_spec.specs.Machine.Run.Step.{Answered, Silent}
+use Rattle.vt_spec.specs.Machine.Script.{Grammar}
+use Rattle.vt_spec.specs.Machine.World.{World}
+use Rattle.vt_laws.specs.Numbers.{KeepsTo, Renaming, ServesWithRoom, Share, Sharing, TellsWithRoom, WorldsKeepToHand, is_in_hand, is_in_hand_share, is_kept, is_kept_share, renamed_step}
+use Rattle.vt_laws.specs.Numbers.Share.{Kept, LeftOver, New}
+use Rattle.vt_laws.proofs.Renamings.{lines_renamed}
+use Rattle.vt_laws.proofs.Rows.{row, row-spread, spread}
+use Rattle.vt_laws.proofs.Sharings.{agree, joined, kept_share, shared_kept, shared_new}
+use Rattle.vt_laws.proofs.Stages.{stage, stage_keeps, stage_new, stage_rows}
+use Rattle.vt_laws.proofs.Supports.{lines_keep_to_numbers, step_world-renamed}
+
+-- who keeps to some numbers keeps to more
+more : (named others : ℕ → Bool) (world : World ℕ) → ((number : ℕ) → named number ≡ true → others number ≡ true) → KeepsTo named world → KeepsTo others world
+more named others world among keeps renaming leaves = keeps renaming (λ number is. leaves number (among number is))
+
+kept_in_hand : (share : Share) → is_kept_share share ≡ true → is_in_hand_share share ≡ true
+kept_in_hand Kept e = refl
+kept_in_hand (New k) e = absurd (true≢false (sym e))
+kept_in_hand (LeftOver k) e = absurd (true≢false (sym e))
+
+-- the world after a line keeps to the numbers in hand
+pub worlds_keep_to_hand : WorldsKeepToHand
+worlds_keep_to_hand grammar in_hand world sharing line serves =
+    lines_keep_to_numbers (is_in_hand sharing) grammar sharing.new world line
+    (more (is_kept sharing) (is_in_hand sharing) world (λ number is. kept_in_hand (sharing.share number) is) serves.keeps)
+    (λ k. ap is_in_hand_share (sharing.new_share k))
+
+step_text-renamed : (renaming : Renaming ℕ ℕ) (number : ℕ) (step : Step ℕ) → step_text number (renamed_step renaming.there renaming.back step) ≡ step_text number step
+step_text-renamed renaming number Silent = refl
+step_text-renamed renaming number (Answered outcome) = refl
+
+-- a line in a renamed world writes the same text, and leads to the renamed world
+module _ (renaming : Renaming ℕ ℕ) (grammar : Grammar) (world other : World ℕ) (same : renamed renaming.there renaming.back world ≡ other) (line : List ℕ) where
+  pub refused_alike : (number : ℕ) → step_text number (line_step nat_eq grammar world line None) ≡ step_text number (line_step nat_eq grammar other line None)
+  refused_alike number =
+      sym (step_text-renamed renaming number (line_step nat_eq grammar world line None))
+      ∙ ap (step_text number) (sym (lines_renamed renaming grammar None world line))
+      ∙ ap (λ w. step_text number (line_step nat_eq grammar w line None)) same
+
+  pub refused_leads : renamed renaming.there renaming.back (step_world world (line_step nat_eq grammar world line None)) ≡ step_world other (line_step nat_eq grammar other line None)
+  refused_leads =
+      sym (step_world-renamed renaming world (line_step nat_eq grammar world line None))
+      ∙ ap (step_world (renamed renaming.there renaming.back world)) (sym (lines_renamed renaming grammar None world line))
+      ∙ ap (λ w. step_world w (line_step nat_eq grammar w line None)) same
+
+  module _ (fresh new : Fresh ℕ) (supplied : (k : ℕ) → renaming.there (fresh k) ≡ new k) where
+    pub line_alike : (number : ℕ) → step_text number (line_step nat_eq grammar world line (Some fresh)) ≡ step_text number (line_step nat_eq grammar other line (Some new))
+    line_alike number =
+        sym (step_text-renamed renaming number (line_step nat_eq grammar world line (Some fresh)))
+        ∙ ap (step_text number) (sym (lines_renamed renaming grammar (Some fresh) world line))
+        ∙ (λ i. step_text number (line_step nat_eq grammar (same i) line (Some (λ k. supplied k i))))
+
+    pub line_leads : renamed renaming.there renaming.back (step_world world (line_step nat_eq grammar world line (Some fresh))) ≡ step_world other (line_step nat_eq grammar other line (Some new))
+    line_leads =
+        sym (step_world-renamed renaming world (line_step nat_eq grammar world line (Some fresh)))
+        ∙ ap (step_world (renamed renaming.there renaming.back world)) (sym (lines_renamed renaming grammar (Some fresh) world line))
+        ∙ (λ i. step_world (same i) (line_step nat_eq grammar (same i) line (Some (λ k. supplied k i))))
+
+module _ (blocks : ℕ) (grammar : Grammar) where
+  -- the text where each line is handed the next row
+  rows_text : ℕ → World ℕ → ℕ → List (List ℕ) → List Bool → List ℕ
+  rows_text m world number [] refused = []
+  rows_text m world number (line ∷ lines) [] = []
+  rows_text m world number (line ∷ lines) (true ∷ refused) =
+      step_text number (line_step nat_eq grammar world line None)
+      ++ rows_text (suc m) (step_world world (line_step nat_eq grammar world line None)) (number + 1) lines refused
+  rows_text m world number (line ∷ lines) (false ∷ refused) =
+      step_text number (line_step nat_eq grammar world line (Some (spread blocks (suc m))))
+      ++ rows_text (suc m) (step_world world (line_step nat_eq grammar world line (Some (spread blocks (suc m))))) (number + 1) lines refused
+
+  -- the numbers in hand are renamed to numbers of the rows so far
+  AreEarly : (ℕ → Bool) → (ℕ → ℕ) → ℕ → Type 0
+  AreEarly in_hand rename m = (number : ℕ) → in_hand number ≡ true → row blocks (rename number) ≤ m
+
+  -- A line that is handed some supply, and the same line in the renamed world that is handed the next row
+  module _ (m : ℕ) (renaming : Renaming ℕ ℕ) (in_hand : ℕ → Bool) (world other : World ℕ) (same : renamed renaming.there renaming.back world ≡ other)
+      (early : (number : ℕ) → in_hand number ≡ true → row blocks (renaming.there number) ≤ m) (sharing : Sharing) (serves : ServesWithRoom in_hand world sharing) where
+    is_kept_there : ℕ → Bool
+    is_kept_there number = is_kept sharing (renaming.back number)
+
+    keeps_early : (number : ℕ) → is_kept_there number ≡ true → row blocks number ≤ m
+    unfolding is_kept_there
+    keeps_early number is =
+        let low = early (renaming.back number) (serves.from_hand (renaming.back number) is) in
+        let there : row blocks (renaming.there (renaming.back number)) ≡ row blocks number = ap (row blocks) (renaming.there_back number) in
+        omega arith
+
+    next_row : Sharing
+    next_row = stage blocks m is_kept_there keeps_early
+
+    next : Renaming ℕ ℕ
+    unfolding is_kept_there next_row
+    next = joined sharing next_row renaming (λ number. stage_keeps blocks m is_kept_there keeps_early number)
+
+    next_kept : (number : ℕ) → is_kept sharing number ≡ true → next.there number ≡ renaming.there number
+    unfolding next joined
+    next_kept number is = shared_kept sharing next_row renaming.there number (kept_share (sharing.share number) is)
+
+    next_new : (number k : ℕ) → sharing.share number ≡ New k → next.there number ≡ spread blocks (suc m) k
+    unfolding next next_row joined
+    next_new number k e = shared_new sharing next_row renaming.there number k e ∙ stage_new blocks m is_kept_there keeps_early k
+
+    next_same : renamed next.there next.back world ≡ other
+    next_same = agree (is_kept sharing) world renaming next serves.keeps next_kept ∙ same
+
+    next_early : (number : ℕ) → is_in_hand sharing number ≡ true → row blocks (next.there number) ≤ suc m
+    next_early number = by (sharing.share number) refl
+      where
+        by : (share : Share) → sharing.share number ≡ share → is_in_hand_share share ≡ true → row blocks (next.there number) ≤ suc m
+        by Kept e is =
+            let kept : is_kept sharing number ≡ true = ap is_kept_share e in
+            let low = early number (serves.from_hand number kept) in
+            let there : row blocks (next.there number) ≡ row blocks (renaming.there number) = ap (row blocks) (next_kept number kept) in
+            omega arith
+        by (New k) e is =
+            let there : row blocks (next.there number) ≡ suc m = ap (row blocks) (next_new number k e) ∙ row-spread blocks (suc m) k in
+            omega arith
+        by (LeftOver k) e is = absurd (true≢false (sym is))
+
+  texts_alike : (lines : List (List ℕ)) (refused : List Bool) (m number : ℕ) (renaming : Renaming ℕ ℕ) (in_hand : ℕ → Bool) (world other : World ℕ)
+      → renamed renaming.there renaming.back world ≡ other → ((number : ℕ) → in_hand number ≡ true → row blocks (renaming.there number) ≤ m)
+      → (text : List ℕ) → TellsWithRoom grammar in_hand world number lines refused text → text ≡ rows_text m other number lines refused
+  unfolding rows_text
+  texts_alike [] refused m number renaming in_hand world other same early text tells = tells
+  texts_alike (line ∷ lines) [] m number renaming in_hand world other same early text tells = absurd tells
+  texts_alike (line ∷ lines) (true ∷ refused) m number renaming in_hand world other same early text tells =
+      let rest = texts_alike lines refused (suc m) (number + 1) renaming in_hand _ _ (refused_leads renaming grammar world other same line)
+      (λ number is. let low = early number is in omega arith) tells.0 tells.2 in
+      tells.1 ∙ (λ i. refused_alike renaming grammar world other same line number i ++ rest i)
+  texts_alike (line ∷ lines) (false ∷ refused) m number renaming in_hand world other same early text tells =
+      let sharing = tells.0 in
+      let joint = next m renaming in_hand world other same early sharing tells.1 in
+      let joint_same = next_same m renaming in_hand world other same early sharing tells.1 in
+      let supplied = λ (k : ℕ). next_new m renaming in_hand world other same early sharing tells.1 (sharing.new k) k (sharing.new_share k) in
+      let rest = texts_alike lines refused (suc m) (number + 1) joint (is_in_hand sharing) _ _
+      (line_leads joint grammar world other joint_same line sharing.new (spread blocks (suc m)) supplied)
+      (next_early m renaming in_hand world other same early sharing tells.1) tells.2 tells.4 in
+      tells.3 ∙ (λ i. line_alike joint grammar world other joint_same line sharing.new (spread blocks (suc m)) supplied number i ++ rest i)
+
+  -- a line that was refused memory changes nothing
+  refused_keeps : (in_hand : ℕ → Bool) (world : World ℕ) (line : List ℕ) → KeepsTo in_hand world → KeepsTo in_hand (step_world world (line_step nat_eq grammar world line None))
+  refused_keeps in_hand world line keeps renaming leaves =
+      refused_leads renaming grammar world world (keeps renaming leaves) line
+
+  stage_serves : (m : ℕ) (in_hand : ℕ → Bool) (world : World ℕ) → KeepsTo in_hand world → (early : (number : ℕ) → in_hand number ≡ true → row blocks number ≤ m)
+      → ServesWithRoom in_hand world (stage blocks m in_hand early)
+  stage_serves m in_hand world keeps early = record {
+    from_hand = λ number is. sym (stage_keeps blocks m in_hand early number) ∙ is;
+    keeps = more in_hand (is_kept (stage blocks m in_hand early)) world (λ number is. stage_keeps blocks m in_hand early number ∙ is) keeps;
+  }
+
+  -- and that text may be told
+  rows_told : (lines : List (List ℕ)) (refused : List Bool) (m number : ℕ) (in_hand : ℕ → Bool) (world : World ℕ)
+      → KeepsTo in_hand world → ((number : ℕ) → in_hand number ≡ true → row blocks number ≤ m) → length refused ≡ length lines
+      → TellsWithRoom grammar in_hand world number lines refused (rows_text m world number lines refused)
+  unfolding rows_text stage
+  rows_told [] refused m number in_hand world keeps early long = refl
+  rows_told (line ∷ lines) [] m number in_hand world keeps early long = cc
+  rows_told (line ∷ lines) (true ∷ refused) m number in_hand world keeps early long = (
+    _,
+    refl,
+    rows_told lines refused (suc m) (number + 1) in_hand _ (refused_keeps in_hand world line keeps)
+        (λ number is. let low = early number is in omega arith) cc,
+  )
+  rows_told (line ∷ lines) (false ∷ refused) m number in_hand world keeps early long =
+      let serves = stage_serves m in_hand world keeps early in (
+        stage blocks m in_hand early,
+        serves,
+        _,
+        refl,
+        rows_told lines refused (suc m) (number + 1) (is_in_hand (stage blocks m in_hand early)) _
+            (worlds_keep_to_hand grammar in_hand world (stage blocks m in_hand early) line serves)
+            (stage_rows blocks m in_hand early) cc,
+      )
