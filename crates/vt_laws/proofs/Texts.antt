@@ -1,18 +1,18 @@
 -- A script has one text, whatever unused numbers are handed in.
-use Rattle.std.proofs.Common.{◌≡◌, refl, sym, ap, ◌∙◌, true≢false, ℕ, suc, nat_eq, ◌+◌, ◌≤◌, Bool, true, false, List, [], ◌∷◌, ◌++◌, length, Some, None, arith}
+use Rattle.std.proofs.Common.{◌≡◌, refl, sym, ap, ◌∙◌, true≢false, ℕ, suc, nat_eq, ◌+◌, ◌≤◌, Bool, true, false, List, [], ◌∷◌, ◌++◌, length, Some, None, arith, ◌<◌, ltb-true, subst}
 use Rattle.vt_spec.specs.Machine.Lists.{Fresh}
 use Rattle.vt_spec.specs.Machine.Renaming.{renamed}
-use Rattle.vt_spec.specs.Machine.Run.{Step, line_step, step_text, step_world}
+use Rattle.vt_spec.specs.Machine.Run.{Step, line_step, step_text, step_world, first_world, text_from, counted_on, text_of}
 use Rattle.vt_spec.specs.Machine.Run.Step.{Answered, Silent}
-use Rattle.vt_spec.specs.Machine.Script.{Grammar}
+use Rattle.vt_spec.specs.Machine.Script.{Grammar, lines_of}
 use Rattle.vt_spec.specs.Machine.World.{World}
-use Rattle.vt_laws.specs.Numbers.{KeepsTo, Renaming, ServesWithRoom, Share, Sharing, TellsWithRoom, WorldsKeepToHand, is_in_hand, is_in_hand_share, is_kept, is_kept_share, renamed_step}
+use Rattle.vt_laws.specs.Numbers.{KeepsTo, Renaming, ServesWithRoom, Share, Sharing, TellsWithRoom, WorldsKeepToHand, is_in_hand, is_in_hand_share, is_kept, is_kept_share, renamed_step, first_four, AnyTwoTextsAreOne, SomeTextIsThere, EachTakesFew, MayBeText, WholeMachineHasOneText, TextOfMayBeText}
 use Rattle.vt_laws.specs.Numbers.Share.{Kept, LeftOver, New}
-use Rattle.vt_laws.proofs.Renamings.{lines_renamed}
-use Rattle.vt_laws.proofs.Rows.{row, row-spread, spread}
+use Rattle.vt_laws.proofs.Renamings.{lines_renamed, renamed_itself}
+use Rattle.vt_laws.proofs.Rows.{row, row-spread, spread, row_first, spread_low}
 use Rattle.vt_laws.proofs.Sharings.{agree, joined, kept_share, shared_kept, shared_new}
 use Rattle.vt_laws.proofs.Stages.{stage, stage_keeps, stage_new, stage_rows}
-use Rattle.vt_laws.proofs.Supports.{lines_keep_to_numbers, step_world-renamed}
+use Rattle.vt_laws.proofs.Supports.{lines_keep_to_numbers, step_world-renamed, opening_keeps_to_four}
 
 -- who keeps to some numbers keeps to more
 more : (named others : ℕ → Bool) (world : World ℕ) → ((number : ℕ) → named number ≡ true → others number ≡ true) → KeepsTo named world → KeepsTo others world
@@ -177,3 +177,77 @@ module _ (blocks : ℕ) (grammar : Grammar) where
             (worlds_keep_to_hand grammar in_hand world (stage blocks m in_hand early) line serves)
             (stage_rows blocks m in_hand early) cc,
       )
+
+-- nothing renamed
+abbrev nothing_renamed : Renaming ℕ ℕ
+nothing_renamed = record { there = λ n. n; back = λ n. n; there_back = λ n. refl; back_there = λ n. refl }
+
+-- the opening world keeps to the first four numbers, which stand in the first row
+first_early : (blocks : ℕ) → 0 < blocks → (number : ℕ) → first_four number ≡ true → row blocks number ≤ 0
+first_early blocks some number is =
+    let small : number < 4 = ltb-true number 4 is in
+    let first : row blocks number ≡ 0 = row_first blocks number some (omega arith) in
+    omega arith
+
+first_keeps : KeepsTo first_four first_world
+first_keeps = opening_keeps_to_four first_four (counted_on 0) refl refl refl refl
+
+the_text : (blocks : ℕ) → 0 < blocks → (grammar : Grammar) (refused : List Bool) (script text : List ℕ)
+    → MayBeText grammar refused script text → text ≡ rows_text blocks grammar 0 first_world 1 (lines_of script) refused
+the_text blocks some grammar refused script text tells =
+    texts_alike blocks grammar (lines_of script) refused 0 1 nothing_renamed first_four first_world first_world
+    (renamed_itself first_world) (first_early blocks some) text tells
+
+pub any_two_texts_are_one : AnyTwoTextsAreOne
+any_two_texts_are_one grammar refused script text other tells tells_other =
+    the_text 1 (omega arith) grammar refused script text tells ∙ sym (the_text 1 (omega arith) grammar refused script other tells_other)
+
+pub some_text_is_there : SomeTextIsThere
+some_text_is_there grammar refused script long =
+    (_, rows_told 1 grammar (lines_of script) refused 0 1 first_four first_world first_keeps (first_early 1 (omega arith)) long)
+
+-- Numbers that are counted on from line to line are those of the rows, as far as each line takes them.
+counted_alike : (blocks : ℕ) (grammar : Grammar) (lines : List (List ℕ)) (refused : List Bool) (m number : ℕ) (world : World ℕ)
+    → number ≡ suc m → number + length lines ≤ blocks → length lines ≤ length refused
+    → EachTakesFew grammar world number lines refused
+    → text_from grammar world number lines refused ≡ rows_text blocks grammar m world number lines refused
+unfolding rows_text
+counted_alike blocks grammar [] refused m number world here few long fews = refl
+counted_alike blocks grammar (line ∷ lines) [] m number world here few long fews = absurd (omega arith)
+counted_alike blocks grammar (line ∷ lines) (true ∷ refused) m number world here few long fews =
+    ap (λ rest. step_text number (line_step nat_eq grammar world line None) ++ rest)
+    (counted_alike blocks grammar lines refused (suc m) (number + 1) _ (omega arith) (omega arith) (omega arith) fews.1)
+counted_alike blocks grammar (line ∷ lines) (false ∷ refused) m number world here few long fews =
+    let same = fews.0 refl (spread blocks (suc m)) (λ k short. spread_low blocks (suc m) k (omega arith) short ∙ omega arith) in
+    let rest = counted_alike blocks grammar lines refused (suc m) (number + 1) _ (omega arith) (omega arith) (omega arith) fews.1 in
+    ap (λ rest. step_text number (line_step nat_eq grammar world line (Some (counted_on number))) ++ rest) rest
+    ∙ (λ i. step_text number (sym same i) ++ rows_text blocks grammar (suc m) (step_world world (sym same i)) (number + 1) lines refused)
+
+-- a text that may be told has a chance for each line
+told_long : (grammar : Grammar) (lines : List (List ℕ)) (refused : List Bool) (in_hand : ℕ → Bool) (world : World ℕ) (number : ℕ) (text : List ℕ)
+    → TellsWithRoom grammar in_hand world number lines refused text → length lines ≤ length refused
+told_long grammar [] refused in_hand world number text tells = omega arith
+told_long grammar (line ∷ lines) [] in_hand world number text tells = absurd tells
+told_long grammar (line ∷ lines) (true ∷ refused) in_hand world number text tells =
+    let h = told_long grammar lines refused in_hand _ (number + 1) _ tells.2 in omega arith
+told_long grammar (line ∷ lines) (false ∷ refused) in_hand world number text tells =
+    let h = told_long grammar lines refused _ _ (number + 1) _ tells.4 in omega arith
+
+-- So the text of the written policy is the one
+counted_text : (grammar : Grammar) (refused : List Bool) (script : List ℕ) → length (lines_of script) ≤ length refused
+    → EachTakesFew grammar first_world 1 (lines_of script) refused
+    → text_of grammar refused script ≡ rows_text (length (lines_of script) + 1) grammar 0 first_world 1 (lines_of script) refused
+counted_text grammar refused script long fews =
+    counted_alike (length (lines_of script) + 1) grammar (lines_of script) refused 0 1 first_world (omega arith) (omega arith) long fews
+
+pub whole_machine_has_one_text : WholeMachineHasOneText
+whole_machine_has_one_text grammar refused script text fews tells =
+    the_text (length (lines_of script) + 1) (omega arith) grammar refused script text tells
+    ∙ sym (counted_text grammar refused script (told_long grammar (lines_of script) refused first_four first_world 1 text tells) fews)
+
+pub text_of_may_be_text : TextOfMayBeText
+text_of_may_be_text grammar refused script long fews =
+    let blocks = length (lines_of script) + 1 in
+    let same = counted_text grammar refused script (omega arith) fews in
+    subst (MayBeText grammar refused script) (sym same)
+    (rows_told (length (lines_of script) + 1) grammar (lines_of script) refused 0 1 first_four first_world first_keeps (first_early (length (lines_of script) + 1) (omega arith)) long)
