@@ -1,18 +1,18 @@
 -- A script has one text, whatever unused numbers are handed in.
-use Rattle.std.proofs.Common.{◌≡◌, refl, sym, ap, ◌∙◌, true≢false, ℕ, suc, nat_eq, ◌+◌, ◌≤◌, Bool, true, false, List, [], ◌∷◌, ◌++◌, length, Some, None, arith, ◌<◌, ltb-true, subst}
-use Rattle.vt_spec.specs.Machine.Lists.{Fresh}
+use Rattle.std.proofs.Common.{◌≡◌, refl, sym, ap, ◌∙◌, true≢false, ℕ, suc, nat_eq, ◌+◌, ◌≤◌, Bool, true, false, List, [], ◌∷◌, ◌++◌, length, Some, None, arith, ◌<◌, ltb-true, subst, eqb-true}
+use Rattle.vt_spec.specs.Machine.Lists.{Fresh, is_among}
 use Rattle.vt_spec.specs.Machine.Renaming.{renamed}
-use Rattle.vt_spec.specs.Machine.Run.{Step, line_step, step_text, step_world, first_world, text_from, counted_on, text_of}
+use Rattle.vt_spec.specs.Machine.Run.{Step, line_step, step_text, step_world, first_world, text_from, counted_on, text_of, Tells, numbers_in_use}
 use Rattle.vt_spec.specs.Machine.Run.Step.{Answered, Silent}
 use Rattle.vt_spec.specs.Machine.Script.{Grammar, lines_of}
 use Rattle.vt_spec.specs.Machine.World.{World}
-use Rattle.vt_laws.specs.Numbers.{KeepsTo, Renaming, ServesWithRoom, Share, Sharing, TellsWithRoom, WorldsKeepToHand, is_in_hand, is_in_hand_share, is_kept, is_kept_share, renamed_step, first_four, AnyTwoTextsAreOne, SomeTextIsThere, EachTakesFew, MayBeText, WholeMachineHasOneText, TextOfMayBeText}
+use Rattle.vt_laws.specs.Numbers.{KeepsTo, Renaming, ServesWithRoom, Share, Sharing, TellsWithRoom, WorldsKeepToHand, is_in_hand, is_in_hand_share, is_kept, is_kept_share, renamed_step, first_four, AnyTwoTextsAreOne, SomeTextIsThere, EachTakesFew, MayBeText, WholeMachineHasOneText, TextOfMayBeText, RoomServes, TextsAreTold, LeavesOutTwo}
 use Rattle.vt_laws.specs.Numbers.Share.{Kept, LeftOver, New}
 use Rattle.vt_laws.proofs.Renamings.{lines_renamed, renamed_itself}
 use Rattle.vt_laws.proofs.Rows.{row, row-spread, spread, row_first, spread_low}
 use Rattle.vt_laws.proofs.Sharings.{agree, joined, kept_share, shared_kept, shared_new}
 use Rattle.vt_laws.proofs.Stages.{stage, stage_keeps, stage_new, stage_rows}
-use Rattle.vt_laws.proofs.Supports.{lines_keep_to_numbers, step_world-renamed, opening_keeps_to_four}
+use Rattle.vt_laws.proofs.Supports.{used_numbers_are_named, lines_keep_to_numbers, step_world-renamed, opening_keeps_to_four}
 
 -- who keeps to some numbers keeps to more
 more : (named others : ℕ → Bool) (world : World ℕ) → ((number : ℕ) → named number ≡ true → others number ≡ true) → KeepsTo named world → KeepsTo others world
@@ -251,3 +251,52 @@ text_of_may_be_text grammar refused script long fews =
     let same = counted_text grammar refused script (omega arith) fews in
     subst (MayBeText grammar refused script) (sym same)
     (rows_told (length (lines_of script) + 1) grammar (lines_of script) refused 0 1 first_four first_world first_keeps (first_early (length (lines_of script) + 1) (omega arith)) long)
+
+-- Supplies with room serve, so each text that is told with them is told.
+pub room_serves : RoomServes
+room_serves in_hand world sharing serves = record {
+  unused = λ k. unused k (is_among nat_eq (sharing.new k) (numbers_in_use world)) refl;
+  apart = λ j k e. place_of (sharing.new_share j) (sharing.new_share k) (eqb-true (sharing.new j) (sharing.new k) e);
+}
+  where
+    named : (k : ℕ) → is_kept sharing (sharing.new k) ≡ false
+    named k = ap is_kept_share (sharing.new_share k)
+
+    left : (k : ℕ) → is_kept sharing (sharing.left_over k) ≡ false
+    left k = ap is_kept_share (sharing.left_over_share k)
+
+    place_of : {j k a b : ℕ} → sharing.share a ≡ New j → sharing.share b ≡ New k → a ≡ b → j ≡ k
+    place_of e h same = cc
+
+    left_place_of : {j k a b : ℕ} → sharing.share a ≡ LeftOver j → sharing.share b ≡ LeftOver k → a ≡ b → j ≡ k
+    left_place_of e h same = cc
+
+    two : LeavesOutTwo (is_kept sharing)
+    two = (
+      sharing.left_over 0,
+      sharing.left_over 1,
+      (λ e. let same : 0 ≡ 1 = left_place_of (sharing.left_over_share 0) (sharing.left_over_share 1) e in absurd (omega arith)),
+      left 0,
+      left 1,
+    )
+
+    unused : (k : ℕ) (b : Bool) → is_among nat_eq (sharing.new k) (numbers_in_use world) ≡ b → is_among nat_eq (sharing.new k) (numbers_in_use world) ≡ false
+    unused k true e = absurd (true≢false (sym (used_numbers_are_named (is_kept sharing) world serves.keeps two (sharing.new k) e) ∙ named k))
+    unused k false e = e
+
+told_with_room : (grammar : Grammar) (lines : List (List ℕ)) (refused : List Bool) (in_hand : ℕ → Bool) (world : World ℕ) (number : ℕ) (text : List ℕ)
+    → TellsWithRoom grammar in_hand world number lines refused text → Tells nat_eq grammar world number lines refused text
+told_with_room grammar [] refused in_hand world number text tells = tells
+told_with_room grammar (line ∷ lines) [] in_hand world number text tells = tells
+told_with_room grammar (line ∷ lines) (true ∷ refused) in_hand world number text tells =
+    (tells.0, tells.1, told_with_room grammar lines refused in_hand _ (number + 1) tells.0 tells.2)
+told_with_room grammar (line ∷ lines) (false ∷ refused) in_hand world number text tells = (
+  tells.0.new,
+  room_serves in_hand world tells.0 tells.1,
+  tells.2,
+  tells.3,
+  told_with_room grammar lines refused (is_in_hand tells.0) _ (number + 1) tells.2 tells.4,
+)
+
+pub texts_are_told : TextsAreTold
+texts_are_told grammar refused script text tells = told_with_room grammar (lines_of script) refused first_four first_world 1 text tells

@@ -6,7 +6,7 @@ use Rattle.vt_spec.specs.Machine.Lists.{Fresh, is_among}
 use Rattle.vt_spec.specs.Machine.Outcomes.{Outcome}
 use Rattle.vt_spec.specs.Machine.Policy.{policy}
 use Rattle.vt_spec.specs.Machine.Renaming.{SameWorld, renamed}
-use Rattle.vt_spec.specs.Machine.Run.{Step, counted_on, first_world, handed, later, line_step, numbers_in_use, step_text, step_world, text_of}
+use Rattle.vt_spec.specs.Machine.Run.{Serves, Step, Tells, counted_on, first_world, handed, later, line_step, numbers_in_use, step_text, step_world, text_of}
 use Rattle.vt_spec.specs.Machine.Run.Step.{Answered, Silent}
 use Rattle.vt_spec.specs.Machine.Script.{Grammar, Who, lines_of}
 use Rattle.vt_spec.specs.Machine.Sealed.{directed}
@@ -224,6 +224,17 @@ WorldsKeepToHand =
     (grammar : Grammar) (in_hand : ℕ → Bool) (world : World ℕ) (sharing : Sharing) (line : List ℕ)
     → ServesWithRoom in_hand world sharing
     → KeepsTo (is_in_hand sharing) (step_world world (line_step nat_eq grammar world line (Some sharing.new)))
+
+-- A supply with room serves: none of its numbers is in use, and each is another one. So each such text is one that the
+-- definition of the machine allows.
+abbrev pub RoomServes : Type 0
+RoomServes =
+    (in_hand : ℕ → Bool) (world : World ℕ) (sharing : Sharing) → ServesWithRoom in_hand world sharing → Serves nat_eq world sharing.new
+
+abbrev pub TextsAreTold : Type 0
+TextsAreTold =
+    (grammar : Grammar) (refused : List Bool) (script text : List ℕ)
+    → MayBeText grammar refused script text → Tells nat_eq grammar first_world 1 (lines_of script) refused text
 
 -- The text by numbers that are counted on from line to line
 

@@ -1,5 +1,5 @@
 //! Numbers of inodes, mounts, groups, filesystems and namespaces do not matter.
-ghost use Rattle.vt_laws.specs.Numbers.{AnyTwoTextsAreOne, CallsDoNotSeeNumbers, CallsKeepToNumbers, CallsMakeNoOtherNumber, LinesKeepToNumbers, OpeningKeepsToFour, UsedNumbersAreNamed, WholeMachineHasOneText, WorldsKeepToHand, DirectivesDoNotSeeNumbers, LinesDoNotSeeNumbers, SameWorldsAnswerAlike, SomeTextIsThere, TextOfMayBeText, TurnsDoNotSeeNumbers};
+ghost use Rattle.vt_laws.specs.Numbers.{AnyTwoTextsAreOne, CallsDoNotSeeNumbers, CallsKeepToNumbers, CallsMakeNoOtherNumber, LinesKeepToNumbers, OpeningKeepsToFour, RoomServes, TextsAreTold, UsedNumbersAreNamed, WholeMachineHasOneText, WorldsKeepToHand, DirectivesDoNotSeeNumbers, LinesDoNotSeeNumbers, SameWorldsAnswerAlike, SomeTextIsThere, TextOfMayBeText, TurnsDoNotSeeNumbers};
 
 /// Numbers do not matter: in a world whose numbers are renamed one-to-one, each call, directive, line and turn is
 /// answered alike, and leaves the world that it left before, renamed.
@@ -35,6 +35,8 @@ pub fn answers_are_one_text()
     ensures one { AnyTwoTextsAreOne }
     ensures some { SomeTextIsThere }
     ensures hand { WorldsKeepToHand }
+    ensures serves { RoomServes }
+    ensures allowed { TextsAreTold }
     ensures told { TextOfMayBeText }
     ensures whole { WholeMachineHasOneText }
 {}
