@@ -2,14 +2,16 @@
 -- row goes on above all blocks.
 use Rattle.std.proofs.Common.{◌≡◌, refl, ap, ◌∙◌, ℕ, ◌+◌, ◌-◌, ◌*◌, ◌/◌, ◌%◌, ◌<◌, ◌≤◌, Bool, true, false, nat_lt, arith}
 use Rattle.std.proofs.lemmas.Bool.{le-ltb, lt-ltb, ltb-false, ltb-true}
-use Rattle.vt_laws.proofs.Cells.{cell, cell-place, place, place-cell}
+use Rattle.vt_laws.proofs.Cells.{cell, cell-number_in_row, number_in_row-cell}
+use Rattle.vt_laws.specs.Numbers.{completed, completed_by, number_in_row}
+use Rattle.vt_spec.specs.Machine.Run.{counted_on}
 
 abbrev pub size : ℕ
 size = 18446744073709551616
 
 module _ (blocks : ℕ) where
   above : ℕ
-  above = size * blocks
+  above = counted_on blocks 0
 
   row_by : Bool → ℕ → ℕ
   row_by true number = number / size
@@ -23,11 +25,6 @@ module _ (blocks : ℕ) where
   col_by true number = number % size
   col_by false number = col_above (nat_lt (cell (number - above)).0 blocks) (cell (number - above)).1
 
-  spread_by : Bool → Bool → ℕ → ℕ → ℕ
-  spread_by true true n k = size * n + k
-  spread_by true false n k = above + place n (k - size)
-  spread_by false short n k = above + place n k
-
   -- the row in which a number stands, its place there, and the number at a place of a row
   pub row : ℕ → ℕ
   row number = row_by (nat_lt number above) number
@@ -35,8 +32,8 @@ module _ (blocks : ℕ) where
   pub col : ℕ → ℕ
   col number = col_by (nat_lt number above) number
 
-  pub spread : ℕ → ℕ → ℕ
-  spread n k = spread_by (nat_lt n blocks) (nat_lt k size) n k
+  abbrev pub spread : ℕ → ℕ → ℕ
+  spread n k = completed blocks n k
 
   row_low : (number : ℕ) → number < above → row number ≡ number / size
   unfolding row row_by
@@ -55,27 +52,27 @@ module _ (blocks : ℕ) where
   col_high number high = ap (λ t. col_by t number) (le-ltb number above high)
 
   pub spread_low : (n k : ℕ) → n < blocks → k < size → spread n k ≡ size * n + k
-  unfolding spread spread_by
-  spread_low n k near short = λ i. spread_by (lt-ltb n blocks near i) (lt-ltb k size short i) n k
+  unfolding completed completed_by above
+  spread_low n k near short = λ i. completed_by (lt-ltb n blocks near i) (lt-ltb k size short i) blocks n k
 
-  spread_tail : (n k : ℕ) → n < blocks → size ≤ k → spread n k ≡ above + place n (k - size)
-  unfolding spread spread_by
-  spread_tail n k near long = λ i. spread_by (lt-ltb n blocks near i) (le-ltb k size long i) n k
+  spread_tail : (n k : ℕ) → n < blocks → size ≤ k → spread n k ≡ above + number_in_row n (k - size)
+  unfolding completed completed_by above
+  spread_tail n k near long = λ i. completed_by (lt-ltb n blocks near i) (le-ltb k size long i) blocks n k
 
-  spread_far : (n k : ℕ) → blocks ≤ n → spread n k ≡ above + place n k
-  unfolding spread spread_by
-  spread_far n k far = λ i. spread_by (le-ltb n blocks far i) (nat_lt k size) n k
+  spread_far : (n k : ℕ) → blocks ≤ n → spread n k ≡ above + number_in_row n k
+  unfolding completed completed_by above
+  spread_far n k far = λ i. completed_by (le-ltb n blocks far i) (nat_lt k size) blocks n k
 
   -- what stands above the blocks
-  cell_above : (number a b : ℕ) → number ≡ above + place a b → cell (number - above) ≡ (a, b)
+  cell_above : (number a b : ℕ) → number ≡ above + number_in_row a b → cell (number - above) ≡ (a, b)
   cell_above number a b e =
-      let rest : number - above ≡ place a b = omega arith in
-      ap cell rest ∙ cell-place a b
+      let rest : number - above ≡ number_in_row a b = omega arith in
+      ap cell rest ∙ cell-number_in_row a b
 
-  row_above : (number a b : ℕ) → number ≡ above + place a b → row number ≡ a
+  row_above : (number a b : ℕ) → number ≡ above + number_in_row a b → row number ≡ a
   row_above number a b e = row_high number (omega arith) ∙ ap (λ c. c.0) (cell_above number a b e)
 
-  col_of_above : (number a b : ℕ) → number ≡ above + place a b → col number ≡ col_above (nat_lt a blocks) b
+  col_of_above : (number a b : ℕ) → number ≡ above + number_in_row a b → col number ≡ col_above (nat_lt a blocks) b
   col_of_above number a b e = col_high number (omega arith) ∙ ap (λ (c : ℕ × ℕ). col_above (nat_lt c.0 blocks) c.1) (cell_above number a b e)
 
   -- a block's numbers
@@ -119,9 +116,9 @@ module _ (blocks : ℕ) where
   unfolding above
   row_near number low = omega arith
 
-  whole : (number : ℕ) → above ≤ number → above + place (cell (number - above)).0 (cell (number - above)).1 ≡ number
+  whole : (number : ℕ) → above ≤ number → above + number_in_row (cell (number - above)).0 (cell (number - above)).1 ≡ number
   whole number high =
-      let same = place-cell (number - above) in
+      let same = number_in_row-cell (number - above) in
       omega arith
 
   pub spread-row : (number : ℕ) → spread (row number) (col number) ≡ number
@@ -141,7 +138,7 @@ module _ (blocks : ℕ) where
           (λ i. spread (row_high number is_high i) (col_high number is_high i))
           ∙ ap (λ t. spread a (col_above t b)) near
           ∙ spread_tail a (size + b) (ltb-true a blocks near) (omega arith)
-          ∙ ap (λ k. above + place a k) b_again ∙ whole number is_high
+          ∙ ap (λ k. above + number_in_row a k) b_again ∙ whole number is_high
       by false high false far =
           let is_high : above ≤ number = ltb-false number above high in
           let a = (cell (number - above)).0 in
@@ -154,5 +151,5 @@ module _ (blocks : ℕ) where
   pub row_first : (number : ℕ) → 0 < blocks → number < size → row number ≡ 0
   unfolding above
   row_first number some small =
-      let low : number < size * blocks = omega arith in
+      let low : number < counted_on blocks 0 = omega arith in
       row_low number low ∙ omega arith

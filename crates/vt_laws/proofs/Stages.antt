@@ -1,8 +1,8 @@
 -- A line that is handed the next row of numbers: of the rows before, all is left over that is not kept.
 use Rattle.std.proofs.Common.{◌≡◌, refl, sym, ap, ◌∙◌, true≢false, ℕ, zero, suc, ◌<◌, ◌≤◌, Bool, true, false, arith, subst}
-use Rattle.vt_laws.specs.Numbers.{Share, Sharing, is_in_hand_share, is_kept_share}
+use Rattle.vt_laws.specs.Numbers.{Share, Sharing, number_in_row, is_in_hand_share, is_kept_share}
 use Rattle.vt_laws.specs.Numbers.Share.{Kept, LeftOver, New}
-use Rattle.vt_laws.proofs.Cells.{cell, cell-place, place, place-cell}
+use Rattle.vt_laws.proofs.Cells.{cell, cell-number_in_row, number_in_row-cell}
 use Rattle.vt_laws.proofs.Rows.{col, col-spread, row, row-spread, spread, spread-row}
 
 -- where a row stands against the next one
@@ -77,9 +77,9 @@ module _ (blocks m : ℕ) (keeps : ℕ → Bool) (early : (number : ℕ) → kee
 
   share_by : Bool → Side → ℕ → Share
   share_by true side number = Kept
-  share_by false Before number = LeftOver (place number 0)
+  share_by false Before number = LeftOver (number_in_row number 0)
   share_by false At number = New (col blocks number)
-  share_by false (Beyond further) number = LeftOver (place further (shift further (col blocks number)))
+  share_by false (Beyond further) number = LeftOver (number_in_row further (shift further (col blocks number)))
 
   pub share_of : ℕ → Share
   share_of number = share_by (keeps number) (side m (row blocks number)) number
@@ -119,7 +119,7 @@ module _ (blocks m : ℕ) (keeps : ℕ → Bool) (early : (number : ℕ) → kee
       ∙ ap (λ s. share_by false s number) (side_at m) ∙ ap New (col-spread blocks (suc m) k)
 
   -- a number of a later row
-  share_late : (further k : ℕ) → share_of (spread blocks (beyond m further) k) ≡ LeftOver (place further (shift further k))
+  share_late : (further k : ℕ) → share_of (spread blocks (beyond m further) k) ≡ LeftOver (number_in_row further (shift further k))
   unfolding share_of share_by
   share_late further k =
       let number = spread blocks (beyond m further) k in
@@ -127,19 +127,19 @@ module _ (blocks m : ℕ) (keeps : ℕ → Bool) (early : (number : ℕ) → kee
       let more = beyond_more m further in
       (λ i. share_by (late number (omega arith) i) (side m (there i)) number)
       ∙ ap (λ s. share_by false s number) (side_beyond m further)
-      ∙ ap (λ c. LeftOver (place further (shift further c))) (col-spread blocks (beyond m further) k)
+      ∙ ap (λ c. LeftOver (number_in_row further (shift further c))) (col-spread blocks (beyond m further) k)
 
-  left_is_left_at : (a k : ℕ) → share_of (left_at a k) ≡ LeftOver (place a k)
+  left_is_left_at : (a k : ℕ) → share_of (left_at a k) ≡ LeftOver (number_in_row a k)
   unfolding left_at later_by shift shift_by share_by share_of
   left_is_left_at a k = by (keeps a) refl (side m (row blocks a)) refl k
     where
-      with_shift : (test : Bool) → keeps a ≡ test → (s : Side) → side m (row blocks a) ≡ s → (k : ℕ) → share_of (spread blocks (beyond m a) k) ≡ LeftOver (place a (shift_by test s k))
-      with_shift test is s at k = share_late a k ∙ (λ i. LeftOver (place a (shift_by (is i) (at i) k)))
+      with_shift : (test : Bool) → keeps a ≡ test → (s : Side) → side m (row blocks a) ≡ s → (k : ℕ) → share_of (spread blocks (beyond m a) k) ≡ LeftOver (number_in_row a (shift_by test s k))
+      with_shift test is s at k = share_late a k ∙ (λ i. LeftOver (number_in_row a (shift_by (is i) (at i) k)))
 
       opened : (test : Bool) → keeps a ≡ test → (s : Side) → side m (row blocks a) ≡ s → (k : ℕ) → left_at a k ≡ later_by test s a k
       opened test is s at k = λ i. later_by (is i) (at i) a k
 
-      by : (test : Bool) → keeps a ≡ test → (s : Side) → side m (row blocks a) ≡ s → (k : ℕ) → share_of (left_at a k) ≡ LeftOver (place a k)
+      by : (test : Bool) → keeps a ≡ test → (s : Side) → side m (row blocks a) ≡ s → (k : ℕ) → share_of (left_at a k) ≡ LeftOver (number_in_row a k)
       by true is s at k = ap share_of (opened true is s at k) ∙ with_shift true is s at k
       by false is Before at zero = ap share_of (opened false is Before at zero) ∙ (λ i. share_by (is i) (at i) a)
       by false is Before at (suc k) = ap share_of (opened false is Before at (suc k)) ∙ with_shift false is Before at k
@@ -148,7 +148,7 @@ module _ (blocks m : ℕ) (keeps : ℕ → Bool) (early : (number : ℕ) → kee
 
   pub left_is_left : (k : ℕ) → share_of (left_of k) ≡ LeftOver k
   unfolding left_of
-  left_is_left k = left_is_left_at (cell k).0 (cell k).1 ∙ ap LeftOver (place-cell k)
+  left_is_left k = left_is_left_at (cell k).0 (cell k).1 ∙ ap LeftOver (number_in_row-cell k)
 
   -- the number at a share
   pub back_of : Share → ℕ → ℕ
@@ -156,9 +156,9 @@ module _ (blocks m : ℕ) (keeps : ℕ → Bool) (early : (number : ℕ) → kee
   back_of (New k) number = spread blocks (suc m) k
   back_of (LeftOver k) number = left_of k
 
-  left_place : (a k : ℕ) → left_of (place a k) ≡ left_at a k
+  left_place : (a k : ℕ) → left_of (number_in_row a k) ≡ left_at a k
   unfolding left_of
-  left_place a k = ap (λ (c : ℕ × ℕ). left_at c.0 c.1) (cell-place a k)
+  left_place a k = ap (λ (c : ℕ × ℕ). left_at c.0 c.1) (cell-number_in_row a k)
 
   left_shift : (a k : ℕ) → left_at a (shift a k) ≡ spread blocks (beyond m a) k
   unfolding left_at later_by shift shift_by share_by share_of

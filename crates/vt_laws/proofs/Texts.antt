@@ -2,11 +2,11 @@
 use Rattle.std.proofs.Common.{◌≡◌, refl, sym, ap, ◌∙◌, true≢false, ℕ, suc, nat_eq, ◌+◌, ◌≤◌, Bool, true, false, List, [], ◌∷◌, ◌++◌, length, Some, None, arith, ◌<◌, ltb-true, subst, eqb-true}
 use Rattle.vt_spec.specs.Machine.Lists.{Fresh, is_among}
 use Rattle.vt_spec.specs.Machine.Renaming.{renamed}
-use Rattle.vt_spec.specs.Machine.Run.{Step, line_step, step_text, step_world, first_world, text_from, counted_on, text_of, Tells, numbers_in_use}
+use Rattle.vt_spec.specs.Machine.Run.{Step, line_step, step_text, step_world, first_world, text_from, counted_on, Tells, numbers_in_use, handed, later}
 use Rattle.vt_spec.specs.Machine.Run.Step.{Answered, Silent}
 use Rattle.vt_spec.specs.Machine.Script.{Grammar, lines_of}
 use Rattle.vt_spec.specs.Machine.World.{World}
-use Rattle.vt_laws.specs.Numbers.{KeepsTo, Renaming, ServesWithRoom, Share, Sharing, TellsWithRoom, WorldsKeepToHand, is_in_hand, is_in_hand_share, is_kept, is_kept_share, renamed_step, first_four, AnyTwoTextsAreOne, SomeTextIsThere, EachTakesFew, MayBeText, WholeMachineHasOneText, TextOfMayBeText, RoomServes, TextsAreTold, LeavesOutTwo}
+use Rattle.vt_laws.specs.Numbers.{KeepsTo, Renaming, ServesWithRoom, Share, Sharing, TellsWithRoom, WorldsKeepToHand, is_in_hand, is_in_hand_share, is_kept, is_kept_share, renamed_step, first_four, AnyTwoTextsAreOne, SomeTextIsThere, EachTakesFew, MayBeText, WholeMachineHasOneText, RoomServes, TextsAreTold, LeavesOutTwo, completed_from, completed_text, CountedTextIsTheText, TakesFew, completed_for, completed}
 use Rattle.vt_laws.specs.Numbers.Share.{Kept, LeftOver, New}
 use Rattle.vt_laws.proofs.Renamings.{lines_renamed, renamed_itself}
 use Rattle.vt_laws.proofs.Rows.{row, row-spread, spread, row_first, spread_low}
@@ -202,26 +202,32 @@ pub any_two_texts_are_one : AnyTwoTextsAreOne
 any_two_texts_are_one grammar refused script text other tells tells_other =
     the_text 1 (omega arith) grammar refused script text tells ∙ sym (the_text 1 (omega arith) grammar refused script other tells_other)
 
+-- The text as it is computed is that of the rows, where no line lacks its chance.
+completed_alike : (blocks : ℕ) (grammar : Grammar) (lines : List (List ℕ)) (refused : List Bool) (m number : ℕ) (world : World ℕ)
+    → number ≡ suc m → length lines ≤ length refused
+    → completed_from blocks grammar world number lines refused ≡ rows_text blocks grammar m world number lines refused
+unfolding rows_text
+completed_alike blocks grammar [] refused m number world here long = refl
+completed_alike blocks grammar (line ∷ lines) [] m number world here long = absurd (omega arith)
+completed_alike blocks grammar (line ∷ lines) (true ∷ refused) m number world here long =
+    ap (λ rest. step_text number (line_step nat_eq grammar world line None) ++ rest)
+    (completed_alike blocks grammar lines refused (suc m) (number + 1) _ (omega arith) (omega arith))
+completed_alike blocks grammar (line ∷ lines) (false ∷ refused) m number world here long =
+    ap (λ rest. step_text number (line_step nat_eq grammar world line (Some (spread blocks number))) ++ rest)
+    (completed_alike blocks grammar lines refused (suc m) (number + 1) _ (omega arith) (omega arith))
+    ∙ (λ i. step_text number (line_step nat_eq grammar world line (Some (spread blocks (here i))))
+    ++ rows_text blocks grammar (suc m) (step_world world (line_step nat_eq grammar world line (Some (spread blocks (here i))))) (number + 1) lines refused)
+
+completed_rows : (grammar : Grammar) (refused : List Bool) (script : List ℕ) → length (lines_of script) ≤ length refused
+    → completed_text grammar refused script ≡ rows_text (length (lines_of script) + 1) grammar 0 first_world 1 (lines_of script) refused
+completed_rows grammar refused script long =
+    completed_alike (length (lines_of script) + 1) grammar (lines_of script) refused 0 1 first_world (omega arith) long
+
 pub some_text_is_there : SomeTextIsThere
 some_text_is_there grammar refused script long =
-    (_, rows_told 1 grammar (lines_of script) refused 0 1 first_four first_world first_keeps (first_early 1 (omega arith)) long)
-
--- Numbers that are counted on from line to line are those of the rows, as far as each line takes them.
-counted_alike : (blocks : ℕ) (grammar : Grammar) (lines : List (List ℕ)) (refused : List Bool) (m number : ℕ) (world : World ℕ)
-    → number ≡ suc m → number + length lines ≤ blocks → length lines ≤ length refused
-    → EachTakesFew grammar world number lines refused
-    → text_from grammar world number lines refused ≡ rows_text blocks grammar m world number lines refused
-unfolding rows_text
-counted_alike blocks grammar [] refused m number world here few long fews = refl
-counted_alike blocks grammar (line ∷ lines) [] m number world here few long fews = absurd (omega arith)
-counted_alike blocks grammar (line ∷ lines) (true ∷ refused) m number world here few long fews =
-    ap (λ rest. step_text number (line_step nat_eq grammar world line None) ++ rest)
-    (counted_alike blocks grammar lines refused (suc m) (number + 1) _ (omega arith) (omega arith) (omega arith) fews.1)
-counted_alike blocks grammar (line ∷ lines) (false ∷ refused) m number world here few long fews =
-    let same = fews.0 refl (spread blocks (suc m)) (λ k short. spread_low blocks (suc m) k (omega arith) short ∙ omega arith) in
-    let rest = counted_alike blocks grammar lines refused (suc m) (number + 1) _ (omega arith) (omega arith) (omega arith) fews.1 in
-    ap (λ rest. step_text number (line_step nat_eq grammar world line (Some (counted_on number))) ++ rest) rest
-    ∙ (λ i. step_text number (sym same i) ++ rows_text blocks grammar (suc m) (step_world world (sym same i)) (number + 1) lines refused)
+    subst (MayBeText grammar refused script) (sym (completed_rows grammar refused script (omega arith)))
+    (rows_told (length (lines_of script) + 1) grammar (lines_of script) refused 0 1 first_four first_world first_keeps
+    (first_early (length (lines_of script) + 1) (omega arith)) long)
 
 -- a text that may be told has a chance for each line
 told_long : (grammar : Grammar) (lines : List (List ℕ)) (refused : List Bool) (in_hand : ℕ → Bool) (world : World ℕ) (number : ℕ) (text : List ℕ)
@@ -233,24 +239,32 @@ told_long grammar (line ∷ lines) (true ∷ refused) in_hand world number text 
 told_long grammar (line ∷ lines) (false ∷ refused) in_hand world number text tells =
     let h = told_long grammar lines refused _ _ (number + 1) _ tells.4 in omega arith
 
--- So the text of the written policy is the one
-counted_text : (grammar : Grammar) (refused : List Bool) (script : List ℕ) → length (lines_of script) ≤ length refused
-    → EachTakesFew grammar first_world 1 (lines_of script) refused
-    → text_of grammar refused script ≡ rows_text (length (lines_of script) + 1) grammar 0 first_world 1 (lines_of script) refused
-counted_text grammar refused script long fews =
-    counted_alike (length (lines_of script) + 1) grammar (lines_of script) refused 0 1 first_world (omega arith) (omega arith) long fews
-
 pub whole_machine_has_one_text : WholeMachineHasOneText
-whole_machine_has_one_text grammar refused script text fews tells =
+whole_machine_has_one_text grammar refused script text tells =
     the_text (length (lines_of script) + 1) (omega arith) grammar refused script text tells
-    ∙ sym (counted_text grammar refused script (told_long grammar (lines_of script) refused first_four first_world 1 text tells) fews)
+    ∙ sym (completed_rows grammar refused script (told_long grammar (lines_of script) refused first_four first_world 1 text tells))
 
-pub text_of_may_be_text : TextOfMayBeText
-text_of_may_be_text grammar refused script long fews =
-    let blocks = length (lines_of script) + 1 in
-    let same = counted_text grammar refused script (omega arith) fews in
-    subst (MayBeText grammar refused script) (sym same)
-    (rows_told (length (lines_of script) + 1) grammar (lines_of script) refused 0 1 first_four first_world first_keeps (first_early (length (lines_of script) + 1) (omega arith)) long)
+-- Where each line takes few numbers, those that are counted on lead to the same.
+counted_handed : (all number : ℕ) (refused : List Bool) (grammar : Grammar) (world : World ℕ) (line : List ℕ) → number < all
+    → (handed number refused ≡ Some (counted_on number) → TakesFew grammar world number line)
+    → line_step nat_eq grammar world line (handed number refused) ≡ line_step nat_eq grammar world line (completed_for all number refused)
+counted_handed all number [] grammar world line near few = sym (few refl (completed all number) (λ k short. spread_low all number k near short))
+counted_handed all number (true ∷ refused) grammar world line near few = refl
+counted_handed all number (false ∷ refused) grammar world line near few = sym (few refl (completed all number) (λ k short. spread_low all number k near short))
+
+counted_alike : (all : ℕ) (grammar : Grammar) (lines : List (List ℕ)) (refused : List Bool) (number : ℕ) (world : World ℕ)
+    → number + length lines ≤ all → EachTakesFew grammar world number lines refused
+    → text_from grammar world number lines refused ≡ completed_from all grammar world number lines refused
+counted_alike all grammar [] refused number world few fews = refl
+counted_alike all grammar (line ∷ lines) refused number world few fews =
+    let same = counted_handed all number refused grammar world line (omega arith) fews.0 in
+    let rest = counted_alike all grammar lines (later refused) (number + 1) _ (omega arith) fews.1 in
+    ap (λ rest. step_text number (line_step nat_eq grammar world line (handed number refused)) ++ rest) rest
+    ∙ (λ i. step_text number (same i) ++ completed_from all grammar (step_world world (same i)) (number + 1) lines (later refused))
+
+pub counted_text_is_the_text : CountedTextIsTheText
+counted_text_is_the_text grammar refused script fews =
+    counted_alike (length (lines_of script) + 1) grammar (lines_of script) refused 1 first_world (omega arith) fews
 
 -- Supplies with room serve, so each text that is told with them is told.
 pub room_serves : RoomServes

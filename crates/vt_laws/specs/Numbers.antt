@@ -1,6 +1,6 @@
 -- Numbers of inodes, mounts, groups, filesystems and namespaces do not matter. The kernel tells none of them to a task
 -- but to compare: an inode's number of stat(2), a mount's of proc(5) (profile).
-use Rattle.std.specs.Prelude.{Bool, List, None, Option, Some, [], false, length, map, nat_eq, nat_lt, option_map, true, ℕ, ⊤, ◌++◌, ◌+◌, ◌<◌, ◌∷◌, ◌≡◌, ◌≢◌}
+use Rattle.std.specs.Prelude.{Bool, List, None, Option, Some, [], false, length, map, nat_eq, nat_lt, option_map, suc, true, zero, ℕ, ⊤, ◌++◌, ◌+◌, ◌-◌, ◌<◌, ◌∷◌, ◌≡◌, ◌≢◌}
 use Rattle.vt_spec.specs.Machine.Calls.{Call, Directive}
 use Rattle.vt_spec.specs.Machine.Lists.{Fresh, is_among}
 use Rattle.vt_spec.specs.Machine.Outcomes.{Outcome}
@@ -206,17 +206,11 @@ first_four number = nat_lt number 4
 abbrev pub MayBeText : Grammar → List Bool → List ℕ → List ℕ → Type 0
 MayBeText grammar refused script text = TellsWithRoom grammar first_four first_world 1 (lines_of script) refused text
 
--- Whatever numbers are handed in, a script has one text,
+-- Whatever numbers are handed in, a script has one text.
 abbrev pub AnyTwoTextsAreOne : Type 0
 AnyTwoTextsAreOne =
     (grammar : Grammar) (refused : List Bool) (script text other : List ℕ)
     → MayBeText grammar refused script text → MayBeText grammar refused script other → text ≡ other
-
--- and it has a text.
-abbrev pub SomeTextIsThere : Type 0
-SomeTextIsThere =
-    (grammar : Grammar) (refused : List Bool) (script : List ℕ) → length refused ≡ length (lines_of script)
-    → (text : List ℕ) × MayBeText grammar refused script text
 
 -- A world keeps to the numbers in hand, line after line: one who gives no number back need show nothing.
 abbrev pub WorldsKeepToHand : Type 0
@@ -236,7 +230,54 @@ TextsAreTold =
     (grammar : Grammar) (refused : List Bool) (script text : List ℕ)
     → MayBeText grammar refused script text → Tells nat_eq grammar first_world 1 (lines_of script) refused text
 
--- The text by numbers that are counted on from line to line
+-- The text as a function that computes
+
+-- endless rows of numbers, along the diagonals: each number stands at one place of one row
+unfoldable pub numbers_before : ℕ → ℕ
+numbers_before zero = 0
+numbers_before (suc diagonal) = numbers_before diagonal + suc diagonal
+
+unfoldable pub number_in_row : ℕ → ℕ → ℕ
+number_in_row row place = numbers_before (row + place) + row
+
+-- What is handed to one of so many lines: 2^64 numbers that are counted on from line to line, and behind these the numbers
+-- of a row above those of all lines.
+unfoldable pub completed_by : Bool → Bool → ℕ → ℕ → ℕ → ℕ
+completed_by true true lines number k = counted_on number k
+completed_by true false lines number k = counted_on lines 0 + number_in_row number (k - 18446744073709551616)
+completed_by false near lines number k = counted_on lines 0 + number_in_row number k
+
+unfoldable pub completed : ℕ → ℕ → Fresh ℕ
+completed lines number k = completed_by (nat_lt number lines) (nat_lt k 18446744073709551616) lines number k
+
+-- what the line of this number is handed, if it was not refused memory
+abbrev pub completed_for : ℕ → ℕ → List Bool → Option (Fresh ℕ)
+completed_for lines number [] = Some (completed lines number)
+completed_for lines number (true ∷ refused) = None
+completed_for lines number (false ∷ refused) = Some (completed lines number)
+
+abbrev pub completed_from : ℕ → Grammar → World ℕ → ℕ → List (List ℕ) → List Bool → List ℕ
+completed_from all grammar world number [] refused = []
+completed_from all grammar world number (line ∷ lines) refused =
+    step_text number (line_step nat_eq grammar world line (completed_for all number refused))
+    ++ completed_from all grammar (step_world world (line_step nat_eq grammar world line (completed_for all number refused)))
+    (number + 1) lines (later refused)
+
+abbrev pub completed_text : Grammar → List Bool → List ℕ → List ℕ
+completed_text grammar refused script =
+    completed_from (length (lines_of script) + 1) grammar first_world 1 (lines_of script) refused
+
+-- This is a text of the script,
+abbrev pub SomeTextIsThere : Type 0
+SomeTextIsThere =
+    (grammar : Grammar) (refused : List Bool) (script : List ℕ) → length refused ≡ length (lines_of script)
+    → MayBeText grammar refused script (completed_text grammar refused script)
+
+-- and whatever numbers are handed in, it is the text.
+abbrev pub WholeMachineHasOneText : Type 0
+WholeMachineHasOneText =
+    (grammar : Grammar) (refused : List Bool) (script text : List ℕ)
+    → MayBeText grammar refused script text → text ≡ completed_text grammar refused script
 
 -- a line takes fewer than 2^64 of the numbers that it is handed, so that others may stand behind those
 abbrev pub TakesFew : Grammar → World ℕ → ℕ → List ℕ → Type 0
@@ -251,16 +292,9 @@ EachTakesFew grammar world number (line ∷ lines) refused =
     (handed number refused ≡ Some (counted_on number) → TakesFew grammar world number line)
     × EachTakesFew grammar (step_world world (line_step nat_eq grammar world line (handed number refused))) (number + 1) lines (later refused)
 
--- Then the text of the written policy may be told,
-abbrev pub TextOfMayBeText : Type 0
-TextOfMayBeText =
-    (grammar : Grammar) (refused : List Bool) (script : List ℕ) → length refused ≡ length (lines_of script)
+-- Then the text is the one of the written policy, where nothing stands behind the numbers that are counted on.
+abbrev pub CountedTextIsTheText : Type 0
+CountedTextIsTheText =
+    (grammar : Grammar) (refused : List Bool) (script : List ℕ)
     → EachTakesFew grammar first_world 1 (lines_of script) refused
-    → MayBeText grammar refused script (text_of grammar refused script)
-
--- and whatever numbers are handed in, it is the text.
-abbrev pub WholeMachineHasOneText : Type 0
-WholeMachineHasOneText =
-    (grammar : Grammar) (refused : List Bool) (script text : List ℕ)
-    → EachTakesFew grammar first_world 1 (lines_of script) refused
-    → MayBeText grammar refused script text → text ≡ text_of grammar refused script
+    → text_of grammar refused script ≡ completed_text grammar refused script

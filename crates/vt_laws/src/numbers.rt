@@ -1,5 +1,5 @@
 //! Numbers of inodes, mounts, groups, filesystems and namespaces do not matter.
-ghost use Rattle.vt_laws.specs.Numbers.{AnyTwoTextsAreOne, CallsDoNotSeeNumbers, CallsKeepToNumbers, CallsMakeNoOtherNumber, LinesKeepToNumbers, OpeningKeepsToFour, RoomServes, TextsAreTold, UsedNumbersAreNamed, WholeMachineHasOneText, WorldsKeepToHand, DirectivesDoNotSeeNumbers, LinesDoNotSeeNumbers, SameWorldsAnswerAlike, SomeTextIsThere, TextOfMayBeText, TurnsDoNotSeeNumbers};
+ghost use Rattle.vt_laws.specs.Numbers.{AnyTwoTextsAreOne, CallsDoNotSeeNumbers, CallsKeepToNumbers, CallsMakeNoOtherNumber, CountedTextIsTheText, LinesKeepToNumbers, OpeningKeepsToFour, RoomServes, TextsAreTold, UsedNumbersAreNamed, WholeMachineHasOneText, WorldsKeepToHand, DirectivesDoNotSeeNumbers, LinesDoNotSeeNumbers, SameWorldsAnswerAlike, SomeTextIsThere, TurnsDoNotSeeNumbers};
 
 /// Numbers do not matter: in a world whose numbers are renamed one-to-one, each call, directive, line and turn is
 /// answered alike, and leaves the world that it left before, renamed.
@@ -29,14 +29,19 @@ pub fn calls_make_no_other_number()
 /// The answers to a script are one text, whatever unused numbers are handed in line by line.
 ///
 /// Each line is handed numbers that the world does not keep to, so that endless ones are left over; numbers that the world
-/// no longer keeps to may come again. A text may always be told so, and any two are one. Where each line takes fewer than
-/// 2^64 of its numbers, that text is the written policy's.
+/// no longer keeps to may come again. A text may always be told so, and any two are one.
 pub fn answers_are_one_text()
     ensures one { AnyTwoTextsAreOne }
-    ensures some { SomeTextIsThere }
     ensures hand { WorldsKeepToHand }
     ensures serves { RoomServes }
     ensures allowed { TextsAreTold }
-    ensures told { TextOfMayBeText }
-    ensures whole { WholeMachineHasOneText }
+{}
+
+/// That text can be computed: it is the one with numbers that are counted on from line to line.
+///
+/// Where each line takes fewer than 2^64 numbers it is the written policy's.
+pub fn whole_machine_has_one_text()
+    ensures some { SomeTextIsThere }
+    ensures one { WholeMachineHasOneText }
+    ensures counted { CountedTextIsTheText }
 {}
