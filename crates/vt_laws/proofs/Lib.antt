@@ -1,4 +1,5 @@
 pub mod Cells
+pub mod Few
 pub mod Outcomes
 pub mod Renamings
 pub mod Rows

@@ -1,6 +1,6 @@
 -- Numbers of inodes, mounts, groups, filesystems and namespaces do not matter. The kernel tells none of them to a task
 -- but to compare: an inode's number of stat(2), a mount's of proc(5) (profile).
-use Rattle.std.specs.Prelude.{Bool, List, None, Option, Some, [], false, length, map, nat_eq, nat_lt, option_map, suc, true, zero, ℕ, ⊤, ◌++◌, ◌+◌, ◌-◌, ◌<◌, ◌∷◌, ◌≡◌, ◌≢◌}
+use Rattle.std.specs.Prelude.{Bool, List, None, Option, Some, [], codes, false, length, map, nat_eq, nat_lt, option_map, suc, true, zero, ℕ, ⊤, ◌++◌, ◌+◌, ◌-◌, ◌<◌, ◌∷◌, ◌≡◌, ◌≢◌}
 use Rattle.vt_spec.specs.Machine.Calls.{Call, Directive}
 use Rattle.vt_spec.specs.Machine.Lists.{Fresh, is_among}
 use Rattle.vt_spec.specs.Machine.Outcomes.{Outcome}
@@ -8,7 +8,8 @@ use Rattle.vt_spec.specs.Machine.Policy.{policy}
 use Rattle.vt_spec.specs.Machine.Renaming.{SameWorld, renamed}
 use Rattle.vt_spec.specs.Machine.Run.{Serves, Step, Tells, counted_on, first_world, handed, later, line_step, numbers_in_use, step_text, step_world, text_of}
 use Rattle.vt_spec.specs.Machine.Run.Step.{Answered, Silent}
-use Rattle.vt_spec.specs.Machine.Script.{Grammar, Who, lines_of}
+use Rattle.vt_spec.specs.Machine.Script.{Grammar, Who, lines_of, whole}
+use Rattle.vt_spec.specs.Machine.Script.Version.{Two}
 use Rattle.vt_spec.specs.Machine.Sealed.{directed}
 use Rattle.vt_spec.specs.Machine.Turns.{Progress, Sched, Turned, turn}
 use Rattle.vt_spec.specs.Machine.World.{TaskName, World, opening}
@@ -298,3 +299,10 @@ CountedTextIsTheText =
     (grammar : Grammar) (refused : List Bool) (script : List ℕ)
     → EachTakesFew grammar first_world 1 (lines_of script) refused
     → text_of grammar refused script ≡ completed_text grammar refused script
+
+-- a script of which each line takes few: a directory, a mount on it, a file in that, and its names
+abbrev pub four_lines : List ℕ
+four_lines = codes "t mkdir /a\nt mount plain /a\nt write /a/f x\nt ls /a\n"
+
+abbrev pub FourLinesTakeFew : Type 0
+FourLinesTakeFew = EachTakesFew (whole Two) first_world 1 (lines_of four_lines) []

@@ -1,5 +1,5 @@
 //! Numbers of inodes, mounts, groups, filesystems and namespaces do not matter.
-ghost use Rattle.vt_laws.specs.Numbers.{AnyTwoTextsAreOne, CallsDoNotSeeNumbers, CallsKeepToNumbers, CallsMakeNoOtherNumber, CountedTextIsTheText, LinesKeepToNumbers, OpeningKeepsToFour, RoomServes, TextsAreTold, UsedNumbersAreNamed, WholeMachineHasOneText, WorldsKeepToHand, DirectivesDoNotSeeNumbers, LinesDoNotSeeNumbers, SameWorldsAnswerAlike, SomeTextIsThere, TurnsDoNotSeeNumbers};
+ghost use Rattle.vt_laws.specs.Numbers.{AnyTwoTextsAreOne, CallsDoNotSeeNumbers, CallsKeepToNumbers, CallsMakeNoOtherNumber, CountedTextIsTheText, LinesKeepToNumbers, OpeningKeepsToFour, RoomServes, TextsAreTold, UsedNumbersAreNamed, WholeMachineHasOneText, WorldsKeepToHand, DirectivesDoNotSeeNumbers, FourLinesTakeFew, LinesDoNotSeeNumbers, SameWorldsAnswerAlike, SomeTextIsThere, TurnsDoNotSeeNumbers};
 
 /// Numbers do not matter: in a world whose numbers are renamed one-to-one, each call, directive, line and turn is
 /// answered alike, and leaves the world that it left before, renamed.
@@ -44,4 +44,5 @@ pub fn whole_machine_has_one_text()
     ensures some { SomeTextIsThere }
     ensures one { WholeMachineHasOneText }
     ensures counted { CountedTextIsTheText }
+    ensures example { FourLinesTakeFew }
 {}

@@ -1,3 +1,4 @@
+use Rattle.vt_laws.proofs.Few.{four_lines_take_few}
 use Rattle.vt_laws.proofs.Texts.{counted_text_is_the_text, some_text_is_there, whole_machine_has_one_text}
 use Rattle.vt_laws.proofs.numbers.whole_machine_has_one_text.Goals as goal
 
@@ -9,3 +10,6 @@ returns-clause-one c = whole_machine_has_one_text
 
 pub returns-clause-counted : goal.returns-clause-counted
 returns-clause-counted c = counted_text_is_the_text
+
+pub returns-clause-example : goal.returns-clause-example
+returns-clause-example c = four_lines_take_few
