@@ -1,5 +1,6 @@
 pub mod Cells
 pub mod Few
+pub mod NamedWorlds
 pub mod Outcomes
 pub mod Renamings
 pub mod Rows

@@ -1,8 +1,11 @@
--- Numbers of inodes, mounts, groups, filesystems and namespaces do not matter. The kernel tells none of them to a task
--- but to compare: an inode's number of stat(2), a mount's of proc(5) (profile).
-use Rattle.std.specs.Prelude.{Bool, List, None, Option, Some, [], codes, false, length, map, nat_eq, nat_lt, option_map, suc, true, zero, ℕ, ⊤, ◌++◌, ◌+◌, ◌-◌, ◌<◌, ◌∷◌, ◌≡◌, ◌≢◌}
+-- Numbers of inodes, mounts, groups, filesystems and namespaces do not matter: no call tells them, and all that is done
+-- with them is to compare them (profile).
+use Rattle.std.specs.Prelude.{All, Bool, List, None, Option, Some, [], codes, false, length, map, nat_eq, nat_lt, option_map, suc, true, zero, ℕ, ⊤, ◌&&◌, ◌++◌, ◌+◌, ◌-◌, ◌<◌, ◌∷◌, ◌≡◌, ◌≢◌}
+use Rattle.std.specs.List.{list_all}
 use Rattle.vt_spec.specs.Machine.Calls.{Call, Directive}
 use Rattle.vt_spec.specs.Machine.Lists.{Fresh, is_among}
+use Rattle.vt_spec.specs.Machine.Mounts.{Location, Mount, Propagation}
+use Rattle.vt_spec.specs.Machine.Mounts.Propagation.{Private, Shared, Slave, Unbindable}
 use Rattle.vt_spec.specs.Machine.Outcomes.{Outcome}
 use Rattle.vt_spec.specs.Machine.Policy.{policy}
 use Rattle.vt_spec.specs.Machine.Renaming.{SameWorld, renamed}
@@ -12,7 +15,10 @@ use Rattle.vt_spec.specs.Machine.Script.{Grammar, Who, lines_of, whole}
 use Rattle.vt_spec.specs.Machine.Script.Version.{Two}
 use Rattle.vt_spec.specs.Machine.Sealed.{directed}
 use Rattle.vt_spec.specs.Machine.Turns.{Progress, Sched, Turned, turn}
-use Rattle.vt_spec.specs.Machine.World.{TaskName, World, opening}
+use Rattle.vt_spec.specs.Machine.World.{Descriptor, Filesystem, Layer, Namespace, Overlay, Real, Task, TaskName, World, opening}
+use Rattle.vt_spec.specs.Machine.World.Real.{Below, Upper}
+use Rattle.vt_spec.specs.Tree.{Content, Node}
+use Rattle.vt_spec.specs.Tree.Content.{Directory, Regular, Symlink, Whiteout}
 
 -- each number gets a number of its own, and none is left out
 pub record Renaming (N M : Type 0) : Type 0 where
@@ -115,6 +121,84 @@ OpeningKeepsToFour =
     (named : ℕ → Bool) (fresh : Fresh ℕ)
     → named (fresh 0) ≡ true → named (fresh 1) ≡ true → named (fresh 2) ≡ true → named (fresh 3) ≡ true
     → KeepsTo named (opening nat_eq fresh)
+
+-- In plain words: a world keeps to some numbers where each number that it has anywhere is one of them.
+abbrev pub none_or : {A : Type 0} → (A → Bool) → Option A → Bool
+none_or test None = true
+none_or test (Some a) = test a
+
+module _ (named : ℕ → Bool) where
+  abbrev pub location_named : Location ℕ → Bool
+  location_named location = named location.mount && named location.node
+
+  abbrev pub propagation_named : Propagation ℕ → Bool
+  propagation_named (Shared group) = named group
+  propagation_named (Slave master) = named master
+  propagation_named Private = true
+  propagation_named Unbindable = true
+
+  abbrev pub mount_named : Mount ℕ → Bool
+  mount_named mount =
+      named mount.number && none_or named mount.namespace && none_or location_named mount.place && named mount.filesystem
+      && named mount.root && propagation_named mount.propagation
+
+  abbrev pub content_named : Content ℕ → Bool
+  content_named (Directory parent entries opaque) = named parent && list_all (λ entry. named entry.1) entries
+  content_named (Regular bytes) = true
+  content_named (Symlink text) = true
+  content_named Whiteout = true
+
+  abbrev pub node_named : Node ℕ → Bool
+  node_named node = content_named node.content
+
+  abbrev pub layer_named : Layer ℕ → Bool
+  layer_named layer = named layer.filesystem && named layer.directory
+
+  abbrev pub real_named : Real ℕ → Bool
+  real_named (Upper object) = named object
+  real_named (Below layer path) = true
+
+  abbrev pub namespace_named : Namespace ℕ → Bool
+  namespace_named namespace = named namespace.number
+
+  abbrev pub descriptor_named : Descriptor ℕ → Bool
+  descriptor_named descriptor = location_named descriptor.location
+
+  abbrev pub task_named : Task ℕ → Bool
+  task_named task =
+      named task.namespace && location_named task.root && location_named task.directory && list_all descriptor_named task.descriptors
+
+  -- what is found by its number is found at these numbers alone, and has these numbers alone
+  pub record IsFoundAmong {A : Type 0} (test : A → Bool) (find : ℕ → Option A) : Type 0 where
+    pub nowhere_else : (number : ℕ) → named number ≡ false → find number ≡ None
+    pub has_only : (number : ℕ) → none_or test (find number) ≡ true
+
+  pub record OverlayNamed (overlay : Overlay ℕ) : Type 0 where
+    pub upper : none_or layer_named overlay.upper ≡ true
+    pub work : none_or layer_named overlay.work ≡ true
+    pub lowers : list_all layer_named overlay.lowers ≡ true
+    pub real : IsFoundAmong real_named overlay.real
+
+  abbrev pub OverlayIfAnyNamed : Option (Overlay ℕ) → Type 0
+  OverlayIfAnyNamed None = ⊤
+  OverlayIfAnyNamed (Some overlay) = OverlayNamed overlay
+
+  pub record FilesystemNamed (filesystem : Filesystem ℕ) : Type 0 where
+    pub number : named filesystem.number ≡ true
+    pub root : named filesystem.files.tree.root ≡ true
+    pub nodes : IsFoundAmong node_named filesystem.files.tree.node
+    pub numbers : list_all named filesystem.files.numbers ≡ true
+    pub overlay : OverlayIfAnyNamed filesystem.overlay
+
+  pub record WorldNamed (world : World ℕ) : Type 0 where
+    pub mounts : list_all mount_named world.mounts ≡ true
+    pub masters : IsFoundAmong named world.master
+    pub filesystems : All FilesystemNamed world.filesystems
+    pub namespaces : list_all namespace_named world.namespaces ≡ true
+    pub tasks : list_all task_named world.tasks ≡ true
+
+abbrev pub NamedIsKept : Type 0
+NamedIsKept = (named : ℕ → Bool) (world : World ℕ) → WorldNamed named world → KeepsTo named world
 
 -- A world that keeps to some numbers, and a supply from them: so does the world after each call,
 abbrev pub CallsKeepToNumbers : Type 0

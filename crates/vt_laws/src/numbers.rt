@@ -1,5 +1,5 @@
 //! Numbers of inodes, mounts, groups, filesystems and namespaces do not matter.
-ghost use Rattle.vt_laws.specs.Numbers.{AnyTwoTextsAreOne, CallsDoNotSeeNumbers, CallsKeepToNumbers, CallsMakeNoOtherNumber, CountedTextIsTheText, LinesKeepToNumbers, OpeningKeepsToFour, RoomServes, TextsAreTold, UsedNumbersAreNamed, WholeMachineHasOneText, WorldsKeepToHand, DirectivesDoNotSeeNumbers, FourLinesTakeFew, LinesDoNotSeeNumbers, SameWorldsAnswerAlike, SomeTextIsThere, TurnsDoNotSeeNumbers};
+ghost use Rattle.vt_laws.specs.Numbers.{AnyTwoTextsAreOne, CallsDoNotSeeNumbers, CallsKeepToNumbers, CallsMakeNoOtherNumber, CountedTextIsTheText, LinesKeepToNumbers, OpeningKeepsToFour, RoomServes, TextsAreTold, UsedNumbersAreNamed, WholeMachineHasOneText, WorldsKeepToHand, DirectivesDoNotSeeNumbers, FourLinesTakeFew, LinesDoNotSeeNumbers, NamedIsKept, SameWorldsAnswerAlike, SomeTextIsThere, TurnsDoNotSeeNumbers};
 
 /// Numbers do not matter: in a world whose numbers are renamed one-to-one, each call, directive, line and turn is
 /// answered alike, and leaves the world that it left before, renamed.
@@ -17,9 +17,10 @@ pub fn numbers_do_not_matter()
 /// them too, the world after the call keeps to them.
 ///
 /// So mounts, groups, filesystems, namespaces and inodes have no other numbers after the call. The opening world keeps to
-/// its four.
+/// its four, and each world to all that it names.
 pub fn calls_make_no_other_number()
     ensures opening { OpeningKeepsToFour }
+    ensures named { NamedIsKept }
     ensures calls { CallsKeepToNumbers }
     ensures lines { LinesKeepToNumbers }
     ensures used { UsedNumbersAreNamed }
