@@ -18,7 +18,7 @@ use Rattle.vt_spec.specs.Machine.Run.Step.{Answered, Silent}
 use Rattle.vt_spec.specs.Machine.Turns.{Progress, Sched, Turned}
 use Rattle.vt_spec.specs.Machine.World.{Filesystem, Layer, Overlay, Real, Task, World}
 use Rattle.vt_spec.specs.Machine.World.Real.{Below, Upper}
-use Rattle.vt_laws.specs.Numbers.{CallsDoNotSeeNumbers, LinesDoNotSeeNumbers, Renaming, renamed_held, renamed_outcome, renamed_progress, renamed_sched, renamed_step, renamed_supply, renamed_turned}
+use Rattle.vt_laws.specs.Numbers.{CallsDoNotSeeNumbers, LinesDoNotSeeNumbers, Renaming, renamed_held, renamed_outcome, renamed_progress, renamed_sched, renamed_step, renamed_supply, renamed_turned, SameWorldsAnswerAlike}
 
 pub map_itself : {A : Type 0} (f : A → A) → ((a : A) → f a ≡ a) → (list : List A) → map f list ≡ list
 map_itself f same [] = refl
@@ -232,3 +232,19 @@ calls_renamed renaming fresh world name call =
 pub lines_renamed : LinesDoNotSeeNumbers
 lines_renamed renaming grammar fresh world line =
     commutes_nat HandedLine Step named_line named_step (λ A eq handed. line_step eq grammar handed.1 line handed.0) renaming (fresh, world)
+
+-- worlds that are the same but for their numbers
+pub same_worlds_answer_alike : SameWorldsAnswerAlike
+same_worlds_answer_alike world other same fresh name call =
+    let renaming : Renaming ℕ ℕ = record { there = same.there; back = same.back; there_back = same.there_back; back_there = same.back_there } in
+    let alike : policy nat_eq (renamed_supply same.there same.back fresh) other name call ≡ renamed_outcome same.there same.back (policy nat_eq fresh world name call) =
+    ap (λ w. policy nat_eq (renamed_supply same.there same.back fresh) w name call) (sym same.same) ∙ calls_renamed renaming fresh world name call in (
+      ap (λ outcome. outcome.answer) alike,
+      record {
+        there = same.there;
+        back = same.back;
+        there_back = same.there_back;
+        back_there = same.back_there;
+        same = sym (ap (λ outcome. outcome.world) alike);
+      },
+    )

@@ -1,14 +1,15 @@
 -- A script has one text, whatever unused numbers are handed in.
+use Rattle.vt_spec.specs.Machine.Policy.{policy}
 use Rattle.std.proofs.Common.{◌≡◌, refl, sym, ap, ◌∙◌, true≢false, ℕ, suc, nat_eq, ◌+◌, ◌≤◌, Bool, true, false, List, [], ◌∷◌, ◌++◌, length, Some, None, arith, ◌<◌, ltb-true, subst, eqb-true}
 use Rattle.vt_spec.specs.Machine.Lists.{Fresh, is_among}
-use Rattle.vt_spec.specs.Machine.Renaming.{renamed}
+use Rattle.vt_spec.specs.Machine.Renaming.{renamed, SameWorld}
 use Rattle.vt_spec.specs.Machine.Run.{Step, line_step, step_text, step_world, first_world, text_from, counted_on, Tells, numbers_in_use, handed, later}
 use Rattle.vt_spec.specs.Machine.Run.Step.{Answered, Silent}
 use Rattle.vt_spec.specs.Machine.Script.{Grammar, lines_of}
 use Rattle.vt_spec.specs.Machine.World.{World}
-use Rattle.vt_laws.specs.Numbers.{KeepsTo, Renaming, ServesWithRoom, Share, Sharing, TellsWithRoom, WorldsKeepToHand, is_in_hand, is_in_hand_share, is_kept, is_kept_share, renamed_step, first_four, AnyTwoTextsAreOne, SomeTextIsThere, EachTakesFew, MayBeText, WholeMachineHasOneText, RoomServes, TextsAreTold, LeavesOutTwo, completed_from, completed_text, CountedTextIsTheText, TakesFew, completed_for, completed}
+use Rattle.vt_laws.specs.Numbers.{KeepsTo, Renaming, ServesWithRoom, Share, Sharing, TellsWithRoom, WorldsKeepToHand, is_in_hand, is_in_hand_share, is_kept, is_kept_share, renamed_step, first_four, AnyTwoTextsAreOne, SomeTextIsThere, SuppliesDoNotMatter, EachTakesFew, MayBeText, WholeMachineHasOneText, RoomServes, TextsAreTold, LeavesOutTwo, completed_from, completed_text, CountedTextIsTheText, TakesFew, completed_for, completed}
 use Rattle.vt_laws.specs.Numbers.Share.{Kept, LeftOver, New}
-use Rattle.vt_laws.proofs.Renamings.{lines_renamed, renamed_itself}
+use Rattle.vt_laws.proofs.Renamings.{lines_renamed, renamed_itself, same_worlds_answer_alike}
 use Rattle.vt_laws.proofs.Rows.{row, row-spread, spread, row_first, spread_low}
 use Rattle.vt_laws.proofs.Sharings.{agree, joined, kept_share, shared_kept, shared_new}
 use Rattle.vt_laws.proofs.Stages.{stage, stage_keeps, stage_new, stage_rows}
@@ -60,6 +61,21 @@ module _ (renaming : Renaming ℕ ℕ) (grammar : Grammar) (world other : World 
         sym (step_world-renamed renaming world (line_step nat_eq grammar world line (Some fresh)))
         ∙ ap (step_world (renamed renaming.there renaming.back world)) (sym (lines_renamed renaming grammar (Some fresh) world line))
         ∙ (λ i. step_world (same i) (line_step nat_eq grammar (same i) line (Some (λ k. supplied k i))))
+
+-- Two supplies with room are joined by a renaming, which leaves the worlds the same.
+pub supplies_do_not_matter : SuppliesDoNotMatter
+unfolding joined
+supplies_do_not_matter world other same first second name call keeps kept =
+    let before : Renaming ℕ ℕ = record { there = same.there; back = same.back; there_back = same.there_back; back_there = same.back_there } in
+    let joint : Renaming ℕ ℕ = joined first second before kept in
+    let agrees : renamed joint.there joint.back world ≡ other =
+    agree (is_kept first) world before joint keeps (λ number is. shared_kept first second same.there number (kept_share (first.share number) is)) ∙ same.same in
+    let again : SameWorld world other =
+    record { there = joint.there; back = joint.back; there_back = joint.there_back; back_there = joint.back_there; same = agrees } in
+    let supplied : (k : ℕ) → joint.there (first.new k) ≡ second.new k = λ k. shared_new first second same.there (first.new k) k (first.new_share k) in
+    let P : Fresh ℕ → Type 0 = λ new. ((policy nat_eq new other name call).answer ≡ (policy nat_eq first.new world name call).answer)
+    × SameWorld (policy nat_eq first.new world name call).world (policy nat_eq new other name call).world in
+    subst P (λ i k. supplied k i) (same_worlds_answer_alike world other again first.new name call)
 
 module _ (blocks : ℕ) (grammar : Grammar) where
   -- the text where each line is handed the next row

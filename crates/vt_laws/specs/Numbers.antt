@@ -263,6 +263,16 @@ is_kept sharing number = is_kept_share (sharing.share number)
 abbrev pub is_in_hand : Sharing → ℕ → Bool
 is_in_hand sharing number = is_in_hand_share (sharing.share number)
 
+-- Which new numbers a call is handed does not matter: in two worlds that are the same but for their numbers, of which the
+-- one keeps to what its sharing keeps, and the other's sharing keeps the same numbers renamed, a call is answered alike,
+-- and leaves worlds that are the same but for their numbers.
+abbrev pub SuppliesDoNotMatter : Type 0
+SuppliesDoNotMatter =
+    (world other : World ℕ) (same : SameWorld world other) (first second : Sharing) (name : TaskName) (call : Call)
+    → KeepsTo (is_kept first) world → ((number : ℕ) → is_kept second number ≡ is_kept first (same.back number))
+    → ((policy nat_eq second.new other name call).answer ≡ (policy nat_eq first.new world name call).answer)
+    × SameWorld (policy nat_eq first.new world name call).world (policy nat_eq second.new other name call).world
+
 -- Of the numbers in hand some may be given back, if the world keeps to those that are kept. So a number is used again only
 -- where nothing has it any more.
 pub record ServesWithRoom (in_hand : ℕ → Bool) (world : World ℕ) (sharing : Sharing) : Type 0 where

@@ -1,5 +1,5 @@
 //! Numbers of inodes, mounts, groups, filesystems and namespaces do not matter.
-ghost use Rattle.vt_laws.specs.Numbers.{AnyTwoTextsAreOne, CallsDoNotSeeNumbers, CallsKeepToNumbers, CallsMakeNoOtherNumber, CountedTextIsTheText, LinesKeepToNumbers, OpeningKeepsToFour, RoomServes, TextsAreTold, UsedNumbersAreNamed, WholeMachineHasOneText, WorldsKeepToHand, DirectivesDoNotSeeNumbers, FourLinesTakeFew, LinesDoNotSeeNumbers, NamedIsKept, SameWorldsAnswerAlike, SomeTextIsThere, TurnsDoNotSeeNumbers};
+ghost use Rattle.vt_laws.specs.Numbers.{AnyTwoTextsAreOne, CallsDoNotSeeNumbers, CallsKeepToNumbers, CallsMakeNoOtherNumber, CountedTextIsTheText, LinesKeepToNumbers, OpeningKeepsToFour, RoomServes, TextsAreTold, UsedNumbersAreNamed, WholeMachineHasOneText, WorldsKeepToHand, DirectivesDoNotSeeNumbers, FourLinesTakeFew, LinesDoNotSeeNumbers, NamedIsKept, SameWorldsAnswerAlike, SomeTextIsThere, SuppliesDoNotMatter, TurnsDoNotSeeNumbers};
 
 /// Numbers do not matter: in a world whose numbers are renamed one-to-one, each call, directive, line and turn is
 /// answered alike, and leaves the world that it left before, renamed.
@@ -33,6 +33,7 @@ pub fn calls_make_no_other_number()
 /// no longer keeps to may come again. A text may always be told so, and any two are one.
 pub fn answers_are_one_text()
     ensures one { AnyTwoTextsAreOne }
+    ensures supplies { SuppliesDoNotMatter }
     ensures hand { WorldsKeepToHand }
     ensures serves { RoomServes }
     ensures allowed { TextsAreTold }
