@@ -1,10 +1,10 @@
+pub mod Allotments
 pub mod Cells
 pub mod Few
 pub mod NamedWorlds
 pub mod Outcomes
 pub mod Renamings
 pub mod Rows
-pub mod Sharings
 pub mod Stages
 pub mod Supports
 pub mod Texts

@@ -1,7 +1,7 @@
 -- A line that is handed the next row of numbers: of the rows before, all is left over that is not kept.
 use Rattle.std.proofs.Common.{◌≡◌, refl, sym, ap, ◌∙◌, true≢false, ℕ, zero, suc, ◌<◌, ◌≤◌, Bool, true, false, arith, subst}
-use Rattle.vt_laws.specs.Numbers.{Share, Sharing, number_in_row, is_in_hand_share, is_kept_share}
-use Rattle.vt_laws.specs.Numbers.Share.{Kept, LeftOver, New}
+use Rattle.vt_laws.specs.Numbers.{Lot, Allotment, number_in_row, is_in_hand_lot, is_kept_lot}
+use Rattle.vt_laws.specs.Numbers.Lot.{Kept, LeftOver, New}
 use Rattle.vt_laws.proofs.Cells.{cell, cell-number_in_row, number_in_row-cell}
 use Rattle.vt_laws.proofs.Rows.{col, col-spread, row, row-spread, spread, spread-row}
 
@@ -62,7 +62,7 @@ side_says (suc m) (suc r) = one_more (side m r) (side_says m r)
 says : (m r : ℕ) (s : Side) → side m r ≡ s → Says m r s
 says m r s e = subst (Says m r) e (side_says m r)
 
--- The sharing in which the numbers of the row after `m` are new. A number of the rows before that is not kept is left over:
+-- The allotment in which the numbers of the row after `m` are new. A number of the rows before that is not kept is left over:
 -- it stands first in its own line of cells, and the numbers of a later row behind it.
 module _ (blocks m : ℕ) (keeps : ℕ → Bool) (early : (number : ℕ) → keeps number ≡ true → row blocks number ≤ m) where
   -- the place of a number of a later row, behind a number that may be left over
@@ -75,14 +75,14 @@ module _ (blocks m : ℕ) (keeps : ℕ → Bool) (early : (number : ℕ) → kee
   shift : ℕ → ℕ → ℕ
   shift a k = shift_by (keeps a) (side m (row blocks a)) k
 
-  share_by : Bool → Side → ℕ → Share
-  share_by true side number = Kept
-  share_by false Before number = LeftOver (number_in_row number 0)
-  share_by false At number = New (col blocks number)
-  share_by false (Beyond further) number = LeftOver (number_in_row further (shift further (col blocks number)))
+  lot_by : Bool → Side → ℕ → Lot
+  lot_by true side number = Kept
+  lot_by false Before number = LeftOver (number_in_row number 0)
+  lot_by false At number = New (col blocks number)
+  lot_by false (Beyond further) number = LeftOver (number_in_row further (shift further (col blocks number)))
 
-  pub share_of : ℕ → Share
-  share_of number = share_by (keeps number) (side m (row blocks number)) number
+  pub lot_of : ℕ → Lot
+  lot_of number = lot_by (keeps number) (side m (row blocks number)) number
 
   later_by : Bool → Side → ℕ → ℕ → ℕ
   later_by true side a k = spread blocks (beyond m a) k
@@ -110,48 +110,48 @@ module _ (blocks m : ℕ) (keeps : ℕ → Bool) (early : (number : ℕ) → kee
   beyond_more zero further = omega arith
   beyond_more (suc k) further = let h = beyond_more k further in omega arith
 
-  pub new_is_new : (k : ℕ) → share_of (spread blocks (suc m) k) ≡ New k
-  unfolding share_of share_by
+  pub new_is_new : (k : ℕ) → lot_of (spread blocks (suc m) k) ≡ New k
+  unfolding lot_of lot_by
   new_is_new k =
       let number = spread blocks (suc m) k in
       let there : row blocks (spread blocks (suc m) k) ≡ suc m = row-spread blocks (suc m) k in
-      (λ i. share_by (late number (omega arith) i) (side m (there i)) number)
-      ∙ ap (λ s. share_by false s number) (side_at m) ∙ ap New (col-spread blocks (suc m) k)
+      (λ i. lot_by (late number (omega arith) i) (side m (there i)) number)
+      ∙ ap (λ s. lot_by false s number) (side_at m) ∙ ap New (col-spread blocks (suc m) k)
 
   -- a number of a later row
-  share_late : (further k : ℕ) → share_of (spread blocks (beyond m further) k) ≡ LeftOver (number_in_row further (shift further k))
-  unfolding share_of share_by
-  share_late further k =
+  lot_late : (further k : ℕ) → lot_of (spread blocks (beyond m further) k) ≡ LeftOver (number_in_row further (shift further k))
+  unfolding lot_of lot_by
+  lot_late further k =
       let number = spread blocks (beyond m further) k in
       let there : row blocks (spread blocks (beyond m further) k) ≡ beyond m further = row-spread blocks (beyond m further) k in
       let more = beyond_more m further in
-      (λ i. share_by (late number (omega arith) i) (side m (there i)) number)
-      ∙ ap (λ s. share_by false s number) (side_beyond m further)
+      (λ i. lot_by (late number (omega arith) i) (side m (there i)) number)
+      ∙ ap (λ s. lot_by false s number) (side_beyond m further)
       ∙ ap (λ c. LeftOver (number_in_row further (shift further c))) (col-spread blocks (beyond m further) k)
 
-  left_is_left_at : (a k : ℕ) → share_of (left_at a k) ≡ LeftOver (number_in_row a k)
-  unfolding left_at later_by shift shift_by share_by share_of
+  left_is_left_at : (a k : ℕ) → lot_of (left_at a k) ≡ LeftOver (number_in_row a k)
+  unfolding left_at later_by shift shift_by lot_by lot_of
   left_is_left_at a k = by (keeps a) refl (side m (row blocks a)) refl k
     where
-      with_shift : (test : Bool) → keeps a ≡ test → (s : Side) → side m (row blocks a) ≡ s → (k : ℕ) → share_of (spread blocks (beyond m a) k) ≡ LeftOver (number_in_row a (shift_by test s k))
-      with_shift test is s at k = share_late a k ∙ (λ i. LeftOver (number_in_row a (shift_by (is i) (at i) k)))
+      with_shift : (test : Bool) → keeps a ≡ test → (s : Side) → side m (row blocks a) ≡ s → (k : ℕ) → lot_of (spread blocks (beyond m a) k) ≡ LeftOver (number_in_row a (shift_by test s k))
+      with_shift test is s at k = lot_late a k ∙ (λ i. LeftOver (number_in_row a (shift_by (is i) (at i) k)))
 
       opened : (test : Bool) → keeps a ≡ test → (s : Side) → side m (row blocks a) ≡ s → (k : ℕ) → left_at a k ≡ later_by test s a k
       opened test is s at k = λ i. later_by (is i) (at i) a k
 
-      by : (test : Bool) → keeps a ≡ test → (s : Side) → side m (row blocks a) ≡ s → (k : ℕ) → share_of (left_at a k) ≡ LeftOver (number_in_row a k)
-      by true is s at k = ap share_of (opened true is s at k) ∙ with_shift true is s at k
-      by false is Before at zero = ap share_of (opened false is Before at zero) ∙ (λ i. share_by (is i) (at i) a)
-      by false is Before at (suc k) = ap share_of (opened false is Before at (suc k)) ∙ with_shift false is Before at k
-      by false is At at k = ap share_of (opened false is At at k) ∙ with_shift false is At at k
-      by false is (Beyond further) at k = ap share_of (opened false is (Beyond further) at k) ∙ with_shift false is (Beyond further) at k
+      by : (test : Bool) → keeps a ≡ test → (s : Side) → side m (row blocks a) ≡ s → (k : ℕ) → lot_of (left_at a k) ≡ LeftOver (number_in_row a k)
+      by true is s at k = ap lot_of (opened true is s at k) ∙ with_shift true is s at k
+      by false is Before at zero = ap lot_of (opened false is Before at zero) ∙ (λ i. lot_by (is i) (at i) a)
+      by false is Before at (suc k) = ap lot_of (opened false is Before at (suc k)) ∙ with_shift false is Before at k
+      by false is At at k = ap lot_of (opened false is At at k) ∙ with_shift false is At at k
+      by false is (Beyond further) at k = ap lot_of (opened false is (Beyond further) at k) ∙ with_shift false is (Beyond further) at k
 
-  pub left_is_left : (k : ℕ) → share_of (left_of k) ≡ LeftOver k
+  pub left_is_left : (k : ℕ) → lot_of (left_of k) ≡ LeftOver k
   unfolding left_of
   left_is_left k = left_is_left_at (cell k).0 (cell k).1 ∙ ap LeftOver (number_in_row-cell k)
 
-  -- the number at a share
-  pub back_of : Share → ℕ → ℕ
+  -- the number at a lot
+  pub back_of : Lot → ℕ → ℕ
   back_of Kept number = number
   back_of (New k) number = spread blocks (suc m) k
   back_of (LeftOver k) number = left_of k
@@ -161,7 +161,7 @@ module _ (blocks m : ℕ) (keeps : ℕ → Bool) (early : (number : ℕ) → kee
   left_place a k = ap (λ (c : ℕ × ℕ). left_at c.0 c.1) (cell-number_in_row a k)
 
   left_shift : (a k : ℕ) → left_at a (shift a k) ≡ spread blocks (beyond m a) k
-  unfolding left_at later_by shift shift_by share_by share_of
+  unfolding left_at later_by shift shift_by lot_by lot_of
   left_shift a k = by (keeps a) (side m (row blocks a))
     where
       by : (test : Bool) (s : Side) → later_by test s a (shift_by test s k) ≡ spread blocks (beyond m a) k
@@ -170,32 +170,32 @@ module _ (blocks m : ℕ) (keeps : ℕ → Bool) (early : (number : ℕ) → kee
       by false At = refl
       by false (Beyond further) = refl
 
-  pub share_back : (number : ℕ) → back_of (share_of number) number ≡ number
-  unfolding share_of share_by back_of left_at later_by Says
-  share_back number = by (keeps number) refl (side m (row blocks number)) refl
+  pub lot_back : (number : ℕ) → back_of (lot_of number) number ≡ number
+  unfolding lot_of lot_by back_of left_at later_by Says
+  lot_back number = by (keeps number) refl (side m (row blocks number)) refl
     where
-      by : (test : Bool) → keeps number ≡ test → (s : Side) → side m (row blocks number) ≡ s → back_of (share_of number) number ≡ number
-      by true is s at = λ i. back_of (share_by (is i) (side m (row blocks number)) number) number
+      by : (test : Bool) → keeps number ≡ test → (s : Side) → side m (row blocks number) ≡ s → back_of (lot_of number) number ≡ number
+      by true is s at = λ i. back_of (lot_by (is i) (side m (row blocks number)) number) number
       by false is Before at =
-          (λ i. back_of (share_by (is i) (at i) number) number) ∙ left_place number 0 ∙ (λ i. later_by (is i) (at i) number 0)
+          (λ i. back_of (lot_by (is i) (at i) number) number) ∙ left_place number 0 ∙ (λ i. later_by (is i) (at i) number 0)
       by false is At at =
-          (λ i. back_of (share_by (is i) (at i) number) number)
+          (λ i. back_of (lot_by (is i) (at i) number) number)
           ∙ ap (λ r. spread blocks r (col blocks number)) (sym (says m (row blocks number) At at)) ∙ spread-row blocks number
       by false is (Beyond further) at =
-          (λ i. back_of (share_by (is i) (at i) number) number)
+          (λ i. back_of (lot_by (is i) (at i) number) number)
           ∙ left_place further (shift further (col blocks number)) ∙ left_shift further (col blocks number)
           ∙ ap (λ r. spread blocks r (col blocks number)) (sym (says m (row blocks number) (Beyond further) at)) ∙ spread-row blocks number
 
-  unfoldable pub stage : Sharing
+  unfoldable pub stage : Allotment
   unfolding back_of
   stage = record {
-    share = share_of;
+    lot = lot_of;
     new = spread blocks (suc m);
     left_over = left_of;
-    new_share = new_is_new;
-    left_over_share = left_is_left;
-    share_new = λ number k e. ap (λ s. back_of s number) (sym e) ∙ share_back number;
-    share_left_over = λ number k e. ap (λ s. back_of s number) (sym e) ∙ share_back number;
+    new_lot = new_is_new;
+    left_over_lot = left_is_left;
+    lot_new = λ number k e. ap (λ s. back_of s number) (sym e) ∙ lot_back number;
+    lot_left_over = λ number k e. ap (λ s. back_of s number) (sym e) ∙ lot_back number;
   }
 
   pub stage_new : (k : ℕ) → stage.new k ≡ spread blocks (suc m) k
@@ -203,22 +203,22 @@ module _ (blocks m : ℕ) (keeps : ℕ → Bool) (early : (number : ℕ) → kee
   stage_new k = refl
 
   -- what is kept
-  pub stage_keeps : (number : ℕ) → is_kept_share (stage.share number) ≡ keeps number
-  unfolding stage share_of share_by
+  pub stage_keeps : (number : ℕ) → is_kept_lot (stage.lot number) ≡ keeps number
+  unfolding stage lot_of lot_by
   stage_keeps number = by (keeps number) refl (side m (row blocks number))
     where
-      by : (test : Bool) → keeps number ≡ test → (s : Side) → is_kept_share (share_by test s number) ≡ test
+      by : (test : Bool) → keeps number ≡ test → (s : Side) → is_kept_lot (lot_by test s number) ≡ test
       by true is s = refl
       by false is Before = refl
       by false is At = refl
       by false is (Beyond further) = refl
 
   -- what is in hand afterwards stands in these rows
-  pub stage_rows : (number : ℕ) → is_in_hand_share (stage.share number) ≡ true → row blocks number ≤ suc m
-  unfolding stage share_of share_by Says
+  pub stage_rows : (number : ℕ) → is_in_hand_lot (stage.lot number) ≡ true → row blocks number ≤ suc m
+  unfolding stage lot_of lot_by Says
   stage_rows number = by (keeps number) refl (side m (row blocks number)) refl
     where
-      by : (test : Bool) → keeps number ≡ test → (s : Side) → side m (row blocks number) ≡ s → is_in_hand_share (share_by test s number) ≡ true → row blocks number ≤ suc m
+      by : (test : Bool) → keeps number ≡ test → (s : Side) → side m (row blocks number) ≡ s → is_in_hand_lot (lot_by test s number) ≡ true → row blocks number ≤ suc m
       by true is s at e = let h = early number is in omega arith
       by false is Before at e = absurd (true≢false (sym e))
       by false is At at e = let h : row blocks number ≡ suc m = says m (row blocks number) At at in omega arith

@@ -7,11 +7,11 @@ use Rattle.vt_spec.specs.Machine.Run.{Step, line_step, step_text, step_world, fi
 use Rattle.vt_spec.specs.Machine.Run.Step.{Answered, Silent}
 use Rattle.vt_spec.specs.Machine.Script.{Grammar, lines_of}
 use Rattle.vt_spec.specs.Machine.World.{World}
-use Rattle.vt_laws.specs.Numbers.{KeepsTo, Renaming, ServesWithRoom, Share, Sharing, TellsWithRoom, WorldsKeepToHand, is_in_hand, is_in_hand_share, is_kept, is_kept_share, renamed_step, first_four, AnyTwoTextsAreOne, SomeTextIsThere, SuppliesDoNotMatter, EachTakesFew, MayBeText, WholeMachineHasOneText, RoomServes, TextsAreTold, LeavesOutTwo, completed_from, completed_text, CountedTextIsTheText, TakesFew, completed_for, completed}
-use Rattle.vt_laws.specs.Numbers.Share.{Kept, LeftOver, New}
+use Rattle.vt_laws.specs.Numbers.{KeepsTo, Renaming, ServesWithRoom, Lot, Allotment, TellsWithRoom, WorldsKeepToHand, is_in_hand, is_in_hand_lot, is_kept, is_kept_lot, renamed_step, first_four, AnyTwoTextsAreOne, SomeTextIsThere, SuppliesDoNotMatter, EachTakesFew, MayBeText, WholeMachineHasOneText, RoomServes, TextsAreTold, LeavesOutTwo, completed_from, completed_text, CountedTextIsTheText, TakesFew, completed_for, completed}
+use Rattle.vt_laws.specs.Numbers.Lot.{Kept, LeftOver, New}
 use Rattle.vt_laws.proofs.Renamings.{lines_renamed, renamed_itself, same_worlds_answer_alike}
 use Rattle.vt_laws.proofs.Rows.{row, row-spread, spread, row_first, spread_low}
-use Rattle.vt_laws.proofs.Sharings.{agree, joined, kept_share, shared_kept, shared_new}
+use Rattle.vt_laws.proofs.Allotments.{agree, joined, kept_lot, allotted_kept, allotted_new}
 use Rattle.vt_laws.proofs.Stages.{stage, stage_keeps, stage_new, stage_rows}
 use Rattle.vt_laws.proofs.Supports.{used_numbers_are_named, lines_keep_to_numbers, step_world-renamed, opening_keeps_to_four}
 
@@ -19,17 +19,17 @@ use Rattle.vt_laws.proofs.Supports.{used_numbers_are_named, lines_keep_to_number
 more : (named others : ℕ → Bool) (world : World ℕ) → ((number : ℕ) → named number ≡ true → others number ≡ true) → KeepsTo named world → KeepsTo others world
 more named others world among keeps renaming leaves = keeps renaming (λ number is. leaves number (among number is))
 
-kept_in_hand : (share : Share) → is_kept_share share ≡ true → is_in_hand_share share ≡ true
+kept_in_hand : (lot : Lot) → is_kept_lot lot ≡ true → is_in_hand_lot lot ≡ true
 kept_in_hand Kept e = refl
 kept_in_hand (New k) e = absurd (true≢false (sym e))
 kept_in_hand (LeftOver k) e = absurd (true≢false (sym e))
 
 -- the world after a line keeps to the numbers in hand
 pub worlds_keep_to_hand : WorldsKeepToHand
-worlds_keep_to_hand grammar in_hand world sharing line serves =
-    lines_keep_to_numbers (is_in_hand sharing) grammar sharing.new world line
-    (more (is_kept sharing) (is_in_hand sharing) world (λ number is. kept_in_hand (sharing.share number) is) serves.keeps)
-    (λ k. ap is_in_hand_share (sharing.new_share k))
+worlds_keep_to_hand grammar in_hand world allotment line serves =
+    lines_keep_to_numbers (is_in_hand allotment) grammar allotment.new world line
+    (more (is_kept allotment) (is_in_hand allotment) world (λ number is. kept_in_hand (allotment.lot number) is) serves.keeps)
+    (λ k. ap is_in_hand_lot (allotment.new_lot k))
 
 step_text-renamed : (renaming : Renaming ℕ ℕ) (number : ℕ) (step : Step ℕ) → step_text number (renamed_step renaming.there renaming.back step) ≡ step_text number step
 step_text-renamed renaming number Silent = refl
@@ -69,10 +69,10 @@ supplies_do_not_matter world other same first second name call keeps kept =
     let before : Renaming ℕ ℕ = record { there = same.there; back = same.back; there_back = same.there_back; back_there = same.back_there } in
     let joint : Renaming ℕ ℕ = joined first second before kept in
     let agrees : renamed joint.there joint.back world ≡ other =
-    agree (is_kept first) world before joint keeps (λ number is. shared_kept first second same.there number (kept_share (first.share number) is)) ∙ same.same in
+    agree (is_kept first) world before joint keeps (λ number is. allotted_kept first second same.there number (kept_lot (first.lot number) is)) ∙ same.same in
     let again : SameWorld world other =
     record { there = joint.there; back = joint.back; there_back = joint.there_back; back_there = joint.back_there; same = agrees } in
-    let supplied : (k : ℕ) → joint.there (first.new k) ≡ second.new k = λ k. shared_new first second same.there (first.new k) k (first.new_share k) in
+    let supplied : (k : ℕ) → joint.there (first.new k) ≡ second.new k = λ k. allotted_new first second same.there (first.new k) k (first.new_lot k) in
     let P : Fresh ℕ → Type 0 = λ new. ((policy nat_eq new other name call).answer ≡ (policy nat_eq first.new world name call).answer)
     × SameWorld (policy nat_eq first.new world name call).world (policy nat_eq new other name call).world in
     subst P (λ i k. supplied k i) (same_worlds_answer_alike world other again first.new name call)
@@ -95,9 +95,9 @@ module _ (blocks : ℕ) (grammar : Grammar) where
 
   -- A line that is handed some supply, and the same line in the renamed world that is handed the next row
   module _ (m : ℕ) (renaming : Renaming ℕ ℕ) (in_hand : ℕ → Bool) (world other : World ℕ) (same : renamed renaming.there renaming.back world ≡ other)
-      (early : (number : ℕ) → in_hand number ≡ true → row blocks (renaming.there number) ≤ m) (sharing : Sharing) (serves : ServesWithRoom in_hand world sharing) where
+      (early : (number : ℕ) → in_hand number ≡ true → row blocks (renaming.there number) ≤ m) (allotment : Allotment) (serves : ServesWithRoom in_hand world allotment) where
     is_kept_there : ℕ → Bool
-    is_kept_there number = is_kept sharing (renaming.back number)
+    is_kept_there number = is_kept allotment (renaming.back number)
 
     keeps_early : (number : ℕ) → is_kept_there number ≡ true → row blocks number ≤ m
     unfolding is_kept_there
@@ -106,30 +106,30 @@ module _ (blocks : ℕ) (grammar : Grammar) where
         let there : row blocks (renaming.there (renaming.back number)) ≡ row blocks number = ap (row blocks) (renaming.there_back number) in
         omega arith
 
-    next_row : Sharing
+    next_row : Allotment
     next_row = stage blocks m is_kept_there keeps_early
 
     next : Renaming ℕ ℕ
     unfolding is_kept_there next_row
-    next = joined sharing next_row renaming (λ number. stage_keeps blocks m is_kept_there keeps_early number)
+    next = joined allotment next_row renaming (λ number. stage_keeps blocks m is_kept_there keeps_early number)
 
-    next_kept : (number : ℕ) → is_kept sharing number ≡ true → next.there number ≡ renaming.there number
+    next_kept : (number : ℕ) → is_kept allotment number ≡ true → next.there number ≡ renaming.there number
     unfolding next joined
-    next_kept number is = shared_kept sharing next_row renaming.there number (kept_share (sharing.share number) is)
+    next_kept number is = allotted_kept allotment next_row renaming.there number (kept_lot (allotment.lot number) is)
 
-    next_new : (number k : ℕ) → sharing.share number ≡ New k → next.there number ≡ spread blocks (suc m) k
+    next_new : (number k : ℕ) → allotment.lot number ≡ New k → next.there number ≡ spread blocks (suc m) k
     unfolding next next_row joined
-    next_new number k e = shared_new sharing next_row renaming.there number k e ∙ stage_new blocks m is_kept_there keeps_early k
+    next_new number k e = allotted_new allotment next_row renaming.there number k e ∙ stage_new blocks m is_kept_there keeps_early k
 
     next_same : renamed next.there next.back world ≡ other
-    next_same = agree (is_kept sharing) world renaming next serves.keeps next_kept ∙ same
+    next_same = agree (is_kept allotment) world renaming next serves.keeps next_kept ∙ same
 
-    next_early : (number : ℕ) → is_in_hand sharing number ≡ true → row blocks (next.there number) ≤ suc m
-    next_early number = by (sharing.share number) refl
+    next_early : (number : ℕ) → is_in_hand allotment number ≡ true → row blocks (next.there number) ≤ suc m
+    next_early number = by (allotment.lot number) refl
       where
-        by : (share : Share) → sharing.share number ≡ share → is_in_hand_share share ≡ true → row blocks (next.there number) ≤ suc m
+        by : (lot : Lot) → allotment.lot number ≡ lot → is_in_hand_lot lot ≡ true → row blocks (next.there number) ≤ suc m
         by Kept e is =
-            let kept : is_kept sharing number ≡ true = ap is_kept_share e in
+            let kept : is_kept allotment number ≡ true = ap is_kept_lot e in
             let low = early number (serves.from_hand number kept) in
             let there : row blocks (next.there number) ≡ row blocks (renaming.there number) = ap (row blocks) (next_kept number kept) in
             omega arith
@@ -149,14 +149,14 @@ module _ (blocks : ℕ) (grammar : Grammar) where
       (λ number is. let low = early number is in omega arith) tells.0 tells.2 in
       tells.1 ∙ (λ i. refused_alike renaming grammar world other same line number i ++ rest i)
   texts_alike (line ∷ lines) (false ∷ refused) m number renaming in_hand world other same early text tells =
-      let sharing = tells.0 in
-      let joint = next m renaming in_hand world other same early sharing tells.1 in
-      let joint_same = next_same m renaming in_hand world other same early sharing tells.1 in
-      let supplied = λ (k : ℕ). next_new m renaming in_hand world other same early sharing tells.1 (sharing.new k) k (sharing.new_share k) in
-      let rest = texts_alike lines refused (suc m) (number + 1) joint (is_in_hand sharing) _ _
-      (line_leads joint grammar world other joint_same line sharing.new (spread blocks (suc m)) supplied)
-      (next_early m renaming in_hand world other same early sharing tells.1) tells.2 tells.4 in
-      tells.3 ∙ (λ i. line_alike joint grammar world other joint_same line sharing.new (spread blocks (suc m)) supplied number i ++ rest i)
+      let allotment = tells.0 in
+      let joint = next m renaming in_hand world other same early allotment tells.1 in
+      let joint_same = next_same m renaming in_hand world other same early allotment tells.1 in
+      let supplied = λ (k : ℕ). next_new m renaming in_hand world other same early allotment tells.1 (allotment.new k) k (allotment.new_lot k) in
+      let rest = texts_alike lines refused (suc m) (number + 1) joint (is_in_hand allotment) _ _
+      (line_leads joint grammar world other joint_same line allotment.new (spread blocks (suc m)) supplied)
+      (next_early m renaming in_hand world other same early allotment tells.1) tells.2 tells.4 in
+      tells.3 ∙ (λ i. line_alike joint grammar world other joint_same line allotment.new (spread blocks (suc m)) supplied number i ++ rest i)
 
   -- a line that was refused memory changes nothing
   refused_keeps : (in_hand : ℕ → Bool) (world : World ℕ) (line : List ℕ) → KeepsTo in_hand world → KeepsTo in_hand (step_world world (line_step nat_eq grammar world line None))
@@ -284,34 +284,34 @@ counted_text_is_the_text grammar refused script fews =
 
 -- Supplies with room serve, so each text that is told with them is told.
 pub room_serves : RoomServes
-room_serves in_hand world sharing serves = record {
-  unused = λ k. unused k (is_among nat_eq (sharing.new k) (numbers_in_use world)) refl;
-  apart = λ j k e. place_of (sharing.new_share j) (sharing.new_share k) (eqb-true (sharing.new j) (sharing.new k) e);
+room_serves in_hand world allotment serves = record {
+  unused = λ k. unused k (is_among nat_eq (allotment.new k) (numbers_in_use world)) refl;
+  apart = λ j k e. place_of (allotment.new_lot j) (allotment.new_lot k) (eqb-true (allotment.new j) (allotment.new k) e);
 }
   where
-    named : (k : ℕ) → is_kept sharing (sharing.new k) ≡ false
-    named k = ap is_kept_share (sharing.new_share k)
+    named : (k : ℕ) → is_kept allotment (allotment.new k) ≡ false
+    named k = ap is_kept_lot (allotment.new_lot k)
 
-    left : (k : ℕ) → is_kept sharing (sharing.left_over k) ≡ false
-    left k = ap is_kept_share (sharing.left_over_share k)
+    left : (k : ℕ) → is_kept allotment (allotment.left_over k) ≡ false
+    left k = ap is_kept_lot (allotment.left_over_lot k)
 
-    place_of : {j k a b : ℕ} → sharing.share a ≡ New j → sharing.share b ≡ New k → a ≡ b → j ≡ k
+    place_of : {j k a b : ℕ} → allotment.lot a ≡ New j → allotment.lot b ≡ New k → a ≡ b → j ≡ k
     place_of e h same = cc
 
-    left_place_of : {j k a b : ℕ} → sharing.share a ≡ LeftOver j → sharing.share b ≡ LeftOver k → a ≡ b → j ≡ k
+    left_place_of : {j k a b : ℕ} → allotment.lot a ≡ LeftOver j → allotment.lot b ≡ LeftOver k → a ≡ b → j ≡ k
     left_place_of e h same = cc
 
-    two : LeavesOutTwo (is_kept sharing)
+    two : LeavesOutTwo (is_kept allotment)
     two = (
-      sharing.left_over 0,
-      sharing.left_over 1,
-      (λ e. let same : 0 ≡ 1 = left_place_of (sharing.left_over_share 0) (sharing.left_over_share 1) e in absurd (omega arith)),
+      allotment.left_over 0,
+      allotment.left_over 1,
+      (λ e. let same : 0 ≡ 1 = left_place_of (allotment.left_over_lot 0) (allotment.left_over_lot 1) e in absurd (omega arith)),
       left 0,
       left 1,
     )
 
-    unused : (k : ℕ) (b : Bool) → is_among nat_eq (sharing.new k) (numbers_in_use world) ≡ b → is_among nat_eq (sharing.new k) (numbers_in_use world) ≡ false
-    unused k true e = absurd (true≢false (sym (used_numbers_are_named (is_kept sharing) world serves.keeps two (sharing.new k) e) ∙ named k))
+    unused : (k : ℕ) (b : Bool) → is_among nat_eq (allotment.new k) (numbers_in_use world) ≡ b → is_among nat_eq (allotment.new k) (numbers_in_use world) ≡ false
+    unused k true e = absurd (true≢false (sym (used_numbers_are_named (is_kept allotment) world serves.keeps two (allotment.new k) e) ∙ named k))
     unused k false e = e
 
 told_with_room : (grammar : Grammar) (lines : List (List ℕ)) (refused : List Bool) (in_hand : ℕ → Bool) (world : World ℕ) (number : ℕ) (text : List ℕ)

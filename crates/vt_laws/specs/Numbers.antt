@@ -230,54 +230,54 @@ CallsMakeNoOtherNumber =
 -- The text of a script is one, whatever unused numbers are handed in.
 
 -- What becomes of a number where a line is handed its new ones: it is kept, it is a new one, or it is left over.
-pub data Share : Type 0 where
-  Kept : Share
-  New : (place : ℕ) → Share
-  LeftOver : (place : ℕ) → Share
+pub data Lot : Type 0 where
+  Kept : Lot
+  New : (place : ℕ) → Lot
+  LeftOver : (place : ℕ) → Lot
 
 -- A supply with room: each number is kept, or it is one of the new ones, or it is left over for later; endless are new,
 -- and endless are left over.
-pub record Sharing : Type 0 where
-  pub share : ℕ → Share
+pub record Allotment : Type 0 where
+  pub lot : ℕ → Lot
   pub new : Fresh ℕ
   pub left_over : Fresh ℕ
-  pub new_share : (place : ℕ) → share (new place) ≡ New place
-  pub left_over_share : (place : ℕ) → share (left_over place) ≡ LeftOver place
-  pub share_new : (number place : ℕ) → share number ≡ New place → new place ≡ number
-  pub share_left_over : (number place : ℕ) → share number ≡ LeftOver place → left_over place ≡ number
+  pub new_lot : (place : ℕ) → lot (new place) ≡ New place
+  pub left_over_lot : (place : ℕ) → lot (left_over place) ≡ LeftOver place
+  pub lot_new : (number place : ℕ) → lot number ≡ New place → new place ≡ number
+  pub lot_left_over : (number place : ℕ) → lot number ≡ LeftOver place → left_over place ≡ number
 
-abbrev pub is_kept_share : Share → Bool
-is_kept_share Kept = true
-is_kept_share (New place) = false
-is_kept_share (LeftOver place) = false
+abbrev pub is_kept_lot : Lot → Bool
+is_kept_lot Kept = true
+is_kept_lot (New place) = false
+is_kept_lot (LeftOver place) = false
 
-abbrev pub is_in_hand_share : Share → Bool
-is_in_hand_share Kept = true
-is_in_hand_share (New place) = true
-is_in_hand_share (LeftOver place) = false
+abbrev pub is_in_hand_lot : Lot → Bool
+is_in_hand_lot Kept = true
+is_in_hand_lot (New place) = true
+is_in_hand_lot (LeftOver place) = false
 
 -- the numbers that are kept, and those that are in hand after the line: the kept and the new ones
-abbrev pub is_kept : Sharing → ℕ → Bool
-is_kept sharing number = is_kept_share (sharing.share number)
+abbrev pub is_kept : Allotment → ℕ → Bool
+is_kept allotment number = is_kept_lot (allotment.lot number)
 
-abbrev pub is_in_hand : Sharing → ℕ → Bool
-is_in_hand sharing number = is_in_hand_share (sharing.share number)
+abbrev pub is_in_hand : Allotment → ℕ → Bool
+is_in_hand allotment number = is_in_hand_lot (allotment.lot number)
 
 -- Which new numbers a call is handed does not matter: in two worlds that are the same but for their numbers, of which the
--- one keeps to what its sharing keeps, and the other's sharing keeps the same numbers renamed, a call is answered alike,
+-- one keeps to what its allotment keeps, and the other's allotment keeps the same numbers renamed, a call is answered alike,
 -- and leaves worlds that are the same but for their numbers.
 abbrev pub SuppliesDoNotMatter : Type 0
 SuppliesDoNotMatter =
-    (world other : World ℕ) (same : SameWorld world other) (first second : Sharing) (name : TaskName) (call : Call)
+    (world other : World ℕ) (same : SameWorld world other) (first second : Allotment) (name : TaskName) (call : Call)
     → KeepsTo (is_kept first) world → ((number : ℕ) → is_kept second number ≡ is_kept first (same.back number))
     → ((policy nat_eq second.new other name call).answer ≡ (policy nat_eq first.new world name call).answer)
     × SameWorld (policy nat_eq first.new world name call).world (policy nat_eq second.new other name call).world
 
 -- Of the numbers in hand some may be given back, if the world keeps to those that are kept. So a number is used again only
 -- where nothing has it any more.
-pub record ServesWithRoom (in_hand : ℕ → Bool) (world : World ℕ) (sharing : Sharing) : Type 0 where
-  pub from_hand : (number : ℕ) → is_kept sharing number ≡ true → in_hand number ≡ true
-  pub keeps : KeepsTo (is_kept sharing) world
+pub record ServesWithRoom (in_hand : ℕ → Bool) (world : World ℕ) (allotment : Allotment) : Type 0 where
+  pub from_hand : (number : ℕ) → is_kept allotment number ≡ true → in_hand number ≡ true
+  pub keeps : KeepsTo (is_kept allotment) world
 
 -- Which text may be written for these lines, of which the refused ones are given from the first line on: each line is
 -- handed a supply with room, of numbers that the world does not keep to.
@@ -288,9 +288,9 @@ TellsWithRoom grammar in_hand world number (line ∷ lines) (true ∷ refused) t
     (rest : List ℕ) × (text ≡ step_text number (line_step nat_eq grammar world line None) ++ rest)
     × TellsWithRoom grammar in_hand (step_world world (line_step nat_eq grammar world line None)) (number + 1) lines refused rest
 TellsWithRoom grammar in_hand world number (line ∷ lines) (false ∷ refused) text =
-    (sharing : Sharing) × ServesWithRoom in_hand world sharing
-    × (rest : List ℕ) × (text ≡ step_text number (line_step nat_eq grammar world line (Some sharing.new)) ++ rest)
-    × TellsWithRoom grammar (is_in_hand sharing) (step_world world (line_step nat_eq grammar world line (Some sharing.new)))
+    (allotment : Allotment) × ServesWithRoom in_hand world allotment
+    × (rest : List ℕ) × (text ≡ step_text number (line_step nat_eq grammar world line (Some allotment.new)) ++ rest)
+    × TellsWithRoom grammar (is_in_hand allotment) (step_world world (line_step nat_eq grammar world line (Some allotment.new)))
     (number + 1) lines refused rest
 
 -- the opening world has the first four numbers in hand
@@ -310,15 +310,15 @@ AnyTwoTextsAreOne =
 -- A world keeps to the numbers in hand, line after line: one who gives no number back need show nothing.
 abbrev pub WorldsKeepToHand : Type 0
 WorldsKeepToHand =
-    (grammar : Grammar) (in_hand : ℕ → Bool) (world : World ℕ) (sharing : Sharing) (line : List ℕ)
-    → ServesWithRoom in_hand world sharing
-    → KeepsTo (is_in_hand sharing) (step_world world (line_step nat_eq grammar world line (Some sharing.new)))
+    (grammar : Grammar) (in_hand : ℕ → Bool) (world : World ℕ) (allotment : Allotment) (line : List ℕ)
+    → ServesWithRoom in_hand world allotment
+    → KeepsTo (is_in_hand allotment) (step_world world (line_step nat_eq grammar world line (Some allotment.new)))
 
 -- A supply with room serves: none of its numbers is in use, and each is another one. So each such text is one that the
 -- definition of the machine allows.
 abbrev pub RoomServes : Type 0
 RoomServes =
-    (in_hand : ℕ → Bool) (world : World ℕ) (sharing : Sharing) → ServesWithRoom in_hand world sharing → Serves nat_eq world sharing.new
+    (in_hand : ℕ → Bool) (world : World ℕ) (allotment : Allotment) → ServesWithRoom in_hand world allotment → Serves nat_eq world allotment.new
 
 abbrev pub TextsAreTold : Type 0
 TextsAreTold =
