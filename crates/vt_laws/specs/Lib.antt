@@ -1,3 +1,4 @@
 pub mod Asked
 pub mod Denials
+pub mod Numbers
 pub mod RuleOrder

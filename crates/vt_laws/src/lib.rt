@@ -2,4 +2,5 @@
 #![tactic(auto)]
 
 pub mod denials;
+pub mod numbers;
 pub mod rules;

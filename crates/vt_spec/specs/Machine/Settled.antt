@@ -6,6 +6,7 @@ use Rattle.vt_spec.specs.Machine.FileTree.{FileTree, targets_in}
 use Rattle.vt_spec.specs.Machine.Lists.{holds_of, is_among}
 use Rattle.vt_spec.specs.Machine.Locked.{of_overlay}
 use Rattle.vt_spec.specs.Machine.Mounts.{Mount, root_of}
+use Rattle.vt_spec.specs.Machine.Receives.{has_members}
 use Rattle.vt_spec.specs.Machine.World.{Filesystem, Overlay, World, all_locations, is_overlay, layers_of, mount_at, upper_object, with_mounts}
 
 module _ {N : Type 0} where
@@ -97,5 +98,10 @@ module _ {N : Type 0} (eq : N → N → Bool) where
   without_dead_inodes world =
       without_dead_in (λ filesystem. not (is_overlay filesystem)) (without_dead_in is_overlay world)
 
+  -- a group goes with its last member, and what it heard from with it
+  abbrev pub without_dead_groups : World N → World N
+  without_dead_groups world =
+      record world { master = λ group. if has_members eq world.mounts group then world.master group else None }
+
   abbrev pub settled : World N → World N
-  settled world = without_dead_inodes (without_dead_filesystems (without_dead_mounts world))
+  settled world = without_dead_groups (without_dead_inodes (without_dead_filesystems (without_dead_mounts world)))

@@ -1,0 +1,52 @@
+-- Endless rows of numbers: each number stands at one place of one row.
+use Rattle.std.proofs.Common.{◌≡◌, refl, ap, ◌∙◌, ℕ, zero, suc, ◌+◌, ◌≤◌, arith}
+use Rattle.vt_laws.specs.Numbers.{number_in_row, numbers_before}
+
+next : ℕ → ℕ → ℕ × ℕ
+next a zero = (zero, suc a)
+next a (suc b) = (suc a, b)
+
+pub cell : ℕ → ℕ × ℕ
+cell zero = (zero, zero)
+cell (suc n) = next (cell n).0 (cell n).1
+
+number_in_row-next : (a b : ℕ) → number_in_row (next a b).0 (next a b).1 ≡ suc (number_in_row a b)
+unfolding next number_in_row numbers_before
+number_in_row-next a zero =
+    let long : 0 + suc a ≡ suc a = omega arith in
+    let short : a + 0 ≡ a = omega arith in
+    let first : numbers_before (0 + suc a) ≡ numbers_before a + suc a = ap numbers_before long in
+    let second : numbers_before (a + 0) ≡ numbers_before a = ap numbers_before short in
+    omega arith
+number_in_row-next a (suc b) =
+    let moved : suc a + b ≡ a + suc b = omega arith in
+    let same : numbers_before (suc a + b) ≡ numbers_before (a + suc b) = ap numbers_before moved in
+    omega arith
+
+pub number_in_row-cell : (n : ℕ) → number_in_row (cell n).0 (cell n).1 ≡ n
+unfolding cell number_in_row numbers_before
+number_in_row-cell zero = refl
+number_in_row-cell (suc n) = number_in_row-next (cell n).0 (cell n).1 ∙ ap suc (number_in_row-cell n)
+
+tri_large : (s : ℕ) → s ≤ numbers_before s
+unfolding numbers_before
+tri_large zero = omega arith
+tri_large (suc s) = let h = tri_large s in omega arith
+
+cell_at : (n a b : ℕ) → number_in_row a b ≡ n → cell n ≡ (a, b)
+unfolding cell next number_in_row numbers_before
+cell_at zero a b e =
+    let large = tri_large (a + b) in
+    let first : 0 ≡ a = omega arith in
+    let second : 0 ≡ b = omega arith in
+    λ i. (first i, second i)
+cell_at (suc n) zero zero e = absurd (omega (arith, e))
+cell_at (suc n) zero (suc b) e =
+    let before : number_in_row b 0 ≡ n = (let h = number_in_row-next b 0 in omega arith) in
+    ap (λ (c : ℕ × ℕ). next c.0 c.1) (cell_at n b 0 before)
+cell_at (suc n) (suc a) b e =
+    let before : number_in_row a (suc b) ≡ n = (let h = number_in_row-next a (suc b) in omega arith) in
+    ap (λ (c : ℕ × ℕ). next c.0 c.1) (cell_at n a (suc b) before)
+
+pub cell-number_in_row : (a b : ℕ) → cell (number_in_row a b) ≡ (a, b)
+cell-number_in_row a b = cell_at (number_in_row a b) a b refl
