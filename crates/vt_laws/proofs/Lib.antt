@@ -1,1 +1,4 @@
+pub mod Lists
+pub mod MountsPlaces
 pub mod Outcomes
+pub mod Receivers
