@@ -1,4 +1,9 @@
+pub mod Groups
 pub mod Lists
+pub mod MountsFound
+pub mod MountsGranted
 pub mod MountsPlaces
 pub mod Outcomes
 pub mod Receivers
+pub mod Unmounting
+pub mod UnmountingGoes

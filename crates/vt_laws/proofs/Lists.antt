@@ -1,7 +1,7 @@
 -- Lists and chains.
-use Rattle.std.proofs.Common.{◌≡◌, refl, sym, ap, subst, ◌∙◌, ◌⊎◌, inl, inr, ⊎_elim, ℕ, zero, suc, nat_eq, eqb-true, eq-eqb, Bool, true, false, cond, ◌||◌, List, [], ◌∷◌, filter, Option, Some, None, arith}
+use Rattle.std.proofs.Common.{◌≡◌, refl, sym, ap, subst, ◌∙◌, ◌⊎◌, inl, inr, ⊎_elim, ℕ, zero, suc, nat_eq, eqb-true, eq-eqb, Bool, true, false, cond, ◌||◌, List, [], ◌∷◌, filter, find, map, true≢false, Option, Some, None, arith}
 use Rattle.std.specs.Prelude.{All, Contains}
-use Rattle.std.specs.List.{list_all, list_any}
+use Rattle.std.specs.List.{cons_option, filter_map, list_all, list_any}
 use Rattle.std.proofs.lemmas.Bool.{and_parts, or_cases, or_parts}
 use Rattle.std.proofs.lemmas.List.Elements.{All-nil, All-cons, All-head, All-tail}
 use Rattle.vt_spec.specs.Machine.Lists.{chain, is_among, last_or}
@@ -71,7 +71,64 @@ module _ {A : Type 0} where
           (subst (Among x) (filter_here p y ys e) m)
       by false e next = let found : Among x ys × (p x ≡ true) = next (subst (Among x) (filter_skip p y ys e) m) in (inr found.0, found.1)
 
+module _ {A : Type 0} where
+  -- two tests that agree find the same
+  pub find_agrees : (p q : A → Bool) → ((x : A) → p x ≡ q x) → (xs : List A) → find p xs ≡ find q xs
+  find_agrees p q h [] = refl
+  find_agrees p q h (y ∷ ys) = ap (λ b. cond b (Some y) (find p ys)) (h y) ∙ ap (λ rest. cond (q y) (Some y) rest) (find_agrees p q h ys)
+
+  pub map_same : (f : A → A) (xs : List A) → ((x : A) → Among x xs → f x ≡ x) → map f xs ≡ xs
+  map_same f [] h = refl
+  map_same f (y ∷ ys) h = ap (λ x. x ∷ map f ys) (h y (inl refl)) ∙ ap (λ rest. y ∷ rest) (map_same f ys (λ x m. h x (inr m)))
+
+-- what a list is made of
+module _ {A B : Type 0} where
+  pub among-map : (f : A → B) (xs : List A) (x : A) → Among x xs → Among (f x) (map f xs)
+  among-map f [] x m = absurd m
+  among-map f (y ∷ ys) x m = ⊎_elim (λ e. inl (ap f e)) (λ l. inr (among-map f ys x l)) m
+
+  pub among-from_map : (f : A → B) (xs : List A) (b : B) → Among b (map f xs) → (x : A) × Among x xs × (b ≡ f x)
+  among-from_map f [] b m = absurd m
+  among-from_map f (y ∷ ys) b m =
+      ⊎_elim (λ e. (y, inl refl, e)) (λ l. let t : (x : A) × Among x ys × (b ≡ f x) = among-from_map f ys b l in (t.0, inr t.1, t.2)) m
+
+  pub among-filter_map : (h : A → Option B) (xs : List A) (x : A) (b : B) → Among x xs → h x ≡ Some b → Among b (filter_map h xs)
+  among-filter_map h [] x b m e = absurd m
+  among-filter_map h (y ∷ ys) x b m e =
+      ⊎_elim
+      (λ same. subst (λ o. Among b (cons_option o (filter_map h ys))) (sym (ap h (sym same) ∙ e)) (inl refl))
+      (λ l. later (h y) (among-filter_map h ys x b l e)) m
+    where
+      later : (o : Option B) → Among b (filter_map h ys) → Among b (cons_option o (filter_map h ys))
+      later None l = l
+      later (Some c) l = inr l
+
+  pub among-from_filter_map : (h : A → Option B) (xs : List A) (b : B) → Among b (filter_map h xs) → (x : A) × Among x xs × (h x ≡ Some b)
+  among-from_filter_map h [] b m = absurd m
+  among-from_filter_map h (y ∷ ys) b m = by (h y) refl m (among-from_filter_map h ys b)
+    where
+      by : (o : Option B) → h y ≡ o → Among b (cons_option o (filter_map h ys)) → (Among b (filter_map h ys) → (x : A) × Among x ys × (h x ≡ Some b)) → (x : A) × Among x (y ∷ ys) × (h x ≡ Some b)
+      by None e l next = let t : (x : A) × Among x ys × (h x ≡ Some b) = next l in (t.0, inr t.1, t.2)
+      by (Some c) e l next =
+          ⊎_elim (λ same. (y, inl refl, e ∙ ap Some (sym same)))
+          (λ later. let t : (x : A) × Among x ys × (h x ≡ Some b) = next later in (t.0, inr t.1, t.2)) l
+
 -- a number among numbers
+pub among_numbers : (numbers : List ℕ) (number : ℕ) → is_among nat_eq number numbers ≡ true → Among number numbers
+among_numbers [] number h = absurd (true≢false (sym h))
+among_numbers (first ∷ rest) number h = ⊎_elim (λ e. inl (eqb-true number first e)) (λ later. inr (among_numbers rest number later)) (or_cases (nat_eq number first) (is_among nat_eq number rest) h)
+
+pub is_among_numbers : (numbers : List ℕ) (number : ℕ) → Among number numbers → is_among nat_eq number numbers ≡ true
+is_among_numbers [] number m = absurd m
+is_among_numbers (first ∷ rest) number m = ⊎_elim (λ e. head_first first number rest e) (λ later. later_first (nat_eq number first) (is_among_numbers rest number later)) m
+  where
+    head_first : (other one : ℕ) (others : List ℕ) → one ≡ other → is_among nat_eq one (other ∷ others) ≡ true
+    head_first other one others e = ap (λ b. b || is_among nat_eq one others) (eq-eqb one other e)
+
+    later_first : (b : Bool) → is_among nat_eq number rest ≡ true → (b || is_among nat_eq number rest) ≡ true
+    later_first true e = refl
+    later_first false e = e
+
 pub head_among : (number other : ℕ) (rest : List ℕ) → number ≡ other → is_among nat_eq number (other ∷ rest) ≡ true
 head_among number other rest same = ap (λ b. b || is_among nat_eq number rest) (eq-eqb number other same)
 

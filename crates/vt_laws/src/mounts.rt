@@ -1,6 +1,7 @@
 //! Mounts: where they stand, who receives, and what mount calls change.
 ghost use Rattle.vt_laws.specs.Mounts.Places.{StandsAloneAtItsPlace};
 ghost use Rattle.vt_laws.specs.Mounts.Receivers.{ReceivesIsComputed, ReceiversReceive, ReceiversAreClosed, ReceiversAreLeast};
+ghost use Rattle.vt_laws.specs.Mounts.Unmounting.{WhatGoesIsNamed, UnmountKeepsTheOrder, WhatGoesIsDetached, WhatStaysKeeps, WhatStaysKeepsItsPlace, RootMountsStay, WhatCoveredFalls, WhatStaysKeepsItsType, SlavesAreInherited, GroupsKeepTheirMasters, UnmountIsOfMounts, UmountUnmounts};
 
 /// At most one mount stands at a place.
 pub fn one_mount_stands_at_a_place()
@@ -14,4 +15,25 @@ pub fn receivers_are_the_closure()
     ensures receivers { ReceiversReceive }
     ensures closed { ReceiversAreClosed }
     ensures least { ReceiversAreLeast }
+{}
+
+/// An unmount takes just the mounts that propagation names, and leaves all else of every other mount but its place, where
+/// that was on what goes, and its master, where that lost its last member.
+pub fn an_unmount_takes_just_what_propagation_names()
+    ensures named { WhatGoesIsNamed }
+    ensures order { UnmountKeepsTheOrder }
+    ensures gone { WhatGoesIsDetached }
+    ensures kept { WhatStaysKeeps }
+    ensures place { WhatStaysKeepsItsPlace }
+    ensures root_mounts { RootMountsStay }
+    ensures covered { WhatCoveredFalls }
+    ensures kind { WhatStaysKeepsItsType }
+    ensures slaves { SlavesAreInherited }
+    ensures masters { GroupsKeepTheirMasters }
+    ensures others { UnmountIsOfMounts }
+{}
+
+/// A granted call of umount is one unmount of the mount that its path leads to.
+pub fn umount_unmounts_the_mount_of_its_path()
+    ensures { UmountUnmounts }
 {}
