@@ -7,3 +7,4 @@ pub mod Outcomes
 pub mod Receivers
 pub mod Unmounting
 pub mod UnmountingGoes
+pub mod MountsLeft

@@ -13,12 +13,14 @@ use Rattle.vt_spec.specs.Machine.Outcomes.Answer.{Done}
 use Rattle.vt_spec.specs.Machine.Receives.{Receives, receivers}
 use Rattle.vt_spec.specs.Machine.Walk.{Here, directory_walk, walk_end}
 use Rattle.vt_spec.specs.Machine.World.{Task, World, mount_at, mount_numbered}
+use Rattle.vt_laws.specs.Mounts.FileCalls.{HasLiving}
 use Rattle.vt_laws.specs.Mounts.Receivers.{GroupsLive}
 use Rattle.vt_laws.specs.Mounts.Unmounting.{Goes, UmountUnmounts, WhatGoesIsNamed}
 use Rattle.vt_laws.specs.Mounts.Unmounting.Goes.{alone, at_receiver, from_nowhere}
 use Rattle.vt_laws.proofs.Lists.{Among, among-filter_map, among-from_filter_map, among-from_map, among-map, among_from_contains, among_numbers, contains_from_among, is_among_numbers}
-use Rattle.vt_laws.proofs.MountsGranted.{answered, judged_granted, settles, without_dead}
+use Rattle.vt_laws.proofs.MountsGranted.{answered, judged_granted, settles}
 use Rattle.vt_laws.proofs.Receivers.{receivers_receive}
+use Rattle.vt_spec.specs.Machine.Policy.{policy}
 
 -- one number alone
 only_one : (number one : ℕ) → Among number (one ∷ []) → number ≡ one
@@ -114,5 +116,6 @@ umount_granted world task path here ends e =
 
 pub umount_unmounts : UmountUnmounts
 umount_unmounts fresh world name task path here is ends e =
-    settles fresh world name task (Umount path) is Done refl e
-    ∙ ap without_dead (umount_granted world task path here ends (sym (answered fresh world name task (Umount path) is) ∙ e))
+    subst (λ left. HasLiving (policy nat_eq fresh world name (Umount path)).world left.mounts)
+    (umount_granted world task path here ends (sym (answered fresh world name task (Umount path) is) ∙ e))
+    (settles fresh world name task (Umount path) is Done refl e)

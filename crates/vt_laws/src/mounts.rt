@@ -1,4 +1,5 @@
 //! Mounts: where they stand, who receives, and what mount calls change.
+ghost use Rattle.vt_laws.specs.Mounts.FileCalls.{FileCallsLeaveMounts};
 ghost use Rattle.vt_laws.specs.Mounts.Places.{StandsAloneAtItsPlace};
 ghost use Rattle.vt_laws.specs.Mounts.Receivers.{ReceivesIsComputed, ReceiversReceive, ReceiversAreClosed, ReceiversAreLeast};
 ghost use Rattle.vt_laws.specs.Mounts.Unmounting.{WhatGoesIsNamed, UnmountKeepsTheOrder, WhatGoesIsDetached, WhatStaysKeeps, WhatStaysKeepsItsPlace, RootMountsStay, WhatCoveredFalls, WhatStaysKeepsItsType, SlavesAreInherited, GroupsKeepTheirMasters, UnmountIsOfMounts, UmountUnmounts};
@@ -36,4 +37,9 @@ pub fn an_unmount_takes_just_what_propagation_names()
 /// A granted call of umount is one unmount of the mount that its path leads to.
 pub fn umount_unmounts_the_mount_of_its_path()
     ensures { UmountUnmounts }
+{}
+
+/// A call that is no mount call, removes no directory and leaves no namespace leaves each mount the record that it had.
+pub fn calls_on_files_are_of_no_mount()
+    ensures { FileCallsLeaveMounts }
 {}

@@ -1,6 +1,6 @@
 -- An unmount takes just the mounts that propagation names: umount(2), and the kernel's document sharedsubtree, "Unmount
 -- semantics". Groups that lose their last member: mount_namespaces(7), and the profile.
-use Rattle.std.specs.Prelude.{Bool, Contains, List, None, Ok, Some, false, filter, find, map, true, ℕ, nat_eq, ◌↔◌, ◌≡◌}
+use Rattle.std.specs.Prelude.{Bool, Contains, List, None, Ok, Some, false, find, map, true, ℕ, nat_eq, ◌↔◌, ◌≡◌}
 use Rattle.std.specs.List.{list_all}
 use Rattle.vt_spec.specs.Machine.Calls.Call.{Umount}
 use Rattle.vt_spec.specs.Machine.Detach.{going, is_going, may_go, unmounted}
@@ -10,10 +10,10 @@ use Rattle.vt_spec.specs.Machine.Mounts.Propagation.{Private, Shared, Slave, Unb
 use Rattle.vt_spec.specs.Machine.Outcomes.Answer.{Done}
 use Rattle.vt_spec.specs.Machine.Policy.{policy}
 use Rattle.vt_spec.specs.Machine.Receives.{Receives, groups_up, has_members, slave_of_heir}
-use Rattle.vt_spec.specs.Machine.Settled.{mount_lives}
 use Rattle.vt_spec.specs.Machine.Walk.{Here, directory_walk, walk_end}
 use Rattle.vt_spec.specs.Machine.World.{Task, TaskName, World, mount_at, mount_numbered, task_called}
 use Rattle.vt_spec.specs.Machine.WorldLaws.{stands_in_its_namespace}
+use Rattle.vt_laws.specs.Mounts.FileCalls.{HasLiving}
 use Rattle.vt_laws.specs.Mounts.Receivers.{GroupsLive}
 
 -- What goes when a mount is unmounted. If the mount that it stands on is shared: what stands at the same inode of each mount that
@@ -134,5 +134,4 @@ UmountUnmounts =
     (fresh : Fresh ℕ) (world : World ℕ) (name : TaskName) (task : Task ℕ) (path : List ℕ) (here : Here ℕ)
     → task_called world name ≡ Some task → walk_end (directory_walk nat_eq world task path) ≡ Ok here
     → (policy nat_eq fresh world name (Umount path)).answer ≡ Ok Done
-    → (policy nat_eq fresh world name (Umount path)).world.mounts
-    ≡ filter (mount_lives nat_eq (unmounted nat_eq world here.location.mount)) (unmounted nat_eq world here.location.mount).mounts
+    → HasLiving (policy nat_eq fresh world name (Umount path)).world (unmounted nat_eq world here.location.mount).mounts
