@@ -1,10 +1,12 @@
 pub mod Groups
 pub mod Lists
+pub mod MountsAttached
 pub mod MountsFound
 pub mod MountsGranted
+pub mod MountsLeft
 pub mod MountsPlaces
+pub mod MountsReplaced
 pub mod Outcomes
 pub mod Receivers
 pub mod Unmounting
 pub mod UnmountingGoes
-pub mod MountsLeft

@@ -1,5 +1,5 @@
 -- Lists and chains.
-use Rattle.std.proofs.Common.{◌≡◌, refl, sym, ap, subst, ◌∙◌, ◌⊎◌, inl, inr, ⊎_elim, ℕ, zero, suc, nat_eq, eqb-true, eq-eqb, Bool, true, false, cond, ◌||◌, List, [], ◌∷◌, filter, find, map, true≢false, Option, Some, None, arith}
+use Rattle.std.proofs.Common.{◌≡◌, refl, sym, ap, subst, ◌∙◌, ◌⊎◌, inl, inr, ⊎_elim, ℕ, zero, suc, nat_eq, eqb-true, eq-eqb, Bool, true, false, cond, ◌||◌, List, [], ◌∷◌, filter, find, map, true≢false, Option, Some, None, arith, flat_map, ◌++◌}
 use Rattle.std.specs.Prelude.{All, Contains}
 use Rattle.std.specs.List.{cons_option, filter_map, list_all, list_any}
 use Rattle.std.proofs.lemmas.Bool.{and_parts, or_cases, or_parts}
@@ -112,6 +112,27 @@ module _ {A B : Type 0} where
       by (Some c) e l next =
           ⊎_elim (λ same. (y, inl refl, e ∙ ap Some (sym same)))
           (λ later. let t : (x : A) × Among x ys × (h x ≡ Some b) = next later in (t.0, inr t.1, t.2)) l
+
+module _ {A : Type 0} where
+  pub among-append : (xs ys : List A) (x : A) → Among x (xs ++ ys) → Among x xs ⊎ Among x ys
+  among-append [] ys x m = inr m
+  among-append (y ∷ xs) ys x m = ⊎_elim (λ e. inl (inl e)) (λ l. ⊎_elim (λ a. inl (inr a)) inr (among-append xs ys x l)) m
+
+  pub among-append_left : (xs ys : List A) (x : A) → Among x xs → Among x (xs ++ ys)
+  among-append_left [] ys x m = absurd m
+  among-append_left (y ∷ xs) ys x m = ⊎_elim inl (λ l. inr (among-append_left xs ys x l)) m
+
+  pub among-append_right : (xs ys : List A) (x : A) → Among x ys → Among x (xs ++ ys)
+  among-append_right [] ys x m = m
+  among-append_right (y ∷ xs) ys x m = inr (among-append_right xs ys x m)
+
+module _ {A B : Type 0} where
+  pub among-from_flat_map : (f : A → List B) (xs : List A) (b : B) → Among b (flat_map f xs) → (x : A) × Among x xs × Among b (f x)
+  among-from_flat_map f [] b m = absurd m
+  among-from_flat_map f (x ∷ xs) b m =
+      ⊎_elim (λ here. (x, inl refl, here))
+      (λ later. let t : (x : A) × Among x xs × Among b (f x) = among-from_flat_map f xs b later in (t.0, inr t.1, t.2))
+      (among-append (f x) (flat_map f xs) b m)
 
 -- a number among numbers
 pub among_numbers : (numbers : List ℕ) (number : ℕ) → is_among nat_eq number numbers ≡ true → Among number numbers

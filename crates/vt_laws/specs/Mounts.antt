@@ -1,3 +1,4 @@
+pub mod Attaching
 pub mod FileCalls
 pub mod Places
 pub mod Receivers

@@ -1,4 +1,5 @@
 //! Mounts: where they stand, who receives, and what mount calls change.
+ghost use Rattle.vt_laws.specs.Mounts.Attaching.{NewMountsFollow, AttachKeepsMounts, AttachLeavesMounts, MoveKeepsMounts, MoveLeavesMounts, MovedMountsShow};
 ghost use Rattle.vt_laws.specs.Mounts.FileCalls.{FileCallsLeaveMounts};
 ghost use Rattle.vt_laws.specs.Mounts.Places.{StandsAloneAtItsPlace};
 ghost use Rattle.vt_laws.specs.Mounts.Receivers.{ReceivesIsComputed, ReceiversReceive, ReceiversAreClosed, ReceiversAreLeast};
@@ -42,4 +43,20 @@ pub fn umount_unmounts_the_mount_of_its_path()
 /// A call that is no mount call, removes no directory and leaves no namespace leaves each mount the record that it had.
 pub fn calls_on_files_are_of_no_mount()
     ensures { FileCallsLeaveMounts }
+{}
+
+/// A bind or a new mount leaves each mount that was there all that it had, but for the place of one that stood at the place
+/// of a receiver. New mounts come last.
+pub fn a_bind_leaves_the_other_mounts()
+    ensures order { NewMountsFollow }
+    ensures kept { AttachKeepsMounts }
+    ensures left { AttachLeavesMounts }
+{}
+
+/// A move leaves each mount that does not move all that it had, but for the place of one that stood at the place of a
+/// receiver. What moves goes on showing what it showed.
+pub fn a_move_leaves_the_other_mounts()
+    ensures kept { MoveKeepsMounts }
+    ensures left { MoveLeavesMounts }
+    ensures moved { MovedMountsShow }
 {}
