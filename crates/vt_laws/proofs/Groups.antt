@@ -72,3 +72,11 @@ module _ (world : World ℕ) where
       by : (b : Bool) → (regrouped_by nat_eq b world).master group ≡ Some above
       by true = ap (heir nat_eq world) e ∙ find_start (has_members nat_eq world.mounts) world.master (length world.mounts) above f
       by false = e
+
+-- a group without members and without a master has no heir
+pub no_heir : (world : World ℕ) (group : ℕ) → world.master group ≡ None → has_members nat_eq world.mounts group ≡ false → heir nat_eq world (Some group) ≡ None
+no_heir world group above none = by (length world.mounts)
+  where
+    by : (n : ℕ) → find (has_members nat_eq world.mounts) (chain n world.master group) ≡ None
+    by zero = ap (λ b. cond b (Some group) None) none
+    by (suc n) = ap (find (has_members nat_eq world.mounts)) (chain_ends world.master n group above) ∙ ap (λ b. cond b (Some group) None) none

@@ -6,6 +6,7 @@ pub mod MountsGranted
 pub mod MountsLeft
 pub mod MountsPlaces
 pub mod MountsReplaced
+pub mod MountsRetyped
 pub mod Outcomes
 pub mod Receivers
 pub mod Unmounting

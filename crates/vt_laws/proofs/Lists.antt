@@ -114,6 +114,22 @@ module _ {A B : Type 0} where
           (λ later. let t : (x : A) × Among x ys × (h x ≡ Some b) = next later in (t.0, inr t.1, t.2)) l
 
 module _ {A : Type 0} where
+  pub any_among : (p : A → Bool) (xs : List A) → list_any p xs ≡ true → (x : A) × Among x xs × (p x ≡ true)
+  any_among p [] h = absurd (true≢false (sym h))
+  any_among p (y ∷ ys) h =
+      ⊎_elim (λ e. (y, inl refl, e))
+      (λ l. let t : (x : A) × Among x ys × (p x ≡ true) = any_among p ys l in (t.0, inr t.1, t.2))
+      (or_cases (p y) (list_any p ys) h)
+
+  pub any_from_among : (p : A → Bool) (xs : List A) (x : A) → Among x xs → p x ≡ true → list_any p xs ≡ true
+  any_from_among p [] x m e = absurd m
+  any_from_among p (y ∷ ys) x m e =
+      ⊎_elim (λ same. ap (λ b. b || list_any p ys) (ap p (sym same) ∙ e)) (λ l. later (p y) (any_from_among p ys x l e)) m
+    where
+      later : (b : Bool) → list_any p ys ≡ true → (b || list_any p ys) ≡ true
+      later true h = refl
+      later false h = h
+
   pub among-append : (xs ys : List A) (x : A) → Among x (xs ++ ys) → Among x xs ⊎ Among x ys
   among-append [] ys x m = inr m
   among-append (y ∷ xs) ys x m = ⊎_elim (λ e. inl (inl e)) (λ l. ⊎_elim (λ a. inl (inr a)) inr (among-append xs ys x l)) m

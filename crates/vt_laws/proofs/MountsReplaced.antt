@@ -4,7 +4,7 @@ use Rattle.vt_spec.specs.Machine.Mounts.{Mount, mount_in, no_mount, replaced_if_
 use Rattle.std.proofs.lemmas.Bool.Decides.{eqb_tells}
 use Rattle.vt_laws.proofs.MountsFound.{found-map, number_found, numbers-map}
 use Rattle.std.specs.Prelude.{if◌then◌else◌}
-use Rattle.vt_spec.specs.Machine.Lists.{is_among}
+use Rattle.vt_spec.specs.Machine.Lists.{is_among, any_pair}
 use Rattle.vt_laws.specs.Mounts.Attaching.{numbers_of, OneNumberAMount}
 use Rattle.std.proofs.lemmas.Bool.{or_parts}
 use Rattle.vt_laws.proofs.Lists.{Among, among-from_filter, among-from_flat_map, none_among}
@@ -120,3 +120,16 @@ tree_among (suc depth) mounts top mount m =
     let child : Among under.0 mounts × (stands_on nat_eq top.number under.0 ≡ true) = among-from_filter (stands_on nat_eq top.number) mounts under.0 under.1 in
     inr (⊎_elim (λ e. subst (λ x. Among x mounts) (sym e) child.0) (λ l. l) (tree_among depth mounts under.0 mount under.2)))
     m
+
+any_by_numbers : (number : ℕ) (mounts : List (Mount ℕ)) → list_any (λ (other : Mount ℕ). nat_eq number other.number) mounts ≡ list_any (nat_eq number) (numbers_of mounts)
+any_by_numbers number [] = refl
+any_by_numbers number (mount ∷ mounts) = ap (λ b. nat_eq number mount.number || b) (any_by_numbers number mounts)
+
+pair_by_numbers : (mounts : List (Mount ℕ)) → any_pair (λ (a b : Mount ℕ). nat_eq a.number b.number) mounts ≡ any_pair nat_eq (numbers_of mounts)
+pair_by_numbers [] = refl
+pair_by_numbers (mount ∷ mounts) =
+    ap (λ b. b || any_pair (λ (a b : Mount ℕ). nat_eq a.number b.number) mounts) (any_by_numbers mount.number mounts)
+    ∙ ap (λ b. list_any (nat_eq mount.number) (numbers_of mounts) || b) (pair_by_numbers mounts)
+
+pub one_number_by_numbers : (before later : List (Mount ℕ)) → numbers_of later ≡ numbers_of before → OneNumberAMount before → OneNumberAMount later
+one_number_by_numbers before later same e = pair_by_numbers later ∙ ap (any_pair nat_eq) same ∙ sym (pair_by_numbers before) ∙ e

@@ -1,4 +1,5 @@
 pub mod Attaching
+pub mod Changing
 pub mod FileCalls
 pub mod Places
 pub mod Receivers

@@ -1,5 +1,6 @@
 //! Mounts: where they stand, who receives, and what mount calls change.
 ghost use Rattle.vt_laws.specs.Mounts.Attaching.{NewMountsFollow, AttachKeepsMounts, AttachLeavesMounts, MoveKeepsMounts, MoveLeavesMounts, MovedMountsShow};
+ghost use Rattle.vt_laws.specs.Mounts.Changing.{FlagsAreSet, FlagsAreOfOne, TypeIsAllThatChanges, TypeIsOfTheNamed, TypeIsTaken, AloneIsPrivate, TypesAreOfMounts};
 ghost use Rattle.vt_laws.specs.Mounts.FileCalls.{FileCallsLeaveMounts};
 ghost use Rattle.vt_laws.specs.Mounts.Places.{StandsAloneAtItsPlace};
 ghost use Rattle.vt_laws.specs.Mounts.Receivers.{ReceivesIsComputed, ReceiversReceive, ReceiversAreClosed, ReceiversAreLeast};
@@ -59,4 +60,20 @@ pub fn a_move_leaves_the_other_mounts()
     ensures kept { MoveKeepsMounts }
     ensures left { MoveLeavesMounts }
     ensures moved { MovedMountsShow }
+{}
+
+/// A change of flags gives the named mount its flags, and leaves every other mount as it was.
+pub fn a_change_of_flags_is_of_one_mount()
+    ensures set { FlagsAreSet }
+    ensures others { FlagsAreOfOne }
+{}
+
+/// A change of type gives the named mount the type of the table, and leaves all but types as it was. Other mounts keep
+/// their types, but for slaves of a group that lost its last member.
+pub fn a_change_of_type_is_of_the_named_mounts()
+    ensures alone { TypeIsAllThatChanges }
+    ensures others { TypeIsOfTheNamed }
+    ensures taken { TypeIsTaken }
+    ensures last_member { AloneIsPrivate }
+    ensures rest { TypesAreOfMounts }
 {}
