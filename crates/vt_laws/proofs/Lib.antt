@@ -3,6 +3,7 @@ pub mod Lists
 pub mod MountsAttached
 pub mod MountsFound
 pub mod MountsGranted
+pub mod MountsKept
 pub mod MountsLeft
 pub mod MountsPlaces
 pub mod MountsReplaced
@@ -11,3 +12,4 @@ pub mod Outcomes
 pub mod Receivers
 pub mod Unmounting
 pub mod UnmountingGoes
+pub mod UnmountingPlaces

@@ -1,10 +1,10 @@
 -- Lists and chains.
-use Rattle.std.proofs.Common.{◌≡◌, refl, sym, ap, subst, ◌∙◌, ◌⊎◌, inl, inr, ⊎_elim, ℕ, zero, suc, nat_eq, eqb-true, eq-eqb, Bool, true, false, cond, ◌||◌, List, [], ◌∷◌, filter, find, map, true≢false, Option, Some, None, arith, flat_map, ◌++◌}
+use Rattle.std.proofs.Common.{◌≡◌, refl, sym, ap, subst, ◌∙◌, ◌⊎◌, inl, inr, ⊎_elim, ℕ, zero, suc, nat_eq, eqb-true, eq-eqb, Bool, true, false, cond, ◌||◌, List, [], ◌∷◌, filter, find, map, true≢false, Option, Some, None, arith, flat_map, ◌++◌, ◌&&◌}
 use Rattle.std.specs.Prelude.{All, Contains}
 use Rattle.std.specs.List.{cons_option, filter_map, list_all, list_any}
 use Rattle.std.proofs.lemmas.Bool.{and_parts, or_cases, or_parts}
 use Rattle.std.proofs.lemmas.List.Elements.{All-nil, All-cons, All-head, All-tail}
-use Rattle.vt_spec.specs.Machine.Lists.{chain, is_among, last_or}
+use Rattle.vt_spec.specs.Machine.Lists.{chain, is_among, last_or, any_pair}
 
 -- x stands in a list
 abbrev pub Among : {A : Type 0} → A → List A → Type 0
@@ -195,3 +195,56 @@ module _ {A : Type 0} (next : A → Option A) where
       by : (found : Option A) → next a ≡ found → last_or d (chain (suc n) next a) ≡ last_or a (chain (suc n) next a)
       by None e = ap (last_or d) (chain_ends n a e) ∙ sym (ap (last_or a) (chain_ends n a e))
       by (Some b) e = ap (last_or d) (chain_goes_on n a b e) ∙ sym (ap (last_or a) (chain_goes_on n a b e))
+
+-- Tests over lists that are changed
+module _ {A : Type 0} where
+  pub none-filter : (q p : A → Bool) (xs : List A) → list_any q xs ≡ false → list_any q (filter p xs) ≡ false
+  none-filter q p [] h = refl
+  none-filter q p (y ∷ ys) h = by (p y) refl (or_parts (q y) (list_any q ys) h).0 (none-filter q p ys (or_parts (q y) (list_any q ys) h).1)
+    where
+      by : (b : Bool) → p y ≡ b → q y ≡ false → list_any q (filter p ys) ≡ false → list_any q (filter p (y ∷ ys)) ≡ false
+      by true e here later = ap (list_any q) (filter_here p y ys e) ∙ ap (λ b. b || list_any q (filter p ys)) here ∙ later
+      by false e here later = ap (list_any q) (filter_skip p y ys e) ∙ later
+
+  pub pair-filter : (test : A → A → Bool) (p : A → Bool) (xs : List A) → any_pair test xs ≡ false → any_pair test (filter p xs) ≡ false
+  pair-filter test p [] h = refl
+  pair-filter test p (y ∷ ys) h = by (p y) refl (none-filter (test y) p ys (or_parts (list_any (test y) ys) (any_pair test ys) h).0) (pair-filter test p ys (or_parts (list_any (test y) ys) (any_pair test ys) h).1)
+    where
+      by : (b : Bool) → p y ≡ b → list_any (test y) (filter p ys) ≡ false → any_pair test (filter p ys) ≡ false → any_pair test (filter p (y ∷ ys)) ≡ false
+      by true e here later = ap (any_pair test) (filter_here p y ys e) ∙ ap (λ b. b || any_pair test (filter p ys)) here ∙ later
+      by false e here later = ap (any_pair test) (filter_skip p y ys e) ∙ later
+
+  pub all-filter : (q p : A → Bool) (xs : List A) → list_all q xs ≡ true → list_all q (filter p xs) ≡ true
+  all-filter q p [] h = refl
+  all-filter q p (y ∷ ys) h = by (p y) refl (and_parts (q y) (list_all q ys) h).0 (all-filter q p ys (and_parts (q y) (list_all q ys) h).1)
+    where
+      by : (b : Bool) → p y ≡ b → q y ≡ true → list_all q (filter p ys) ≡ true → list_all q (filter p (y ∷ ys)) ≡ true
+      by true e here later = ap (list_all q) (filter_here p y ys e) ∙ ap (λ b. b && list_all q (filter p ys)) here ∙ later
+      by false e here later = ap (list_all q) (filter_skip p y ys e) ∙ later
+
+  pub list_all_from_among : (q : A → Bool) (xs : List A) → ((x : A) → Among x xs → q x ≡ true) → list_all q xs ≡ true
+  list_all_from_among q [] h = refl
+  list_all_from_among q (y ∷ ys) h = ap (λ b. b && list_all q ys) (h y (inl refl)) ∙ list_all_from_among q ys (λ x m. h x (inr m))
+
+  pub none_from_among : (q : A → Bool) (xs : List A) → ((x : A) → Among x xs → q x ≡ false) → list_any q xs ≡ false
+  none_from_among q [] h = refl
+  none_from_among q (y ∷ ys) h = ap (λ b. b || list_any q ys) (h y (inl refl)) ∙ none_from_among q ys (λ x m. h x (inr m))
+
+module _ {A B : Type 0} where
+  pub all-map : (q : B → Bool) {p : A → Bool} (f : A → B) → ((x : A) → p x ≡ true → q (f x) ≡ true) → (xs : List A) → list_all p xs ≡ true → list_all q (map f xs) ≡ true
+  all-map q f h [] e = refl
+  all-map q {p = p} f h (y ∷ ys) e =
+      let parts : (p y ≡ true) × (list_all p ys ≡ true) = and_parts (p y) (list_all p ys) e in
+      ap (λ b. b && list_all q (map f ys)) (h y parts.0) ∙ all-map q f h ys parts.1
+
+  -- pairs that are changed
+  pub pair-map : (test : A → A → Bool) (later : B → B → Bool) (f : A → B) (xs : List A)
+      → ((a b : A) → Among a xs → Among b xs → test a b ≡ false → later (f a) (f b) ≡ false) → any_pair test xs ≡ false → any_pair later (map f xs) ≡ false
+  pair-map test later f [] h e = refl
+  pair-map test later f (y ∷ ys) h e =
+      let parts : (list_any (test y) ys ≡ false) × (any_pair test ys ≡ false) = or_parts (list_any (test y) ys) (any_pair test ys) e in
+      ap (λ b. b || any_pair later (map f ys))
+      (none_from_among (later (f y)) (map f ys) (λ b m.
+      let from = among-from_map f ys b m in
+      ap (later (f y)) from.2 ∙ h y from.0 (inl refl) (inr from.1) (none_among (test y) ys parts.0 from.0 from.1)))
+      ∙ pair-map test later f ys (λ a b m n. h a b (inr m) (inr n)) parts.1

@@ -55,3 +55,15 @@ pub stands_alone : StandsAloneAtItsPlace
 stands_alone mounts one =
     all_from_among (λ mount. (place : Location ℕ) → mount.place ≡ Some place → child_at nat_eq mounts place ≡ Some mount) mounts
     (λ mount m place e. found_at_its_place mounts one mount m place e)
+
+-- two that stand at one place have it
+pub place_of_both : (a b : Mount ℕ) → stand_at_one_place nat_eq a b ≡ true → (place : Location ℕ) × (a.place ≡ Some place) × (b.place ≡ Some place)
+place_of_both a b h = by a.place refl b.place refl h
+  where
+    by : (p : Option (Location ℕ)) → a.place ≡ p → (q : Option (Location ℕ)) → b.place ≡ q → stand_at_one_place nat_eq a b ≡ true → (place : Location ℕ) × (a.place ≡ Some place) × (b.place ≡ Some place)
+    by None e q f t = absurd (true≢false (sym t ∙ ap (λ p. is_some p && same_option (same_location nat_eq) p b.place) e))
+    by (Some p) e None f t =
+        absurd (true≢false (sym t ∙ ap (λ x. is_some x && same_option (same_location nat_eq) x b.place) e ∙ ap (same_option (same_location nat_eq) (Some p)) f))
+    by (Some p) e (Some q) f t =
+        let same : p ≡ q = same_location_is p q (sym (ap (λ x. is_some x && same_option (same_location nat_eq) x b.place) e ∙ ap (same_option (same_location nat_eq) (Some p)) f) ∙ t) in
+        (p, e, f ∙ ap Some (sym same))

@@ -288,3 +288,12 @@ alone_is_private world fresh number group there shared no_master none =
     either_none : (b : Bool) → world.master group ≡ None → (if b then None else world.master group) ≡ None
     either_none true e = refl
     either_none false e = e
+
+pub numbers_each : (fresh : Fresh ℕ) (word : TypeWord) (k : ℕ) (world : World ℕ) (mounts : List (Mount ℕ)) → numbers_of (retyped_each nat_eq fresh word k world mounts).mounts ≡ numbers_of world.mounts
+numbers_each fresh word k world [] = refl
+numbers_each fresh word k world (mount ∷ rest) =
+    numbers_each fresh word (k + 1) (next_world world (fresh k) word mount.number) rest ∙ numbers-retyped world (fresh k) word mount.number
+
+pub numbers_with_type : (world : World ℕ) (fresh : Fresh ℕ) (number : ℕ) (word : TypeWord) (recursive : Bool) → numbers_of (with_type nat_eq fresh world number word recursive).mounts ≡ numbers_of world.mounts
+numbers_with_type world fresh number word recursive =
+    ap (λ w. numbers_of w.mounts) (retyped_named world fresh number word recursive) ∙ numbers_each fresh word 0 world (named world number recursive)

@@ -26,9 +26,9 @@ use Rattle.vt_spec.specs.Machine.Policy.{policy}
 only_one : (number one : ℕ) → Among number (one ∷ []) → number ≡ one
 only_one number one m = ⊎_elim (λ e. e) (λ none. absurd none) m
 
-module _ (world : World ℕ) (live : GroupsLive world) (mount : Mount ℕ) where
+module _ (world : World ℕ) where
   -- what goes at a receiver
-  child_goes : (node : ℕ) (receiver child : Mount ℕ) → goes_at nat_eq world node receiver ≡ Some child
+  pub child_goes : (node : ℕ) (receiver child : Mount ℕ) → goes_at nat_eq world node receiver ≡ Some child
       → (child_at nat_eq world.mounts (record { mount = receiver.number; node = node }) ≡ Some child) × (may_go nat_eq world child ≡ true)
   child_goes node receiver child e = by (child_at nat_eq world.mounts (record { mount = receiver.number; node = node })) refl
     where
@@ -47,6 +47,7 @@ module _ (world : World ℕ) (live : GroupsLive world) (mount : Mount ℕ) where
       → goes_at nat_eq world node receiver ≡ Some child
   child_goes_so node receiver child f g = ap (λ o. then_some o (λ c. when (may_go nat_eq world c) c)) f ∙ ap (λ b. when b child) g
 
+module _ (world : World ℕ) (live : GroupsLive world) (mount : Mount ℕ) where
   receivers_of_shared : (parent : Mount ℕ) (group : ℕ) → parent.propagation ≡ Shared group → receivers_of nat_eq world parent ≡ receivers nat_eq world group
   receivers_of_shared parent group e = ap (λ kind. unwrap_or (option_map (receivers nat_eq world) (group_of kind)) []) e
 
@@ -67,7 +68,7 @@ module _ (world : World ℕ) (live : GroupsLive world) (mount : Mount ℕ) where
           let heard : (x : Mount ℕ) × Among x (receivers nat_eq world group) × (goes_at nat_eq world place.node x ≡ Some gone.0) =
           among-from_filter_map (goes_at nat_eq world place.node) (receivers nat_eq world group) gone.0 gone.1 in
           let child : (child_at nat_eq world.mounts (record { mount = heard.0.number; node = place.node }) ≡ Some gone.0) × (may_go nat_eq world gone.0 ≡ true) =
-          child_goes place.node heard.0 gone.0 heard.2 in
+          child_goes world place.node heard.0 gone.0 heard.2 in
           let hears : Contains world.mounts heard.0 × Receives world group heard.0 = (receivers_receive world group heard.0 live).0 (contains_from_among _ heard.0 heard.1) in
           subst (Goes world mount) (sym gone.2) (at_receiver place group heard.0 gone.0 e f hears.0 hears.1 child.0 child.1)
 
@@ -97,7 +98,7 @@ module _ (world : World ℕ) (live : GroupsLive world) (mount : Mount ℕ) where
       ∙ ap (λ rs. map (λ gone. gone.number) (filter_map (goes_at nat_eq world place.node) rs)) (receivers_of_shared (mount_at nat_eq world place) group f))
       ∙ is_among_numbers _ child.number
       (among-map (λ gone. gone.number) _ child
-      (among-filter_map (goes_at nat_eq world place.node) (receivers nat_eq world group) receiver child heard (child_goes_so place.node receiver child found may)))
+      (among-filter_map (goes_at nat_eq world place.node) (receivers nat_eq world group) receiver child heard (child_goes_so world place.node receiver child found may)))
 
 pub what_goes_is_named : WhatGoesIsNamed
 what_goes_is_named world one number live = (is_named world live (mount_numbered nat_eq world one) number, goes_so_named world live (mount_numbered nat_eq world one) number)

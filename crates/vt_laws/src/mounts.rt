@@ -1,6 +1,7 @@
 //! Mounts: where they stand, who receives, and what mount calls change.
 ghost use Rattle.vt_laws.specs.Mounts.Attaching.{NewMountsFollow, AttachKeepsMounts, AttachLeavesMounts, MoveKeepsMounts, MoveLeavesMounts, MovedMountsShow};
 ghost use Rattle.vt_laws.specs.Mounts.Changing.{FlagsAreSet, FlagsAreOfOne, TypeIsAllThatChanges, TypeIsOfTheNamed, TypeIsTaken, AloneIsPrivate, TypesAreOfMounts};
+ghost use Rattle.vt_laws.specs.Mounts.Conditions.{KeptByTakingAway, OneNumberEach, KeptByUnmount, KeptByEndedNamespaces, KeptByInheritance, KeptByType, KeptByFlags, KeptByPivot, KeptBySettling, NowhereOrAttached, UnmountLeavesOneMountAPlace};
 ghost use Rattle.vt_laws.specs.Mounts.FileCalls.{FileCallsLeaveMounts};
 ghost use Rattle.vt_laws.specs.Mounts.Places.{StandsAloneAtItsPlace};
 ghost use Rattle.vt_laws.specs.Mounts.Receivers.{ReceivesIsComputed, ReceiversReceive, ReceiversAreClosed, ReceiversAreLeast};
@@ -76,4 +77,30 @@ pub fn a_change_of_type_is_of_the_named_mounts()
     ensures taken { TypeIsTaken }
     ensures last_member { AloneIsPrivate }
     ensures rest { TypesAreOfMounts }
+{}
+
+/// Each mount has a number of its own: changes of mounts keep that.
+pub fn mounts_keep_numbers_of_their_own()
+    ensures taking_away { KeptByTakingAway OneNumberEach }
+    ensures unmount { KeptByUnmount OneNumberEach }
+    ensures ended { KeptByEndedNamespaces OneNumberEach }
+    ensures inheritance { KeptByInheritance OneNumberEach }
+    ensures types { KeptByType OneNumberEach }
+    ensures flags { KeptByFlags OneNumberEach }
+    ensures pivot { KeptByPivot OneNumberEach }
+    ensures settling { KeptBySettling OneNumberEach }
+{}
+
+/// A mount outside every namespace has no place and is private: changes of mounts keep that.
+pub fn mounts_outside_stay_nowhere()
+    ensures taking_away { KeptByTakingAway NowhereOrAttached }
+    ensures unmount { KeptByUnmount NowhereOrAttached }
+    ensures ended { KeptByEndedNamespaces NowhereOrAttached }
+    ensures inheritance { KeptByInheritance NowhereOrAttached }
+    ensures settling { KeptBySettling NowhereOrAttached }
+{}
+
+/// At most one mount stands at a place: changes of mounts keep that.
+pub fn places_keep_one_mount()
+    ensures { UnmountLeavesOneMountAPlace }
 {}
