@@ -1,6 +1,7 @@
 pub mod Groups
 pub mod Lists
 pub mod MountsAttached
+pub mod MountsCalls
 pub mod MountsFound
 pub mod MountsGranted
 pub mod MountsKept
@@ -11,5 +12,6 @@ pub mod MountsRetyped
 pub mod Outcomes
 pub mod Receivers
 pub mod Unmounting
+pub mod UnmountingEnds
 pub mod UnmountingGoes
 pub mod UnmountingPlaces

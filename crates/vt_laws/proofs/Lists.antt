@@ -206,6 +206,12 @@ module _ {A : Type 0} where
       by true e here later = ap (list_any q) (filter_here p y ys e) ∙ ap (λ b. b || list_any q (filter p ys)) here ∙ later
       by false e here later = ap (list_any q) (filter_skip p y ys e) ∙ later
 
+  pub filter_none : (p : A → Bool) (xs : List A) → list_any p xs ≡ false → filter p xs ≡ []
+  filter_none p [] h = refl
+  filter_none p (y ∷ ys) h =
+      let parts : (p y ≡ false) × (list_any p ys ≡ false) = or_parts (p y) (list_any p ys) h in
+      filter_skip p y ys parts.0 ∙ filter_none p ys parts.1
+
   pub pair-filter : (test : A → A → Bool) (p : A → Bool) (xs : List A) → any_pair test xs ≡ false → any_pair test (filter p xs) ≡ false
   pair-filter test p [] h = refl
   pair-filter test p (y ∷ ys) h = by (p y) refl (none-filter (test y) p ys (or_parts (list_any (test y) ys) (any_pair test ys) h).0) (pair-filter test p ys (or_parts (list_any (test y) ys) (any_pair test ys) h).1)

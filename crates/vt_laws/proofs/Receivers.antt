@@ -107,7 +107,7 @@ module _ (world : World ℕ) where
       by Private e = none (ap source_of e)
       by Unbindable e = none (ap source_of e)
 
-  receives_from_source : (group : ℕ) (mount : Mount ℕ) → source_of mount.propagation ≡ Some group → receives nat_eq world group mount ≡ true
+  pub receives_from_source : (group : ℕ) (mount : Mount ℕ) → source_of mount.propagation ≡ Some group → receives nat_eq world group mount ≡ true
   receives_from_source group mount e = receives_by_source group group mount e ∙ start_among world.master (length world.mounts) group
 
   receives_further_down : GroupsLive world → (group lower : ℕ) (mount : Mount ℕ) → Among mount world.mounts → world.master lower ≡ Some group

@@ -43,14 +43,14 @@ module _ (world : World ℕ) where
           let t : (found ≡ child) × (may_go nat_eq world child ≡ true) = may found (may_go nat_eq world found) refl (sym (ap (λ o. then_some o (λ c. when (may_go nat_eq world c) c)) f) ∙ e) in
           (f ∙ ap Some t.0, t.1)
 
-  child_goes_so : (node : ℕ) (receiver child : Mount ℕ) → child_at nat_eq world.mounts (record { mount = receiver.number; node = node }) ≡ Some child → may_go nat_eq world child ≡ true
+  pub child_goes_so : (node : ℕ) (receiver child : Mount ℕ) → child_at nat_eq world.mounts (record { mount = receiver.number; node = node }) ≡ Some child → may_go nat_eq world child ≡ true
       → goes_at nat_eq world node receiver ≡ Some child
   child_goes_so node receiver child f g = ap (λ o. then_some o (λ c. when (may_go nat_eq world c) c)) f ∙ ap (λ b. when b child) g
 
-module _ (world : World ℕ) (live : GroupsLive world) (mount : Mount ℕ) where
-  receivers_of_shared : (parent : Mount ℕ) (group : ℕ) → parent.propagation ≡ Shared group → receivers_of nat_eq world parent ≡ receivers nat_eq world group
+  pub receivers_of_shared : (parent : Mount ℕ) (group : ℕ) → parent.propagation ≡ Shared group → receivers_of nat_eq world parent ≡ receivers nat_eq world group
   receivers_of_shared parent group e = ap (λ kind. unwrap_or (option_map (receivers nat_eq world) (group_of kind)) []) e
 
+module _ (world : World ℕ) (live : GroupsLive world) (mount : Mount ℕ) where
   is_named : (number : ℕ) → is_going nat_eq (going nat_eq world mount) number ≡ true → Goes world mount number
   is_named number h = by mount.place refl
     where
@@ -76,7 +76,7 @@ module _ (world : World ℕ) (live : GroupsLive world) (mount : Mount ℕ) where
       at_place place e kind f = on kind f (listed (going_from nat_eq world mount place (is_shared kind)) (ap (going_at nat_eq world mount) e ∙ ap (λ k. going_from nat_eq world mount place (is_shared k)) f))
         where
           on : (k : Propagation ℕ) → (mount_at nat_eq world place).propagation ≡ k → Among number (going_from nat_eq world mount place (is_shared k)) → Goes world mount number
-          on (Shared group) g m = shared place group e g (subst (λ rs. Among number (map (λ gone. gone.number) (filter_map (goes_at nat_eq world place.node) rs))) (receivers_of_shared (mount_at nat_eq world place) group g) m)
+          on (Shared group) g m = shared place group e g (subst (λ rs. Among number (map (λ gone. gone.number) (filter_map (goes_at nat_eq world place.node) rs))) (receivers_of_shared world (mount_at nat_eq world place) group g) m)
           on (Slave above) g m = itself (alone place e (ap is_shared g)) m
           on Private g m = itself (alone place e (ap is_shared g)) m
           on Unbindable g m = itself (alone place e (ap is_shared g)) m
@@ -95,7 +95,7 @@ module _ (world : World ℕ) (live : GroupsLive world) (mount : Mount ℕ) where
       ap (λ ns. is_going nat_eq ns child.number)
       (ap (going_at nat_eq world mount) e
       ∙ ap (λ k. going_from nat_eq world mount place (is_shared k)) f
-      ∙ ap (λ rs. map (λ gone. gone.number) (filter_map (goes_at nat_eq world place.node) rs)) (receivers_of_shared (mount_at nat_eq world place) group f))
+      ∙ ap (λ rs. map (λ gone. gone.number) (filter_map (goes_at nat_eq world place.node) rs)) (receivers_of_shared world (mount_at nat_eq world place) group f))
       ∙ is_among_numbers _ child.number
       (among-map (λ gone. gone.number) _ child
       (among-filter_map (goes_at nat_eq world place.node) (receivers nat_eq world group) receiver child heard (child_goes_so world place.node receiver child found may)))

@@ -2,7 +2,9 @@
 ghost use Rattle.vt_laws.specs.Mounts.Attaching.{NewMountsFollow, AttachKeepsMounts, AttachLeavesMounts, MoveKeepsMounts, MoveLeavesMounts, MovedMountsShow};
 ghost use Rattle.vt_laws.specs.Mounts.Changing.{FlagsAreSet, FlagsAreOfOne, TypeIsAllThatChanges, TypeIsOfTheNamed, TypeIsTaken, AloneIsPrivate, TypesAreOfMounts};
 ghost use Rattle.vt_laws.specs.Mounts.Conditions.{KeptByTakingAway, OneNumberEach, KeptByUnmount, KeptByEndedNamespaces, KeptByInheritance, KeptByType, KeptByFlags, KeptByPivot, KeptBySettling, NowhereOrAttached, UnmountLeavesOneMountAPlace};
+ghost use Rattle.vt_laws.specs.Mounts.Ends.{TheMountItselfGoes, TakenAreDetached, OthersAreKept, OthersKeepTheirPlaces, OthersKeepTheirTypes, LazyDetachesOrKeeps, LazyIsOfMounts};
 ghost use Rattle.vt_laws.specs.Mounts.FileCalls.{FileCallsLeaveMounts};
+ghost use Rattle.vt_laws.specs.Mounts.Granted.{BindBinds, MoveMoves, MountMounts, OverlayMounts, LazyUnmounts, RemountSetsFlags, TypeIsSet, PivotPivots, RmdirTakesMounts, ExitEnds, UnshareCopies, SetnsEnters};
 ghost use Rattle.vt_laws.specs.Mounts.Places.{StandsAloneAtItsPlace};
 ghost use Rattle.vt_laws.specs.Mounts.Receivers.{ReceivesIsComputed, ReceiversReceive, ReceiversAreClosed, ReceiversAreLeast};
 ghost use Rattle.vt_laws.specs.Mounts.Unmounting.{WhatGoesIsNamed, UnmountKeepsTheOrder, WhatGoesIsDetached, WhatStaysKeeps, WhatStaysKeepsItsPlace, RootMountsStay, WhatCoveredFalls, WhatStaysKeepsItsType, SlavesAreInherited, GroupsKeepTheirMasters, UnmountIsOfMounts, UmountUnmounts};
@@ -34,6 +36,7 @@ pub fn an_unmount_takes_just_what_propagation_names()
     ensures kind { WhatStaysKeepsItsType }
     ensures slaves { SlavesAreInherited }
     ensures masters { GroupsKeepTheirMasters }
+    ensures itself { TheMountItselfGoes }
     ensures others { UnmountIsOfMounts }
 {}
 
@@ -103,4 +106,35 @@ pub fn mounts_outside_stay_nowhere()
 /// At most one mount stands at a place: changes of mounts keep that.
 pub fn places_keep_one_mount()
     ensures { UnmountLeavesOneMountAPlace }
+{}
+
+/// Mounts that end without propagation, with a directory or a namespace, are just those: every other mount keeps all but
+/// its place, where that was on one of them, and its master, where that lost its last member.
+pub fn mounts_that_end_are_just_those()
+    ensures taken { TakenAreDetached }
+    ensures kept { OthersAreKept }
+    ensures places { OthersKeepTheirPlaces }
+    ensures types { OthersKeepTheirTypes }
+{}
+
+/// A lazy unmount detaches a mount, or leaves it all but its place and its type.
+pub fn a_lazy_unmount_detaches_or_keeps()
+    ensures mounts { LazyDetachesOrKeeps }
+    ensures others { LazyIsOfMounts }
+{}
+
+/// What a granted call makes of the mounts. Then those are gone that nothing uses.
+pub fn granted_calls_make_these_changes()
+    ensures bind { BindBinds }
+    ensures moves { MoveMoves }
+    ensures mount { MountMounts }
+    ensures overlay { OverlayMounts }
+    ensures lazy { LazyUnmounts }
+    ensures remount { RemountSetsFlags }
+    ensures kind { TypeIsSet }
+    ensures pivot { PivotPivots }
+    ensures rmdir { RmdirTakesMounts }
+    ensures exit { ExitEnds }
+    ensures unshare { UnshareCopies }
+    ensures setns { SetnsEnters }
 {}

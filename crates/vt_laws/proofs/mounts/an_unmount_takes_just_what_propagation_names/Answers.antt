@@ -1,4 +1,5 @@
 use Rattle.vt_laws.proofs.Unmounting.{groups_keep_their_masters, root_mounts_stay, slaves_are_inherited, unmount_is_of_mounts, unmount_keeps_the_order, what_covered_falls, what_goes_is_detached, what_stays_keeps, what_stays_keeps_its_place, what_stays_keeps_its_type}
+use Rattle.vt_laws.proofs.UnmountingEnds.{the_mount_itself_goes}
 use Rattle.vt_laws.proofs.UnmountingGoes.{what_goes_is_named}
 use Rattle.vt_laws.proofs.mounts.an_unmount_takes_just_what_propagation_names.Goals as goal
 
@@ -31,6 +32,9 @@ returns-clause-slaves c = slaves_are_inherited
 
 pub returns-clause-masters : goal.returns-clause-masters
 returns-clause-masters c = groups_keep_their_masters
+
+pub returns-clause-itself : goal.returns-clause-itself
+returns-clause-itself c = the_mount_itself_goes
 
 pub returns-clause-others : goal.returns-clause-others
 returns-clause-others c = unmount_is_of_mounts
