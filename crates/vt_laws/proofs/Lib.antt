@@ -1,4 +1,7 @@
 pub mod Groups
+pub mod GroupsKept
+pub mod GroupsRetyped
+pub mod GroupsUp
 pub mod Lists
 pub mod MountsAttached
 pub mod MountsCalls

@@ -143,6 +143,11 @@ module _ {A : Type 0} where
   among-append_right (y ∷ xs) ys x m = inr (among-append_right xs ys x m)
 
 module _ {A B : Type 0} where
+  pub among-flat_map : (f : A → List B) (xs : List A) (x : A) (b : B) → Among x xs → Among b (f x) → Among b (flat_map f xs)
+  among-flat_map f [] x b m n = absurd m
+  among-flat_map f (y ∷ ys) x b m n =
+      ⊎_elim (λ e. among-append_left (f y) (flat_map f ys) b (subst (λ z. Among b (f z)) e n)) (λ l. among-append_right (f y) (flat_map f ys) b (among-flat_map f ys x b l n)) m
+
   pub among-from_flat_map : (f : A → List B) (xs : List A) (b : B) → Among b (flat_map f xs) → (x : A) × Among x xs × Among b (f x)
   among-from_flat_map f [] b m = absurd m
   among-from_flat_map f (x ∷ xs) b m =

@@ -242,7 +242,7 @@ unnamed_keeps fresh word other kind k world (mount ∷ rest) one_each unnamed is
     has later
 
 -- The laws
-retyped_named : (world : World ℕ) (fresh : Fresh ℕ) (number : ℕ) (word : TypeWord) (recursive : Bool) → with_type nat_eq fresh world number word recursive ≡ retyped_each nat_eq fresh word 0 world (named world number recursive)
+pub retyped_named : (world : World ℕ) (fresh : Fresh ℕ) (number : ℕ) (word : TypeWord) (recursive : Bool) → with_type nat_eq fresh world number word recursive ≡ retyped_each nat_eq fresh word 0 world (named world number recursive)
 retyped_named world fresh number word true = refl
 retyped_named world fresh number word false = refl
 

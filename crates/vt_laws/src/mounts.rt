@@ -1,12 +1,12 @@
 //! Mounts: where they stand, who receives, and what mount calls change.
 ghost use Rattle.vt_laws.specs.Mounts.Attaching.{NewMountsFollow, AttachKeepsMounts, AttachLeavesMounts, MoveKeepsMounts, MoveLeavesMounts, MovedMountsShow};
 ghost use Rattle.vt_laws.specs.Mounts.Changing.{FlagsAreSet, FlagsAreOfOne, TypeIsAllThatChanges, TypeIsOfTheNamed, TypeIsTaken, AloneIsPrivate, TypesAreOfMounts};
-ghost use Rattle.vt_laws.specs.Mounts.Conditions.{KeptByTakingAway, OneNumberEach, KeptByUnmount, KeptByEndedNamespaces, KeptByInheritance, KeptByType, KeptByFlags, KeptByPivot, KeptBySettling, NowhereOrAttached, UnmountLeavesOneMountAPlace};
+ghost use Rattle.vt_laws.specs.Mounts.Conditions.{KeptByTakingAway, OneNumberEach, KeptByUnmount, KeptByEndedNamespaces, KeptByInheritance, KeptByType, KeptByFlags, KeptByPivot, KeptBySettling, NowhereOrAttached, UnmountLeavesOneMountAPlace, KeptByLazyUnmount, TypeKeepsGroups, FlagsKeepGroups, KeptByUnshare, SettlingKeepsGroups};
 ghost use Rattle.vt_laws.specs.Mounts.Ends.{TheMountItselfGoes, TakenAreDetached, OthersAreKept, OthersKeepTheirPlaces, OthersKeepTheirTypes, LazyDetachesOrKeeps, LazyIsOfMounts};
 ghost use Rattle.vt_laws.specs.Mounts.FileCalls.{FileCallsLeaveMounts};
 ghost use Rattle.vt_laws.specs.Mounts.Granted.{BindBinds, MoveMoves, MountMounts, OverlayMounts, LazyUnmounts, RemountSetsFlags, TypeIsSet, PivotPivots, RmdirTakesMounts, ExitEnds, UnshareCopies, SetnsEnters};
 ghost use Rattle.vt_laws.specs.Mounts.Places.{StandsAloneAtItsPlace};
-ghost use Rattle.vt_laws.specs.Mounts.Receivers.{ReceivesIsComputed, ReceiversReceive, ReceiversAreClosed, ReceiversAreLeast};
+ghost use Rattle.vt_laws.specs.Mounts.Receivers.{ReceivesIsComputed, ReceiversReceive, ReceiversAreClosed, ReceiversAreLeast, GroupsLive};
 ghost use Rattle.vt_laws.specs.Mounts.Unmounting.{WhatGoesIsNamed, UnmountKeepsTheOrder, WhatGoesIsDetached, WhatStaysKeeps, WhatStaysKeepsItsPlace, RootMountsStay, WhatCoveredFalls, WhatStaysKeepsItsType, SlavesAreInherited, GroupsKeepTheirMasters, UnmountIsOfMounts, UmountUnmounts};
 
 /// At most one mount stands at a place.
@@ -137,4 +137,19 @@ pub fn granted_calls_make_these_changes()
     ensures exit { ExitEnds }
     ensures unshare { UnshareCopies }
     ensures setns { SetnsEnters }
+{}
+
+/// The group or master of each mount has members, and so has each group up the masters, which come to an end: changes of
+/// mounts keep that.
+pub fn groups_live_on()
+    ensures taking_away { KeptByTakingAway GroupsLive }
+    ensures unmount { KeptByUnmount GroupsLive }
+    ensures lazy { KeptByLazyUnmount GroupsLive }
+    ensures ended { KeptByEndedNamespaces GroupsLive }
+    ensures inheritance { KeptByInheritance GroupsLive }
+    ensures types { TypeKeepsGroups }
+    ensures flags { FlagsKeepGroups }
+    ensures pivot { KeptByPivot GroupsLive }
+    ensures unshare { KeptByUnshare GroupsLive }
+    ensures settling { SettlingKeepsGroups }
 {}

@@ -2,18 +2,20 @@
 use Rattle.std.specs.Prelude.{Bool, List, false, true, ℕ, nat_eq, ◌≡◌}
 use Rattle.std.specs.List.{list_all}
 use Rattle.vt_spec.specs.Machine.Calls.{TypeWord}
-use Rattle.vt_spec.specs.Machine.Detach.{has_child, taken_away, trees_taken_away, unmounted}
+use Rattle.vt_spec.specs.Machine.Detach.{has_child, taken_away, trees_taken_away, unmounted, lazily_unmounted}
 use Rattle.vt_spec.specs.Machine.Lists.{Fresh}
 use Rattle.vt_spec.specs.Machine.Mounts.{Location, Mount, MountFlags}
-use Rattle.vt_spec.specs.Machine.Namespaces.{namespaces_ended, pivoted}
+use Rattle.vt_spec.specs.Machine.Namespaces.{namespaces_ended, pivoted, unshared}
 use Rattle.vt_spec.specs.Machine.Outcome.Mounting.{with_flags}
 use Rattle.vt_spec.specs.Machine.Receives.{regrouped}
 use Rattle.vt_spec.specs.Machine.Settled.{settled}
 use Rattle.vt_spec.specs.Machine.Types.{with_type}
-use Rattle.vt_spec.specs.Machine.World.{World}
+use Rattle.vt_spec.specs.Machine.World.{World, Task}
 use Rattle.vt_spec.specs.Machine.WorldLaws.{is_nowhere_or_attached}
 use Rattle.vt_laws.specs.Mounts.Attaching.{OneNumberAMount}
 use Rattle.vt_laws.specs.Mounts.Places.{OneMountAPlace}
+use Rattle.vt_laws.specs.Mounts.Receivers.{GroupsLive}
+use Rattle.vt_spec.specs.Machine.Run.{Serves}
 
 -- The conditions
 
@@ -80,3 +82,26 @@ UnmountLeavesOneMountAPlace =
 abbrev pub TreesLeaveOneMountAPlace : Type 0
 TreesLeaveOneMountAPlace =
     (world : World ℕ) (mounts : List (Mount ℕ)) → AreApart world → AreApart (trees_taken_away nat_eq world mounts)
+
+-- a lazy unmount: umount(2) with MNT_DETACH
+abbrev pub KeptByLazyUnmount : (World ℕ → Type 0) → Type 0
+KeptByLazyUnmount Condition = (world : World ℕ) (one : ℕ) → Condition world → Condition (lazily_unmounted nat_eq world one)
+
+-- a copy of a namespace: unshare(2)
+abbrev pub KeptByUnshare : (World ℕ → Type 0) → Type 0
+KeptByUnshare Condition = (world : World ℕ) (fresh : Fresh ℕ) (task : Task ℕ) → Condition world → Condition (unshared nat_eq world fresh task)
+
+-- What nothing uses is in no group, so groups do not end with it.
+abbrev pub SettlingKeepsGroups : Type 0
+SettlingKeepsGroups = (world : World ℕ) → NowhereOrAttached world → GroupsLive world → GroupsLive (settled nat_eq world)
+
+-- Groups live on through a change of type whose new groups are not in use.
+abbrev pub TypeKeepsGroups : Type 0
+TypeKeepsGroups =
+    (world : World ℕ) (fresh : Fresh ℕ) (one : ℕ) (word : TypeWord) (recursive : Bool) → Serves nat_eq world fresh → GroupsLive world
+    → GroupsLive (with_type nat_eq fresh world one word recursive)
+
+-- and through a change of flags.
+abbrev pub FlagsKeepGroups : Type 0
+FlagsKeepGroups =
+    (world : World ℕ) (here : Location ℕ) (flags : MountFlags) → OneNumberEach world → GroupsLive world → GroupsLive (with_flags nat_eq world here flags)
