@@ -3,6 +3,7 @@ pub mod GroupsKept
 pub mod GroupsRetyped
 pub mod GroupsUp
 pub mod Lists
+pub mod MountsApart
 pub mod MountsAttached
 pub mod MountsCalls
 pub mod MountsFound
@@ -18,3 +19,4 @@ pub mod Unmounting
 pub mod UnmountingEnds
 pub mod UnmountingGoes
 pub mod UnmountingPlaces
+pub mod UnmountingTrees

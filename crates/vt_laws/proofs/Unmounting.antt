@@ -72,7 +72,7 @@ module _ (world : World ℕ) (gone : List ℕ) where
   abbrev down : Location ℕ → Option (Location ℕ)
   down place = (mount_at nat_eq world place).place
 
-  left_at_rest : (n : ℕ) (place : Location ℕ) → is_going nat_eq gone place.mount ≡ false → last_or place (chain n (place_below nat_eq world gone) place) ≡ place
+  pub left_at_rest : (n : ℕ) (place : Location ℕ) → is_going nat_eq gone place.mount ≡ false → last_or place (chain n (place_below nat_eq world gone) place) ≡ place
   left_at_rest zero place e = refl
   left_at_rest (suc n) place e = ap (last_or place) (chain_ends (place_below nat_eq world gone) n place (ap (λ b. if b then down place else None) e))
 

@@ -1,7 +1,7 @@
 //! Mounts: where they stand, who receives, and what mount calls change.
 ghost use Rattle.vt_laws.specs.Mounts.Attaching.{NewMountsFollow, AttachKeepsMounts, AttachLeavesMounts, MoveKeepsMounts, MoveLeavesMounts, MovedMountsShow};
 ghost use Rattle.vt_laws.specs.Mounts.Changing.{FlagsAreSet, FlagsAreOfOne, TypeIsAllThatChanges, TypeIsOfTheNamed, TypeIsTaken, AloneIsPrivate, TypesAreOfMounts};
-ghost use Rattle.vt_laws.specs.Mounts.Conditions.{KeptByTakingAway, OneNumberEach, KeptByUnmount, KeptByEndedNamespaces, KeptByInheritance, KeptByType, KeptByFlags, KeptByPivot, KeptBySettling, NowhereOrAttached, UnmountLeavesOneMountAPlace, KeptByLazyUnmount, TypeKeepsGroups, FlagsKeepGroups, KeptByUnshare, SettlingKeepsGroups};
+ghost use Rattle.vt_laws.specs.Mounts.Conditions.{KeptByTakingAway, OneNumberEach, KeptByUnmount, KeptByEndedNamespaces, KeptByInheritance, KeptByType, KeptByFlags, KeptByPivot, KeptByLazyUnmount, KeptBySettling, NowhereOrAttached, UnmountLeavesOneMountAPlace, TreesLeaveOneMountAPlace, AreApart, TypeKeepsGroups, FlagsKeepGroups, KeptByUnshare, SettlingKeepsGroups};
 ghost use Rattle.vt_laws.specs.Mounts.Ends.{TheMountItselfGoes, TakenAreDetached, OthersAreKept, OthersKeepTheirPlaces, OthersKeepTheirTypes, LazyDetachesOrKeeps, LazyIsOfMounts};
 ghost use Rattle.vt_laws.specs.Mounts.FileCalls.{FileCallsLeaveMounts};
 ghost use Rattle.vt_laws.specs.Mounts.Granted.{BindBinds, MoveMoves, MountMounts, OverlayMounts, LazyUnmounts, RemountSetsFlags, TypeIsSet, PivotPivots, RmdirTakesMounts, ExitEnds, UnshareCopies, SetnsEnters};
@@ -91,6 +91,7 @@ pub fn mounts_keep_numbers_of_their_own()
     ensures types { KeptByType OneNumberEach }
     ensures flags { KeptByFlags OneNumberEach }
     ensures pivot { KeptByPivot OneNumberEach }
+    ensures lazy { KeptByLazyUnmount OneNumberEach }
     ensures settling { KeptBySettling OneNumberEach }
 {}
 
@@ -100,12 +101,18 @@ pub fn mounts_outside_stay_nowhere()
     ensures unmount { KeptByUnmount NowhereOrAttached }
     ensures ended { KeptByEndedNamespaces NowhereOrAttached }
     ensures inheritance { KeptByInheritance NowhereOrAttached }
+    ensures lazy { KeptByLazyUnmount NowhereOrAttached }
     ensures settling { KeptBySettling NowhereOrAttached }
 {}
 
 /// At most one mount stands at a place: changes of mounts keep that.
 pub fn places_keep_one_mount()
-    ensures { UnmountLeavesOneMountAPlace }
+    ensures unmount { UnmountLeavesOneMountAPlace }
+    ensures trees { TreesLeaveOneMountAPlace }
+    ensures inheritance { KeptByInheritance AreApart }
+    ensures types { KeptByType AreApart }
+    ensures flags { KeptByFlags AreApart }
+    ensures settling { KeptBySettling AreApart }
 {}
 
 /// Mounts that end without propagation, with a directory or a namespace, are just those: every other mount keeps all but

@@ -16,6 +16,7 @@ use Rattle.vt_laws.specs.Mounts.Attaching.{OneNumberAMount}
 use Rattle.vt_laws.specs.Mounts.Places.{OneMountAPlace}
 use Rattle.vt_laws.specs.Mounts.Receivers.{GroupsLive}
 use Rattle.vt_spec.specs.Machine.Run.{Serves}
+use Rattle.vt_laws.specs.Mounts.Unmounting.{PlacesEnd}
 
 -- The conditions
 
@@ -81,7 +82,7 @@ UnmountLeavesOneMountAPlace =
 -- So does the end of whole trees of mounts.
 abbrev pub TreesLeaveOneMountAPlace : Type 0
 TreesLeaveOneMountAPlace =
-    (world : World ℕ) (mounts : List (Mount ℕ)) → AreApart world → AreApart (trees_taken_away nat_eq world mounts)
+    (world : World ℕ) (mounts : List (Mount ℕ)) → PlacesEnd world → AreApart world → AreApart (trees_taken_away nat_eq world mounts)
 
 -- a lazy unmount: umount(2) with MNT_DETACH
 abbrev pub KeptByLazyUnmount : (World ℕ → Type 0) → Type 0

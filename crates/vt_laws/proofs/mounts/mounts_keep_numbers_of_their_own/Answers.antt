@@ -1,3 +1,4 @@
+use Rattle.vt_laws.proofs.MountsApart.{lazy_keeps_numbers}
 use Rattle.vt_laws.proofs.MountsKept.{ended_namespaces_keep_numbers, flags_keep_numbers, inheritance_keeps_numbers, pivot_keeps_numbers, settling_keeps_numbers, taking_away_keeps_numbers, types_keep_numbers, unmount_keeps_numbers}
 use Rattle.vt_laws.proofs.mounts.mounts_keep_numbers_of_their_own.Goals as goal
 
@@ -21,6 +22,9 @@ returns-clause-flags c = flags_keep_numbers
 
 pub returns-clause-pivot : goal.returns-clause-pivot
 returns-clause-pivot c = pivot_keeps_numbers
+
+pub returns-clause-lazy : goal.returns-clause-lazy
+returns-clause-lazy c = lazy_keeps_numbers
 
 pub returns-clause-settling : goal.returns-clause-settling
 returns-clause-settling c = settling_keeps_numbers
