@@ -10,6 +10,7 @@ pub mod MountsFound
 pub mod MountsGranted
 pub mod MountsKept
 pub mod MountsLeft
+pub mod MountsNumbered
 pub mod MountsPlaces
 pub mod MountsReplaced
 pub mod MountsRetyped

@@ -71,13 +71,13 @@ found-folded_other mounts (copy ∷ copies) number h =
     found-folded_other (with_mount nat_eq mounts copy) copies number (λ c m. h c (inr m)) ∙ found-with_mount_other copy mounts number (h copy (inl refl))
 
 module _ (world : World ℕ) (fresh : Fresh ℕ) (place : Location ℕ) (moves : Bool) (mounts : List (Mount ℕ)) where
-  abbrev graft : Graft ℕ
+  abbrev pub graft : Graft ℕ
   graft = graft_of nat_eq world fresh place moves mounts
 
-  abbrev parts : List (Mount ℕ)
+  abbrev pub parts : List (Mount ℕ)
   parts = parts_of nat_eq world place
 
-  abbrev push : Mount ℕ → Mount ℕ
+  abbrev pub push : Mount ℕ → Mount ℕ
   push = pushed_up_by_all nat_eq world (supplies fresh) graft parts
 
   -- what comes to the destination
@@ -88,7 +88,7 @@ module _ (world : World ℕ) (fresh : Fresh ℕ) (place : Location ℕ) (moves :
   abbrev pub moved_ones : List (Mount ℕ)
   moved_ones = with_moved_mounts nat_eq moves world.mounts arriving
 
-  abbrev others : List (Mount ℕ)
+  abbrev pub others : List (Mount ℕ)
   others = added_mounts moves arriving ++ flat_map (copies_at nat_eq world (supplies fresh) graft parts) (rest_of (counted_from 0 parts))
 
   in_front : (attach nat_eq world fresh place moves mounts).mounts ≡ map push moved_ones ++ others
@@ -107,11 +107,11 @@ module _ (world : World ℕ) (fresh : Fresh ℕ) (place : Location ℕ) (moves :
   numbers_pushed : numbers_of (map push moved_ones) ≡ numbers_of world.mounts
   numbers_pushed = numbers-map push push_number moved_ones ∙ numbers_moved
 
-  pub new_follow : (new : List ℕ) × (numbers_of (attach nat_eq world fresh place moves mounts).mounts ≡ numbers_of world.mounts ++ new)
-  new_follow = (
-    numbers_of others,
-    ap numbers_of in_front ∙ map-append (λ (mount : Mount ℕ). mount.number) (map push moved_ones) others ∙ ap (λ ns. ns ++ numbers_of others) numbers_pushed,
-  )
+  pub numbers_attached : numbers_of (attach nat_eq world fresh place moves mounts).mounts ≡ numbers_of world.mounts ++ numbers_of others
+  numbers_attached =
+      ap numbers_of in_front
+      ∙ map-append (λ (mount : Mount ℕ). mount.number) (map push moved_ones) others
+      ∙ ap (λ ns. ns ++ numbers_of others) numbers_pushed
 
   -- a mount that was there is found, moved up where it stood at a receiver
   pub found_attached : (number : ℕ) → is_mount world number ≡ true → mount_numbered nat_eq (attach nat_eq world fresh place moves mounts) number ≡ push (mount_in nat_eq moved_ones number)
@@ -125,7 +125,7 @@ module _ (world : World ℕ) (fresh : Fresh ℕ) (place : Location ℕ) (moves :
       all_pushed_leave world (supplies fresh) graft parts (0 + 1) (filter (takes_part nat_eq world place) (receivers_of nat_eq world (mount_at nat_eq world place))) mount h
 
 pub new_mounts_follow : NewMountsFollow
-new_mounts_follow world fresh place moves mounts = new_follow world fresh place moves mounts
+new_mounts_follow world fresh place moves mounts = (numbers_of (others world fresh place moves mounts), numbers_attached world fresh place moves mounts)
 
 pub attach_keeps_mounts : AttachKeepsMounts
 attach_keeps_mounts world fresh place mounts number there =

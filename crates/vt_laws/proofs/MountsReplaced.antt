@@ -125,7 +125,7 @@ any_by_numbers : (number : ℕ) (mounts : List (Mount ℕ)) → list_any (λ (ot
 any_by_numbers number [] = refl
 any_by_numbers number (mount ∷ mounts) = ap (λ b. nat_eq number mount.number || b) (any_by_numbers number mounts)
 
-pair_by_numbers : (mounts : List (Mount ℕ)) → any_pair (λ (a b : Mount ℕ). nat_eq a.number b.number) mounts ≡ any_pair nat_eq (numbers_of mounts)
+pub pair_by_numbers : (mounts : List (Mount ℕ)) → any_pair (λ (a b : Mount ℕ). nat_eq a.number b.number) mounts ≡ any_pair nat_eq (numbers_of mounts)
 pair_by_numbers [] = refl
 pair_by_numbers (mount ∷ mounts) =
     ap (λ b. b || any_pair (λ (a b : Mount ℕ). nat_eq a.number b.number) mounts) (any_by_numbers mount.number mounts)

@@ -1,7 +1,7 @@
 //! Mounts: where they stand, who receives, and what mount calls change.
 ghost use Rattle.vt_laws.specs.Mounts.Attaching.{NewMountsFollow, AttachKeepsMounts, AttachLeavesMounts, MoveKeepsMounts, MoveLeavesMounts, MovedMountsShow};
 ghost use Rattle.vt_laws.specs.Mounts.Changing.{FlagsAreSet, FlagsAreOfOne, TypeIsAllThatChanges, TypeIsOfTheNamed, TypeIsTaken, AloneIsPrivate, TypesAreOfMounts};
-ghost use Rattle.vt_laws.specs.Mounts.Conditions.{KeptByTakingAway, OneNumberEach, KeptByUnmount, KeptByEndedNamespaces, KeptByInheritance, KeptByType, KeptByFlags, KeptByPivot, KeptByLazyUnmount, KeptBySettling, NowhereOrAttached, UnmountLeavesOneMountAPlace, TreesLeaveOneMountAPlace, AreApart, TypeKeepsGroups, FlagsKeepGroups, KeptByUnshare, SettlingKeepsGroups};
+ghost use Rattle.vt_laws.specs.Mounts.Conditions.{KeptByTakingAway, OneNumberEach, KeptByUnmount, KeptByEndedNamespaces, KeptByInheritance, KeptByType, KeptByFlags, AttachKeepsNumbers, UnshareKeepsNumbers, KeptByPivot, KeptByLazyUnmount, KeptBySettling, NowhereOrAttached, UnmountLeavesOneMountAPlace, TreesLeaveOneMountAPlace, AreApart, TypeKeepsGroups, FlagsKeepGroups, KeptByUnshare, SettlingKeepsGroups};
 ghost use Rattle.vt_laws.specs.Mounts.Ends.{TheMountItselfGoes, TakenAreDetached, OthersAreKept, OthersKeepTheirPlaces, OthersKeepTheirTypes, LazyDetachesOrKeeps, LazyIsOfMounts};
 ghost use Rattle.vt_laws.specs.Mounts.FileCalls.{FileCallsLeaveMounts};
 ghost use Rattle.vt_laws.specs.Mounts.Granted.{BindBinds, MoveMoves, MountMounts, OverlayMounts, LazyUnmounts, RemountSetsFlags, TypeIsSet, PivotPivots, RmdirTakesMounts, ExitEnds, UnshareCopies, SetnsEnters};
@@ -90,6 +90,8 @@ pub fn mounts_keep_numbers_of_their_own()
     ensures inheritance { KeptByInheritance OneNumberEach }
     ensures types { KeptByType OneNumberEach }
     ensures flags { KeptByFlags OneNumberEach }
+    ensures attach { AttachKeepsNumbers }
+    ensures unshare { UnshareKeepsNumbers }
     ensures pivot { KeptByPivot OneNumberEach }
     ensures lazy { KeptByLazyUnmount OneNumberEach }
     ensures settling { KeptBySettling OneNumberEach }

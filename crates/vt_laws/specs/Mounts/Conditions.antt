@@ -17,6 +17,7 @@ use Rattle.vt_laws.specs.Mounts.Places.{OneMountAPlace}
 use Rattle.vt_laws.specs.Mounts.Receivers.{GroupsLive}
 use Rattle.vt_spec.specs.Machine.Run.{Serves}
 use Rattle.vt_laws.specs.Mounts.Unmounting.{PlacesEnd}
+use Rattle.vt_spec.specs.Machine.Attach.{attach}
 
 -- The conditions
 
@@ -106,3 +107,14 @@ TypeKeepsGroups =
 abbrev pub FlagsKeepGroups : Type 0
 FlagsKeepGroups =
     (world : World ℕ) (here : Location ℕ) (flags : MountFlags) → OneNumberEach world → GroupsLive world → GroupsLive (with_flags nat_eq world here flags)
+
+-- What is attached has numbers of its own, where those that are handed in are not in use,
+abbrev pub AttachKeepsNumbers : Type 0
+AttachKeepsNumbers =
+    (world : World ℕ) (fresh : Fresh ℕ) (place : Location ℕ) (moves : Bool) (mounts : List (Mount ℕ))
+    → Serves nat_eq world fresh → OneNumberEach world → OneNumberEach (attach nat_eq world fresh place moves mounts)
+
+-- and so have the copies of a namespace's mounts.
+abbrev pub UnshareKeepsNumbers : Type 0
+UnshareKeepsNumbers =
+    (world : World ℕ) (fresh : Fresh ℕ) (task : Task ℕ) → Serves nat_eq world fresh → OneNumberEach world → OneNumberEach (unshared nat_eq world fresh task)

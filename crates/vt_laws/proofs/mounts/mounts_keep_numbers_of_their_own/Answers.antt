@@ -1,5 +1,6 @@
 use Rattle.vt_laws.proofs.MountsApart.{lazy_keeps_numbers}
 use Rattle.vt_laws.proofs.MountsKept.{ended_namespaces_keep_numbers, flags_keep_numbers, inheritance_keeps_numbers, pivot_keeps_numbers, settling_keeps_numbers, taking_away_keeps_numbers, types_keep_numbers, unmount_keeps_numbers}
+use Rattle.vt_laws.proofs.MountsNumbered.{attach_keeps_numbers, unshare_keeps_numbers}
 use Rattle.vt_laws.proofs.mounts.mounts_keep_numbers_of_their_own.Goals as goal
 
 pub returns-clause-taking_away : goal.returns-clause-taking_away
@@ -19,6 +20,12 @@ returns-clause-types c = types_keep_numbers
 
 pub returns-clause-flags : goal.returns-clause-flags
 returns-clause-flags c = flags_keep_numbers
+
+pub returns-clause-attach : goal.returns-clause-attach
+returns-clause-attach c = attach_keeps_numbers
+
+pub returns-clause-unshare : goal.returns-clause-unshare
+returns-clause-unshare c = unshare_keeps_numbers
 
 pub returns-clause-pivot : goal.returns-clause-pivot
 returns-clause-pivot c = pivot_keeps_numbers
