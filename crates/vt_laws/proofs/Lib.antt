@@ -6,6 +6,7 @@ pub mod Lists
 pub mod MountsApart
 pub mod MountsAttached
 pub mod MountsCalls
+pub mod MountsEnding
 pub mod MountsFound
 pub mod MountsGranted
 pub mod MountsKept

@@ -1,7 +1,7 @@
 //! Mounts: where they stand, who receives, and what mount calls change.
 ghost use Rattle.vt_laws.specs.Mounts.Attaching.{NewMountsFollow, AttachKeepsMounts, AttachLeavesMounts, MoveKeepsMounts, MoveLeavesMounts, MovedMountsShow};
 ghost use Rattle.vt_laws.specs.Mounts.Changing.{FlagsAreSet, FlagsAreOfOne, TypeIsAllThatChanges, TypeIsOfTheNamed, TypeIsTaken, AloneIsPrivate, TypesAreOfMounts};
-ghost use Rattle.vt_laws.specs.Mounts.Conditions.{KeptByTakingAway, OneNumberEach, KeptByUnmount, KeptByEndedNamespaces, KeptByInheritance, KeptByType, KeptByFlags, AttachKeepsNumbers, UnshareKeepsNumbers, KeptByPivot, KeptByLazyUnmount, KeptBySettling, NowhereOrAttached, UnmountLeavesOneMountAPlace, TreesLeaveOneMountAPlace, AreApart, TypeKeepsGroups, FlagsKeepGroups, KeptByUnshare, SettlingKeepsGroups};
+ghost use Rattle.vt_laws.specs.Mounts.Conditions.{KeptByTakingAway, OneNumberEach, KeptByUnmount, KeptByEndedNamespaces, KeptByInheritance, KeptByType, KeptByFlags, AttachKeepsNumbers, UnshareKeepsNumbers, KeptByPivot, KeptByLazyUnmount, KeptBySettling, NowhereOrAttached, UnmountLeavesOneMountAPlace, TreesLeaveOneMountAPlace, AreApart, TypeKeepsGroups, FlagsKeepGroups, KeptByUnshare, SettlingKeepsGroups, TypeKeepsPlacesEnding, FlagsKeepPlacesEnding, InheritanceKeepsPlacesEnding};
 ghost use Rattle.vt_laws.specs.Mounts.Ends.{TheMountItselfGoes, TakenAreDetached, OthersAreKept, OthersKeepTheirPlaces, OthersKeepTheirTypes, LazyDetachesOrKeeps, LazyIsOfMounts};
 ghost use Rattle.vt_laws.specs.Mounts.FileCalls.{FileCallsLeaveMounts};
 ghost use Rattle.vt_laws.specs.Mounts.Granted.{BindBinds, MoveMoves, MountMounts, OverlayMounts, LazyUnmounts, RemountSetsFlags, TypeIsSet, PivotPivots, RmdirTakesMounts, ExitEnds, UnshareCopies, SetnsEnters};
@@ -161,4 +161,11 @@ pub fn groups_live_on()
     ensures pivot { KeptByPivot GroupsLive }
     ensures unshare { KeptByUnshare GroupsLive }
     ensures settling { SettlingKeepsGroups }
+{}
+
+/// The places below a mount come to an end, at a mount without a place, in its namespace: these changes of mounts keep that.
+pub fn places_below_come_to_an_end()
+    ensures types { TypeKeepsPlacesEnding }
+    ensures flags { FlagsKeepPlacesEnding }
+    ensures inheritance { InheritanceKeepsPlacesEnding }
 {}

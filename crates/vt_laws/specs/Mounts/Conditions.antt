@@ -118,3 +118,18 @@ AttachKeepsNumbers =
 abbrev pub UnshareKeepsNumbers : Type 0
 UnshareKeepsNumbers =
     (world : World ℕ) (fresh : Fresh ℕ) (task : Task ℕ) → Serves nat_eq world fresh → OneNumberEach world → OneNumberEach (unshared nat_eq world fresh task)
+
+-- Where each mount has a number of its own, the places below places come to an end in one namespace also after a change of type,
+abbrev pub TypeKeepsPlacesEnding : Type 0
+TypeKeepsPlacesEnding =
+    (world : World ℕ) (fresh : Fresh ℕ) (one : ℕ) (word : TypeWord) (recursive : Bool)
+    → OneNumberEach world → PlacesEnd world → PlacesEnd (with_type nat_eq fresh world one word recursive)
+
+-- a change of flags,
+abbrev pub FlagsKeepPlacesEnding : Type 0
+FlagsKeepPlacesEnding =
+    (world : World ℕ) (here : Location ℕ) (flags : MountFlags) → OneNumberEach world → PlacesEnd world → PlacesEnd (with_flags nat_eq world here flags)
+
+-- and the inheritance of groups.
+abbrev pub InheritanceKeepsPlacesEnding : Type 0
+InheritanceKeepsPlacesEnding = (world : World ℕ) → OneNumberEach world → PlacesEnd world → PlacesEnd (regrouped nat_eq world)
