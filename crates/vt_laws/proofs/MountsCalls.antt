@@ -1,13 +1,13 @@
 -- What a granted call makes of the mounts.
 use Rattle.std.proofs.Common.{◌≡◌, refl, sym, ap, subst, ◌∙◌, false, Bool, List, Ok, Result, Some, [], nat_eq, ok_or, ℕ, ◌||◌, ◌∷◌}
 use Rattle.vt_spec.specs.declared.errors.Deny.{Deny}
-use Rattle.vt_spec.specs.Machine.Calls.Call.{Bind, Exit, Lazy, MountOverlay, MountPlain, MoveMount, PivotRoot, Remount, Rmdir, SetType, Setns, Unshare}
-use Rattle.vt_laws.specs.Mounts.Granted.{BindBinds, ExitEnds, LazyUnmounts, Leaves, MountMounts, MoveMoves, OverlayMounts, PivotPivots, RemountSetsFlags, RmdirTakesMounts, SetnsEnters, TypeIsSet, UnshareCopies}
+use Rattle.vt_spec.specs.Machine.Calls.Call.{Bind, Exit, Lazy, MountOverlay, MountPlain, MoveMount, PivotRoot, Remount, Rmdir, SetType, Setns, Unshare, Rename}
+use Rattle.vt_laws.specs.Mounts.Granted.{BindBinds, ExitEnds, LazyUnmounts, Leaves, MountMounts, MoveMoves, OverlayMounts, PivotPivots, RemountSetsFlags, RmdirTakesMounts, SetnsEnters, TypeIsSet, UnshareCopies, RenameOfOneObject, RenameReplaces}
 use Rattle.vt_spec.specs.Machine.Calls.{Call, OverlayWords, TypeWord}
 use Rattle.vt_spec.specs.Machine.Outcomes.Answer.{Done}
 use Rattle.vt_spec.specs.Machine.Lists.{Fresh, odds}
 use Rattle.vt_laws.specs.Mounts.FileCalls.{HasLiving}
-use Rattle.vt_spec.specs.Machine.Walk.{Here, Place, directory_walk, old_walk, walk_end}
+use Rattle.vt_spec.specs.Machine.Walk.{Here, Place, directory_walk, old_walk, walk_end, is_directory_there, old_leaf_walk}
 use Rattle.vt_spec.specs.declared.errors.Rule.TheVariants.{K1, S2}
 use Rattle.vt_spec.specs.Machine.Outcome.Mounting.{LayerPlaces, admin_rules, bind_outcome, bind_rules, bound_at, destination_walk, layer_rules, layers_walked, lazy_outcome, lazy_rules, mount_overlay_outcome, mount_plain_outcome, mounted, move_outcome, move_rules, moved_to, new_mount_rules, overlay_at, overlay_mounted, pivot_outcome, pivot_rules, plain_filesystem, remount_outcome, remount_rules, source_walk, type_outcome, type_rules, with_flags}
 use Rattle.vt_spec.specs.Machine.Mounts.{MountFlags}
@@ -22,7 +22,7 @@ use Rattle.vt_spec.specs.Machine.Rows.{lacks}
 use Rattle.vt_spec.specs.Machine.Detach.{lazily_unmounted, without_mounts_on}
 use Rattle.vt_laws.proofs.MountsLeft.{mounts-with_change}
 use Rattle.vt_spec.specs.Machine.Namespaces.{namespace_entered, namespaces_ended, pivoted, unshared}
-use Rattle.vt_spec.specs.Machine.Outcome.Removing.{object_there, removing, rmdir_outcome, rmdir_rules, rmdir_word_rules}
+use Rattle.vt_spec.specs.Machine.Outcome.Removing.{object_there, removing, rmdir_outcome, rmdir_rules, rmdir_word_rules, is_one_object, moving, old_word_rules, rename_new_walk, rename_outcome, rename_rules, renamed_by, same_object_rules, without_replaced}
 use Rattle.vt_spec.specs.Machine.Filesystems.{with_change}
 use Rattle.vt_spec.specs.Machine.Types.{with_type}
 
@@ -220,3 +220,36 @@ pub setns_enters : SetnsEnters
 setns_enters fresh world name target task other e =
     leaves fresh world name task (Setns target) (namespaces_ended nat_eq (namespace_entered nat_eq world task other.namespace)) refl
     (λ h. ap (λ o. o.world.mounts) (setns_made fresh world task target other e h))
+
+-- Renames
+rename_made : (fresh : Fresh ℕ) (world : World ℕ) (task : Task ℕ) (old new : List ℕ) (from to : Place ℕ)
+    → walk_end (old_leaf_walk nat_eq world task old) ≡ Ok from
+    → walk_end (rename_new_walk nat_eq world task new (is_directory_there nat_eq world from)) ≡ Ok to
+    → (rename_outcome nat_eq fresh world task old new).answer ≡ Ok Done
+    → rename_outcome nat_eq fresh world task old new
+    ≡ renamed_by nat_eq (is_one_object nat_eq world (object_there from) to.object) fresh world task from to (object_there from)
+unfolding rename_outcome
+rename_made fresh world task old new from to e f h =
+    let whole = rename_outcome nat_eq fresh world task old new in
+    let one = passes fresh world task (old_word_rules from) _ whole (stepped world (walk_end (old_leaf_walk nat_eq world task old)) _ from e) h in
+    passes fresh world task (old_word_rules to) _ whole
+    (one ∙ stepped world (walk_end (rename_new_walk nat_eq world task new (is_directory_there nat_eq world from))) _ to f) h
+
+pub rename_replaces : RenameReplaces
+rename_replaces fresh world name task old new from to e f differ =
+    let left = without_replaced nat_eq world to.object in
+    let end = granted Done (with_change nat_eq fresh left from.parent (moving from to (object_there from))) in
+    leaves fresh world name task (Rename old new) left refl
+    (λ h.
+    let made = rename_made fresh world task old new from to e f h
+    ∙ ap (λ b. renamed_by nat_eq b fresh world task from to (object_there from)) differ in
+    ap (λ o. o.world.mounts) (passes fresh world task (rename_rules nat_eq world task from to (object_there from)) end (rename_outcome nat_eq fresh world task old new) made h)
+    ∙ mounts-with_change left fresh from.parent (moving from to (object_there from)))
+
+pub rename_of_one_object : RenameOfOneObject
+rename_of_one_object fresh world name task old new from to e f same =
+    leaves fresh world name task (Rename old new) world refl
+    (λ h.
+    let made = rename_made fresh world task old new from to e f h
+    ∙ ap (λ b. renamed_by nat_eq b fresh world task from to (object_there from)) same in
+    ap (λ o. o.world.mounts) (passes fresh world task (same_object_rules nat_eq world from to) (granted Done world) (rename_outcome nat_eq fresh world task old new) made h))

@@ -4,7 +4,7 @@ ghost use Rattle.vt_laws.specs.Mounts.Changing.{FlagsAreSet, FlagsAreOfOne, Type
 ghost use Rattle.vt_laws.specs.Mounts.Conditions.{KeptByTakingAway, OneNumberEach, KeptByUnmount, KeptByEndedNamespaces, KeptByInheritance, KeptByType, KeptByFlags, AttachKeepsNumbers, UnshareKeepsNumbers, KeptByPivot, KeptByLazyUnmount, KeptBySettling, NowhereOrAttached, UnmountLeavesOneMountAPlace, TreesLeaveOneMountAPlace, AreApart, TypeKeepsGroups, FlagsKeepGroups, KeptByUnshare, SettlingKeepsGroups, TypeKeepsPlacesEnding, FlagsKeepPlacesEnding, InheritanceKeepsPlacesEnding};
 ghost use Rattle.vt_laws.specs.Mounts.Ends.{TheMountItselfGoes, TakenAreDetached, OthersAreKept, OthersKeepTheirPlaces, OthersKeepTheirTypes, LazyDetachesOrKeeps, LazyIsOfMounts};
 ghost use Rattle.vt_laws.specs.Mounts.FileCalls.{FileCallsLeaveMounts};
-ghost use Rattle.vt_laws.specs.Mounts.Granted.{BindBinds, MoveMoves, MountMounts, OverlayMounts, LazyUnmounts, RemountSetsFlags, TypeIsSet, PivotPivots, RmdirTakesMounts, ExitEnds, UnshareCopies, SetnsEnters};
+ghost use Rattle.vt_laws.specs.Mounts.Granted.{BindBinds, MoveMoves, MountMounts, OverlayMounts, LazyUnmounts, RemountSetsFlags, TypeIsSet, PivotPivots, RmdirTakesMounts, RenameReplaces, RenameOfOneObject, ExitEnds, UnshareCopies, SetnsEnters};
 ghost use Rattle.vt_laws.specs.Mounts.Places.{StandsAloneAtItsPlace};
 ghost use Rattle.vt_laws.specs.Mounts.Receivers.{ReceivesIsComputed, ReceiversReceive, ReceiversAreClosed, ReceiversAreLeast, GroupsLive};
 ghost use Rattle.vt_laws.specs.Mounts.Unmounting.{WhatGoesIsNamed, UnmountKeepsTheOrder, WhatGoesIsDetached, WhatStaysKeeps, WhatStaysKeepsItsPlace, RootMountsStay, WhatCoveredFalls, WhatStaysKeepsItsType, SlavesAreInherited, GroupsKeepTheirMasters, UnmountIsOfMounts, UmountUnmounts};
@@ -143,6 +143,8 @@ pub fn granted_calls_make_these_changes()
     ensures kind { TypeIsSet }
     ensures pivot { PivotPivots }
     ensures rmdir { RmdirTakesMounts }
+    ensures rename { RenameReplaces }
+    ensures rename_of_one { RenameOfOneObject }
     ensures exit { ExitEnds }
     ensures unshare { UnshareCopies }
     ensures setns { SetnsEnters }

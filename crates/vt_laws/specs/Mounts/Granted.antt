@@ -1,19 +1,20 @@
 -- What a granted call makes of the mounts: umount(2), mount(2), pivot_root(2), rmdir(2), rename(2), _exit(2), unshare(2), setns(2).
 use Rattle.std.specs.Prelude.{Bool, List, Ok, Some, ℕ, nat_eq, ◌≡◌}
 use Rattle.vt_spec.specs.Machine.Calls.{Call, OverlayWords, TypeWord}
-use Rattle.vt_spec.specs.Machine.Calls.Call.{Bind, Exit, Lazy, MountOverlay, MountPlain, MoveMount, PivotRoot, Remount, Rmdir, SetType, Setns, Unshare}
+use Rattle.vt_spec.specs.Machine.Calls.Call.{Bind, Exit, Lazy, MountOverlay, MountPlain, MoveMount, PivotRoot, Remount, Rmdir, SetType, Setns, Unshare, Rename}
 use Rattle.vt_spec.specs.Machine.Detach.{lazily_unmounted, without_mounts_on}
 use Rattle.vt_spec.specs.Machine.Lists.{Fresh, odds}
 use Rattle.vt_spec.specs.Machine.Mounts.{MountFlags}
 use Rattle.vt_spec.specs.Machine.Namespaces.{namespace_entered, namespaces_ended, pivoted, unshared}
 use Rattle.vt_spec.specs.Machine.Outcome.Mounting.{LayerPlaces, bound_at, destination_walk, layers_walked, mounted, moved_to, overlay_mounted, plain_filesystem, source_walk, with_flags}
-use Rattle.vt_spec.specs.Machine.Outcome.Removing.{object_there}
+use Rattle.vt_spec.specs.Machine.Outcome.Removing.{object_there, is_one_object, rename_new_walk, without_replaced}
 use Rattle.vt_spec.specs.Machine.Outcomes.Answer.{Done}
 use Rattle.vt_spec.specs.Machine.Policy.{policy}
 use Rattle.vt_spec.specs.Machine.Types.{with_type}
-use Rattle.vt_spec.specs.Machine.Walk.{Here, Place, directory_walk, old_walk, walk_end}
+use Rattle.vt_spec.specs.Machine.Walk.{Here, Place, directory_walk, old_walk, walk_end, is_directory_there, old_leaf_walk}
 use Rattle.vt_spec.specs.Machine.World.{Task, TaskName, World, mount_at, task_called, without_task}
 use Rattle.vt_laws.specs.Mounts.FileCalls.{HasLiving}
+use Rattle.std.proofs.Common.{false, true}
 
 -- a call of a task that is granted leaves these mounts
 abbrev pub Leaves : Fresh ℕ → World ℕ → TaskName → Task ℕ → Call → World ℕ → Type 0
@@ -92,3 +93,20 @@ abbrev pub SetnsEnters : Type 0
 SetnsEnters =
     (fresh : Fresh ℕ) (world : World ℕ) (name target : TaskName) (task other : Task ℕ) → task_called world target ≡ Some other
     → Leaves fresh world name task (Setns target) (namespaces_ended nat_eq (namespace_entered nat_eq world task other.namespace))
+
+-- So does one that a renamed directory replaces; where both names lead to one object, nothing is done.
+abbrev pub RenameReplaces : Type 0
+RenameReplaces =
+    (fresh : Fresh ℕ) (world : World ℕ) (name : TaskName) (task : Task ℕ) (old new : List ℕ) (from to : Place ℕ)
+    → walk_end (old_leaf_walk nat_eq world task old) ≡ Ok from
+    → walk_end (rename_new_walk nat_eq world task new (is_directory_there nat_eq world from)) ≡ Ok to
+    → is_one_object nat_eq world (object_there from) to.object ≡ false
+    → Leaves fresh world name task (Rename old new) (without_replaced nat_eq world to.object)
+
+abbrev pub RenameOfOneObject : Type 0
+RenameOfOneObject =
+    (fresh : Fresh ℕ) (world : World ℕ) (name : TaskName) (task : Task ℕ) (old new : List ℕ) (from to : Place ℕ)
+    → walk_end (old_leaf_walk nat_eq world task old) ≡ Ok from
+    → walk_end (rename_new_walk nat_eq world task new (is_directory_there nat_eq world from)) ≡ Ok to
+    → is_one_object nat_eq world (object_there from) to.object ≡ true
+    → Leaves fresh world name task (Rename old new) world

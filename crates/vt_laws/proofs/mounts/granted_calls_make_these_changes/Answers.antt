@@ -1,4 +1,4 @@
-use Rattle.vt_laws.proofs.MountsCalls.{bind_binds, exit_ends, lazy_unmounts, mount_mounts, move_moves, overlay_mounts, pivot_pivots, remount_sets_flags, rmdir_takes_mounts, setns_enters, type_is_set, unshare_copies}
+use Rattle.vt_laws.proofs.MountsCalls.{bind_binds, exit_ends, lazy_unmounts, mount_mounts, move_moves, overlay_mounts, pivot_pivots, remount_sets_flags, rename_of_one_object, rename_replaces, rmdir_takes_mounts, setns_enters, type_is_set, unshare_copies}
 use Rattle.vt_laws.proofs.mounts.granted_calls_make_these_changes.Goals as goal
 
 pub returns-clause-bind : goal.returns-clause-bind
@@ -27,6 +27,12 @@ returns-clause-pivot c = pivot_pivots
 
 pub returns-clause-rmdir : goal.returns-clause-rmdir
 returns-clause-rmdir c = rmdir_takes_mounts
+
+pub returns-clause-rename : goal.returns-clause-rename
+returns-clause-rename c = rename_replaces
+
+pub returns-clause-rename_of_one : goal.returns-clause-rename_of_one
+returns-clause-rename_of_one c = rename_of_one_object
 
 pub returns-clause-exit : goal.returns-clause-exit
 returns-clause-exit c = exit_ends
