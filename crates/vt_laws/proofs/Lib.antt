@@ -20,5 +20,6 @@ pub mod Receivers
 pub mod Unmounting
 pub mod UnmountingEnds
 pub mod UnmountingGoes
+pub mod UnmountingNamespaces
 pub mod UnmountingPlaces
 pub mod UnmountingTrees

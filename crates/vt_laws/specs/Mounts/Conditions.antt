@@ -133,3 +133,7 @@ FlagsKeepPlacesEnding =
 -- and the inheritance of groups.
 abbrev pub InheritanceKeepsPlacesEnding : Type 0
 InheritanceKeepsPlacesEnding = (world : World ℕ) → OneNumberEach world → PlacesEnd world → PlacesEnd (regrouped nat_eq world)
+
+-- The end of namespaces leaves at most one mount at a place.
+abbrev pub EndedNamespacesLeaveOneMountAPlace : Type 0
+EndedNamespacesLeaveOneMountAPlace = (world : World ℕ) → PlacesEnd world → AreApart world → AreApart (namespaces_ended nat_eq world)
