@@ -30,7 +30,8 @@ module _ (world : World ℕ) where
   group-inherited Private = refl
   group-inherited Unbindable = refl
 
-  pub members-inherited : (mounts : List (Mount ℕ)) (group : ℕ) → has_members nat_eq (map (inheriting nat_eq world) mounts) group ≡ has_members nat_eq mounts group
+  pub members-inherited : (mounts : List (Mount ℕ)) (group : ℕ)
+      → has_members nat_eq (map (inheriting nat_eq world) mounts) group ≡ has_members nat_eq mounts group
   members-inherited [] group = refl
   members-inherited (mount ∷ mounts) group =
       ap (λ g. holds_of (nat_eq group) g || has_members nat_eq (map (inheriting nat_eq world) mounts) group) (group-inherited mount.propagation)
@@ -46,7 +47,8 @@ module _ (world : World ℕ) where
       same : inherited nat_eq world mount.propagation ≡ mount.propagation → inheriting nat_eq world mount ≡ mount
       same f = λ i. record mount { propagation = f i }
 
-      by : (kind : Propagation ℕ) → mount.propagation ≡ kind → is_lost_group nat_eq world (source_of mount.propagation) ≡ false → inheriting nat_eq world mount ≡ mount
+      by : (kind : Propagation ℕ) → mount.propagation ≡ kind → is_lost_group nat_eq world (source_of mount.propagation) ≡ false
+          → inheriting nat_eq world mount ≡ mount
       by (Shared group) f kept = same (ap (inherited nat_eq world) f ∙ sym f)
       by (Slave above) f kept =
           same (ap (inherited nat_eq world) f
@@ -58,7 +60,8 @@ module _ (world : World ℕ) where
   pub mounts-regrouped : (regrouped nat_eq world).mounts ≡ map (inheriting nat_eq world) world.mounts
   mounts-regrouped = by (list_any (lost_a_group nat_eq world) world.mounts) refl
     where
-      by : (b : Bool) → list_any (lost_a_group nat_eq world) world.mounts ≡ b → (regrouped_by nat_eq b world).mounts ≡ map (inheriting nat_eq world) world.mounts
+      by : (b : Bool) → list_any (lost_a_group nat_eq world) world.mounts ≡ b
+          → (regrouped_by nat_eq b world).mounts ≡ map (inheriting nat_eq world) world.mounts
       by true e = refl
       by false e = sym (map_same (inheriting nat_eq world) world.mounts (λ mount m. nothing_lost mount (none_among (lost_a_group nat_eq world) world.mounts e mount m)))
 
@@ -66,7 +69,8 @@ module _ (world : World ℕ) where
   pub members-regrouped : (group : ℕ) → has_members nat_eq (regrouped nat_eq world).mounts group ≡ has_members nat_eq world.mounts group
   members-regrouped group = ap (λ mounts. has_members nat_eq mounts group) mounts-regrouped ∙ members-inherited world.mounts group
 
-  pub master-regrouped : (group above : ℕ) → world.master group ≡ Some above → has_members nat_eq world.mounts above ≡ true → (regrouped nat_eq world).master group ≡ Some above
+  pub master-regrouped : (group above : ℕ) → world.master group ≡ Some above → has_members nat_eq world.mounts above ≡ true
+      → (regrouped nat_eq world).master group ≡ Some above
   master-regrouped group above e f = by (list_any (lost_a_group nat_eq world) world.mounts)
     where
       by : (b : Bool) → (regrouped_by nat_eq b world).master group ≡ Some above
@@ -74,7 +78,8 @@ module _ (world : World ℕ) where
       by false = e
 
 -- a group without members and without a master has no heir
-pub no_heir : (world : World ℕ) (group : ℕ) → world.master group ≡ None → has_members nat_eq world.mounts group ≡ false → heir nat_eq world (Some group) ≡ None
+pub no_heir : (world : World ℕ) (group : ℕ) → world.master group ≡ None → has_members nat_eq world.mounts group ≡ false
+    → heir nat_eq world (Some group) ≡ None
 no_heir world group above none = by (length world.mounts)
   where
     by : (n : ℕ) → find (has_members nat_eq world.mounts) (chain n world.master group) ≡ None

@@ -31,7 +31,8 @@ found_passes : (p : ℕ → Bool) (xs : List ℕ) (x : ℕ) → find p xs ≡ So
 found_passes p [] x e = absurd (true≢false (sym (ap is_some e)))
 found_passes p (y ∷ ys) x e = by (p y) refl (found_passes p ys x)
   where
-    by : (b : Bool) → p y ≡ b → (find p ys ≡ Some x → (p x ≡ true) × (is_among nat_eq x ys ≡ true)) → (p x ≡ true) × (is_among nat_eq x (y ∷ ys) ≡ true)
+    by : (b : Bool) → p y ≡ b → (find p ys ≡ Some x → (p x ≡ true) × (is_among nat_eq x ys ≡ true))
+        → (p x ≡ true) × (is_among nat_eq x (y ∷ ys) ≡ true)
     by true f later =
         let same : y ≡ x = same_Some y x (sym (ap (λ b. cond b (Some y) (find p ys)) f) ∙ e) in
         (ap p (sym same) ∙ f, head_among x y ys (sym same))
@@ -39,7 +40,8 @@ found_passes p (y ∷ ys) x e = by (p y) refl (found_passes p ys x)
         let t : (p x ≡ true) × (is_among nat_eq x ys ≡ true) = later (sym (ap (λ b. cond b (Some y) (find p ys)) f) ∙ e) in
         (t.0, tail_among x y ys t.1)
 
-lives_weaker : (p q : ℕ → Bool) (master : ℕ → Option ℕ) → ((group : ℕ) → p group ≡ true → q group ≡ true) → (group : ℕ) → Lives p master group → Lives q master group
+lives_weaker : (p q : ℕ → Bool) (master : ℕ → Option ℕ) → ((group : ℕ) → p group ≡ true → q group ≡ true) → (group : ℕ)
+    → Lives p master group → Lives q master group
 lives_weaker p q master more group (top it has e) = top it (more it has) e
 lives_weaker p q master more group (below it next has e later) = below it next (more it has) e (lives_weaker p q master more next later)
 
@@ -51,7 +53,8 @@ lives_end p master group (below it next has e later) = goes_up it next e (lives_
 pub member_shared : (group : ℕ) (mount : Mount ℕ) → is_member_of nat_eq group mount ≡ true → mount.propagation ≡ Shared group
 member_shared group mount h = by mount.propagation refl h
   where
-    by : (kind : Propagation ℕ) → mount.propagation ≡ kind → holds_of (nat_eq group) (group_of mount.propagation) ≡ true → mount.propagation ≡ Shared group
+    by : (kind : Propagation ℕ) → mount.propagation ≡ kind → holds_of (nat_eq group) (group_of mount.propagation) ≡ true
+        → mount.propagation ≡ Shared group
     by (Shared own) e t = e ∙ ap Shared (sym (eqb-true group own (sym (ap (λ k. holds_of (nat_eq group) (group_of k)) e) ∙ t)))
     by (Slave up) e t = absurd (true≢false (sym t ∙ ap (λ k. holds_of (nat_eq group) (group_of k)) e))
     by Private e t = absurd (true≢false (sym t ∙ ap (λ k. holds_of (nat_eq group) (group_of k)) e))
@@ -74,7 +77,8 @@ module _ (world : World ℕ) where
       (t.0, way_up world.master (length world.mounts) first group t.1)
 
   -- where masters end, each group with members that comes up them lives after the inheritance
-  inherits_live : (group : ℕ) → EndsUp world.master group → (other : ℕ) → Up world.master group other → members other ≡ true → Lives members inherited_master other
+  inherits_live : (group : ℕ) → EndsUp world.master group → (other : ℕ) → Up world.master group other → members other ≡ true
+      → Lives members inherited_master other
   inherits_live group (at_top it e) other (here same) has = top same has (ap (heir nat_eq world) e)
   inherits_live group (at_top it e) other (above same next end f way) has = absurd (true≢false (sym (ap is_some f) ∙ ap is_some e))
   inherits_live group (goes_up it next e rest) other (here same) has = by (heir nat_eq world (Some next)) refl (inherits_live next rest)
@@ -89,7 +93,8 @@ module _ (world : World ℕ) where
       inherits_live next rest end (subst (λ g. Up world.master g end) (same_Some step next (sym f ∙ e)) way) has
 
   -- where no group is lost, each lives already
-  lives_unlost : ((mount : Mount ℕ) → Among mount world.mounts → lost_a_group nat_eq world mount ≡ false) → (group : ℕ) → EndsUp world.master group → members group ≡ true → LivesIn world group
+  lives_unlost : ((mount : Mount ℕ) → Among mount world.mounts → lost_a_group nat_eq world mount ≡ false) → (group : ℕ)
+      → EndsUp world.master group → members group ≡ true → LivesIn world group
   lives_unlost unlost group (at_top it e) has = top it has e
   lives_unlost unlost group (goes_up it next e rest) has = below it next has e (lives_unlost unlost next rest (not-false _ kept))
     where
@@ -100,7 +105,8 @@ module _ (world : World ℕ) where
           sym (ap (is_lost_group nat_eq world) (ap (λ k. then_some (source_of k) world.master) shared ∙ e))
           ∙ (or_parts (is_lost_group nat_eq world (source_of member.0.propagation)) (is_lost_group nat_eq world (then_some (source_of member.0.propagation) world.master)) (unlost member.0 member.1)).1
 
-  pub regrouped_live : ((mount : Mount ℕ) → Among mount world.mounts → (source : ℕ) → source_of mount.propagation ≡ Some source → EndsUp world.master source) → GroupsLive (regrouped nat_eq world)
+  pub regrouped_live : ((mount : Mount ℕ) → Among mount world.mounts → (source : ℕ) → source_of mount.propagation ≡ Some source → EndsUp world.master source)
+      → GroupsLive (regrouped nat_eq world)
   regrouped_live ends = by (list_any (lost_a_group nat_eq world) world.mounts) refl
     where
       source_lives : (mount : Mount ℕ) → Among mount world.mounts → (kind : Propagation ℕ) → mount.propagation ≡ kind
@@ -111,7 +117,8 @@ module _ (world : World ℕ) where
           (inherits_live group (ends mount m group (ap source_of e)) group (here group) (any_from_among (is_member_of nat_eq group) world.mounts mount m (shared_member group mount e)))
       source_lives mount m (Slave first) e source f = slave (heir nat_eq world (Some first)) refl f
         where
-          slave : (found : Option ℕ) → heir nat_eq world (Some first) ≡ found → source_of (slave_of_heir (heir nat_eq world (Some first))) ≡ Some source → Lives members inherited_master source
+          slave : (found : Option ℕ) → heir nat_eq world (Some first) ≡ found
+              → source_of (slave_of_heir (heir nat_eq world (Some first))) ≡ Some source → Lives members inherited_master source
           slave None g t = absurd (true≢false (sym (ap is_some t) ∙ ap (λ o. is_some (source_of (slave_of_heir o))) g))
           slave (Some end) g t =
               let same : end ≡ source = same_Some end source (sym (ap (λ o. source_of (slave_of_heir o)) g) ∙ t) in
@@ -132,7 +139,8 @@ module _ (world : World ℕ) where
           (not-false _ (sym (ap (is_lost_group nat_eq world) f) ∙ (or_parts _ _ (unlost mount m)).0)))
 
 -- the masters of a living world's groups end
-masters_end_in : (world : World ℕ) → GroupsLive world → (mount : Mount ℕ) → Among mount world.mounts → (source : ℕ) → source_of mount.propagation ≡ Some source → EndsUp world.master source
+masters_end_in : (world : World ℕ) → GroupsLive world → (mount : Mount ℕ) → Among mount world.mounts → (source : ℕ)
+    → source_of mount.propagation ≡ Some source → EndsUp world.master source
 masters_end_in world live mount m source e = lives_end (has_members nat_eq world.mounts) world.master source (lives_in world live mount m source e)
 
 pub inheritance_keeps_groups : KeptByInheritance GroupsLive
@@ -143,7 +151,8 @@ taking_away_keeps_groups world gone live = regrouped_live (middle world gone) (�
     let from = among-from_map (after_going nat_eq world gone) world.mounts mount m in
     masters_end_in world live from.0 from.1 source (by from.0 (is_going nat_eq gone from.0.number) refl source (sym (ap (λ x. source_of x.propagation) from.2) ∙ e)))
   where
-    by : (mount : Mount ℕ) (b : Bool) → is_going nat_eq gone mount.number ≡ b → (source : ℕ) → source_of (after_going nat_eq world gone mount).propagation ≡ Some source → source_of mount.propagation ≡ Some source
+    by : (mount : Mount ℕ) (b : Bool) → is_going nat_eq gone mount.number ≡ b → (source : ℕ)
+        → source_of (after_going nat_eq world gone mount).propagation ≡ Some source → source_of mount.propagation ≡ Some source
     by mount true e source f = absurd (true≢false (sym (ap is_some f) ∙ ap (λ x. is_some (source_of x.propagation)) (going_is_detached world gone mount e)))
     by mount false e source f = sym (ap (λ x. source_of x.propagation) (staying_is_placed world gone mount e)) ∙ f
 
@@ -165,7 +174,8 @@ pub lazy_keeps_groups : KeptByLazyUnmount GroupsLive
 lazy_keeps_groups world one live = lazy_keeps (deepest_first nat_eq world (mount_tree nat_eq world.mounts (mount_numbered nat_eq world one))) world live
 
 -- Mounts that keep their types
-members-map : (f : Mount ℕ → Mount ℕ) → ((mount : Mount ℕ) → (f mount).propagation ≡ mount.propagation) → (mounts : List (Mount ℕ)) (group : ℕ)
+members-map : (f : Mount ℕ → Mount ℕ) → ((mount : Mount ℕ) → (f mount).propagation ≡ mount.propagation)
+    → (mounts : List (Mount ℕ)) (group : ℕ)
     → has_members nat_eq (map f mounts) group ≡ has_members nat_eq mounts group
 members-map f same [] group = refl
 members-map f same (mount ∷ mounts) group =
@@ -216,7 +226,8 @@ settling_keeps_groups world nowhere live = groups_live_by (settled nat_eq world)
     member.2)
     source (lives_in world live mount from.0 source e))
   where
-    attached : (mount : Mount ℕ) → is_nowhere_or_attached mount ≡ true → (group : ℕ) → mount.propagation ≡ Shared group → mount_lives nat_eq world mount ≡ true
+    attached : (mount : Mount ℕ) → is_nowhere_or_attached mount ≡ true → (group : ℕ) → mount.propagation ≡ Shared group
+        → mount_lives nat_eq world mount ≡ true
     attached mount fit group shared = by (is_some mount.namespace) (sym (ap (λ k. is_some mount.namespace || (not (is_some mount.place) && is_private k)) shared) ∙ fit)
       where
         by : (b : Bool) → (b || (not (is_some mount.place) && false)) ≡ true → (b || is_located nat_eq world mount.number) ≡ true

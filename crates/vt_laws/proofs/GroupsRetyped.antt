@@ -26,7 +26,8 @@ use Rattle.vt_laws.proofs.MountsReplaced.{replaced_elsewhere, replaced_there}
 use Rattle.std.proofs.lemmas.Option.{same_Some}
 
 -- what a type that is taken has as its source, or as its group
-source_taken : (new : ℕ) (word : TypeWord) (kind : Propagation ℕ) (source : ℕ) → source_of (type_after new word kind) ≡ Some source → (source ≡ new) ⊎ (source_of kind ≡ Some source)
+source_taken : (new : ℕ) (word : TypeWord) (kind : Propagation ℕ) (source : ℕ) → source_of (type_after new word kind) ≡ Some source
+    → (source ≡ new) ⊎ (source_of kind ≡ Some source)
 source_taken new ToShared (Shared group) source e = inr e
 source_taken new ToShared (Slave above) source e = inl (sym (same_Some new source e))
 source_taken new ToShared Private source e = inl (sym (same_Some new source e))
@@ -38,7 +39,8 @@ source_taken new ToSlave Unbindable source e = inr e
 source_taken new ToPrivate kind source e = absurd (true≢false (sym (ap is_some e)))
 source_taken new ToUnbindable kind source e = absurd (true≢false (sym (ap is_some e)))
 
-group_taken : (new : ℕ) (word : TypeWord) (kind : Propagation ℕ) (group : ℕ) → type_after new word kind ≡ Shared group → (group ≡ new) ⊎ (kind ≡ Shared group)
+group_taken : (new : ℕ) (word : TypeWord) (kind : Propagation ℕ) (group : ℕ) → type_after new word kind ≡ Shared group
+    → (group ≡ new) ⊎ (kind ≡ Shared group)
 group_taken new ToShared (Shared own) group e = inr e
 group_taken new ToShared (Slave above) group e = inl (sym (same_Some new group (ap group_of e)))
 group_taken new ToShared Private group e = inl (sym (same_Some new group (ap group_of e)))
@@ -63,7 +65,8 @@ module _ (world : World ℕ) (new : ℕ) (word : TypeWord) (number : ℕ) where
       ⊎_elim (λ m. m) (λ none. absurd (true≢false (sym (ap is_some e) ∙ ap (λ m. is_some (source_of m.propagation)) none))) (found_or_none world.mounts number)
 
   module _ (live : GroupsLive world) (none : has_members nat_eq world.mounts new ≡ false) where
-    other_master : (group : ℕ) → has_members nat_eq world.mounts group ≡ true → (between world new word number).master group ≡ world.master group
+    other_master : (group : ℕ) → has_members nat_eq world.mounts group ≡ true
+        → (between world new word number).master group ≡ world.master group
     other_master group has =
         ⊎_elim
         (λ t. absurd (true≢false (sym has ∙ ap (has_members nat_eq world.mounts) t.1 ∙ none)))
@@ -93,7 +96,8 @@ module _ (world : World ℕ) (new : ℕ) (word : TypeWord) (number : ℕ) where
         by from.0 from.1 (nat_eq after_type.number from.0.number) refl source (sym (ap (λ x. source_of x.propagation) from.2) ∙ e))
       where
         by : (old : Mount ℕ) → Among old world.mounts → (b : Bool) → nat_eq after_type.number old.number ≡ b
-            → (source : ℕ) → source_of (replaced_if_same nat_eq after_type old).propagation ≡ Some source → EndsUp (between world new word number).master source
+            → (source : ℕ) → source_of (replaced_if_same nat_eq after_type old).propagation ≡ Some source
+            → EndsUp (between world new word number).master source
         by old m true e source f =
             ⊎_elim
             (λ same. subst (EndsUp (between world new word number).master) (sym same) new_ends)
@@ -102,16 +106,19 @@ module _ (world : World ℕ) (new : ℕ) (word : TypeWord) (number : ℕ) where
         by old m false e source f = still_ends source (lives_in world live old m source (sym (ap (λ x. source_of x.propagation) (replaced_elsewhere after_type old e)) ∙ f))
 
     -- a group that has members then had some, or is the new one
-    pub members_then : (group : ℕ) → has_members nat_eq (next_world world new word number).mounts group ≡ true → (group ≡ new) ⊎ (has_members nat_eq world.mounts group ≡ true)
+    pub members_then : (group : ℕ) → has_members nat_eq (next_world world new word number).mounts group ≡ true
+        → (group ≡ new) ⊎ (has_members nat_eq world.mounts group ≡ true)
     members_then group h =
         let member = any_among (is_member_of nat_eq group) (between world new word number).mounts (sym (members_between world new word number group) ∙ h) in
         let from = among-from_map (replaced_if_same nat_eq after_type) world.mounts member.0 member.1 in
         by from.0 from.1 (nat_eq after_type.number from.0.number) refl (ap (λ x. x.propagation) (sym from.2) ∙ member_shared group member.0 member.2)
       where
-        had : (mount : Mount ℕ) → Among mount world.mounts → mount.propagation ≡ Shared group → has_members nat_eq world.mounts group ≡ true
+        had : (mount : Mount ℕ) → Among mount world.mounts → mount.propagation ≡ Shared group
+            → has_members nat_eq world.mounts group ≡ true
         had mount m e = any_from_among (is_member_of nat_eq group) world.mounts mount m (shared_member group mount e)
 
-        by : (old : Mount ℕ) → Among old world.mounts → (b : Bool) → nat_eq after_type.number old.number ≡ b → (replaced_if_same nat_eq after_type old).propagation ≡ Shared group
+        by : (old : Mount ℕ) → Among old world.mounts → (b : Bool) → nat_eq after_type.number old.number ≡ b
+            → (replaced_if_same nat_eq after_type old).propagation ≡ Shared group
             → (group ≡ new) ⊎ (has_members nat_eq world.mounts group ≡ true)
         by old m true e f =
             ⊎_elim inl (λ was. inr (had before_type (sourced_among group (ap source_of was)) was))
@@ -120,7 +127,8 @@ module _ (world : World ℕ) (new : ℕ) (word : TypeWord) (number : ℕ) where
 
 -- One after the other
 each_lives : (fresh : Fresh ℕ) (word : TypeWord) → ((j k : ℕ) → nat_eq (fresh j) (fresh k) ≡ true → j ≡ k)
-    → (k : ℕ) (world : World ℕ) (mounts : List (Mount ℕ)) → GroupsLive world → ((j : ℕ) → k ≤ j → has_members nat_eq world.mounts (fresh j) ≡ false)
+    → (k : ℕ) (world : World ℕ) (mounts : List (Mount ℕ)) → GroupsLive world
+    → ((j : ℕ) → k ≤ j → has_members nat_eq world.mounts (fresh j) ≡ false)
     → GroupsLive (retyped_each nat_eq fresh word k world mounts)
 each_lives fresh word distinct k world [] live unused = live
 each_lives fresh word distinct k world (mount ∷ rest) live unused =
@@ -134,7 +142,8 @@ each_lives fresh word distinct k world (mount ∷ rest) live unused =
     (members_then world (fresh k) word mount.number live none (fresh j) h)))
 
 -- numbers that are not in use have no members
-unused_members : (world : World ℕ) (number : ℕ) → is_among nat_eq number (numbers_in_use world) ≡ false → has_members nat_eq world.mounts number ≡ false
+unused_members : (world : World ℕ) (number : ℕ) → is_among nat_eq number (numbers_in_use world) ≡ false
+    → has_members nat_eq world.mounts number ≡ false
 unused_members world number h = false_from_ne_true (has_members nat_eq world.mounts number) (λ has.
     let member = any_among (is_member_of nat_eq number) world.mounts has in
     let shared = member_shared number member.0 member.2 in

@@ -45,14 +45,16 @@ module _ (master : ℕ → Option ℕ) where
   ends_up zero group e = at_top group (none_there (master group) e)
   ends_up (suc n) group e = by (master group) refl (ends_up n)
     where
-      by : (found : Option ℕ) → master group ≡ found → ((next : ℕ) → is_some (master (last_or next (chain n master next))) ≡ false → EndsUp master next) → EndsUp master group
+      by : (found : Option ℕ) → master group ≡ found
+          → ((next : ℕ) → is_some (master (last_or next (chain n master next))) ≡ false → EndsUp master next) → EndsUp master group
       by None f later = at_top group f
       by (Some next) f later =
           goes_up group next f
           (later next (sym (ap (λ g. is_some (master g)) (ap (last_or group) (chain_goes_on master n group next f) ∙ last_of_chain master n next group)) ∙ e))
 
   module _ (members : ℕ → Bool) where
-    pub lives_by_chain : (n group : ℕ) → list_all members (chain n master group) ≡ true → is_some (master (last_or group (chain n master group))) ≡ false → Lives members master group
+    pub lives_by_chain : (n group : ℕ) → list_all members (chain n master group) ≡ true
+        → is_some (master (last_or group (chain n master group))) ≡ false → Lives members master group
     lives_by_chain zero group all e = top group (and_parts (members group) true all).0 (none_there (master group) e)
     lives_by_chain (suc n) group all e = by (master group) refl (lives_by_chain n)
       where
@@ -80,7 +82,8 @@ module _ (master : ℕ → Option ℕ) where
     all_on_way (suc n) group (below it next has f later) =
         ap (list_all members) (chain_goes_on master n it next f) ∙ ap (λ b. b && list_all members (chain n master next)) has ∙ all_on_way n next later
 
-    ends_within : (n group : ℕ) (life : Lives members master group) → length (way group life) ≤ suc n → is_some (master (last_or group (chain n master group))) ≡ false
+    ends_within : (n group : ℕ) (life : Lives members master group) → length (way group life) ≤ suc n
+        → is_some (master (last_or group (chain n master group))) ≡ false
     ends_within zero group (top it has f) l = ap is_some f
     ends_within (suc n) group (top it has f) l = ap (λ gs. is_some (master (last_or it gs))) (chain_ends master n it f) ∙ ap is_some f
     ends_within zero group (below it next has f later) l = absurd (too_long next later l)
@@ -92,7 +95,8 @@ module _ (master : ℕ → Option ℕ) where
         ap (λ g. is_some (master g)) (ap (last_or it) (chain_goes_on master n it next f) ∙ last_of_chain master n next it)
         ∙ ends_within n next later (omega (arith, l))
 
-    same_length : (a : ℕ) (life : Lives members master a) (b : ℕ) (other : Lives members master b) → a ≡ b → length (way a life) ≡ length (way b other)
+    same_length : (a : ℕ) (life : Lives members master a) (b : ℕ) (other : Lives members master b) → a ≡ b
+        → length (way a life) ≡ length (way b other)
     same_length a (top x has f) b (top y has_too g) e = refl
     same_length a (top x has f) b (below y next has_too g later) e = absurd (true≢false (sym (ap is_some (ap master e ∙ g)) ∙ ap is_some f))
     same_length a (below x next has f later) b (top y has_too g) e = absurd (true≢false (sym (ap is_some (ap master (sym e) ∙ f)) ∙ ap is_some g))
@@ -100,7 +104,8 @@ module _ (master : ℕ → Option ℕ) where
         ap suc (same_length next later after later_too (same_Some next after (sym f ∙ ap master e ∙ g)))
 
     -- what is on the way has a way that is no longer
-    rest_of_way : (group : ℕ) (life : Lives members master group) (other : ℕ) → Among other (way group life) → (rest : Lives members master other) × (length (way other rest) ≤ length (way group life))
+    rest_of_way : (group : ℕ) (life : Lives members master group) (other : ℕ) → Among other (way group life)
+        → (rest : Lives members master other) × (length (way other rest) ≤ length (way group life))
     rest_of_way group (top it has f) other m = ⊎_elim (λ e. by other (sym e)) (λ none. absurd none) m
       where
         by : (o : ℕ) → it ≡ o → (rest : Lives members master o) × (length (way o rest) ≤ 1)
@@ -127,7 +132,8 @@ module _ (master : ℕ → Option ℕ) where
     way_members group (below it next has f later) = ap (λ b. b && list_all members (way next later)) has ∙ way_members next later
 
 -- groups that each have a member are no more than the mounts
-fewer_groups : (groups : List ℕ) (mounts : List (Mount ℕ)) → any_pair nat_eq groups ≡ false → list_all (has_members nat_eq mounts) groups ≡ true → length groups ≤ length mounts
+fewer_groups : (groups : List ℕ) (mounts : List (Mount ℕ)) → any_pair nat_eq groups ≡ false
+    → list_all (has_members nat_eq mounts) groups ≡ true → length groups ≤ length mounts
 fewer_groups [] mounts distinct all = omega arith
 fewer_groups (group ∷ groups) mounts distinct all =
     let apart_all : (list_any (nat_eq group) groups ≡ false) × (any_pair nat_eq groups ≡ false) = or_parts (list_any (nat_eq group) groups) (any_pair nat_eq groups) distinct in
@@ -146,7 +152,8 @@ fewer_groups (group ∷ groups) mounts distinct all =
     not_empty [] x m = absurd m
     not_empty (y ∷ ys) x m = omega arith
 
-    still : (one other : ℕ) (list : List (Mount ℕ)) → nat_eq one other ≡ false → has_members nat_eq list other ≡ true → has_members nat_eq (filter (λ mount. not (is_member_of nat_eq one mount)) list) other ≡ true
+    still : (one other : ℕ) (list : List (Mount ℕ)) → nat_eq one other ≡ false → has_members nat_eq list other ≡ true
+        → has_members nat_eq (filter (λ mount. not (is_member_of nat_eq one mount)) list) other ≡ true
     still one other list differ h =
         let member = any_among (is_member_of nat_eq other) list h in
         any_from_among (is_member_of nat_eq other) (filter (λ mount. not (is_member_of nat_eq one mount)) list) member.0
@@ -160,15 +167,19 @@ fewer_groups (group ∷ groups) mounts distinct all =
 abbrev pub LivesIn : World ℕ → ℕ → Type 0
 LivesIn world group = Lives (has_members nat_eq world.mounts) world.master group
 
-pub lives_in : (world : World ℕ) → GroupsLive world → (mount : Mount ℕ) → Among mount world.mounts → (source : ℕ) → source_of mount.propagation ≡ Some source → LivesIn world source
+pub lives_in : (world : World ℕ) → GroupsLive world → (mount : Mount ℕ) → Among mount world.mounts → (source : ℕ)
+    → source_of mount.propagation ≡ Some source → LivesIn world source
 lives_in world live mount m source e =
     let t = groups_live_at world live mount m source e in
     lives_by_chain world.master (has_members nat_eq world.mounts) (length world.mounts) source t.0 (not-true _ t.1)
 
-pub groups_live_by : (world : World ℕ) → ((mount : Mount ℕ) → Among mount world.mounts → (source : ℕ) → source_of mount.propagation ≡ Some source → LivesIn world source) → GroupsLive world
+pub groups_live_by : (world : World ℕ)
+    → ((mount : Mount ℕ) → Among mount world.mounts → (source : ℕ) → source_of mount.propagation ≡ Some source → LivesIn world source)
+    → GroupsLive world
 groups_live_by world lives = list_all_from_among (has_living_groups nat_eq world) world.mounts (λ mount m. by mount m (source_of mount.propagation) refl)
   where
-    one : (source : ℕ) → LivesIn world source → (list_all (has_members nat_eq world.mounts) (groups_up world source) && masters_end nat_eq world source) ≡ true
+    one : (source : ℕ) → LivesIn world source
+        → (list_all (has_members nat_eq world.mounts) (groups_up world source) && masters_end nat_eq world source) ≡ true
     one source life =
         let members = has_members nat_eq world.mounts in
         let few : length (way world.master members source life) ≤ length world.mounts =
@@ -176,7 +187,8 @@ groups_live_by world lives = list_all_from_among (has_living_groups nat_eq world
         and_from _ _ (all_on_way world.master members (length world.mounts) source life)
         (ap not (ends_within world.master members (length world.mounts) source life (omega (arith, few))))
 
-    by : (mount : Mount ℕ) → Among mount world.mounts → (found : Option ℕ) → source_of mount.propagation ≡ found → has_living_groups nat_eq world mount ≡ true
+    by : (mount : Mount ℕ) → Among mount world.mounts → (found : Option ℕ) → source_of mount.propagation ≡ found
+        → has_living_groups nat_eq world mount ≡ true
     by mount m None e = ap (λ s. list_all (λ group. list_all (has_members nat_eq world.mounts) (groups_up world group) && masters_end nat_eq world group) (option_to_list s)) e
     by mount m (Some source) e =
         ap (λ s. list_all (λ group. list_all (has_members nat_eq world.mounts) (groups_up world group) && masters_end nat_eq world group) (option_to_list s)) e

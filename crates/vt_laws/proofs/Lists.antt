@@ -107,7 +107,8 @@ module _ {A B : Type 0} where
   among-from_filter_map h [] b m = absurd m
   among-from_filter_map h (y ∷ ys) b m = by (h y) refl m (among-from_filter_map h ys b)
     where
-      by : (o : Option B) → h y ≡ o → Among b (cons_option o (filter_map h ys)) → (Among b (filter_map h ys) → (x : A) × Among x ys × (h x ≡ Some b)) → (x : A) × Among x (y ∷ ys) × (h x ≡ Some b)
+      by : (o : Option B) → h y ≡ o → Among b (cons_option o (filter_map h ys))
+          → (Among b (filter_map h ys) → (x : A) × Among x ys × (h x ≡ Some b)) → (x : A) × Among x (y ∷ ys) × (h x ≡ Some b)
       by None e l next = let t : (x : A) × Among x ys × (h x ≡ Some b) = next l in (t.0, inr t.1, t.2)
       by (Some c) e l next =
           ⊎_elim (λ same. (y, inl refl, e ∙ ap Some (sym same)))
@@ -181,7 +182,8 @@ tail_among number other rest later = by (nat_eq number other)
     by true = refl
     by false = later
 
-pub among_cases : (number other : ℕ) (rest : List ℕ) → is_among nat_eq number (other ∷ rest) ≡ true → (number ≡ other) ⊎ (is_among nat_eq number rest ≡ true)
+pub among_cases : (number other : ℕ) (rest : List ℕ) → is_among nat_eq number (other ∷ rest) ≡ true
+    → (number ≡ other) ⊎ (is_among nat_eq number rest ≡ true)
 among_cases number other rest h = ⊎_elim (λ e. inl (eqb-true number other e)) inr (or_cases (nat_eq number other) (is_among nat_eq number rest) h)
 
 -- Chains
@@ -221,7 +223,8 @@ module _ {A : Type 0} where
   pair-filter test p [] h = refl
   pair-filter test p (y ∷ ys) h = by (p y) refl (none-filter (test y) p ys (or_parts (list_any (test y) ys) (any_pair test ys) h).0) (pair-filter test p ys (or_parts (list_any (test y) ys) (any_pair test ys) h).1)
     where
-      by : (b : Bool) → p y ≡ b → list_any (test y) (filter p ys) ≡ false → any_pair test (filter p ys) ≡ false → any_pair test (filter p (y ∷ ys)) ≡ false
+      by : (b : Bool) → p y ≡ b → list_any (test y) (filter p ys) ≡ false → any_pair test (filter p ys) ≡ false
+          → any_pair test (filter p (y ∷ ys)) ≡ false
       by true e here later = ap (any_pair test) (filter_here p y ys e) ∙ ap (λ b. b || any_pair test (filter p ys)) here ∙ later
       by false e here later = ap (any_pair test) (filter_skip p y ys e) ∙ later
 
@@ -242,7 +245,8 @@ module _ {A : Type 0} where
   none_from_among q (y ∷ ys) h = ap (λ b. b || list_any q ys) (h y (inl refl)) ∙ none_from_among q ys (λ x m. h x (inr m))
 
 module _ {A B : Type 0} where
-  pub all-map : (q : B → Bool) {p : A → Bool} (f : A → B) → ((x : A) → p x ≡ true → q (f x) ≡ true) → (xs : List A) → list_all p xs ≡ true → list_all q (map f xs) ≡ true
+  pub all-map : (q : B → Bool) {p : A → Bool} (f : A → B) → ((x : A) → p x ≡ true → q (f x) ≡ true) → (xs : List A) → list_all p xs ≡ true
+      → list_all q (map f xs) ≡ true
   all-map q f h [] e = refl
   all-map q {p = p} f h (y ∷ ys) e =
       let parts : (p y ≡ true) × (list_all p ys ≡ true) = and_parts (p y) (list_all p ys) e in
@@ -250,7 +254,8 @@ module _ {A B : Type 0} where
 
   -- pairs that are changed
   pub pair-map : (test : A → A → Bool) (later : B → B → Bool) (f : A → B) (xs : List A)
-      → ((a b : A) → Among a xs → Among b xs → test a b ≡ false → later (f a) (f b) ≡ false) → any_pair test xs ≡ false → any_pair later (map f xs) ≡ false
+      → ((a b : A) → Among a xs → Among b xs → test a b ≡ false → later (f a) (f b) ≡ false) → any_pair test xs ≡ false
+      → any_pair later (map f xs) ≡ false
   pair-map test later f [] h e = refl
   pair-map test later f (y ∷ ys) h e =
       let parts : (list_any (test y) ys ≡ false) × (any_pair test ys ≡ false) = or_parts (list_any (test y) ys) (any_pair test ys) e in

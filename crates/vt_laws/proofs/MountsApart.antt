@@ -22,7 +22,8 @@ use Rattle.vt_spec.specs.Machine.Types.{retyped_each, type_after}
 use Rattle.vt_spec.specs.Machine.WorldLaws.{stand_at_one_place}
 
 -- places that stay the same stay apart
-places_same : (f : Mount ℕ → Mount ℕ) (mounts : List (Mount ℕ)) → ((mount : Mount ℕ) → Among mount mounts → (f mount).place ≡ mount.place) → OneMountAPlace mounts → OneMountAPlace (map f mounts)
+places_same : (f : Mount ℕ → Mount ℕ) (mounts : List (Mount ℕ)) → ((mount : Mount ℕ) → Among mount mounts → (f mount).place ≡ mount.place)
+    → OneMountAPlace mounts → OneMountAPlace (map f mounts)
 places_same f mounts same one =
     pair-map (stand_at_one_place nat_eq) (stand_at_one_place nat_eq) f mounts
     (λ a b m n differ.
@@ -32,7 +33,8 @@ places_same f mounts same one =
     one
 
 -- a mount in the place of the one with its number, at the same place
-replaced_same_place : (mounts : List (Mount ℕ)) → OneNumberAMount mounts → (new : Mount ℕ) → (mount_in nat_eq mounts new.number).place ≡ new.place
+replaced_same_place : (mounts : List (Mount ℕ)) → OneNumberAMount mounts → (new : Mount ℕ)
+    → (mount_in nat_eq mounts new.number).place ≡ new.place
     → (old : Mount ℕ) → Among old mounts → (replaced_if_same nat_eq new old).place ≡ old.place
 replaced_same_place mounts one new same old m = by (nat_eq new.number old.number) refl
   where
@@ -63,7 +65,8 @@ retyped_apart world new word number both =
           (replaced_same_place world.mounts both.by_number changed (ap (λ n. (mount_in nat_eq world.mounts n).place) (number_found world.mounts number))) both.by_place);
     }
 
-each_apart : (fresh : Fresh ℕ) (word : TypeWord) (k : ℕ) (world : World ℕ) (mounts : List (Mount ℕ)) → AreApart world → AreApart (retyped_each nat_eq fresh word k world mounts)
+each_apart : (fresh : Fresh ℕ) (word : TypeWord) (k : ℕ) (world : World ℕ) (mounts : List (Mount ℕ)) → AreApart world
+    → AreApart (retyped_each nat_eq fresh word k world mounts)
 each_apart fresh word k world [] both = both
 each_apart fresh word k world (mount ∷ rest) both =
     each_apart fresh word (k + 1) (next_world world (fresh k) word mount.number) rest (retyped_apart world (fresh k) word mount.number both)
@@ -86,7 +89,8 @@ settling_keeps_apart world both = record {
 }
 
 -- Lazy unmounts
-lazy_numbers : (mounts : List (Mount ℕ)) (world : World ℕ) → OneNumberEach world → OneNumberEach (folded (unmounted_if_there nat_eq) world mounts)
+lazy_numbers : (mounts : List (Mount ℕ)) (world : World ℕ) → OneNumberEach world
+    → OneNumberEach (folded (unmounted_if_there nat_eq) world mounts)
 lazy_numbers [] world e = e
 lazy_numbers (mount ∷ mounts) world e = lazy_numbers mounts (unmounted_if_there nat_eq world mount) (by (is_some (mount_numbered nat_eq world mount.number).namespace))
   where
@@ -97,7 +101,8 @@ lazy_numbers (mount ∷ mounts) world e = lazy_numbers mounts (unmounted_if_ther
 pub lazy_keeps_numbers : KeptByLazyUnmount OneNumberEach
 lazy_keeps_numbers world one e = lazy_numbers (deepest_first nat_eq world (mount_tree nat_eq world.mounts (mount_numbered nat_eq world one))) world e
 
-lazy_nowhere : (mounts : List (Mount ℕ)) (world : World ℕ) → NowhereOrAttached world → NowhereOrAttached (folded (unmounted_if_there nat_eq) world mounts)
+lazy_nowhere : (mounts : List (Mount ℕ)) (world : World ℕ) → NowhereOrAttached world
+    → NowhereOrAttached (folded (unmounted_if_there nat_eq) world mounts)
 lazy_nowhere [] world e = e
 lazy_nowhere (mount ∷ mounts) world e = lazy_nowhere mounts (unmounted_if_there nat_eq world mount) (by (is_some (mount_numbered nat_eq world mount.number).namespace))
   where

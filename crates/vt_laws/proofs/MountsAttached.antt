@@ -23,7 +23,8 @@ module _ (world : World ℕ) (new : Supplies ℕ) (graft : Graft ℕ) (parts : L
       by true = record { number = refl; namespace = refl; filesystem = refl; root = refl; flags = refl; propagation = refl }
       by false = record { number = refl; namespace = refl; filesystem = refl; root = refl; flags = refl; propagation = refl }
 
-  all_pushed_keep : (list : List (ℕ × Mount ℕ)) (mount : Mount ℕ) → KeepsAllButPlace mount (folded (pushed_up nat_eq world new graft parts) mount list)
+  all_pushed_keep : (list : List (ℕ × Mount ℕ)) (mount : Mount ℕ)
+      → KeepsAllButPlace mount (folded (pushed_up nat_eq world new graft parts) mount list)
   all_pushed_keep [] mount = record { number = refl; namespace = refl; filesystem = refl; root = refl; flags = refl; propagation = refl }
   all_pushed_keep (part ∷ list) mount =
       let one = pushed_keeps mount part in
@@ -52,7 +53,8 @@ module _ (world : World ℕ) (new : Supplies ℕ) (graft : Graft ℕ) (parts : L
       (ap (λ b. if b then (record mount { place = Some (top_of_copies nat_eq (copies_at nat_eq world new graft parts (k, part)) graft.place) }) else mount) apart_from.0)
       ∙ all_pushed_leave (k + 1) list mount apart_from.1
 
-  none_pushed_by : (number : ℕ) (list : List (ℕ × Mount ℕ)) → folded (pushed_up nat_eq world new graft parts) (no_mount number) list ≡ no_mount number
+  none_pushed_by : (number : ℕ) (list : List (ℕ × Mount ℕ))
+      → folded (pushed_up nat_eq world new graft parts) (no_mount number) list ≡ no_mount number
   none_pushed_by number [] = refl
   none_pushed_by number (part ∷ list) = none_pushed_by number list
 
@@ -64,7 +66,8 @@ pub numbers-folded : (mounts copies : List (Mount ℕ)) → numbers_of (folded (
 numbers-folded mounts [] = refl
 numbers-folded mounts (copy ∷ copies) = numbers-folded (with_mount nat_eq mounts copy) copies ∙ numbers-with_mount copy mounts
 
-pub found-folded_other : (mounts copies : List (Mount ℕ)) (number : ℕ) → ((copy : Mount ℕ) → Among copy copies → nat_eq copy.number number ≡ false)
+pub found-folded_other : (mounts copies : List (Mount ℕ)) (number : ℕ)
+    → ((copy : Mount ℕ) → Among copy copies → nat_eq copy.number number ≡ false)
     → mount_in nat_eq (folded (with_mount nat_eq) mounts copies) number ≡ mount_in nat_eq mounts number
 found-folded_other mounts [] number h = refl
 found-folded_other mounts (copy ∷ copies) number h =
@@ -114,7 +117,8 @@ module _ (world : World ℕ) (fresh : Fresh ℕ) (place : Location ℕ) (moves :
       ∙ ap (λ ns. ns ++ numbers_of others) numbers_pushed
 
   -- a mount that was there is found, moved up where it stood at a receiver
-  pub found_attached : (number : ℕ) → is_mount world number ≡ true → mount_numbered nat_eq (attach nat_eq world fresh place moves mounts) number ≡ push (mount_in nat_eq moved_ones number)
+  pub found_attached : (number : ℕ) → is_mount world number ≡ true
+      → mount_numbered nat_eq (attach nat_eq world fresh place moves mounts) number ≡ push (mount_in nat_eq moved_ones number)
   found_attached number there =
       ap (λ ms. mount_in nat_eq ms number) in_front
       ∙ found-append (map push moved_ones) others number (ap (is_among nat_eq number) numbers_pushed ∙ there)
@@ -134,12 +138,14 @@ attach_keeps_mounts world fresh place mounts number there =
 
 pub attach_leaves_mounts : AttachLeavesMounts
 attach_leaves_mounts world fresh place mounts number there h =
-    found_attached world fresh place false mounts number there ∙ push_leaves world fresh place false mounts (mount_numbered nat_eq world number) h
+    found_attached world fresh place false mounts number there
+    ∙ push_leaves world fresh place false mounts (mount_numbered nat_eq world number) h
 
 -- What moves
 
 -- each element of a counted list, with its place
-counted_there : {A : Type 0} (k : ℕ) (xs : List A) (t : ℕ × A) → Among t (counted_from k xs) → (j : ℕ) × (t.0 ≡ j + k) × (slice_get xs j ≡ Some t.1)
+counted_there : {A : Type 0} (k : ℕ) (xs : List A) (t : ℕ × A) → Among t (counted_from k xs)
+    → (j : ℕ) × (t.0 ≡ j + k) × (slice_get xs j ≡ Some t.1)
 counted_there k [] t m = absurd m
 counted_there k (x ∷ xs) t m =
     ⊎_elim
@@ -158,7 +164,8 @@ module _ (world : World ℕ) (fresh : Fresh ℕ) (place : Location ℕ) (mounts 
   move = graft_of nat_eq world fresh place true mounts
 
   -- each mount that arrives is one that moves, with all that it shows
-  pub arrives : (copy : Mount ℕ) → Among copy (arriving world fresh place true mounts) → (origin : Mount ℕ) × Among origin mounts × KeepsWhatItShows origin copy
+  pub arrives : (copy : Mount ℕ) → Among copy (arriving world fresh place true mounts)
+      → (origin : Mount ℕ) × Among origin mounts × KeepsWhatItShows origin copy
   arrives copy m =
       let from = among-from_map (copy_at nat_eq world (supplies fresh) move (parts_of nat_eq world place) (0, mount_at nat_eq world place)) (counted_from 0 move.twigs) copy m in
       let there = counted_there 0 move.twigs from.0 from.1 in
@@ -179,7 +186,8 @@ module _ (world : World ℕ) (fresh : Fresh ℕ) (place : Location ℕ) (mounts 
         },
       )
 
-  stays_put : (number : ℕ) → is_among nat_eq number (numbers_of mounts) ≡ false → mount_in nat_eq (moved_ones world fresh place true mounts) number ≡ mount_numbered nat_eq world number
+  stays_put : (number : ℕ) → is_among nat_eq number (numbers_of mounts) ≡ false
+      → mount_in nat_eq (moved_ones world fresh place true mounts) number ≡ mount_numbered nat_eq world number
   stays_put number other =
       found-folded_other world.mounts (arriving world fresh place true mounts) number (λ copy m.
       let from = arrives copy m in
@@ -209,7 +217,8 @@ shows_on a b c r s = record { number = s.number ∙ r.number; filesystem = s.fil
 shows_back : (a b : Mount ℕ) → KeepsWhatItShows a b → KeepsWhatItShows b a
 shows_back a b r = record { number = sym r.number; filesystem = sym r.filesystem; root = sym r.root; flags = sym r.flags }
 
-shown_by_all : (before mounts copies : List (Mount ℕ)) → ((number : ℕ) → KeepsWhatItShows (mount_in nat_eq before number) (mount_in nat_eq mounts number))
+shown_by_all : (before mounts copies : List (Mount ℕ))
+    → ((number : ℕ) → KeepsWhatItShows (mount_in nat_eq before number) (mount_in nat_eq mounts number))
     → ((copy : Mount ℕ) → Among copy copies → KeepsWhatItShows (mount_in nat_eq before copy.number) copy)
     → (number : ℕ) → KeepsWhatItShows (mount_in nat_eq before number) (mount_in nat_eq (folded (with_mount nat_eq) mounts copies) number)
 shown_by_all before mounts [] so each number = so number
@@ -235,6 +244,7 @@ moved_mounts_show world fresh source place number one there =
     subst (KeepsWhatItShows (mount_numbered nat_eq world number)) (sym (found_attached world fresh place true mounts number there))
     (shows_on (mount_numbered nat_eq world number) _ _ moved (record { number = pushed.number; filesystem = pushed.filesystem; root = pushed.root; flags = pushed.flags }))
   where
-    itself : (origin : Mount ℕ) → (origin ≡ mount_at nat_eq world source) ⊎ Among origin world.mounts → mount_in nat_eq world.mounts origin.number ≡ origin
+    itself : (origin : Mount ℕ) → (origin ≡ mount_at nat_eq world source) ⊎ Among origin world.mounts
+        → mount_in nat_eq world.mounts origin.number ≡ origin
     itself origin (inl e) = ap (λ m. mount_in nat_eq world.mounts m.number) e ∙ ap (mount_in nat_eq world.mounts) (number_found world.mounts source.mount) ∙ sym e
     itself origin (inr m) = found_itself world.mounts one origin m

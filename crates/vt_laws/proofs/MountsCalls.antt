@@ -27,7 +27,8 @@ use Rattle.vt_spec.specs.Machine.Filesystems.{with_change}
 use Rattle.vt_spec.specs.Machine.Types.{with_type}
 
 -- after a step that succeeds
-stepped : {A : Type 0} (world : World ℕ) (step : Result A Deny) (next : A → Outcome ℕ) (a : A) → step ≡ Ok a → after world step next ≡ next a
+stepped : {A : Type 0} (world : World ℕ) (step : Result A Deny) (next : A → Outcome ℕ) (a : A) → step ≡ Ok a
+    → after world step next ≡ next a
 stepped world step next a e = ap (λ r. after world r next) e
 
 -- a call whose outcome, where it is granted, is this

@@ -29,7 +29,8 @@ module _ (world after : World ℕ) (alike : (number : ℕ) → StandsAlike (moun
   abbrev below_after : Mount ℕ → Option (Mount ℕ)
   below_after mount = option_map (mount_at nat_eq after) mount.place
 
-  same_last : (n : ℕ) (a b : Mount ℕ) → StandsAlike a b → StandsAlike (last_or a (chain n below_before a)) (last_or b (chain n below_after b))
+  same_last : (n : ℕ) (a b : Mount ℕ) → StandsAlike a b
+      → StandsAlike (last_or a (chain n below_before a)) (last_or b (chain n below_after b))
   same_last zero a b r = r
   same_last (suc n) a b r = by a.place refl (same_last n)
     where
@@ -66,11 +67,14 @@ module _ (world after : World ℕ) (alike : (number : ℕ) → StandsAlike (moun
       ∙ ap (λ s. not (is_some (last_below nat_eq world old).place) && same_option nat_eq s (last_below nat_eq world old).namespace) r.namespace
       ∙ among_from_list_all (stands_in_its_namespace nat_eq world) world.mounts ends old there)
     where
-      found_among : (mounts : List (Mount ℕ)) (number : ℕ) → is_among nat_eq number (numbers_of mounts) ≡ true → Among (mount_in nat_eq mounts number) mounts
+      found_among : (mounts : List (Mount ℕ)) (number : ℕ) → is_among nat_eq number (numbers_of mounts) ≡ true
+          → Among (mount_in nat_eq mounts number) mounts
       found_among [] number h = absurd (true≢false (sym h))
       found_among (first ∷ rest) number h = found_by (nat_eq number first.number) refl (found_among rest number)
         where
-          found_by : (b : Bool) → nat_eq number first.number ≡ b → (is_among nat_eq number (numbers_of rest) ≡ true → Among (mount_in nat_eq rest number) rest) → Among (mount_in nat_eq (first ∷ rest) number) (first ∷ rest)
+          found_by : (b : Bool) → nat_eq number first.number ≡ b
+              → (is_among nat_eq number (numbers_of rest) ≡ true → Among (mount_in nat_eq rest number) rest)
+              → Among (mount_in nat_eq (first ∷ rest) number) (first ∷ rest)
           found_by true e later = inl (ap (λ b. unwrap_or (cond b (Some first) (find (λ (x : Mount ℕ). nat_eq number x.number) rest)) (no_mount number)) e)
           found_by false e later =
               inr (subst (λ x. Among x rest)

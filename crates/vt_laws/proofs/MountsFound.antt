@@ -8,7 +8,8 @@ abbrev has_number : ℕ → Mount ℕ → Bool
 has_number number mount = nat_eq number mount.number
 
 -- a mount found by its number, or what stands for none
-pub found_or_none : (mounts : List (Mount ℕ)) (number : ℕ) → Among (mount_in nat_eq mounts number) mounts ⊎ (mount_in nat_eq mounts number ≡ no_mount number)
+pub found_or_none : (mounts : List (Mount ℕ)) (number : ℕ)
+    → Among (mount_in nat_eq mounts number) mounts ⊎ (mount_in nat_eq mounts number ≡ no_mount number)
 found_or_none [] number = inr refl
 found_or_none (first ∷ rest) number = by (nat_eq number first.number) refl (found_or_none rest number)
   where
@@ -16,7 +17,8 @@ found_or_none (first ∷ rest) number = by (nat_eq number first.number) refl (fo
     at true e = ap (λ b. unwrap_or (cond b (Some first) (find (has_number number) rest)) (no_mount number)) e
     at false e = ap (λ b. unwrap_or (cond b (Some first) (find (has_number number) rest)) (no_mount number)) e
 
-    by : (b : Bool) → nat_eq number first.number ≡ b → Among (mount_in nat_eq rest number) rest ⊎ (mount_in nat_eq rest number ≡ no_mount number)
+    by : (b : Bool) → nat_eq number first.number ≡ b
+        → Among (mount_in nat_eq rest number) rest ⊎ (mount_in nat_eq rest number ≡ no_mount number)
         → Among (mount_in nat_eq (first ∷ rest) number) (first ∷ rest) ⊎ (mount_in nat_eq (first ∷ rest) number ≡ no_mount number)
     by true e later = inl (inl (at true e))
     by false e later = ⊎_elim (λ m. inl (inr (subst (λ x. Among x rest) (sym (at false e)) m))) (λ none. inr (at false e ∙ none)) later
@@ -26,13 +28,15 @@ pub number_found : (mounts : List (Mount ℕ)) (number : ℕ) → (mount_in nat_
 number_found [] number = refl
 number_found (first ∷ rest) number = by (nat_eq number first.number) refl (number_found rest number)
   where
-    by : (b : Bool) → nat_eq number first.number ≡ b → (mount_in nat_eq rest number).number ≡ number → (mount_in nat_eq (first ∷ rest) number).number ≡ number
+    by : (b : Bool) → nat_eq number first.number ≡ b → (mount_in nat_eq rest number).number ≡ number
+        → (mount_in nat_eq (first ∷ rest) number).number ≡ number
     by true e later =
         ap (λ b. (unwrap_or (cond b (Some first) (find (has_number number) rest)) (no_mount number)).number) e ∙ sym (eqb-true number first.number e)
     by false e later = ap (λ b. (unwrap_or (cond b (Some first) (find (has_number number) rest)) (no_mount number)).number) e ∙ later
 
 -- a change of each mount that keeps the numbers is found under them
-pub found-map : (f : Mount ℕ → Mount ℕ) → ((mount : Mount ℕ) → (f mount).number ≡ mount.number) → (mounts : List (Mount ℕ)) (number : ℕ) → f (no_mount number) ≡ no_mount number
+pub found-map : (f : Mount ℕ → Mount ℕ) → ((mount : Mount ℕ) → (f mount).number ≡ mount.number) → (mounts : List (Mount ℕ)) (number : ℕ)
+    → f (no_mount number) ≡ no_mount number
     → mount_in nat_eq (map f mounts) number ≡ f (mount_in nat_eq mounts number)
 found-map f numbers [] number none = sym none
 found-map f numbers (first ∷ rest) number none = by (nat_eq number first.number) refl (found-map f numbers rest number none)

@@ -18,7 +18,8 @@ use Rattle.std.specs.List.{list_any}
 
 module _ (answer : Answer) (world : World ℕ) where
   -- no rule of the table refuses
-  pub judged_granted : (rules : Rules) (outcome : Outcome ℕ) → (judged world rules outcome).answer ≡ Ok answer → judged world rules outcome ≡ outcome
+  pub judged_granted : (rules : Rules) (outcome : Outcome ℕ) → (judged world rules outcome).answer ≡ Ok answer
+      → judged world rules outcome ≡ outcome
   judged_granted [] outcome e = refl
   judged_granted ((true, rule) ∷ rows) outcome e = cc
   judged_granted ((false, rule) ∷ rows) outcome e = judged_granted rows outcome e
@@ -31,18 +32,21 @@ locations_raised name task = by (same_name name task.name)
     by true = refl
     by false = refl
 
-all_locations_raised : (name : TaskName) (tasks : List (Task ℕ)) → flat_map locations_of (map (raised_task name) tasks) ≡ flat_map locations_of tasks
+all_locations_raised : (name : TaskName) (tasks : List (Task ℕ))
+    → flat_map locations_of (map (raised_task name) tasks) ≡ flat_map locations_of tasks
 all_locations_raised name [] = refl
 all_locations_raised name (task ∷ tasks) =
     ap (λ here. here ++ flat_map locations_of (map (raised_task name) tasks)) (locations_raised name task)
     ∙ ap (λ rest. locations_of task ++ rest) (all_locations_raised name tasks)
 
 -- what lives after a call lives as its outcome leaves it
-lives_then : (before world : World ℕ) (name : TaskName) (mount : Mount ℕ) → mount_lives nat_eq world mount ≡ mount_lives nat_eq (numbers_raised nat_eq before name (settled nat_eq world)) mount
+lives_then : (before world : World ℕ) (name : TaskName) (mount : Mount ℕ)
+    → mount_lives nat_eq world mount ≡ mount_lives nat_eq (numbers_raised nat_eq before name (settled nat_eq world)) mount
 lives_then before world name mount =
     ap (λ locations. is_some mount.namespace || list_any (λ location. nat_eq mount.number location.mount) locations) (sym (all_locations_raised name world.tasks))
 
-living_then : (before world : World ℕ) (name : TaskName) → HasLiving (numbers_raised nat_eq before name (settled nat_eq world)) world.mounts
+living_then : (before world : World ℕ) (name : TaskName)
+    → HasLiving (numbers_raised nat_eq before name (settled nat_eq world)) world.mounts
 living_then before world name = filter_agree (mount_lives nat_eq world) (mount_lives nat_eq (numbers_raised nat_eq before name (settled nat_eq world))) (lives_then before world name) world.mounts
 
 -- a call leaves its outcome's world, or that without the dead

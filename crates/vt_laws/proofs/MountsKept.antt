@@ -62,7 +62,8 @@ pub settling_keeps_numbers : KeptBySettling OneNumberEach
 settling_keeps_numbers world e = pair-filter (λ (a b : Mount ℕ). nat_eq a.number b.number) (mount_lives nat_eq world) world.mounts e
 
 -- Mounts outside every namespace
-nowhere_inherits : (world : World ℕ) (mount : Mount ℕ) → is_nowhere_or_attached mount ≡ true → is_nowhere_or_attached (inheriting nat_eq world mount) ≡ true
+nowhere_inherits : (world : World ℕ) (mount : Mount ℕ) → is_nowhere_or_attached mount ≡ true
+    → is_nowhere_or_attached (inheriting nat_eq world mount) ≡ true
 nowhere_inherits world mount e = by mount.propagation refl e
   where
     either_way : (a b c : Bool) → (a || (b && false)) ≡ true → (a || (b && c)) ≡ true
@@ -80,7 +81,8 @@ nowhere_inherits world mount e = by mount.propagation refl e
     by Private f h = ap (λ k. is_some mount.namespace || (not (is_some mount.place) && is_private (inherited nat_eq world k))) f ∙ sym (ap (λ k. is_some mount.namespace || (not (is_some mount.place) && is_private k)) f) ∙ h
     by Unbindable f h = ap (λ k. is_some mount.namespace || (not (is_some mount.place) && is_private (inherited nat_eq world k))) f ∙ sym (ap (λ k. is_some mount.namespace || (not (is_some mount.place) && is_private k)) f) ∙ h
 
-nowhere_after : (world : World ℕ) (gone : List ℕ) (mount : Mount ℕ) → is_nowhere_or_attached mount ≡ true → is_nowhere_or_attached (after_going nat_eq world gone mount) ≡ true
+nowhere_after : (world : World ℕ) (gone : List ℕ) (mount : Mount ℕ) → is_nowhere_or_attached mount ≡ true
+    → is_nowhere_or_attached (after_going nat_eq world gone mount) ≡ true
 nowhere_after world gone mount e = by (is_going nat_eq gone mount.number) mount.place refl
   where
     by : (b : Bool) (place : Option (Location ℕ)) → mount.place ≡ place
@@ -107,7 +109,8 @@ ended_namespaces_keep_nowhere world e = taking_away_keeps_nowhere world (map (λ
 
 pub inheritance_keeps_nowhere : KeptByInheritance NowhereOrAttached
 inheritance_keeps_nowhere world e =
-    ap (list_all is_nowhere_or_attached) (mounts-regrouped world) ∙ all-map is_nowhere_or_attached (inheriting nat_eq world) (nowhere_inherits world) world.mounts e
+    ap (list_all is_nowhere_or_attached) (mounts-regrouped world)
+    ∙ all-map is_nowhere_or_attached (inheriting nat_eq world) (nowhere_inherits world) world.mounts e
 
 pub settling_keeps_nowhere : KeptBySettling NowhereOrAttached
 settling_keeps_nowhere world e = all-filter is_nowhere_or_attached (mount_lives nat_eq world) world.mounts e

@@ -40,18 +40,22 @@ module _ (world : World ℕ) where
   judged_leaves ((true, rule) ∷ rows) outcome e = refl
   judged_leaves ((false, rule) ∷ rows) outcome e = judged_leaves rows outcome e
 
-  pub after_leaves : {A : Type 0} (result : Result A Deny) (next : A → Outcome ℕ) → ((a : A) → Leaves (next a)) → Leaves (after world result next)
+  pub after_leaves : {A : Type 0} (result : Result A Deny) (next : A → Outcome ℕ) → ((a : A) → Leaves (next a))
+      → Leaves (after world result next)
   after_leaves (Ok a) next e = e a
   after_leaves (Err deny) next e = refl
 
-  pub mounts-with_change : (fresh : Fresh ℕ) (location : Location ℕ) (change : Change ℕ) → (with_change nat_eq fresh world location change).mounts ≡ world.mounts
+  pub mounts-with_change : (fresh : Fresh ℕ) (location : Location ℕ) (change : Change ℕ)
+      → (with_change nat_eq fresh world location change).mounts ≡ world.mounts
   mounts-with_change fresh location change = by (filesystem_at nat_eq world location) (filesystem_at nat_eq world location).overlay
     where
-      upper : (filesystem : Filesystem ℕ) (overlay : Overlay ℕ) (layer : Option (Layer ℕ)) → (overlay_changed nat_eq fresh world filesystem overlay layer change).mounts ≡ world.mounts
+      upper : (filesystem : Filesystem ℕ) (overlay : Overlay ℕ) (layer : Option (Layer ℕ))
+          → (overlay_changed nat_eq fresh world filesystem overlay layer change).mounts ≡ world.mounts
       upper filesystem overlay None = refl
       upper filesystem overlay (Some layer) = refl
 
-      by : (filesystem : Filesystem ℕ) (overlay : Option (Overlay ℕ)) → (filesystem_changed nat_eq fresh world filesystem overlay change).mounts ≡ world.mounts
+      by : (filesystem : Filesystem ℕ) (overlay : Option (Overlay ℕ))
+          → (filesystem_changed nat_eq fresh world filesystem overlay change).mounts ≡ world.mounts
       by filesystem None = refl
       by filesystem (Some overlay) = upper filesystem overlay overlay.upper
 
@@ -59,7 +63,8 @@ module _ (world : World ℕ) where
   made_leaves fresh task place node =
       judged_leaves (new_rules nat_eq fresh world task place node) _ (mounts-with_change (odds fresh) place.parent (making place (evens fresh 0) node))
 
-  written_leaves : (fresh : Fresh ℕ) (task : Task ℕ) (place : Place ℕ) (bytes : List ℕ) (file : Option (Location ℕ)) → Leaves (written nat_eq fresh world task place bytes file)
+  written_leaves : (fresh : Fresh ℕ) (task : Task ℕ) (place : Place ℕ) (bytes : List ℕ) (file : Option (Location ℕ))
+      → Leaves (written nat_eq fresh world task place bytes file)
   written_leaves fresh task place bytes (Some file) =
       judged_leaves (rewrite_rules nat_eq world task file bytes) _ (mounts-with_change fresh file (SetBytes file.node bytes))
   written_leaves fresh task place bytes None =
@@ -71,19 +76,23 @@ module _ (world : World ℕ) where
   copied_leaves true fresh file = mounts-with_change fresh file (CopyUp file.node)
   copied_leaves false fresh file = refl
 
-  open_leaves : (fresh : Fresh ℕ) (task : Task ℕ) (file : Location ℕ) (access : Access) → Leaves (open_file nat_eq fresh world task file access)
+  open_leaves : (fresh : Fresh ℕ) (task : Task ℕ) (file : Location ℕ) (access : Access)
+      → Leaves (open_file nat_eq fresh world task file access)
   open_leaves fresh task file access = judged_leaves (open_rules nat_eq world task file access) _ (copied_leaves (is_copied_up nat_eq world file access) fresh file)
 
-  create_leaves : (fresh : Fresh ℕ) (task : Task ℕ) (place : Place ℕ) (access : Access) (mode : ℕ) → Leaves (create_file nat_eq fresh world task place access mode)
+  create_leaves : (fresh : Fresh ℕ) (task : Task ℕ) (place : Place ℕ) (access : Access) (mode : ℕ)
+      → Leaves (create_file nat_eq fresh world task place access mode)
   create_leaves fresh task place access mode =
       judged_leaves (make_rules nat_eq world task place (making place (evens fresh 0) (new_file task mode []))) _
       (mounts-with_change (odds fresh) place.parent (making place (evens fresh 0) (new_file task mode [])))
 
-  open_or_create_leaves : (fresh : Fresh ℕ) (task : Task ℕ) (place : Place ℕ) (access : Access) (mode : ℕ) (file : Option (Location ℕ)) → Leaves (opened_or_created nat_eq fresh world task place access mode file)
+  open_or_create_leaves : (fresh : Fresh ℕ) (task : Task ℕ) (place : Place ℕ) (access : Access) (mode : ℕ) (file : Option (Location ℕ))
+      → Leaves (opened_or_created nat_eq fresh world task place access mode file)
   open_or_create_leaves fresh task place access mode (Some file) = open_leaves fresh task file access
   open_or_create_leaves fresh task place access mode None = create_leaves fresh task place access mode
 
-  open_by_leaves : (fresh : Fresh ℕ) (task : Task ℕ) (path : List ℕ) (access : Access) (creation : Creation) → Leaves (open_by nat_eq fresh world task path access creation)
+  open_by_leaves : (fresh : Fresh ℕ) (task : Task ℕ) (path : List ℕ) (access : Access) (creation : Creation)
+      → Leaves (open_by nat_eq fresh world task path access creation)
   open_by_leaves fresh task path access NoCreation =
       after_leaves (walk_end (object_walk nat_eq world task path)) _ (λ here. open_leaves fresh task here.location access)
   open_by_leaves fresh task path access (OrCreate mode) =
@@ -92,16 +101,19 @@ module _ (world : World ℕ) where
   open_by_leaves fresh task path access (Exclusive mode) =
       after_leaves (walk_end (new_walk nat_eq world task path)) _ (λ place. judged_leaves (exclusive_word_rules place) _ (create_leaves fresh task place access mode))
 
-  pwritten_leaves : (fresh : Fresh ℕ) (file : Location ℕ) (offset : ℕ) (bytes : List ℕ) → (pwritten nat_eq fresh world file offset bytes).mounts ≡ world.mounts
+  pwritten_leaves : (fresh : Fresh ℕ) (file : Location ℕ) (offset : ℕ) (bytes : List ℕ)
+      → (pwritten nat_eq fresh world file offset bytes).mounts ≡ world.mounts
   pwritten_leaves fresh file offset [] = refl
   pwritten_leaves fresh file offset (byte ∷ bytes) =
       mounts-with_change fresh file (SetBytes file.node (overwritten offset (byte ∷ bytes) (bytes_in (node_at nat_eq world file))))
 
-  attr_leaves : (fresh : Fresh ℕ) (object : Location ℕ) (allowed : Bool) (attr : Attr) → Leaves (attr_set nat_eq fresh world object allowed attr)
+  attr_leaves : (fresh : Fresh ℕ) (object : Location ℕ) (allowed : Bool) (attr : Attr)
+      → Leaves (attr_set nat_eq fresh world object allowed attr)
   attr_leaves fresh object allowed attr = judged_leaves (attr_rules nat_eq world object allowed attr) _ (mounts-with_change fresh object (SetAttr object.node attr))
 
   -- each such call
-  call_leaves : (fresh : Fresh ℕ) (task : Task ℕ) (call : Call) → is_of_no_mount call ≡ true → Leaves (call_outcome nat_eq fresh world task call)
+  call_leaves : (fresh : Fresh ℕ) (task : Task ℕ) (call : Call) → is_of_no_mount call ≡ true
+      → Leaves (call_outcome nat_eq fresh world task call)
   unfolding list_outcome stat_outcome lstat_outcome readlink_outcome read_outcome exec_outcome mkdir_outcome symlink_outcome whiteout_outcome link_outcome write_outcome unlink_outcome chmod_outcome chown_outcome opaque_outcome open_outcome pread_outcome pwrite_outcome close_outcome chdir_outcome chroot_outcome umask_outcome drop_outcome fork_outcome mounts_outcome
   call_leaves fresh task (Ls path) e =
       after_leaves (walk_end (directory_walk nat_eq world task path)) _ (λ here. judged_leaves (list_rules nat_eq world task here.location) _ refl)

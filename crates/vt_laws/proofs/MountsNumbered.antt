@@ -36,7 +36,8 @@ number_in_use world mount m =
     (among-flat_map used_by_mount world.mounts mount mount.number m (inl refl)))
 
 -- so it is none that is handed in
-number_is_old : (world : World ℕ) (fresh : Fresh ℕ) → Serves nat_eq world fresh → (number : ℕ) → Among number (numbers_of world.mounts) → (k : ℕ) → nat_eq number (fresh k) ≡ false
+number_is_old : (world : World ℕ) (fresh : Fresh ℕ) → Serves nat_eq world fresh → (number : ℕ) → Among number (numbers_of world.mounts)
+    → (k : ℕ) → nat_eq number (fresh k) ≡ false
 number_is_old world fresh serves number m k = apart (fresh k) number (false_from_ne_true (nat_eq (fresh k) number) (λ same.
     let from = among-from_map (λ (mount : Mount ℕ). mount.number) world.mounts number m in
     true≢false
@@ -54,7 +55,8 @@ module _ (fresh : Fresh ℕ) where
   ascends_in_order end start list (none it l) = l
   ascends_in_order end start list (next it k rest l m later) = omega (arith, l, m)
 
-  ascends-append : (middle end start : ℕ) (list others : List ℕ) → Ascends fresh middle start list → Ascends fresh end middle others → Ascends fresh end start (list ++ others)
+  ascends-append : (middle end start : ℕ) (list others : List ℕ) → Ascends fresh middle start list → Ascends fresh end middle others
+      → Ascends fresh end start (list ++ others)
   ascends-append middle end start list others (none it l) after = lower end middle others after it l
     where
       lower : (e m : ℕ) (os : List ℕ) → Ascends fresh e m os → (s : ℕ) → s ≤ m → Ascends fresh e s os
@@ -64,7 +66,8 @@ module _ (fresh : Fresh ℕ) where
       let far = ascends_in_order end middle others after in
       next it k (rest ++ others) l (omega (arith, m, far)) (ascends-append middle end (suc k) rest others later after)
 
-  among_ascending : (end start : ℕ) (list : List ℕ) → Ascends fresh end start list → (number : ℕ) → Among number list → (k : ℕ) × (start ≤ k) × (number ≡ fresh k)
+  among_ascending : (end start : ℕ) (list : List ℕ) → Ascends fresh end start list → (number : ℕ) → Among number list
+      → (k : ℕ) × (start ≤ k) × (number ≡ fresh k)
   among_ascending end start list (none it l) number m = absurd m
   among_ascending end start list (next it k rest l h later) number m =
       ⊎_elim (λ e. (k, l, e))
@@ -73,7 +76,8 @@ module _ (fresh : Fresh ℕ) where
       let low = t.1 in
       (t.0, omega (arith, low, l), t.2)) m
 
-  ascending_apart : ((j k : ℕ) → nat_eq (fresh j) (fresh k) ≡ true → j ≡ k) → (end start : ℕ) (list : List ℕ) → Ascends fresh end start list → any_pair nat_eq list ≡ false
+  ascending_apart : ((j k : ℕ) → nat_eq (fresh j) (fresh k) ≡ true → j ≡ k) → (end start : ℕ) (list : List ℕ)
+      → Ascends fresh end start list → any_pair nat_eq list ≡ false
   ascending_apart distinct end start list (none it l) = refl
   ascending_apart distinct end start list (next it k rest l h later) =
       or_from (list_any (nat_eq (fresh k)) rest) (any_pair nat_eq rest)
@@ -125,7 +129,8 @@ module _ (world : World ℕ) (fresh : Fresh ℕ) (serves : Serves nat_eq world f
   evens_apart : (j k : ℕ) → nat_eq (evens fresh j) (evens fresh k) ≡ true → j ≡ k
   evens_apart j k e = let same : 2 * j ≡ 2 * k = serves.apart (2 * j) (2 * k) e in omega (arith, same)
 
-  others_ascend : (place : Location ℕ) (moves : Bool) (mounts : List (Mount ℕ)) → (end : ℕ) × (start : ℕ) × Ascends (evens fresh) end start (numbers_of (others world fresh place moves mounts))
+  others_ascend : (place : Location ℕ) (moves : Bool) (mounts : List (Mount ℕ))
+      → (end : ℕ) × (start : ℕ) × Ascends (evens fresh) end start (numbers_of (others world fresh place moves mounts))
   others_ascend place false mounts =
       let parts = parts_of nat_eq world place in
       (_, _, all_numbers world fresh (graft_of nat_eq world fresh place false mounts) parts parts 0 (λ j l. refl))
@@ -134,7 +139,8 @@ module _ (world : World ℕ) (fresh : Fresh ℕ) (serves : Serves nat_eq world f
       let rest = filter (takes_part nat_eq world place) (receivers_of nat_eq world (mount_at nat_eq world place)) in
       (_, _, all_numbers world fresh (graft_of nat_eq world fresh place true mounts) parts rest (0 + 1) (λ j l. ne_eqb j 0 (λ e. omega (arith, e, l))))
 
-  attached_apart : (place : Location ℕ) (moves : Bool) (mounts : List (Mount ℕ)) → OneNumberEach world → OneNumberEach (attach nat_eq world fresh place moves mounts)
+  attached_apart : (place : Location ℕ) (moves : Bool) (mounts : List (Mount ℕ)) → OneNumberEach world
+      → OneNumberEach (attach nat_eq world fresh place moves mounts)
   attached_apart place moves mounts one =
       let after = attach nat_eq world fresh place moves mounts in
       let new = numbers_of (others world fresh place moves mounts) in

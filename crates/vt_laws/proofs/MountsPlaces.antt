@@ -29,14 +29,16 @@ stands_there place mount h = by mount.place refl
 pub stands_at_its_place : (place : Location ℕ) (mount : Mount ℕ) → mount.place ≡ Some place → stands_at nat_eq place mount ≡ true
 stands_at_its_place place mount e = ap (holds_of (same_location nat_eq place)) e ∙ same_location_itself place
 
-pub one_place_of_two : (place : Location ℕ) (a b : Mount ℕ) → a.place ≡ Some place → b.place ≡ Some place → stand_at_one_place nat_eq a b ≡ true
+pub one_place_of_two : (place : Location ℕ) (a b : Mount ℕ) → a.place ≡ Some place → b.place ≡ Some place
+    → stand_at_one_place nat_eq a b ≡ true
 one_place_of_two place a b e f =
     ap (λ p. is_some p && same_option (same_location nat_eq) p b.place) e
     ∙ ap (same_option (same_location nat_eq) (Some place)) f
     ∙ same_location_itself place
 
 -- where no two stand at one place, one that stands there is found there
-pub found_at_its_place : (mounts : List (Mount ℕ)) → OneMountAPlace mounts → (mount : Mount ℕ) → Among mount mounts → (place : Location ℕ) → mount.place ≡ Some place → child_at nat_eq mounts place ≡ Some mount
+pub found_at_its_place : (mounts : List (Mount ℕ)) → OneMountAPlace mounts → (mount : Mount ℕ) → Among mount mounts → (place : Location ℕ)
+    → mount.place ≡ Some place → child_at nat_eq mounts place ≡ Some mount
 found_at_its_place [] one mount m place e = absurd m
 found_at_its_place (first ∷ rest) one mount m place e =
     let apart : (list_any (stand_at_one_place nat_eq first) rest ≡ false) × (any_pair (stand_at_one_place nat_eq) rest ≡ false) = or_parts _ _ one in
@@ -47,7 +49,8 @@ found_at_its_place (first ∷ rest) one mount m place e =
     (found_at_its_place rest apart.1 mount later place e))
     m
   where
-    by : (b : Bool) → stands_at nat_eq place first ≡ b → stand_at_one_place nat_eq first mount ≡ false → find (stands_at nat_eq place) rest ≡ Some mount → child_at nat_eq (first ∷ rest) place ≡ Some mount
+    by : (b : Bool) → stands_at nat_eq place first ≡ b → stand_at_one_place nat_eq first mount ≡ false
+        → find (stands_at nat_eq place) rest ≡ Some mount → child_at nat_eq (first ∷ rest) place ≡ Some mount
     by true here differ found = absurd (true≢false (sym (one_place_of_two place first mount (stands_there place first here) e) ∙ differ))
     by false here differ found = ap (λ b. cond b (Some first) (find (stands_at nat_eq place) rest)) here ∙ found
 
@@ -57,10 +60,12 @@ stands_alone mounts one =
     (λ mount m place e. found_at_its_place mounts one mount m place e)
 
 -- two that stand at one place have it
-pub place_of_both : (a b : Mount ℕ) → stand_at_one_place nat_eq a b ≡ true → (place : Location ℕ) × (a.place ≡ Some place) × (b.place ≡ Some place)
+pub place_of_both : (a b : Mount ℕ) → stand_at_one_place nat_eq a b ≡ true
+    → (place : Location ℕ) × (a.place ≡ Some place) × (b.place ≡ Some place)
 place_of_both a b h = by a.place refl b.place refl h
   where
-    by : (p : Option (Location ℕ)) → a.place ≡ p → (q : Option (Location ℕ)) → b.place ≡ q → stand_at_one_place nat_eq a b ≡ true → (place : Location ℕ) × (a.place ≡ Some place) × (b.place ≡ Some place)
+    by : (p : Option (Location ℕ)) → a.place ≡ p → (q : Option (Location ℕ)) → b.place ≡ q → stand_at_one_place nat_eq a b ≡ true
+        → (place : Location ℕ) × (a.place ≡ Some place) × (b.place ≡ Some place)
     by None e q f t = absurd (true≢false (sym t ∙ ap (λ p. is_some p && same_option (same_location nat_eq) p b.place) e))
     by (Some p) e None f t =
         absurd (true≢false (sym t ∙ ap (λ x. is_some x && same_option (same_location nat_eq) x b.place) e ∙ ap (same_option (same_location nat_eq) (Some p)) f))

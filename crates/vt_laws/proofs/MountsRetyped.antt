@@ -64,7 +64,8 @@ module _ (world : World ℕ) (new : ℕ) (word : TypeWord) (number : ℕ) where
   one_number : one.number ≡ number
   one_number = number_found world.mounts number
 
-  pub retyped_found : (other : ℕ) → mount_numbered nat_eq next_world other ≡ inheriting nat_eq between (mount_in nat_eq between.mounts other)
+  pub retyped_found : (other : ℕ)
+      → mount_numbered nat_eq next_world other ≡ inheriting nat_eq between (mount_in nat_eq between.mounts other)
   retyped_found other = ap (λ mounts. mount_in nat_eq mounts other) (mounts-regrouped between) ∙ found-map (inheriting nat_eq between) (λ mount. refl) between.mounts other refl
 
   pub numbers-retyped : numbers_of next_world.mounts ≡ numbers_of world.mounts
@@ -80,12 +81,14 @@ module _ (world : World ℕ) (new : ℕ) (word : TypeWord) (number : ℕ) where
       subst (KeepsAllButType (mount_numbered nat_eq world other)) (sym (retyped_found other))
       (record { number = r.number; namespace = r.namespace; place = r.place; filesystem = r.filesystem; root = r.root; flags = r.flags })
 
-  pub type_of_other : (other : ℕ) → nat_eq number other ≡ false → (mount_numbered nat_eq next_world other).propagation ≡ inherited nat_eq between (mount_numbered nat_eq world other).propagation
+  pub type_of_other : (other : ℕ) → nat_eq number other ≡ false
+      → (mount_numbered nat_eq next_world other).propagation ≡ inherited nat_eq between (mount_numbered nat_eq world other).propagation
   type_of_other other e =
       ap (λ m. m.propagation) (retyped_found other)
       ∙ ap (λ m. inherited nat_eq between m.propagation) (found-with_mount_other changed_one world.mounts other (ap (λ n. nat_eq n other) one_number ∙ e))
 
-  pub type_of_itself : is_mount world number ≡ true → (mount_numbered nat_eq next_world number).propagation ≡ inherited nat_eq between (type_after new word one.propagation)
+  pub type_of_itself : is_mount world number ≡ true
+      → (mount_numbered nat_eq next_world number).propagation ≡ inherited nat_eq between (type_after new word one.propagation)
   type_of_itself there =
       ap (λ m. m.propagation) (retyped_found number)
       ∙ ap (λ m. inherited nat_eq between m.propagation)
@@ -116,7 +119,8 @@ makes_shared ToSlave = false
 makes_shared ToPrivate = false
 makes_shared ToUnbindable = false
 
-no_shared_type : (new : ℕ) (word : TypeWord) (kind : Propagation ℕ) → makes_shared word ≡ false → group_of (type_after new word kind) ≡ None
+no_shared_type : (new : ℕ) (word : TypeWord) (kind : Propagation ℕ) → makes_shared word ≡ false
+    → group_of (type_after new word kind) ≡ None
 no_shared_type new ToShared kind e = absurd (true≢false e)
 no_shared_type new ToSlave (Shared group) e = refl
 no_shared_type new ToSlave (Slave above) e = refl
@@ -134,25 +138,29 @@ no_more_members changed group none mounts h =
     any_from_among (is_member_of nat_eq group) mounts from.0 from.1
     (by from.0 (nat_eq changed.number from.0.number) refl (ap (is_member_of nat_eq group) (sym from.2) ∙ found.2))
   where
-    by : (old : Mount ℕ) (b : Bool) → nat_eq changed.number old.number ≡ b → is_member_of nat_eq group (replaced_if_same nat_eq changed old) ≡ true → is_member_of nat_eq group old ≡ true
+    by : (old : Mount ℕ) (b : Bool) → nat_eq changed.number old.number ≡ b
+        → is_member_of nat_eq group (replaced_if_same nat_eq changed old) ≡ true → is_member_of nat_eq group old ≡ true
     by old true e h = absurd (true≢false (sym h ∙ ap (is_member_of nat_eq group) (replaced_there changed old e) ∙ none))
     by old false e h = ap (is_member_of nat_eq group) (sym (replaced_elsewhere changed old e)) ∙ h
 
 -- a member of a group is shared
-member_is_shared : (group : ℕ) (kind : Propagation ℕ) → holds_of (nat_eq group) (group_of kind) ≡ true → (new : ℕ) → type_after new ToShared kind ≡ kind
+member_is_shared : (group : ℕ) (kind : Propagation ℕ) → holds_of (nat_eq group) (group_of kind) ≡ true → (new : ℕ)
+    → type_after new ToShared kind ≡ kind
 member_is_shared group (Shared own) h new = refl
 member_is_shared group (Slave above) h new = absurd (true≢false (sym h))
 member_is_shared group Private h new = absurd (true≢false (sym h))
 member_is_shared group Unbindable h new = absurd (true≢false (sym h))
 
 module _ (world : World ℕ) (new : ℕ) (number : ℕ) where
-  fewer_members : (word : TypeWord) → makes_shared word ≡ false → (group : ℕ) → has_members nat_eq (next_world world new word number).mounts group ≡ true → has_members nat_eq world.mounts group ≡ true
+  fewer_members : (word : TypeWord) → makes_shared word ≡ false → (group : ℕ)
+      → has_members nat_eq (next_world world new word number).mounts group ≡ true → has_members nat_eq world.mounts group ≡ true
   fewer_members word e group h =
       no_more_members (changed_one world new word number) group
       (ap (holds_of (nat_eq group)) (no_shared_type new word (one world new word number).propagation e)) world.mounts
       (sym (members_between world new word number group) ∙ h)
 
-  more_members : OneNumberAMount world.mounts → (group : ℕ) → has_members nat_eq world.mounts group ≡ true → has_members nat_eq (next_world world new ToShared number).mounts group ≡ true
+  more_members : OneNumberAMount world.mounts → (group : ℕ) → has_members nat_eq world.mounts group ≡ true
+      → has_members nat_eq (next_world world new ToShared number).mounts group ≡ true
   more_members one_each group h =
       let found = any_among (is_member_of nat_eq group) world.mounts h in
       members_between world new ToShared number group
@@ -163,10 +171,12 @@ module _ (world : World ℕ) (new : ℕ) (number : ℕ) where
       changed : Mount ℕ
       changed = changed_one world new ToShared number
 
-      by : (old : Mount ℕ) → Among old world.mounts → is_member_of nat_eq group old ≡ true → (b : Bool) → nat_eq changed.number old.number ≡ b → is_member_of nat_eq group (replaced_if_same nat_eq changed old) ≡ true
+      by : (old : Mount ℕ) → Among old world.mounts → is_member_of nat_eq group old ≡ true → (b : Bool)
+          → nat_eq changed.number old.number ≡ b → is_member_of nat_eq group (replaced_if_same nat_eq changed old) ≡ true
       by old m member true e =
           let same : mount_numbered nat_eq world number ≡ old =
-          ap (mount_in nat_eq world.mounts) (sym (number_found world.mounts number) ∙ eqb-true _ _ e) ∙ found_itself world.mounts one_each old m in
+          ap (mount_in nat_eq world.mounts) (sym (number_found world.mounts number) ∙ eqb-true _ _ e)
+          ∙ found_itself world.mounts one_each old m in
           ap (is_member_of nat_eq group) (replaced_there changed old e)
           ∙ ap (λ x. holds_of (nat_eq group) (group_of (type_after new ToShared x.propagation))) same
           ∙ ap (λ k. holds_of (nat_eq group) (group_of k)) (member_is_shared group old.propagation member new)
@@ -183,7 +193,8 @@ module _ (fresh : Fresh ℕ) (word : TypeWord) where
       (keeps_all_but_type world (fresh k) word mount.number other)
       (each_keeps (k + 1) (next_world world (fresh k) word mount.number) rest other)
 
-  each_is_of_mounts : (k : ℕ) (world : World ℕ) (mounts : List (Mount ℕ)) → KeepsAllButMounts world (retyped_each nat_eq fresh word k world mounts)
+  each_is_of_mounts : (k : ℕ) (world : World ℕ) (mounts : List (Mount ℕ))
+      → KeepsAllButMounts world (retyped_each nat_eq fresh word k world mounts)
   each_is_of_mounts k world [] = record { filesystems = refl; namespaces = refl; tasks = refl; change = refl }
   each_is_of_mounts k world (mount ∷ rest) =
       let first = retyping_is_of_mounts world (fresh k) word mount.number in
@@ -196,13 +207,15 @@ module _ (fresh : Fresh ℕ) (word : TypeWord) where
       }
 
   each_fewer : makes_shared word ≡ false → (group k : ℕ) (world : World ℕ) (mounts : List (Mount ℕ))
-      → has_members nat_eq (retyped_each nat_eq fresh word k world mounts).mounts group ≡ true → has_members nat_eq world.mounts group ≡ true
+      → has_members nat_eq (retyped_each nat_eq fresh word k world mounts).mounts group ≡ true
+      → has_members nat_eq world.mounts group ≡ true
   each_fewer e group k world [] h = h
   each_fewer e group k world (mount ∷ rest) h =
       fewer_members world (fresh k) mount.number word e group (each_fewer e group (k + 1) (next_world world (fresh k) word mount.number) rest h)
 
 -- a group that has members before and after has them at each step
-step_has_members : (fresh : Fresh ℕ) (word : TypeWord) (group k : ℕ) (world : World ℕ) (mount : Mount ℕ) (rest : List (Mount ℕ)) → OneNumberAMount world.mounts
+step_has_members : (fresh : Fresh ℕ) (word : TypeWord) (group k : ℕ) (world : World ℕ) (mount : Mount ℕ) (rest : List (Mount ℕ))
+    → OneNumberAMount world.mounts
     → has_members nat_eq world.mounts group ≡ true
     → has_members nat_eq (retyped_each nat_eq fresh word (k + 1) (next_world world (fresh k) word mount.number) rest).mounts group ≡ true
     → has_members nat_eq (next_world world (fresh k) word mount.number).mounts group ≡ true
@@ -211,7 +224,8 @@ step_has_members fresh ToSlave group k world mount rest one_each before later = 
 step_has_members fresh ToPrivate group k world mount rest one_each before later = each_fewer fresh ToPrivate refl group (k + 1) (next_world world (fresh k) ToPrivate mount.number) rest later
 step_has_members fresh ToUnbindable group k world mount rest one_each before later = each_fewer fresh ToUnbindable refl group (k + 1) (next_world world (fresh k) ToUnbindable mount.number) rest later
 
-step_has_master : (fresh : Fresh ℕ) (word : TypeWord) (kind : Propagation ℕ) (k : ℕ) (world : World ℕ) (mount : Mount ℕ) (rest : List (Mount ℕ)) → OneNumberAMount world.mounts
+step_has_master : (fresh : Fresh ℕ) (word : TypeWord) (kind : Propagation ℕ) (k : ℕ) (world : World ℕ) (mount : Mount ℕ) (rest : List (Mount ℕ))
+    → OneNumberAMount world.mounts
     → has_its_master world kind ≡ true
     → has_its_master (retyped_each nat_eq fresh word (k + 1) (next_world world (fresh k) word mount.number) rest) kind ≡ true
     → has_its_master (next_world world (fresh k) word mount.number) kind ≡ true
@@ -220,11 +234,13 @@ step_has_master fresh word (Slave above) k world mount rest one_each before late
 step_has_master fresh word Private k world mount rest one_each before later = refl
 step_has_master fresh word Unbindable k world mount rest one_each before later = refl
 
-one_number-retyped : (world : World ℕ) (new : ℕ) (word : TypeWord) (number : ℕ) → OneNumberAMount world.mounts → OneNumberAMount (next_world world new word number).mounts
+one_number-retyped : (world : World ℕ) (new : ℕ) (word : TypeWord) (number : ℕ) → OneNumberAMount world.mounts
+    → OneNumberAMount (next_world world new word number).mounts
 one_number-retyped world new word number e =
     one_number_by_numbers world.mounts (next_world world new word number).mounts (numbers-retyped world new word number) e
 
-unnamed_keeps : (fresh : Fresh ℕ) (word : TypeWord) (other : ℕ) (kind : Propagation ℕ) (k : ℕ) (world : World ℕ) (mounts : List (Mount ℕ)) → OneNumberAMount world.mounts
+unnamed_keeps : (fresh : Fresh ℕ) (word : TypeWord) (other : ℕ) (kind : Propagation ℕ) (k : ℕ) (world : World ℕ) (mounts : List (Mount ℕ))
+    → OneNumberAMount world.mounts
     → is_among nat_eq other (numbers_of mounts) ≡ false
     → (mount_numbered nat_eq world other).propagation ≡ kind
     → has_its_master world kind ≡ true
@@ -242,7 +258,8 @@ unnamed_keeps fresh word other kind k world (mount ∷ rest) one_each unnamed is
     has later
 
 -- The laws
-pub retyped_named : (world : World ℕ) (fresh : Fresh ℕ) (number : ℕ) (word : TypeWord) (recursive : Bool) → with_type nat_eq fresh world number word recursive ≡ retyped_each nat_eq fresh word 0 world (named world number recursive)
+pub retyped_named : (world : World ℕ) (fresh : Fresh ℕ) (number : ℕ) (word : TypeWord) (recursive : Bool)
+    → with_type nat_eq fresh world number word recursive ≡ retyped_each nat_eq fresh word 0 world (named world number recursive)
 retyped_named world fresh number word true = refl
 retyped_named world fresh number word false = refl
 
@@ -263,7 +280,8 @@ type_is_of_the_named world fresh number word recursive other one_each unnamed be
     ∙ unnamed_keeps fresh word other kind 0 world (named world number recursive) one_each unnamed refl before (ap (λ w. has_its_master w kind) (sym same) ∙ later)
 
 -- the world in which one mount took a type
-taken_by_one : (world : World ℕ) (fresh : Fresh ℕ) (number : ℕ) (word : TypeWord) → with_type nat_eq fresh world number word false ≡ next_world world (fresh 0) word number
+taken_by_one : (world : World ℕ) (fresh : Fresh ℕ) (number : ℕ) (word : TypeWord)
+    → with_type nat_eq fresh world number word false ≡ next_world world (fresh 0) word number
 taken_by_one world fresh number word = ap (λ n. retyped nat_eq world (fresh 0) word (mount_numbered nat_eq world n)) (number_found world.mounts number)
 
 pub type_is_taken : TypeIsTaken
@@ -289,11 +307,14 @@ alone_is_private world fresh number group there shared no_master none =
     either_none true e = refl
     either_none false e = e
 
-pub numbers_each : (fresh : Fresh ℕ) (word : TypeWord) (k : ℕ) (world : World ℕ) (mounts : List (Mount ℕ)) → numbers_of (retyped_each nat_eq fresh word k world mounts).mounts ≡ numbers_of world.mounts
+pub numbers_each : (fresh : Fresh ℕ) (word : TypeWord) (k : ℕ) (world : World ℕ) (mounts : List (Mount ℕ))
+    → numbers_of (retyped_each nat_eq fresh word k world mounts).mounts ≡ numbers_of world.mounts
 numbers_each fresh word k world [] = refl
 numbers_each fresh word k world (mount ∷ rest) =
-    numbers_each fresh word (k + 1) (next_world world (fresh k) word mount.number) rest ∙ numbers-retyped world (fresh k) word mount.number
+    numbers_each fresh word (k + 1) (next_world world (fresh k) word mount.number) rest
+    ∙ numbers-retyped world (fresh k) word mount.number
 
-pub numbers_with_type : (world : World ℕ) (fresh : Fresh ℕ) (number : ℕ) (word : TypeWord) (recursive : Bool) → numbers_of (with_type nat_eq fresh world number word recursive).mounts ≡ numbers_of world.mounts
+pub numbers_with_type : (world : World ℕ) (fresh : Fresh ℕ) (number : ℕ) (word : TypeWord) (recursive : Bool)
+    → numbers_of (with_type nat_eq fresh world number word recursive).mounts ≡ numbers_of world.mounts
 numbers_with_type world fresh number word recursive =
     ap (λ w. numbers_of w.mounts) (retyped_named world fresh number word recursive) ∙ numbers_each fresh word 0 world (named world number recursive)

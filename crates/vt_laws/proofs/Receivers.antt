@@ -21,7 +21,8 @@ module _ (master : ℕ → Option ℕ) where
   along_chain P up zero source group p h = ⊎_elim (λ e. subst P (sym e) p) (λ none. absurd (true≢false (sym none))) (among_cases group source [] h)
   along_chain P up (suc n) source group p h = by (master source) refl (λ above q later. along_chain P up n above group q later)
     where
-      by : (found : Option ℕ) → master source ≡ found → ((above : ℕ) → P above → is_among nat_eq group (chain n master above) ≡ true → P group) → P group
+      by : (found : Option ℕ) → master source ≡ found
+          → ((above : ℕ) → P above → is_among nat_eq group (chain n master above) ≡ true → P group) → P group
       by None e next =
           ⊎_elim (λ same. subst P (sym same) p) (λ none. absurd (true≢false (sym none)))
           (among_cases group source [] (sym (ap (is_among nat_eq group) (chain_ends master n source e)) ∙ h))
@@ -46,7 +47,8 @@ module _ (master : ℕ → Option ℕ) where
       by (Some above) e = ap (is_among nat_eq source) (chain_goes_on master n source above e) ∙ head_among source source (chain n master above) refl
 
   -- a chain that ends holds the master of each of its groups
-  pub chain_is_closed : (n source lower group : ℕ) → Ends n source → master lower ≡ Some group → is_among nat_eq lower (chain n master source) ≡ true
+  pub chain_is_closed : (n source lower group : ℕ) → Ends n source → master lower ≡ Some group
+      → is_among nat_eq lower (chain n master source) ≡ true
       → is_among nat_eq group (chain n master source) ≡ true
   chain_is_closed zero source lower group ends above h =
       ⊎_elim (λ same. absurd (no_end source group (ap master (sym same) ∙ above) ends)) (λ none. absurd (true≢false (sym none))) (among_cases lower source [] h)
@@ -73,14 +75,16 @@ module _ (master : ℕ → Option ℕ) where
           (among_cases lower source (chain n master next) (sym (ap (is_among nat_eq lower) longer) ∙ h)))
 
 -- the group or master of a mount, and the groups up the masters, have members and come to an end
-pub groups_live_at : (world : World ℕ) → GroupsLive world → (mount : Mount ℕ) → Among mount world.mounts → (source : ℕ) → source_of mount.propagation ≡ Some source
+pub groups_live_at : (world : World ℕ) → GroupsLive world → (mount : Mount ℕ) → Among mount world.mounts → (source : ℕ)
+    → source_of mount.propagation ≡ Some source
     → (list_all (has_members nat_eq world.mounts) (groups_up world source) ≡ true) × (masters_end nat_eq world source ≡ true)
 groups_live_at world live mount m source e =
     and_parts _ _ (among_from_list_all (λ group. list_all (has_members nat_eq world.mounts) (groups_up world group) && masters_end nat_eq world group)
     (option_to_list (source_of mount.propagation)) (among_from_list_all (has_living_groups nat_eq world) world.mounts live mount m) source
     (subst (λ s. Among source (option_to_list s)) (sym e) (inl refl)))
 
-ends_above : (world : World ℕ) → GroupsLive world → (mount : Mount ℕ) → Among mount world.mounts → (source : ℕ) → source_of mount.propagation ≡ Some source
+ends_above : (world : World ℕ) → GroupsLive world → (mount : Mount ℕ) → Among mount world.mounts → (source : ℕ)
+    → source_of mount.propagation ≡ Some source
     → is_some (world.master (last_or source (groups_up world source))) ≡ false
 ends_above world live mount m source e = not-true _ (groups_live_at world live mount m source e).1
 
@@ -107,10 +111,12 @@ module _ (world : World ℕ) where
       by Private e = none (ap source_of e)
       by Unbindable e = none (ap source_of e)
 
-  pub receives_from_source : (group : ℕ) (mount : Mount ℕ) → source_of mount.propagation ≡ Some group → receives nat_eq world group mount ≡ true
+  pub receives_from_source : (group : ℕ) (mount : Mount ℕ) → source_of mount.propagation ≡ Some group
+      → receives nat_eq world group mount ≡ true
   receives_from_source group mount e = receives_by_source group group mount e ∙ start_among world.master (length world.mounts) group
 
-  receives_further_down : GroupsLive world → (group lower : ℕ) (mount : Mount ℕ) → Among mount world.mounts → world.master lower ≡ Some group
+  receives_further_down : GroupsLive world → (group lower : ℕ) (mount : Mount ℕ) → Among mount world.mounts
+      → world.master lower ≡ Some group
       → receives nat_eq world lower mount ≡ true → receives nat_eq world group mount ≡ true
   receives_further_down live group lower mount m up h = by (source_of mount.propagation) refl
     where
@@ -121,7 +127,8 @@ module _ (world : World ℕ) where
           ∙ chain_is_closed world.master (length world.mounts) source lower group (ends_above world live mount m source e) up
           (sym (receives_by_source lower source mount e) ∙ h)
 
-  pub receives_completely : GroupsLive world → (group : ℕ) (mount : Mount ℕ) → Among mount world.mounts → Receives world group mount → receives nat_eq world group mount ≡ true
+  pub receives_completely : GroupsLive world → (group : ℕ) (mount : Mount ℕ) → Among mount world.mounts → Receives world group mount
+      → receives nat_eq world group mount ≡ true
   receives_completely live group mount m (member own one e) = receives_from_source own one (ap source_of e)
   receives_completely live group mount m (slave above one e) = receives_from_source above one (ap source_of e)
   receives_completely live group mount m (further_down above lower one up r) =
@@ -155,7 +162,8 @@ receivers_are_closed world live = record {
 }
 
 -- what receives is in every closed set
-in_closed : (world : World ℕ) (set : ℕ → Mount ℕ → Bool) → IsClosed world set → (group : ℕ) (mount : Mount ℕ) → Among mount world.mounts → Receives world group mount → set group mount ≡ true
+in_closed : (world : World ℕ) (set : ℕ → Mount ℕ → Bool) → IsClosed world set → (group : ℕ) (mount : Mount ℕ) → Among mount world.mounts
+    → Receives world group mount → set group mount ≡ true
 in_closed world set closed group mount m (member own one e) = among_from_all (λ x. x.propagation ≡ Shared own → set own x ≡ true) world.mounts (closed.members own) one m e
 in_closed world set closed group mount m (slave above one e) = among_from_all (λ x. x.propagation ≡ Slave above → set above x ≡ true) world.mounts (closed.slaves above) one m e
 in_closed world set closed group mount m (further_down above lower one up r) =

@@ -19,7 +19,8 @@ use Rattle.vt_laws.proofs.MountsFound.{found-map, found_or_none, number_found, n
 
 module _ (world : World ℕ) (gone : List ℕ) where
   -- one mount after the event
-  pub going_is_detached : (mount : Mount ℕ) → is_going nat_eq gone mount.number ≡ true → after_going nat_eq world gone mount ≡ detached mount
+  pub going_is_detached : (mount : Mount ℕ) → is_going nat_eq gone mount.number ≡ true
+      → after_going nat_eq world gone mount ≡ detached mount
   going_is_detached mount e = ap (λ b. if b then detached mount else (record mount { place = option_map (place_left nat_eq world gone) mount.place })) e
 
   pub staying_is_placed : (mount : Mount ℕ) → is_going nat_eq gone mount.number ≡ false
@@ -44,7 +45,8 @@ module _ (world : World ℕ) (gone : List ℕ) where
   abbrev pub middle : World ℕ
   middle = with_mounts world (map (after_going nat_eq world gone) world.mounts)
 
-  pub taken : (number : ℕ) → mount_numbered nat_eq (taken_away nat_eq world gone) number ≡ inheriting nat_eq middle (after_going nat_eq world gone (mount_numbered nat_eq world number))
+  pub taken : (number : ℕ)
+      → mount_numbered nat_eq (taken_away nat_eq world gone) number ≡ inheriting nat_eq middle (after_going nat_eq world gone (mount_numbered nat_eq world number))
   taken number =
       ap (λ mounts. mount_in nat_eq mounts number) (mounts-regrouped middle)
       ∙ found-map (inheriting nat_eq middle) (λ mount. refl) middle.mounts number refl
@@ -72,7 +74,8 @@ module _ (world : World ℕ) (gone : List ℕ) where
   abbrev down : Location ℕ → Option (Location ℕ)
   down place = (mount_at nat_eq world place).place
 
-  pub left_at_rest : (n : ℕ) (place : Location ℕ) → is_going nat_eq gone place.mount ≡ false → last_or place (chain n (place_below nat_eq world gone) place) ≡ place
+  pub left_at_rest : (n : ℕ) (place : Location ℕ) → is_going nat_eq gone place.mount ≡ false
+      → last_or place (chain n (place_below nat_eq world gone) place) ≡ place
   left_at_rest zero place e = refl
   left_at_rest (suc n) place e = ap (last_or place) (chain_ends (place_below nat_eq world gone) n place (ap (λ b. if b then down place else None) e))
 
@@ -80,7 +83,8 @@ module _ (world : World ℕ) (gone : List ℕ) where
   abbrev EndsBelow : ℕ → Location ℕ → Type 0
   EndsBelow n place = is_some (down (last_or place (chain n down place))) ≡ false
 
-  falls_to_rest : (n : ℕ) (place rest : Location ℕ) → EndsBelow n place → FallsTo world gone place rest → last_or place (chain n (place_below nat_eq world gone) place) ≡ rest
+  falls_to_rest : (n : ℕ) (place rest : Location ℕ) → EndsBelow n place → FallsTo world gone place rest
+      → last_or place (chain n (place_below nat_eq world gone) place) ≡ rest
   falls_to_rest n place rest ends (rests at stays) = left_at_rest n at stays
   falls_to_rest zero place rest ends (falls at below end goes under later) = absurd (true≢false (sym (ap is_some under) ∙ ends))
   falls_to_rest (suc n) place rest ends (falls at below end goes under later) =
@@ -94,7 +98,8 @@ module _ (world : World ℕ) (gone : List ℕ) where
   below_mount mount = option_map (mount_at nat_eq world) mount.place
 
   -- the mounts below the mount of a place are those of the places below it
-  same_end : (n : ℕ) (place : Location ℕ) → (last_or (mount_at nat_eq world place) (chain n below_mount (mount_at nat_eq world place))).place ≡ down (last_or place (chain n down place))
+  same_end : (n : ℕ) (place : Location ℕ)
+      → (last_or (mount_at nat_eq world place) (chain n below_mount (mount_at nat_eq world place))).place ≡ down (last_or place (chain n down place))
   same_end zero place = refl
   same_end (suc n) place = by (down place) refl (same_end n)
     where
@@ -147,31 +152,39 @@ module _ (world : World ℕ) (gone : List ℕ) where
         flags = ap (λ m. m.flags) it;
       }
 
-  place_by_number : (number : ℕ) (place : Location ℕ) → is_going nat_eq gone number ≡ false → (before_it number).place ≡ Some place → (left number).place ≡ Some (place_left nat_eq world gone place)
+  place_by_number : (number : ℕ) (place : Location ℕ) → is_going nat_eq gone number ≡ false → (before_it number).place ≡ Some place
+      → (left number).place ≡ Some (place_left nat_eq world gone place)
   place_by_number number place e at = ap (λ m. m.place) (taken_staying number (goes_so number false e)) ∙ ap (option_map (place_left nat_eq world gone)) at
 
-  pub place_kept : (number : ℕ) (place : Location ℕ) → is_going nat_eq gone number ≡ false → (before_it number).place ≡ Some place → is_going nat_eq gone place.mount ≡ false → (left number).place ≡ Some place
+  pub place_kept : (number : ℕ) (place : Location ℕ) → is_going nat_eq gone number ≡ false → (before_it number).place ≡ Some place
+      → is_going nat_eq gone place.mount ≡ false → (left number).place ≡ Some place
   place_kept number place e at stays = place_by_number number place e at ∙ ap Some (left_at_rest (length world.mounts) place stays)
 
-  pub place_fallen : PlacesEnd world → (number : ℕ) (place rest : Location ℕ) → is_going nat_eq gone number ≡ false → (before_it number).place ≡ Some place → FallsTo world gone place rest → (left number).place ≡ Some rest
+  pub place_fallen : PlacesEnd world → (number : ℕ) (place rest : Location ℕ) → is_going nat_eq gone number ≡ false
+      → (before_it number).place ≡ Some place → FallsTo world gone place rest → (left number).place ≡ Some rest
   place_fallen ends number place rest e at fall =
       place_by_number number place e at ∙ ap Some (falls_to_rest (length world.mounts) place rest (ends_below ends place) fall)
 
   pub root_stays : (number : ℕ) → (before_it number).place ≡ None → (left number).place ≡ None
   root_stays number at = ap (λ m. m.place) (taken number) ∙ by (is_going nat_eq gone (before_it number).number) refl
     where
-      by : (b : Bool) → is_going nat_eq gone (before_it number).number ≡ b → (after_going nat_eq world gone (before_it number)).place ≡ None
+      by : (b : Bool) → is_going nat_eq gone (before_it number).number ≡ b
+          → (after_going nat_eq world gone (before_it number)).place ≡ None
       by true e = ap (λ m. m.place) (going_is_detached (before_it number) e)
       by false e = ap (λ m. m.place) (staying_is_placed (before_it number) e) ∙ ap (option_map (place_left nat_eq world gone)) at
 
   -- Types
-  type_by_number : (number : ℕ) → is_going nat_eq gone number ≡ false → (left number).propagation ≡ inherited nat_eq middle (before_it number).propagation
+  type_by_number : (number : ℕ) → is_going nat_eq gone number ≡ false
+      → (left number).propagation ≡ inherited nat_eq middle (before_it number).propagation
   type_by_number number e = ap (λ m. m.propagation) (taken_staying number (goes_so number false e))
 
-  members_of_middle : (group : ℕ) → has_members nat_eq (taken_away nat_eq world gone).mounts group ≡ has_members nat_eq middle.mounts group
+  members_of_middle : (group : ℕ)
+      → has_members nat_eq (taken_away nat_eq world gone).mounts group ≡ has_members nat_eq middle.mounts group
   members_of_middle group = members-regrouped middle group
 
-  pub type_kept : (number : ℕ) → is_going nat_eq gone number ≡ false → has_its_master (taken_away nat_eq world gone) (before_it number).propagation ≡ true → (left number).propagation ≡ (before_it number).propagation
+  pub type_kept : (number : ℕ) → is_going nat_eq gone number ≡ false
+      → has_its_master (taken_away nat_eq world gone) (before_it number).propagation ≡ true
+      → (left number).propagation ≡ (before_it number).propagation
   type_kept number e has = type_by_number number e ∙ by (before_it number).propagation has
     where
       by : (kind : Propagation ℕ) → has_its_master (taken_away nat_eq world gone) kind ≡ true → inherited nat_eq middle kind ≡ kind
@@ -187,7 +200,8 @@ module _ (world : World ℕ) (gone : List ℕ) where
       ∙ ap (λ n. slave_of_heir (find (has_members nat_eq middle.mounts) (chain n world.master master))) (length-map world.mounts (after_going nat_eq world gone))
       ∙ ap slave_of_heir (find_agrees (has_members nat_eq middle.mounts) (has_members nat_eq (taken_away nat_eq world gone).mounts) (λ group. sym (members_of_middle group)) (groups_up world master))
 
-  pub master_kept : (group master : ℕ) → world.master group ≡ Some master → has_members nat_eq (taken_away nat_eq world gone).mounts master ≡ true → (taken_away nat_eq world gone).master group ≡ Some master
+  pub master_kept : (group master : ℕ) → world.master group ≡ Some master
+      → has_members nat_eq (taken_away nat_eq world gone).mounts master ≡ true → (taken_away nat_eq world gone).master group ≡ Some master
   master_kept group master e h = master-regrouped middle group master e (sym (members_of_middle master) ∙ h)
 
   pub all_but_mounts : KeepsAllButMounts world (taken_away nat_eq world gone)

@@ -34,10 +34,12 @@ abbrev DetachedOrKept : Mount ℕ → Mount ℕ → Type 0
 DetachedOrKept before later = (later ≡ detached before) ⊎ KeepsAllButPlaceAndType before later
 
 -- a mount after one event, by the world before
-event : (world : World ℕ) (gone : List ℕ) (number : ℕ) → DetachedOrKept (mount_numbered nat_eq world number) (mount_numbered nat_eq (taken_away nat_eq world gone) number)
+event : (world : World ℕ) (gone : List ℕ) (number : ℕ)
+    → DetachedOrKept (mount_numbered nat_eq world number) (mount_numbered nat_eq (taken_away nat_eq world gone) number)
 event world gone number = by (is_going nat_eq gone number) refl
   where
-    by : (b : Bool) → is_going nat_eq gone number ≡ b → DetachedOrKept (mount_numbered nat_eq world number) (mount_numbered nat_eq (taken_away nat_eq world gone) number)
+    by : (b : Bool) → is_going nat_eq gone number ≡ b
+        → DetachedOrKept (mount_numbered nat_eq world number) (mount_numbered nat_eq (taken_away nat_eq world gone) number)
     by true e = inl (detached_by_number world gone number e)
     by false e = inr (kept_by_number world gone number e)
 
@@ -59,11 +61,13 @@ stays_detached : (world : World ℕ) (gone : List ℕ) (number : ℕ) (before : 
 stays_detached world gone number before e =
     taken world gone number ∙ ap (λ m. inheriting nat_eq (middle world gone) (after_going nat_eq world gone m)) e ∙ by (is_going nat_eq gone before.number) refl
   where
-    by : (b : Bool) → is_going nat_eq gone before.number ≡ b → inheriting nat_eq (middle world gone) (after_going nat_eq world gone (detached before)) ≡ detached before
+    by : (b : Bool) → is_going nat_eq gone before.number ≡ b
+        → inheriting nat_eq (middle world gone) (after_going nat_eq world gone (detached before)) ≡ detached before
     by true f = ap (inheriting nat_eq (middle world gone)) (going_is_detached world gone (detached before) f)
     by false f = ap (inheriting nat_eq (middle world gone)) (staying_is_placed world gone (detached before) f)
 
-then_event : (before : Mount ℕ) (world : World ℕ) (gone : List ℕ) (number : ℕ) → DetachedOrKept before (mount_numbered nat_eq world number)
+then_event : (before : Mount ℕ) (world : World ℕ) (gone : List ℕ) (number : ℕ)
+    → DetachedOrKept before (mount_numbered nat_eq world number)
     → DetachedOrKept before (mount_numbered nat_eq (taken_away nat_eq world gone) number)
 then_event before world gone number (inl e) = inl (stays_detached world gone number before e)
 then_event before world gone number (inr r) =
@@ -78,7 +82,8 @@ then_event before world gone number (inr r) =
     }))
     (event world gone number)
 
-all_events : (before : Mount ℕ) (number : ℕ) (mounts : List (Mount ℕ)) (world : World ℕ) → DetachedOrKept before (mount_numbered nat_eq world number)
+all_events : (before : Mount ℕ) (number : ℕ) (mounts : List (Mount ℕ)) (world : World ℕ)
+    → DetachedOrKept before (mount_numbered nat_eq world number)
     → DetachedOrKept before (mount_numbered nat_eq (folded (unmounted_if_there nat_eq) world mounts) number)
 all_events before number [] world r = r
 all_events before number (mount ∷ mounts) world r = all_events before number mounts (unmounted_if_there nat_eq world mount) (by (is_some (mount_numbered nat_eq world mount.number).namespace))
@@ -145,7 +150,8 @@ the_mount_itself_goes world one place one_each at childless = ap (λ ns. is_goin
     parent_among group e =
         ⊎_elim (λ m. m) (λ none. absurd (true≢false (sym (ap (λ k. is_some (group_of k)) e) ∙ ap (λ m. is_some (group_of m.propagation)) none))) (found_or_none world.mounts place.mount)
 
-    by : (kind : Propagation ℕ) → parent.propagation ≡ kind → is_going nat_eq (going_from nat_eq world itself place (is_shared parent.propagation)) one ≡ true
+    by : (kind : Propagation ℕ) → parent.propagation ≡ kind
+        → is_going nat_eq (going_from nat_eq world itself place (is_shared parent.propagation)) one ≡ true
     by (Shared group) e =
         ap (λ k. is_going nat_eq (going_from nat_eq world itself place (is_shared k)) one) e
         ∙ ap (λ rs. is_among nat_eq one (map (λ (gone : Mount ℕ). gone.number) (filter_map (goes_at nat_eq world place.node) rs))) (receivers_of_shared world parent group e)

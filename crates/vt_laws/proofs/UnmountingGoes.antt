@@ -32,7 +32,8 @@ module _ (world : World ℕ) where
       → (child_at nat_eq world.mounts (record { mount = receiver.number; node = node }) ≡ Some child) × (may_go nat_eq world child ≡ true)
   child_goes node receiver child e = by (child_at nat_eq world.mounts (record { mount = receiver.number; node = node })) refl
     where
-      may : (found : Mount ℕ) (b : Bool) → may_go nat_eq world found ≡ b → when b found ≡ Some child → (found ≡ child) × (may_go nat_eq world child ≡ true)
+      may : (found : Mount ℕ) (b : Bool) → may_go nat_eq world found ≡ b → when b found ≡ Some child
+          → (found ≡ child) × (may_go nat_eq world child ≡ true)
       may found true f g = let same : found ≡ child = cc in (same, ap (may_go nat_eq world) (sym same) ∙ f)
       may found false f g = cc
 
@@ -43,11 +44,13 @@ module _ (world : World ℕ) where
           let t : (found ≡ child) × (may_go nat_eq world child ≡ true) = may found (may_go nat_eq world found) refl (sym (ap (λ o. then_some o (λ c. when (may_go nat_eq world c) c)) f) ∙ e) in
           (f ∙ ap Some t.0, t.1)
 
-  pub child_goes_so : (node : ℕ) (receiver child : Mount ℕ) → child_at nat_eq world.mounts (record { mount = receiver.number; node = node }) ≡ Some child → may_go nat_eq world child ≡ true
+  pub child_goes_so : (node : ℕ) (receiver child : Mount ℕ)
+      → child_at nat_eq world.mounts (record { mount = receiver.number; node = node }) ≡ Some child → may_go nat_eq world child ≡ true
       → goes_at nat_eq world node receiver ≡ Some child
   child_goes_so node receiver child f g = ap (λ o. then_some o (λ c. when (may_go nat_eq world c) c)) f ∙ ap (λ b. when b child) g
 
-  pub receivers_of_shared : (parent : Mount ℕ) (group : ℕ) → parent.propagation ≡ Shared group → receivers_of nat_eq world parent ≡ receivers nat_eq world group
+  pub receivers_of_shared : (parent : Mount ℕ) (group : ℕ) → parent.propagation ≡ Shared group
+      → receivers_of nat_eq world parent ≡ receivers nat_eq world group
   receivers_of_shared parent group e = ap (λ kind. unwrap_or (option_map (receivers nat_eq world) (group_of kind)) []) e
 
 module _ (world : World ℕ) (live : GroupsLive world) (mount : Mount ℕ) where
@@ -61,7 +64,8 @@ module _ (world : World ℕ) (live : GroupsLive world) (mount : Mount ℕ) where
       listed numbers e = among_numbers numbers number (sym (ap (λ ns. is_going nat_eq ns number) e) ∙ h)
 
       shared : (place : Location ℕ) (group : ℕ) → mount.place ≡ Some place → (mount_at nat_eq world place).propagation ≡ Shared group
-          → Among number (map (λ gone. gone.number) (filter_map (goes_at nat_eq world place.node) (receivers nat_eq world group))) → Goes world mount number
+          → Among number (map (λ gone. gone.number) (filter_map (goes_at nat_eq world place.node) (receivers nat_eq world group)))
+          → Goes world mount number
       shared place group e f m =
           let gone : (x : Mount ℕ) × Among x (filter_map (goes_at nat_eq world place.node) (receivers nat_eq world group)) × (number ≡ x.number) =
           among-from_map (λ gone. gone.number) (filter_map (goes_at nat_eq world place.node) (receivers nat_eq world group)) number m in
@@ -72,10 +76,12 @@ module _ (world : World ℕ) (live : GroupsLive world) (mount : Mount ℕ) where
           let hears : Contains world.mounts heard.0 × Receives world group heard.0 = (receivers_receive world group heard.0 live).0 (contains_from_among _ heard.0 heard.1) in
           subst (Goes world mount) (sym gone.2) (at_receiver place group heard.0 gone.0 e f hears.0 hears.1 child.0 child.1)
 
-      at_place : (place : Location ℕ) → mount.place ≡ Some place → (kind : Propagation ℕ) → (mount_at nat_eq world place).propagation ≡ kind → Goes world mount number
+      at_place : (place : Location ℕ) → mount.place ≡ Some place → (kind : Propagation ℕ)
+          → (mount_at nat_eq world place).propagation ≡ kind → Goes world mount number
       at_place place e kind f = on kind f (listed (going_from nat_eq world mount place (is_shared kind)) (ap (going_at nat_eq world mount) e ∙ ap (λ k. going_from nat_eq world mount place (is_shared k)) f))
         where
-          on : (k : Propagation ℕ) → (mount_at nat_eq world place).propagation ≡ k → Among number (going_from nat_eq world mount place (is_shared k)) → Goes world mount number
+          on : (k : Propagation ℕ) → (mount_at nat_eq world place).propagation ≡ k
+              → Among number (going_from nat_eq world mount place (is_shared k)) → Goes world mount number
           on (Shared group) g m = shared place group e g (subst (λ rs. Among number (map (λ gone. gone.number) (filter_map (goes_at nat_eq world place.node) rs))) (receivers_of_shared world (mount_at nat_eq world place) group g) m)
           on (Slave above) g m = itself (alone place e (ap is_shared g)) m
           on Private g m = itself (alone place e (ap is_shared g)) m
@@ -104,8 +110,10 @@ pub what_goes_is_named : WhatGoesIsNamed
 what_goes_is_named world one number live = (is_named world live (mount_numbered nat_eq world one) number, goes_so_named world live (mount_numbered nat_eq world one) number)
 
 -- a granted umount has unmounted
-umount_granted : (world : World ℕ) (task : Task ℕ) (path : List ℕ) (here : Here ℕ) → walk_end (directory_walk nat_eq world task path) ≡ Ok here
-    → (umount_outcome nat_eq world task path).answer ≡ Ok Done → (umount_outcome nat_eq world task path).world ≡ unmounted nat_eq world here.location.mount
+umount_granted : (world : World ℕ) (task : Task ℕ) (path : List ℕ) (here : Here ℕ)
+    → walk_end (directory_walk nat_eq world task path) ≡ Ok here
+    → (umount_outcome nat_eq world task path).answer ≡ Ok Done
+    → (umount_outcome nat_eq world task path).world ≡ unmounted nat_eq world here.location.mount
 unfolding umount_outcome
 umount_granted world task path here ends e =
     let walked : after world (walk_end (directory_walk nat_eq world task path)) (λ h. judged world (umount_rules nat_eq world task h.location) (granted Done (unmounted nat_eq world h.location.mount)))

@@ -14,7 +14,8 @@ use Rattle.vt_spec.specs.Machine.WorldLaws.{last_below, stands_in_its_namespace}
 use Rattle.std.specs.List.{list_any}
 
 -- one step more changes no chain that has ended
-last_longer : {A : Type 0} (next : A → Option A) (n : ℕ) (a : A) → next (last_or a (chain n next a)) ≡ None → last_or a (chain (suc n) next a) ≡ last_or a (chain n next a)
+last_longer : {A : Type 0} (next : A → Option A) (n : ℕ) (a : A) → next (last_or a (chain n next a)) ≡ None
+    → last_or a (chain (suc n) next a) ≡ last_or a (chain n next a)
 last_longer next zero a e = ap (last_or a) (chain_ends next zero a e)
 last_longer next (suc n) a e = by (next a) refl (last_longer next n)
   where
@@ -58,7 +59,8 @@ module _ (world : World ℕ) (ends : PlacesEnd world) where
       (not-true _ both.0, one_namespace mount.namespace (last_below nat_eq world mount).namespace both.1)
 
   -- a mount is in the namespace of the one that it stands on
-  pub same_namespace : (x : Mount ℕ) (place : Location ℕ) → Among x world.mounts → x.place ≡ Some place → Among (mount_at nat_eq world place) world.mounts
+  pub same_namespace : (x : Mount ℕ) (place : Location ℕ) → Among x world.mounts → x.place ≡ Some place
+      → Among (mount_at nat_eq world place) world.mounts
       → x.namespace ≡ (mount_at nat_eq world place).namespace
   same_namespace x place m e n =
       let on = mount_at nat_eq world place in

@@ -24,19 +24,23 @@ use Rattle.vt_laws.proofs.MountsKept.{unmount_keeps_numbers}
 -- a mount's place falls to where mounts that go leave it
 data Falls (world : World ℕ) (gone : List ℕ) (mount : Mount ℕ) : Location ℕ → Type 0 where
   direct : (rest : Location ℕ) → mount.place ≡ Some rest → Falls world gone mount rest
-  down : (place rest : Location ℕ) → Falls world gone mount place → is_going nat_eq gone place.mount ≡ true → (mount_at nat_eq world place).place ≡ Some rest → Falls world gone mount rest
+  down : (place rest : Location ℕ) → Falls world gone mount place → is_going nat_eq gone place.mount ≡ true
+      → (mount_at nat_eq world place).place ≡ Some rest → Falls world gone mount rest
 
 -- only one mount stands at a place
-one_stander : (mounts : List (Mount ℕ)) → OneMountAPlace mounts → (a b : Mount ℕ) → Among a mounts → Among b mounts → (place : Location ℕ) → a.place ≡ Some place → b.place ≡ Some place → a ≡ b
+one_stander : (mounts : List (Mount ℕ)) → OneMountAPlace mounts → (a b : Mount ℕ) → Among a mounts → Among b mounts → (place : Location ℕ)
+    → a.place ≡ Some place → b.place ≡ Some place → a ≡ b
 one_stander mounts one a b m n place e f = same_Some a b (sym (found_at_its_place mounts one a m place e) ∙ found_at_its_place mounts one b n place f)
 
 -- a mount that has a place is one of the world's
-placed_among : (mounts : List (Mount ℕ)) (number : ℕ) (place : Location ℕ) → (mount_in nat_eq mounts number).place ≡ Some place → Among (mount_in nat_eq mounts number) mounts
+placed_among : (mounts : List (Mount ℕ)) (number : ℕ) (place : Location ℕ) → (mount_in nat_eq mounts number).place ≡ Some place
+    → Among (mount_in nat_eq mounts number) mounts
 placed_among mounts number place e =
     ⊎_elim (λ m. m) (λ none. absurd (true≢false (sym (ap is_some e) ∙ ap (λ m. is_some m.place) none))) (found_or_none mounts number)
 
 -- one child alone
-one_child_alone : (mount : Mount ℕ) (list : List (Mount ℕ)) → only_cover nat_eq mount list ≡ true → (a b : Mount ℕ) → Among a list → Among b list → a ≡ b
+one_child_alone : (mount : Mount ℕ) (list : List (Mount ℕ)) → only_cover nat_eq mount list ≡ true → (a b : Mount ℕ) → Among a list
+    → Among b list → a ≡ b
 one_child_alone mount [] h a b m n = absurd m
 one_child_alone mount (child ∷ []) h a b m n = only a m ∙ sym (only b n)
   where
@@ -47,12 +51,14 @@ one_child_alone mount (child ∷ other ∷ rest) h a b m n = absurd (true≢fals
 
 module _ (world : World ℕ) (gone : List ℕ) (apart_all : AreApart world)
     (may : (x : Mount ℕ) (place : Location ℕ) → Among x world.mounts → x.place ≡ Some place → is_going nat_eq gone place.mount ≡ true → may_go nat_eq world (mount_at nat_eq world place) ≡ true) where
-  stander : (a : Mount ℕ) (place : Location ℕ) → Among a world.mounts → Falls world gone a place → (x : Mount ℕ) × Among x world.mounts × (x.place ≡ Some place)
+  stander : (a : Mount ℕ) (place : Location ℕ) → Among a world.mounts → Falls world gone a place
+      → (x : Mount ℕ) × Among x world.mounts × (x.place ≡ Some place)
   stander a place m (direct rest e) = (a, m, e)
   stander a place m (down at rest fall goes under) = (mount_at nat_eq world at, placed_among world.mounts at.mount rest under, under)
 
   -- two that stand on a mount that goes stand at one place
-  one_root : (x y : Mount ℕ) (p q : Location ℕ) → Among x world.mounts → Among y world.mounts → x.place ≡ Some p → y.place ≡ Some q → is_going nat_eq gone p.mount ≡ true → q.mount ≡ p.mount → p ≡ q
+  one_root : (x y : Mount ℕ) (p q : Location ℕ) → Among x world.mounts → Among y world.mounts → x.place ≡ Some p → y.place ≡ Some q
+      → is_going nat_eq gone p.mount ≡ true → q.mount ≡ p.mount → p ≡ q
   one_root x y p q m n e f goes same =
       let under = mount_at nat_eq world p in
       let number : under.number ≡ p.mount = number_found world.mounts p.mount in
@@ -64,12 +70,14 @@ module _ (world : World ℕ) (gone : List ℕ) (apart_all : AreApart world)
       same_Some p q (sym e ∙ ap (λ z. z.place) both ∙ f)
 
   -- what stays is no mount that goes
-  not_both : (a : Mount ℕ) (place : Location ℕ) → is_going nat_eq gone a.number ≡ false → is_going nat_eq gone place.mount ≡ true → mount_at nat_eq world place ≡ a → ⊥
+  not_both : (a : Mount ℕ) (place : Location ℕ) → is_going nat_eq gone a.number ≡ false → is_going nat_eq gone place.mount ≡ true
+      → mount_at nat_eq world place ≡ a → ⊥
   not_both a place stays goes same =
       true≢false (sym goes ∙ ap (is_going nat_eq gone) (sym (number_found world.mounts place.mount) ∙ ap (λ z. z.number) same) ∙ stays)
 
   -- two that stay fall to one place only where they are one
-  one_falls : (a b : Mount ℕ) → Among a world.mounts → Among b world.mounts → is_going nat_eq gone a.number ≡ false → is_going nat_eq gone b.number ≡ false
+  one_falls : (a b : Mount ℕ) → Among a world.mounts → Among b world.mounts → is_going nat_eq gone a.number ≡ false
+      → is_going nat_eq gone b.number ≡ false
       → (r : Location ℕ) → Falls world gone a r → (q : Location ℕ) → Falls world gone b q → q ≡ r → a ≡ b
   one_falls a b m n stays also r (direct rest e) q (direct end f) same = one_stander world.mounts apart_all.by_place a b m n rest e (f ∙ ap Some same)
   one_falls a b m n stays also r (direct rest e) q (down at end fall goes under) same =
@@ -86,11 +94,13 @@ module _ (world : World ℕ) (gone : List ℕ) (apart_all : AreApart world)
       one_falls a b m n stays also at fall at_too fall_too (sym (one_root x.0 y.0 at at_too x.1 y.1 x.2 y.2 goes number))
 
   -- where a place is left, it falls to
-  falls_down : (a : Mount ℕ) (n : ℕ) (place : Location ℕ) → Falls world gone a place → Falls world gone a (last_or place (chain n (place_below nat_eq world gone) place))
+  falls_down : (a : Mount ℕ) (n : ℕ) (place : Location ℕ) → Falls world gone a place
+      → Falls world gone a (last_or place (chain n (place_below nat_eq world gone) place))
   falls_down a zero place fall = fall
   falls_down a (suc n) place fall = by (place_below nat_eq world gone place) refl (falls_down a n)
     where
-      step : (next : Location ℕ) (b : Bool) → is_going nat_eq gone place.mount ≡ b → (if b then (mount_at nat_eq world place).place else None) ≡ Some next → Falls world gone a next
+      step : (next : Location ℕ) (b : Bool) → is_going nat_eq gone place.mount ≡ b
+          → (if b then (mount_at nat_eq world place).place else None) ≡ Some next → Falls world gone a next
       step next true goes e = down place next fall goes e
       step next false goes e = cc
 
@@ -104,10 +114,12 @@ module _ (world : World ℕ) (gone : List ℕ) (apart_all : AreApart world)
           (later next (step next (is_going nat_eq gone place.mount) refl e))
 
   -- where a mount stands after the event
-  stood : (a : Mount ℕ) (rest : Location ℕ) → (after_going nat_eq world gone a).place ≡ Some rest → (is_going nat_eq gone a.number ≡ false) × Falls world gone a rest
+  stood : (a : Mount ℕ) (rest : Location ℕ) → (after_going nat_eq world gone a).place ≡ Some rest
+      → (is_going nat_eq gone a.number ≡ false) × Falls world gone a rest
   stood a rest e = by (is_going nat_eq gone a.number) refl
     where
-      at : (place : Option (Location ℕ)) → a.place ≡ place → option_map (place_left nat_eq world gone) place ≡ Some rest → Falls world gone a rest
+      at : (place : Option (Location ℕ)) → a.place ≡ place → option_map (place_left nat_eq world gone) place ≡ Some rest
+          → Falls world gone a rest
       at None f g = cc
       at (Some place) f g =
           let same : place_left nat_eq world gone place ≡ rest = same_Some (place_left nat_eq world gone place) rest g in
@@ -139,11 +151,13 @@ module _ (world : World ℕ) (gone : List ℕ) (apart_all : AreApart world)
       (pair-map (stand_at_one_place nat_eq) (stand_at_one_place nat_eq) (after_going nat_eq world gone) world.mounts one_place_left apart_all.by_place)
 
 -- At an unmount
-found_child : (mounts : List (Mount ℕ)) (place : Location ℕ) (child : Mount ℕ) → child_at nat_eq mounts place ≡ Some child → Among child mounts
+found_child : (mounts : List (Mount ℕ)) (place : Location ℕ) (child : Mount ℕ) → child_at nat_eq mounts place ≡ Some child
+    → Among child mounts
 found_child [] place child e = cc
 found_child (first ∷ rest) place child e = by (stands_at nat_eq place first) refl (found_child rest place child)
   where
-    by : (b : Bool) → stands_at nat_eq place first ≡ b → (child_at nat_eq rest place ≡ Some child → Among child rest) → Among child (first ∷ rest)
+    by : (b : Bool) → stands_at nat_eq place first ≡ b → (child_at nat_eq rest place ≡ Some child → Among child rest)
+        → Among child (first ∷ rest)
     by true f later = inl (sym (same_Some first child (sym (ap (λ b. cond b (Some first) (child_at nat_eq rest place)) f) ∙ e)))
     by false f later = inr (later (sym (ap (λ b. cond b (Some first) (child_at nat_eq rest place)) f) ∙ e))
 
@@ -152,7 +166,8 @@ goes_or_may : (world : World ℕ) (mount : Mount ℕ) (number : ℕ) → is_goin
     → (number ≡ mount.number) ⊎ ((child : Mount ℕ) × Among child world.mounts × (may_go nat_eq world child ≡ true) × (number ≡ child.number))
 goes_or_may world mount number h = by mount.place refl
   where
-    alone : Among number (mount.number ∷ []) → (number ≡ mount.number) ⊎ ((child : Mount ℕ) × Among child world.mounts × (may_go nat_eq world child ≡ true) × (number ≡ child.number))
+    alone : Among number (mount.number ∷ [])
+        → (number ≡ mount.number) ⊎ ((child : Mount ℕ) × Among child world.mounts × (may_go nat_eq world child ≡ true) × (number ≡ child.number))
     alone m = inl (⊎_elim (λ e. e) (λ none. absurd none) m)
 
     listed : (numbers : List ℕ) → going nat_eq world mount ≡ numbers → Among number numbers
@@ -168,7 +183,8 @@ goes_or_may world mount number h = by mount.place refl
         inr (gone.0, found_child world.mounts (record { mount = heard.0.number; node = place.node }) gone.0 child.0, child.1, gone.2)
     on place false m = alone m
 
-    by : (place : Option (Location ℕ)) → mount.place ≡ place → (number ≡ mount.number) ⊎ ((child : Mount ℕ) × Among child world.mounts × (may_go nat_eq world child ≡ true) × (number ≡ child.number))
+    by : (place : Option (Location ℕ)) → mount.place ≡ place
+        → (number ≡ mount.number) ⊎ ((child : Mount ℕ) × Among child world.mounts × (may_go nat_eq world child ≡ true) × (number ≡ child.number))
     by None e = alone (listed (mount.number ∷ []) (ap (going_at nat_eq world mount) e))
     by (Some place) e =
         on place (is_shared (mount_at nat_eq world place).propagation)

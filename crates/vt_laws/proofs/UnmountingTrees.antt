@@ -22,15 +22,18 @@ AreClosed world gone = (x : Mount ℕ) (place : Location ℕ) → Among x world.
 
 module _ (world : World ℕ) (gone : List ℕ) (closed : AreClosed world gone) where
   -- then what stays stands where it stood
-  stood_there : (a : Mount ℕ) (rest : Location ℕ) → Among a world.mounts → (after_going nat_eq world gone a).place ≡ Some rest → a.place ≡ Some rest
+  stood_there : (a : Mount ℕ) (rest : Location ℕ) → Among a world.mounts → (after_going nat_eq world gone a).place ≡ Some rest
+      → a.place ≡ Some rest
   stood_there a rest m e = by (is_going nat_eq gone a.number) refl
     where
-      on : (place : Location ℕ) (b : Bool) → is_going nat_eq gone place.mount ≡ b → a.place ≡ Some place → is_going nat_eq gone a.number ≡ false
+      on : (place : Location ℕ) (b : Bool) → is_going nat_eq gone place.mount ≡ b → a.place ≡ Some place
+          → is_going nat_eq gone a.number ≡ false
           → option_map (place_left nat_eq world gone) (Some place) ≡ Some rest → a.place ≡ Some rest
       on place true goes f stays g = absurd (true≢false (sym (closed a place m f goes) ∙ stays))
       on place false stays_too f stays g = f ∙ ap Some (sym (left_at_rest world gone (length world.mounts) place stays_too)) ∙ g
 
-      at : (place : Option (Location ℕ)) → a.place ≡ place → is_going nat_eq gone a.number ≡ false → option_map (place_left nat_eq world gone) place ≡ Some rest → a.place ≡ Some rest
+      at : (place : Option (Location ℕ)) → a.place ≡ place → is_going nat_eq gone a.number ≡ false
+          → option_map (place_left nat_eq world gone) place ≡ Some rest → a.place ≡ Some rest
       at None f stays g = absurd (true≢false (sym (ap is_some g)))
       at (Some place) f stays g = on place (is_going nat_eq gone place.mount) refl f stays g
 
@@ -59,14 +62,17 @@ module _ (world : World ℕ) where
   -- one mount stands so many places above another
   data Reaches : ℕ → Mount ℕ → Mount ℕ → Type 0 where
     arrived : (mount : Mount ℕ) → Reaches zero mount mount
-    down : (n : ℕ) (mount end : Mount ℕ) (place : Location ℕ) → mount.place ≡ Some place → Reaches n (mount_at nat_eq world place) end → Reaches (suc n) mount end
+    down : (n : ℕ) (mount end : Mount ℕ) (place : Location ℕ) → mount.place ≡ Some place → Reaches n (mount_at nat_eq world place) end
+        → Reaches (suc n) mount end
 
-  one_more : (n : ℕ) (mount end : Mount ℕ) (place : Location ℕ) → Reaches n mount end → end.place ≡ Some place → Reaches (suc n) mount (mount_at nat_eq world place)
+  one_more : (n : ℕ) (mount end : Mount ℕ) (place : Location ℕ) → Reaches n mount end → end.place ≡ Some place
+      → Reaches (suc n) mount (mount_at nat_eq world place)
   one_more n mount end place (arrived it) e = down zero it (mount_at nat_eq world place) place e (arrived (mount_at nat_eq world place))
   one_more n mount end place (down k it last at f later) e = down (suc k) it (mount_at nat_eq world place) at f (one_more k (mount_at nat_eq world at) last place later e)
 
   -- so its places do not end sooner
-  not_ended : (n k : ℕ) (mount end : Mount ℕ) → Reaches k mount end → k ≡ suc n → is_some (last_or mount (chain n mount_below mount)).place ≡ true
+  not_ended : (n k : ℕ) (mount end : Mount ℕ) → Reaches k mount end → k ≡ suc n
+      → is_some (last_or mount (chain n mount_below mount)).place ≡ true
   not_ended n k mount end (arrived it) e = absurd (omega (arith, e))
   not_ended zero k mount end (down j it last at f later) e = ap is_some f
   not_ended (suc n) k mount end (down j it last at f later) e =
@@ -83,7 +89,8 @@ module _ (world : World ℕ) where
         ∙ not-true _ (and_parts _ _ (among_from_list_all (stands_in_its_namespace nat_eq world) world.mounts ends mount m)).0)
 
     -- what stands on a mount of a tree is in it, or lies so deep
-    in_tree : (depth : ℕ) (top under x : Mount ℕ) (place : Location ℕ) → Among under (tree_from nat_eq depth world.mounts top) → Among x world.mounts → x.place ≡ Some place → place.mount ≡ under.number
+    in_tree : (depth : ℕ) (top under x : Mount ℕ) (place : Location ℕ) → Among under (tree_from nat_eq depth world.mounts top)
+        → Among x world.mounts → x.place ≡ Some place → place.mount ≡ under.number
         → Among x (tree_from nat_eq depth world.mounts top) ⊎ Reaches (suc depth) x (mount_numbered nat_eq world top.number)
     in_tree zero top under x place m n e same =
         let number : place.mount ≡ top.number = ⊎_elim (λ f. same ∙ ap (λ z. z.number) f) (λ none. absurd none) m in
@@ -108,7 +115,8 @@ module _ (world : World ℕ) where
         top_among zero z = inl refl
         top_among (suc d) z = inl refl
 
-        deeper : (d : ℕ) (z child : Mount ℕ) → Among child world.mounts → stands_on nat_eq top.number child ≡ true → Reaches (suc d) z child → Reaches (suc (suc d)) z (mount_numbered nat_eq world top.number)
+        deeper : (d : ℕ) (z child : Mount ℕ) → Among child world.mounts → stands_on nat_eq top.number child ≡ true
+            → Reaches (suc d) z child → Reaches (suc (suc d)) z (mount_numbered nat_eq world top.number)
         deeper d z child c on r = by child.place refl
           where
             by : (found : Option (Location ℕ)) → child.place ≡ found → Reaches (suc (suc d)) z (mount_numbered nat_eq world top.number)
@@ -117,7 +125,8 @@ module _ (world : World ℕ) where
                 let number : top.number ≡ p.mount = eqb-true top.number p.mount (sym (ap (holds_of (λ q. nat_eq top.number q.mount)) f) ∙ on) in
                 subst (λ k. Reaches (suc (suc d)) z (mount_numbered nat_eq world k)) (sym number) (one_more (suc d) z child p r f)
 
-    pub trees_closed : (tops : List (Mount ℕ)) → AreClosed world (map (λ (mount : Mount ℕ). mount.number) (flat_map (mount_tree nat_eq world.mounts) tops))
+    pub trees_closed : (tops : List (Mount ℕ))
+        → AreClosed world (map (λ (mount : Mount ℕ). mount.number) (flat_map (mount_tree nat_eq world.mounts) tops))
     trees_closed tops x place m e goes =
         let numbers = map (λ (mount : Mount ℕ). mount.number) (flat_map (mount_tree nat_eq world.mounts) tops) in
         let gone = among-from_map (λ (mount : Mount ℕ). mount.number) (flat_map (mount_tree nat_eq world.mounts) tops) place.mount (among_numbers numbers place.mount goes) in

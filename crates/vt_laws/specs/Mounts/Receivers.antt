@@ -28,7 +28,8 @@ ReceiversReceive =
 pub record IsClosed (world : World ℕ) (set : ℕ → Mount ℕ → Bool) : Type 0 where
   pub members : (group : ℕ) → All (λ mount. mount.propagation ≡ Shared group → set group mount ≡ true) world.mounts
   pub slaves : (group : ℕ) → All (λ mount. mount.propagation ≡ Slave group → set group mount ≡ true) world.mounts
-  pub further_down : (group lower : ℕ) → world.master lower ≡ Some group → All (λ mount. set lower mount ≡ true → set group mount ≡ true) world.mounts
+  pub further_down : (group lower : ℕ) → world.master lower ≡ Some group
+      → All (λ mount. set lower mount ≡ true → set group mount ≡ true) world.mounts
 
 -- What receives is such a set,
 abbrev pub ReceiversAreClosed : Type 0

@@ -20,11 +20,13 @@ use Rattle.vt_laws.specs.Mounts.Receivers.{GroupsLive}
 -- receives from that group, if nothing stands on it, or one mount alone that covers its root. Else the mount itself.
 pub data Goes (world : World ℕ) (mount : Mount ℕ) : ℕ → Type 0 where
   from_nowhere : mount.place ≡ None → Goes world mount mount.number
-  alone : (place : Location ℕ) → mount.place ≡ Some place → is_shared (mount_at nat_eq world place).propagation ≡ false → Goes world mount mount.number
+  alone : (place : Location ℕ) → mount.place ≡ Some place → is_shared (mount_at nat_eq world place).propagation ≡ false
+      → Goes world mount mount.number
   at_receiver : (place : Location ℕ) (group : ℕ) (receiver child : Mount ℕ)
       → mount.place ≡ Some place → (mount_at nat_eq world place).propagation ≡ Shared group
       → Contains world.mounts receiver → Receives world group receiver
-      → child_at nat_eq world.mounts (record { mount = receiver.number; node = place.node }) ≡ Some child → may_go nat_eq world child ≡ true
+      → child_at nat_eq world.mounts (record { mount = receiver.number; node = place.node }) ≡ Some child
+      → may_go nat_eq world child ≡ true
       → Goes world mount child.number
 
 -- a mount with this number goes when the other is unmounted
@@ -43,12 +45,14 @@ WhatGoesIsNamed =
 -- An unmount keeps the mounts in their order. What went stays listed, outside every namespace, until nothing uses it.
 abbrev pub UnmountKeepsTheOrder : Type 0
 UnmountKeepsTheOrder =
-    (world : World ℕ) (one : ℕ) → map (λ mount. mount.number) (unmounted nat_eq world one).mounts ≡ map (λ mount. mount.number) world.mounts
+    (world : World ℕ) (one : ℕ)
+    → map (λ mount. mount.number) (unmounted nat_eq world one).mounts ≡ map (λ mount. mount.number) world.mounts
 
 -- What goes loses its namespace, its place and its group, and nothing else.
 abbrev pub WhatGoesIsDetached : Type 0
 WhatGoesIsDetached =
-    (world : World ℕ) (one number : ℕ) → goes_with world one number ≡ true → mount_left world one number ≡ detached (mount_numbered nat_eq world number)
+    (world : World ℕ) (one number : ℕ) → goes_with world one number ≡ true
+    → mount_left world one number ≡ detached (mount_numbered nat_eq world number)
 
 -- All of a mount but its place and its type
 pub record KeepsAllButPlaceAndType (before later : Mount ℕ) : Type 0 where
@@ -67,13 +71,15 @@ WhatStaysKeeps =
 -- Where a place is left when mounts go: it stays if its mount stays; else it falls to the place of its mount.
 pub data FallsTo (world : World ℕ) (gone : List ℕ) : Location ℕ → Location ℕ → Type 0 where
   rests : (place : Location ℕ) → is_going nat_eq gone place.mount ≡ false → FallsTo world gone place place
-  falls : (place below rest : Location ℕ) → is_going nat_eq gone place.mount ≡ true → (mount_at nat_eq world place).place ≡ Some below → FallsTo world gone below rest → FallsTo world gone place rest
+  falls : (place below rest : Location ℕ) → is_going nat_eq gone place.mount ≡ true → (mount_at nat_eq world place).place ≡ Some below
+      → FallsTo world gone below rest → FallsTo world gone place rest
 
 -- What stood on mounts that stay keeps its place, and a root mount stays one.
 abbrev pub WhatStaysKeepsItsPlace : Type 0
 WhatStaysKeepsItsPlace =
     (world : World ℕ) (one number : ℕ) (place : Location ℕ)
-    → goes_with world one number ≡ false → (mount_numbered nat_eq world number).place ≡ Some place → goes_with world one place.mount ≡ false
+    → goes_with world one number ≡ false → (mount_numbered nat_eq world number).place ≡ Some place
+    → goes_with world one place.mount ≡ false
     → (mount_left world one number).place ≡ Some place
 
 abbrev pub RootMountsStay : Type 0
@@ -109,13 +115,15 @@ WhatStaysKeepsItsType =
 -- A slave gets the nearest group up the masters that has a member left, and is private where there is none.
 abbrev pub SlavesAreInherited : Type 0
 SlavesAreInherited =
-    (world : World ℕ) (one number master : ℕ) → goes_with world one number ≡ false → (mount_numbered nat_eq world number).propagation ≡ Slave master
+    (world : World ℕ) (one number master : ℕ) → goes_with world one number ≡ false
+    → (mount_numbered nat_eq world number).propagation ≡ Slave master
     → (mount_left world one number).propagation ≡ slave_of_heir (find (has_members nat_eq (unmounted nat_eq world one).mounts) (groups_up world master))
 
 -- A group keeps its master, unless that lost its last member.
 abbrev pub GroupsKeepTheirMasters : Type 0
 GroupsKeepTheirMasters =
-    (world : World ℕ) (one group master : ℕ) → world.master group ≡ Some master → has_members nat_eq (unmounted nat_eq world one).mounts master ≡ true
+    (world : World ℕ) (one group master : ℕ) → world.master group ≡ Some master
+    → has_members nat_eq (unmounted nat_eq world one).mounts master ≡ true
     → (unmounted nat_eq world one).master group ≡ Some master
 
 -- Files, namespaces and tasks are as they were.
