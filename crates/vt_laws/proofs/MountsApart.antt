@@ -1,13 +1,13 @@
 -- Mounts stay apart, by number and by place.
-use Rattle.std.proofs.Common.{◌≡◌, refl, sym, ap, subst, ◌∙◌, true, false, nat_eq, ℕ, Bool, List, [], eqb-true, is_some, map, ◌&&◌, ◌+◌, ◌∷◌}
-use Rattle.vt_spec.specs.Machine.Mounts.{Mount, mount_in, mount_tree, replaced_if_same, same_location}
-use Rattle.vt_laws.proofs.Lists.{Among, pair-filter, pair-map}
-use Rattle.vt_laws.specs.Mounts.Conditions.{AreApart, KeptByFlags, KeptByInheritance, KeptByLazyUnmount, KeptBySettling, KeptByType, NowhereOrAttached, OneNumberEach}
-use Rattle.vt_spec.specs.Machine.Lists.{Fresh, any_pair, folded, same_option}
+use Rattle.std.proofs.Common.{◌≡◌, refl, sym, ap, subst, ◌∙◌, true, false, nat_eq, ℕ, Bool, List, [], eqb-true, is_some, map, ◌&&◌, ◌+◌, ◌∷◌, ⊎_elim, ◌++◌}
+use Rattle.vt_spec.specs.Machine.Mounts.{Mount, mount_in, mount_tree, replaced_if_same, same_location, with_mount}
+use Rattle.vt_laws.proofs.Lists.{Among, pair-filter, pair-map, among-append, among-from_map, among_from_list_all, list_all_from_among}
+use Rattle.vt_laws.specs.Mounts.Conditions.{AreApart, KeptByFlags, KeptByInheritance, KeptByLazyUnmount, KeptBySettling, KeptByType, NowhereOrAttached, OneNumberEach, FlagsKeepNowhere, KeptByUnshare}
+use Rattle.vt_spec.specs.Machine.Lists.{Fresh, any_pair, folded, same_option, evens, odds}
 use Rattle.vt_laws.specs.Mounts.Places.{OneMountAPlace}
 use Rattle.vt_laws.specs.Mounts.Attaching.{OneNumberAMount}
 use Rattle.vt_spec.specs.Machine.Calls.{TypeWord}
-use Rattle.vt_spec.specs.Machine.World.{World, mount_at, mount_numbered}
+use Rattle.vt_spec.specs.Machine.World.{World, mount_at, mount_numbered, mounts_of}
 use Rattle.vt_laws.proofs.MountsRetyped.{between, next_world, numbers-retyped, retyped_named}
 use Rattle.vt_spec.specs.Machine.Detach.{deepest_first, unmounted, unmounted_if_there}
 use Rattle.vt_laws.proofs.MountsKept.{flags_keep_numbers, inheritance_keeps_numbers, settling_keeps_numbers, unmount_keeps_nowhere, unmount_keeps_numbers}
@@ -19,7 +19,8 @@ use Rattle.vt_laws.proofs.Groups.{mounts-regrouped}
 use Rattle.vt_laws.specs.Mounts.Changing.{named}
 use Rattle.vt_laws.proofs.MountsFound.{number_found}
 use Rattle.vt_spec.specs.Machine.Types.{retyped_each, type_after}
-use Rattle.vt_spec.specs.Machine.WorldLaws.{stand_at_one_place}
+use Rattle.vt_spec.specs.Machine.WorldLaws.{stand_at_one_place, is_nowhere_or_attached}
+use Rattle.vt_spec.specs.Machine.Namespaces.{copied_mount}
 
 -- places that stay the same stay apart
 places_same : (f : Mount ℕ → Mount ℕ) (mounts : List (Mount ℕ)) → ((mount : Mount ℕ) → Among mount mounts → (f mount).place ≡ mount.place)
@@ -112,3 +113,31 @@ lazy_nowhere (mount ∷ mounts) world e = lazy_nowhere mounts (unmounted_if_ther
 
 pub lazy_keeps_nowhere : KeptByLazyUnmount NowhereOrAttached
 lazy_keeps_nowhere world one e = lazy_nowhere (deepest_first nat_eq world (mount_tree nat_eq world.mounts (mount_numbered nat_eq world one))) world e
+
+-- copies of a namespace's mounts are in one
+pub unshare_keeps_nowhere : KeptByUnshare NowhereOrAttached
+unshare_keeps_nowhere world fresh task e =
+    let copied = mounts_of nat_eq world task.namespace in
+    let copy = copied_mount nat_eq copied (odds fresh) (evens fresh 0) in
+    list_all_from_among is_nowhere_or_attached (world.mounts ++ map copy copied) (λ mount m.
+    ⊎_elim (λ old. among_from_list_all is_nowhere_or_attached world.mounts e mount old)
+    (λ new. ap is_nowhere_or_attached (among-from_map copy copied mount new).2)
+    (among-append world.mounts (map copy copied) mount m))
+
+pub flags_keep_nowhere : FlagsKeepNowhere
+flags_keep_nowhere world here flags one e =
+    let new = record (mount_at nat_eq world here) { flags = flags } in
+    list_all_from_among is_nowhere_or_attached (with_mount nat_eq world.mounts new) (λ mount m.
+    let from = among-from_map (replaced_if_same nat_eq new) world.mounts mount m in
+    ap is_nowhere_or_attached from.2 ∙ by from.0 from.1 (nat_eq new.number from.0.number) refl)
+  where
+    by : (old : Mount ℕ) → Among old world.mounts → (b : Bool) → nat_eq (mount_at nat_eq world here).number old.number ≡ b
+        → is_nowhere_or_attached (replaced_if_same nat_eq (record (mount_at nat_eq world here) { flags = flags }) old) ≡ true
+    by old m true f =
+        let same : mount_at nat_eq world here ≡ old =
+        ap (mount_in nat_eq world.mounts) (sym (number_found world.mounts here.mount) ∙ eqb-true _ _ f) ∙ found_itself world.mounts one old m in
+        ap is_nowhere_or_attached (replaced_there (record (mount_at nat_eq world here) { flags = flags }) old f)
+        ∙ ap is_nowhere_or_attached same ∙ among_from_list_all is_nowhere_or_attached world.mounts e old m
+    by old m false f =
+        ap is_nowhere_or_attached (replaced_elsewhere (record (mount_at nat_eq world here) { flags = flags }) old f)
+        ∙ among_from_list_all is_nowhere_or_attached world.mounts e old m

@@ -1,7 +1,7 @@
 //! Mounts: where they stand, who receives, and what mount calls change.
 ghost use Rattle.vt_laws.specs.Mounts.Attaching.{NewMountsFollow, AttachKeepsMounts, AttachLeavesMounts, MoveKeepsMounts, MoveLeavesMounts, MovedMountsShow};
 ghost use Rattle.vt_laws.specs.Mounts.Changing.{FlagsAreSet, FlagsAreOfOne, TypeIsAllThatChanges, TypeIsOfTheNamed, TypeIsTaken, AloneIsPrivate, TypesAreOfMounts};
-ghost use Rattle.vt_laws.specs.Mounts.Conditions.{KeptByTakingAway, OneNumberEach, KeptByUnmount, KeptByEndedNamespaces, KeptByInheritance, KeptByType, KeptByFlags, AttachKeepsNumbers, UnshareKeepsNumbers, KeptByPivot, KeptByLazyUnmount, KeptBySettling, NowhereOrAttached, UnmountLeavesOneMountAPlace, TreesLeaveOneMountAPlace, EndedNamespacesLeaveOneMountAPlace, AreApart, TypeKeepsGroups, FlagsKeepGroups, KeptByUnshare, SettlingKeepsGroups, TypeKeepsPlacesEnding, FlagsKeepPlacesEnding, InheritanceKeepsPlacesEnding};
+ghost use Rattle.vt_laws.specs.Mounts.Conditions.{KeptByTakingAway, OneNumberEach, KeptByUnmount, KeptByEndedNamespaces, KeptByInheritance, KeptByType, KeptByFlags, AttachKeepsNumbers, UnshareKeepsNumbers, KeptByPivot, KeptByLazyUnmount, KeptBySettling, NowhereOrAttached, FlagsKeepNowhere, KeptByUnshare, UnmountLeavesOneMountAPlace, TreesLeaveOneMountAPlace, EndedNamespacesLeaveOneMountAPlace, AreApart, TypeKeepsGroups, FlagsKeepGroups, SettlingKeepsGroups, TypeKeepsPlacesEnding, FlagsKeepPlacesEnding, InheritanceKeepsPlacesEnding};
 ghost use Rattle.vt_laws.specs.Mounts.Ends.{TheMountItselfGoes, TakenAreDetached, OthersAreKept, OthersKeepTheirPlaces, OthersKeepTheirTypes, LazyDetachesOrKeeps, LazyIsOfMounts};
 ghost use Rattle.vt_laws.specs.Mounts.FileCalls.{FileCallsLeaveMounts};
 ghost use Rattle.vt_laws.specs.Mounts.Granted.{BindBinds, MoveMoves, MountMounts, OverlayMounts, LazyUnmounts, RemountSetsFlags, TypeIsSet, PivotPivots, RmdirTakesMounts, RenameReplaces, RenameOfOneObject, ExitEnds, UnshareCopies, SetnsEnters};
@@ -103,6 +103,8 @@ pub fn mounts_outside_stay_nowhere()
     ensures unmount { KeptByUnmount NowhereOrAttached }
     ensures ended { KeptByEndedNamespaces NowhereOrAttached }
     ensures inheritance { KeptByInheritance NowhereOrAttached }
+    ensures flags { FlagsKeepNowhere }
+    ensures unshare { KeptByUnshare NowhereOrAttached }
     ensures lazy { KeptByLazyUnmount NowhereOrAttached }
     ensures settling { KeptBySettling NowhereOrAttached }
 {}

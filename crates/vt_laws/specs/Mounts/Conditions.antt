@@ -84,6 +84,14 @@ KeptByUnshare Condition = (world : World ℕ) (fresh : Fresh ℕ) (task : Task �
 abbrev pub KeptBySettling : (World ℕ → Type 0) → Type 0
 KeptBySettling Condition = (world : World ℕ) → Condition world → Condition (settled nat_eq world)
 
+-- Mounts outside every namespace
+
+-- A change of flags leaves them nowhere, where each mount has a number of its own.
+abbrev pub FlagsKeepNowhere : Type 0
+FlagsKeepNowhere =
+    (world : World ℕ) (here : Location ℕ) (flags : MountFlags) → OneNumberEach world → NowhereOrAttached world
+    → NowhereOrAttached (with_flags nat_eq world here flags)
+
 -- Numbers
 
 -- What is attached has numbers of its own, where those that are handed in are not in use,
