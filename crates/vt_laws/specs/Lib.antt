@@ -1,4 +1,5 @@
 pub mod Asked
 pub mod Denials
+pub mod Mounts
 pub mod Numbers
 pub mod RuleOrder

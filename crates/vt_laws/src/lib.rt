@@ -2,5 +2,6 @@
 #![tactic(auto)]
 
 pub mod denials;
+pub mod mounts;
 pub mod numbers;
 pub mod rules;

@@ -1,0 +1,9 @@
+pub mod Attaching
+pub mod Changing
+pub mod Conditions
+pub mod Ends
+pub mod FileCalls
+pub mod Granted
+pub mod Places
+pub mod Receivers
+pub mod Unmounting
