@@ -214,17 +214,25 @@ unshare_keeps_groups world fresh task live =
     lives_in world live from.0 origin.0 source (sym (ap (λ x. source_of x.propagation) from.2) ∙ e))
     (among-append world.mounts (map copy copied) mount m)))
 
+-- a way up the masters goes by groups that have members, so it is there where only these keep their masters
+lives_with_members : (members : ℕ → Bool) (master : ℕ → Option ℕ) (group : ℕ) → Lives members master group
+    → Lives members (λ other. if members other then master other else None) group
+lives_with_members members master group (top it has f) = top it has (ap (λ b. if b then master it else None) has ∙ f)
+lives_with_members members master group (below it next has f later) =
+    below it next has (ap (λ b. if b then master it else None) has ∙ f) (lives_with_members members master next later)
+
 pub settling_keeps_groups : SettlingKeepsGroups
 settling_keeps_groups world nowhere live = groups_live_by (settled nat_eq world) (λ mount m source e.
     let from = among-from_filter (mount_lives nat_eq world) world.mounts mount m in
-    lives_weaker (has_members nat_eq world.mounts) (has_members nat_eq (filter (mount_lives nat_eq world) world.mounts)) world.master
+    lives_with_members (has_members nat_eq (filter (mount_lives nat_eq world) world.mounts)) world.master source
+    (lives_weaker (has_members nat_eq world.mounts) (has_members nat_eq (filter (mount_lives nat_eq world) world.mounts)) world.master
     (λ group has.
     let member = any_among (is_member_of nat_eq group) world.mounts has in
     any_from_among (is_member_of nat_eq group) (filter (mount_lives nat_eq world) world.mounts) member.0
     (among-filter (mount_lives nat_eq world) world.mounts member.0 member.1
     (attached member.0 (among_from_list_all is_nowhere_or_attached world.mounts nowhere member.0 member.1) group (member_shared group member.0 member.2)))
     member.2)
-    source (lives_in world live mount from.0 source e))
+    source (lives_in world live mount from.0 source e)))
   where
     attached : (mount : Mount ℕ) → is_nowhere_or_attached mount ≡ true → (group : ℕ) → mount.propagation ≡ Shared group
         → mount_lives nat_eq world mount ≡ true
