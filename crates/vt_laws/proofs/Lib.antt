@@ -5,3 +5,4 @@ pub mod ChangesNames
 pub mod ChangesOfNames
 pub mod ChangesOfPlace
 pub mod ChangesKeepTrees
+pub mod TreesForgotten

@@ -1,4 +1,5 @@
 -- Trees stay trees: what each change of a tree asks for, and what it keeps.
+pub mod Settling
 use Rattle.std.specs.Prelude.{List, None, Some, [], false, is_some, nat_eq, true, ℕ, ⊤, ◌≡◌, ◌≢◌}
 use Rattle.vt_spec.specs.Laws.Trees.{IsNewIn}
 use Rattle.vt_spec.specs.Machine.Changes.{Change, changed}
@@ -73,3 +74,9 @@ ChangesKeepOwnParents =
     (files : FileTree ℕ) (change : Change ℕ)
     → IsTree files.tree → HasOwnParents files.tree → IsProper files.tree change
     → HasOwnParents (changed nat_eq files change).tree
+
+-- The conditions of a filesystem's tree: it is a tree, with the numbers of its inodes beside it.
+pub record IsFileTree (files : FileTree ℕ) : Type 0 where
+  pub tree : IsTree files.tree
+  pub numbers : ListsNumbers nat_eq files
+  pub own_parents : HasOwnParents files.tree

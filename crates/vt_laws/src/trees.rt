@@ -1,5 +1,6 @@
 //! Trees stay trees.
 ghost use Rattle.vt_laws.specs.Trees.{ChangesKeepNumbers, ChangesKeepOwnParents, ChangesKeepTrees};
+ghost use Rattle.vt_laws.specs.Trees.Settling.{ForgettingKeepsTrees, NamedIsUsed, SettlingKeepsTrees, UnusedIsGone, UsedStays};
 
 /// Each change of a tree makes a tree of it, with the numbers of its inodes beside it.
 ///
@@ -8,4 +9,15 @@ pub fn changes_keep_trees()
     ensures trees { ChangesKeepTrees }
     ensures numbers { ChangesKeepNumbers }
     ensures own_parents { ChangesKeepOwnParents }
+{}
+
+/// What nothing uses goes, and what is left are trees.
+///
+/// What is used stays as it was: what has a name, and where a task, a mount or a layer is. What is not used is gone.
+pub fn settling_keeps_trees()
+    ensures trees { ForgettingKeepsTrees }
+    ensures worlds { SettlingKeepsTrees }
+    ensures named { NamedIsUsed }
+    ensures used { UsedStays }
+    ensures unused { UnusedIsGone }
 {}
