@@ -6,3 +6,4 @@ pub mod ChangesOfNames
 pub mod ChangesOfPlace
 pub mod ChangesKeepTrees
 pub mod TreesForgotten
+pub mod TreesAbove
