@@ -7,3 +7,5 @@ pub mod ChangesOfPlace
 pub mod ChangesKeepTrees
 pub mod TreesForgotten
 pub mod TreesAbove
+pub mod TreesWalked
+pub mod TreesOfWorlds

@@ -1,3 +1,5 @@
+use Rattle.vt_laws.proofs.TreesOfWorlds
+use Rattle.vt_laws.proofs.TreesWalked
 use Rattle.vt_laws.proofs.TreesForgotten
 use Rattle.vt_laws.proofs.trees.settling_keeps_trees.Goals as goal
 
