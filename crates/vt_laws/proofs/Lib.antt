@@ -9,3 +9,5 @@ pub mod TreesForgotten
 pub mod TreesAbove
 pub mod TreesWalked
 pub mod TreesOfWorlds
+pub mod TreesReached
+pub mod ChangesOfCalls

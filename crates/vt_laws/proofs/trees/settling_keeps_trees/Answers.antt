@@ -1,3 +1,5 @@
+use Rattle.vt_laws.proofs.ChangesOfCalls
+use Rattle.vt_laws.proofs.TreesReached
 use Rattle.vt_laws.proofs.TreesOfWorlds
 use Rattle.vt_laws.proofs.TreesWalked
 use Rattle.vt_laws.proofs.TreesForgotten
