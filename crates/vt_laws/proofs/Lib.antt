@@ -11,3 +11,4 @@ pub mod TreesWalked
 pub mod TreesOfWorlds
 pub mod TreesReached
 pub mod ChangesOfCalls
+pub mod ChangesByRemoving
