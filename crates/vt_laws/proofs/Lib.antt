@@ -12,3 +12,4 @@ pub mod TreesOfWorlds
 pub mod TreesReached
 pub mod ChangesOfCalls
 pub mod ChangesByRemoving
+pub mod TreesEntered

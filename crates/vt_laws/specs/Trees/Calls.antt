@@ -1,15 +1,21 @@
 -- Calls on files, in worlds of plain filesystems.
-use Rattle.std.specs.Prelude.{All, Bool, None, false, nat_eq, true, ℕ, ◌≡◌}
+use Rattle.std.specs.Prelude.{All, Bool, None, Some, false, nat_eq, true, ℕ, ◌≡◌}
 use Rattle.vt_spec.specs.Machine.Calls.{Call}
 use Rattle.vt_spec.specs.Machine.Lists.{Fresh}
+use Rattle.vt_spec.specs.Machine.Mounts.{Location, root_of}
 use Rattle.vt_spec.specs.Machine.Policy.{policy}
-use Rattle.vt_spec.specs.Machine.World.{TaskName, World, is_overlay}
+use Rattle.vt_spec.specs.Machine.World.{TaskName, World, is_directory_at, is_overlay}
 use Rattle.vt_laws.specs.Trees.Settling.{HasFileTrees}
 
 -- a world without overlays, whose filesystems are trees
 pub record IsWorldOfTrees (world : World ℕ) : Type 0 where
   pub plain : All (λ filesystem. is_overlay filesystem ≡ false) world.filesystems
   pub trees : HasFileTrees world
+
+-- the root of each mount, and the place that it stands at, are directories
+pub record IsStanding (world : World ℕ) : Type 0 where
+  pub roots : All (λ mount. is_directory_at nat_eq world (root_of mount) ≡ true) world.mounts
+  pub places : All (λ mount. (place : Location ℕ) → mount.place ≡ Some place → is_directory_at nat_eq world place ≡ true) world.mounts
 
 -- the numbers handed in are numbers of no inode
 abbrev pub AreNew : Fresh ℕ → World ℕ → Type 0

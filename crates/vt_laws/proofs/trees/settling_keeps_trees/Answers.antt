@@ -1,3 +1,4 @@
+use Rattle.vt_laws.proofs.TreesEntered
 use Rattle.vt_laws.proofs.ChangesByRemoving
 use Rattle.vt_laws.proofs.ChangesOfCalls
 use Rattle.vt_laws.proofs.TreesReached
