@@ -1,34 +1,32 @@
 -- Calls that remove and rename leave a world of trees.
-use Rattle.std.proofs.Common.{eqb-true, ◌≡◌, ◌≢◌, refl, sym, ap, subst, ◌∙◌, true≢false, ℕ, nat_eq, eq-eqb, Bool, true, false, not, List, [], ◌∷◌, ◌&&◌, ◌||◌, ◌⊎◌, inl, inr, ⊎_elim, Option, Some, None, is_some, option_map}
-use Rattle.std.specs.Prelude.{⊤, unwrap_or}
+use Rattle.std.proofs.Common.{eqb-true, ◌≡◌, ◌≢◌, refl, sym, ap, subst, ◌∙◌, true≢false, ℕ, nat_eq, eq-eqb, Bool, true, false, not, List, [], ◌∷◌, ◌&&◌, Option, Some, None, is_some, option_map}
+use Rattle.std.specs.Prelude.{unwrap_or}
 use Rattle.vt_spec.specs.declared.errors.Rule.TheVariants.{E2, W3}
 use Rattle.vt_spec.specs.Rights.{is_directory}
-use Rattle.vt_spec.specs.Tree.{Content, Entries, Node, Tree, entries_in, entries_of, entry_named, is_directory_node, kind_of}
+use Rattle.vt_spec.specs.Tree.{Content, Entries, Node, entries_in, entries_of, entry_named, is_directory_node, kind_of}
 use Rattle.vt_spec.specs.Tree.Content.{Directory, Regular, Symlink, Whiteout}
 use Rattle.vt_spec.specs.TreeLaws.{IsDirectory, IsReached, IsTree, entry_at, led}
 use Rattle.vt_spec.specs.Machine.Changes.{Change}
-use Rattle.vt_spec.specs.Machine.Changes.Change.{Move, Remove}
-use Rattle.vt_spec.specs.Machine.Detach.{mounts_on, taken_away, without_mounts_on}
+use Rattle.vt_spec.specs.Machine.Detach.{taken_away, without_mounts_on}
 use Rattle.vt_spec.specs.Machine.FileTree.{FileTree, is_directory_under}
 use Rattle.vt_spec.specs.Machine.Filesystems.{with_change}
 use Rattle.vt_spec.specs.Machine.Lists.{Fresh, holds_of, is_empty_list}
-use Rattle.vt_spec.specs.Machine.Mounts.{Location, mount_tree}
+use Rattle.vt_spec.specs.Machine.Mounts.{Location}
 use Rattle.vt_spec.specs.Machine.Outcome.Removing.{is_filled, is_one_object, moving, object_there, old_word_rules, removing, rename_new_walk, rename_outcome, rename_rules, renamed_by, rmdir_outcome, rmdir_rules, rmdir_word_rules, same_filesystem, same_object_rules, unlink_outcome, unlink_rules, without_replaced}
-use Rattle.vt_spec.specs.Machine.Outcomes.{Outcome, after, granted, judged}
+use Rattle.vt_spec.specs.Machine.Outcomes.{granted}
 use Rattle.vt_spec.specs.Machine.Outcomes.Answer.{Done}
-use Rattle.vt_spec.specs.Machine.Walk.{LastWord, Place, entry_location, is_directory_there, is_dot, is_dot_dot, is_no_word, is_special, name_of, new_name_rules, new_walk, old_leaf_walk, old_walk, walk_end}
+use Rattle.vt_spec.specs.Machine.Walk.{LastWord, Place, entry_location, is_directory_there, is_dot, is_dot_dot, is_no_word, is_special, name_of, new_name_rules, new_walk, old_leaf_walk, old_walk}
 use Rattle.vt_spec.specs.Machine.Walk.LastWord.{Dot, DotDot, Named, NoWord}
-use Rattle.vt_spec.specs.Machine.World.{Task, World, files_at, filesystem_at, is_directory_at, is_removed_at, mount_at, node_at}
+use Rattle.vt_spec.specs.Machine.World.{Task, World, files_at, is_directory_at, is_removed_at, mount_at, node_at}
 use Rattle.vt_spec.proofs.Nodes.{none_is_not}
 use Rattle.vt_spec.proofs.Trees.{found}
 use Rattle.vt_laws.specs.Trees.{IsFileTree, IsProper, MayMove, MayRemove}
-use Rattle.vt_laws.specs.Trees.Calls.{AreNew, IsWorldOfTrees}
-use Rattle.vt_laws.proofs.ChangesOfCalls.{mapped_none}
+use Rattle.vt_laws.specs.Trees.Calls.{IsWorldOfTrees}
 use Rattle.vt_laws.proofs.TreesAbove.{under_seen}
 use Rattle.vt_laws.proofs.TreesOfWorlds.{change_keeps_world, same_filesystems, taken_files, taken_filesystems}
 use Rattle.vt_laws.proofs.TreesReached.{filled_reached, not_removed_reached}
 use Rattle.vt_laws.proofs.TreesRearranged.{node_with_entries, some_same}
-use Rattle.vt_laws.proofs.TreesWalked.{Ends, IsNewPlace, IsOldPlace, IsPlace, Passed, after_ends, ends_new_walk, ends_old_leaf_walk, ends_old_walk, ends_then, ends_unless, judged_holds, no_some, place_named}
+use Rattle.vt_laws.proofs.TreesWalked.{Ends, IsNewPlace, IsOldPlace, IsPlace, Passed, after_ends, ends_new_walk, ends_old_leaf_walk, ends_old_walk, ends_then, ends_unless, judged_holds, place_named}
 
 -- what is no directory has no entries
 pub no_directory_empty : (o : Option (Node ℕ)) → is_directory_node o ≡ false → entries_in o ≡ []

@@ -1,12 +1,11 @@
 -- Calls that make, open, write, and change attributes leave a world of trees.
-use Rattle.std.proofs.Common.{◌≡◌, refl, sym, ap, subst, ◌∙◌, true≢false, ℕ, nat_eq, Bool, true, false, not, List, [], ◌∷◌, ◌*◌, ◌&&◌, ◌||◌, ◌⊎◌, inl, inr, ⊎_elim, Option, Some, None, is_some, option_map, ok_or, Result, Ok, Err, length, nat_lt}
-use Rattle.std.specs.Prelude.{⊤, find, option_to_list, unwrap_or}
+use Rattle.std.proofs.Common.{◌≡◌, refl, sym, ap, ◌∙◌, true≢false, ℕ, nat_eq, Bool, true, false, not, List, [], ◌∷◌, ◌*◌, ◌&&◌, inl, inr, Option, Some, None, is_some, option_map, length, nat_lt}
+use Rattle.std.specs.Prelude.{⊤, unwrap_or}
 use Rattle.vt_spec.specs.declared.attributes.Attr.{Attr}
 use Rattle.vt_spec.specs.declared.errors.Rule.TheVariants.{E6, K1}
-use Rattle.vt_spec.specs.Errors.{Rules, denial}
 use Rattle.vt_spec.specs.Laws.Trees.{IsNewIn}
-use Rattle.vt_spec.specs.Tree.{Content, Node, entries_in, entry_named, new_directory}
-use Rattle.vt_spec.specs.Tree.Content.{Regular, Symlink, Whiteout}
+use Rattle.vt_spec.specs.Tree.{Node, entries_in, entry_named, new_directory}
+use Rattle.vt_spec.specs.Tree.Content.{Symlink, Whiteout}
 use Rattle.vt_spec.specs.Machine.Calls.{Access, Creation}
 use Rattle.vt_spec.specs.Machine.Calls.Creation.{Exclusive, NoCreation, OrCreate}
 use Rattle.vt_spec.specs.Machine.Changes.Change.{CopyUp, SetAttr, SetBytes, SetMark}
@@ -16,18 +15,17 @@ use Rattle.vt_spec.specs.Machine.Mounts.{Location}
 use Rattle.vt_spec.specs.Machine.Outcome.Attributes.{attr_at, attr_rules, attr_set, attr_with_mode, attr_with_owner, chmod_outcome, chown_outcome, may_chown, opaque_outcome, opaque_rules}
 use Rattle.vt_spec.specs.Machine.Outcome.Descriptors.{create_file, descriptor_at, descriptor_rules, exclusive_word_rules, is_copied_up, open_by, open_file, open_outcome, open_rules, opened, opened_or_created, pwrite_outcome, pwrite_rules, pwritten, with_copy, with_descriptor}
 use Rattle.vt_spec.specs.Machine.Outcome.Making.{directory_mode, file_mode, file_word_rules, largest_file, link_mode, link_text_rules, made_at, make_rules, mkdir_outcome, new_file, new_rules, rewrite_rules, symlink_outcome, whiteout_outcome, whiteout_rules, with_new, write_outcome, written}
-use Rattle.vt_spec.specs.Machine.Outcomes.{Answer, Outcome, after, granted, judged}
-use Rattle.vt_spec.specs.Machine.Outcomes.Answer.{Done, Opened}
+use Rattle.vt_spec.specs.Machine.Outcomes.{granted}
+use Rattle.vt_spec.specs.Machine.Outcomes.Answer.{Done}
 use Rattle.vt_spec.specs.Machine.Rows.{exact_attr, lacks, making, new_attr}
-use Rattle.vt_spec.specs.Machine.Walk.{Here, LastWord, Place, directory_walk, entry_location, file_walk, is_special, name_of, new_leaf_walk, new_name_rules, new_walk, object_walk, walk_end}
-use Rattle.vt_spec.specs.Machine.World.{Descriptor, Task, World, files_at, is_directory_at, is_removed_at, node_at, with_task}
+use Rattle.vt_spec.specs.Machine.Walk.{Place, directory_walk, file_walk, is_special, name_of, new_leaf_walk, new_name_rules, new_walk, object_walk}
+use Rattle.vt_spec.specs.Machine.World.{Task, World, files_at, is_removed_at, node_at, with_task}
 use Rattle.vt_spec.specs.Rights.{cap_sys_admin, owns}
-use Rattle.vt_spec.specs.TreeLaws.{IsDirectory, entry_at}
-use Rattle.vt_laws.specs.Trees.{IsFileTree, IsFree, IsProper}
+use Rattle.vt_laws.specs.Trees.{IsFileTree, IsFree}
 use Rattle.vt_laws.specs.Trees.Calls.{AreNew, IsWorldOfTrees}
 use Rattle.vt_laws.proofs.TreesOfWorlds.{change_keeps_world, new_at, same_filesystems}
 use Rattle.vt_laws.proofs.TreesReached.{not_removed_reached}
-use Rattle.vt_laws.proofs.TreesWalked.{IsFileOf, IsFilePlace, IsNewFilePlace, IsNewPlace, Passed, after_ends, after_holds, ends_anyhow, ends_file_walk, ends_new_leaf_walk, ends_new_walk, file_named, first_false, judged_holds, no_some, place_is_file}
+use Rattle.vt_laws.proofs.TreesWalked.{IsFilePlace, IsNewFilePlace, IsNewPlace, Passed, after_ends, after_holds, ends_anyhow, ends_file_walk, ends_new_leaf_walk, ends_new_walk, file_named, first_false, judged_holds, no_some, place_is_file}
 
 -- what is nothing after a step that always finds was nothing
 pub mapped_none : {A B : Type 0} (f : A → B) (o : Option A) → option_map f o ≡ None → o ≡ None

@@ -13,3 +13,5 @@ pub mod TreesReached
 pub mod ChangesOfCalls
 pub mod ChangesByRemoving
 pub mod TreesEntered
+pub mod ChangesByLinks
+pub mod ChangesByCalls

@@ -1,27 +1,25 @@
 -- What a path leads to is there, where the roots of mounts and their places are.
-use Rattle.std.proofs.Common.{◌≡◌, ◌≢◌, refl, sym, ap, subst, ◌∙◌, true≢false, ℕ, zero, suc, nat_eq, Bool, true, false, not, cond, List, [], ◌∷◌, length, map, reverse, ◌&&◌, ◌||◌, ◌==◌, ◌⊎◌, inl, inr, ⊎_elim, Option, Some, None, is_some, option_map, ok_or, Result, Ok, Err}
-use Rattle.std.specs.Prelude.{⊤, codes, filter, unwrap_or}
+use Rattle.std.proofs.Common.{◌≡◌, ◌≢◌, refl, sym, ap, subst, ◌∙◌, true≢false, ℕ, zero, suc, nat_eq, Bool, true, false, not, cond, List, [], ◌∷◌, length, reverse, ◌==◌, ⊎_elim, Option, Some, None, is_some, option_map, ok_or, Result, Ok, Err}
+use Rattle.std.specs.Prelude.{codes, filter, unwrap_or}
 use Rattle.std.specs.List.{All, find}
 use Rattle.std.specs.Str.{bytes_eq}
 use Rattle.std.proofs.lemmas.List.{length-reverse, nil_from_length}
 use Rattle.std.proofs.lemmas.List.Elements.{All-head, All-tail}
 use Rattle.vt_spec.specs.declared.errors.Deny.{Deny}
-use Rattle.vt_spec.specs.declared.errors.Rule.TheVariants.{W3, W6, W8}
-use Rattle.vt_spec.specs.Errors.{Rules, and_then, denial, unless}
-use Rattle.vt_spec.specs.PathText.{ends_in_slash, is_empty, parsed_path, parts, path_rules, with_byte, words}
-use Rattle.vt_spec.specs.Tree.{entries_in, entry_named, is_directory_node, parent_in}
-use Rattle.vt_spec.specs.TreeLaws.{IsDirectory, IsTree}
-use Rattle.vt_spec.specs.Machine.FileTree.{FileTree}
+use Rattle.vt_spec.specs.declared.errors.Rule.TheVariants.{W6, W8}
+use Rattle.vt_spec.specs.Errors.{denial, unless}
+use Rattle.vt_spec.specs.PathText.{ends_in_slash, is_empty, parts, path_rules, with_byte, words}
+use Rattle.vt_spec.specs.Tree.{entries_in, entry_named, is_directory_node}
 use Rattle.vt_spec.specs.Machine.Lists.{chain, last_or}
 use Rattle.vt_spec.specs.Machine.Mounts.{Location, Mount, child_at, mount_in, no_mount, root_of, same_location, stands_at, topmost}
-use Rattle.vt_spec.specs.Machine.Walk.{Here, LastWord, Stop, entry_location, final_word, followed, front_walked, hop, hops, is_lost, is_no_word, is_top, last_walked, last_word, link_walk, link_walk_by, object_walk, parent_location, path_text, path_walked, search_rules, slash_rules, stepped, steps_with, stopped_by, then_walk, up_from, walk_start, walk_unless, word_walked}
+use Rattle.vt_spec.specs.Machine.Walk.{Here, LastWord, Stop, entry_location, final_word, followed, front_walked, hop, hops, is_lost, is_no_word, is_top, last_walked, last_word, link_walk, link_walk_by, parent_location, path_text, path_walked, search_rules, slash_rules, stepped, steps_with, then_walk, up_from, walk_start, walk_unless, word_walked}
 use Rattle.vt_spec.specs.Machine.Walk.LastWord.{Dot, DotDot, Named, NoWord}
-use Rattle.vt_spec.specs.Machine.World.{Filesystem, Task, World, files_at, is_directory_at, mount_at, no_filesystem, node_at}
+use Rattle.vt_spec.specs.Machine.World.{Filesystem, Task, World, files_at, is_directory_at, mount_at, node_at}
 use Rattle.vt_spec.proofs.Nodes.{directory_used, none_is_not}
 use Rattle.vt_laws.specs.Trees.{IsFileTree}
 use Rattle.vt_laws.specs.Trees.Calls.{IsStanding, IsWorldOfTrees}
 use Rattle.vt_laws.proofs.TreesOfWorlds.{numbered_all}
-use Rattle.vt_laws.proofs.TreesWalked.{Ends, Passed, ends_next, ends_step, ends_then, ends_unless, not_true, ok_same}
+use Rattle.vt_laws.proofs.TreesWalked.{Ends, ends_next, ends_step, ends_then, ends_unless, not_true, ok_same}
 
 -- what is found is one of the list
 pub found_all : {A : Type 0} (P : A → Type 0) (test : A → Bool) (list : List A) (a : A) → All P list → find test list ≡ Some a → P a

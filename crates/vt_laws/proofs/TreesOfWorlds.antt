@@ -1,18 +1,17 @@
 -- A change of a filesystem in a world of trees leaves a world of trees.
-use Rattle.std.proofs.Common.{eqb-true, ◌≡◌, refl, sym, ap, subst, ◌∙◌, true≢false, ℕ, nat_eq, Bool, true, false, not, cond, List, [], ◌∷◌, map, ◌⊎◌, inl, inr, ⊎_elim, Option, Some, None, is_some, option_map}
+use Rattle.std.proofs.Common.{eqb-true, ◌≡◌, refl, sym, ap, subst, ◌∙◌, true≢false, ℕ, nat_eq, Bool, true, false, cond, List, [], ◌∷◌, map, ◌⊎◌, inl, inr, ⊎_elim, Some, None, is_some, option_map}
 use Rattle.std.specs.Prelude.{unwrap_or}
 use Rattle.std.specs.List.{All, find}
-use Rattle.std.proofs.lemmas.List.Elements.{All-cons, All-filter, All-head, All-map, All-nil, All-tail, All-weaker}
+use Rattle.std.proofs.lemmas.List.Elements.{All-cons, All-head, All-nil, All-tail}
 use Rattle.vt_spec.specs.Machine.Changes.{Change, changed}
-use Rattle.vt_spec.specs.Machine.Detach.{after_going, place_left, taken_away, without_mounts_on}
+use Rattle.vt_spec.specs.Machine.Detach.{after_going, place_left, taken_away}
 use Rattle.vt_spec.specs.Machine.Filesystems.{filesystem_changed, with_change, with_files}
 use Rattle.vt_spec.specs.Machine.Lists.{Fresh}
 use Rattle.vt_spec.specs.Machine.Mounts.{Location, Mount, detached, mount_in, no_mount}
-use Rattle.vt_spec.specs.Machine.Receives.{inheriting, lost_a_group, regrouped, regrouped_by}
-use Rattle.vt_spec.specs.Machine.World.{Filesystem, Overlay, World, files_at, filesystem_at, filesystem_numbered, is_overlay, mount_at, no_filesystem, replaced_if_numbered, with_filesystem, with_mounts}
+use Rattle.vt_spec.specs.Machine.Receives.{inheriting, regrouped, regrouped_by}
+use Rattle.vt_spec.specs.Machine.World.{Filesystem, World, files_at, filesystem_at, is_overlay, mount_at, no_filesystem, replaced_if_numbered, with_filesystem, with_mounts}
 use Rattle.vt_laws.specs.Trees.{IsFileTree, IsProper}
 use Rattle.vt_laws.specs.Trees.Calls.{AreNew, IsWorldOfTrees}
-use Rattle.vt_laws.specs.Trees.Settling.{HasFileTrees}
 use Rattle.vt_laws.proofs.ChangesKeepTrees.{changes_keep_numbers, changes_keep_own_parents, changes_keep_trees}
 use Rattle.vt_laws.proofs.TreesWalked.{no_some}
 
@@ -133,7 +132,7 @@ mapped_filesystem f same_number same_filesystem (mount ∷ mounts) number =
     by true rest = same_filesystem mount
     by false rest = rest
 
-regrouped_filesystems : (world : World ℕ) → (regrouped nat_eq world).filesystems ≡ world.filesystems
+pub regrouped_filesystems : (world : World ℕ) → (regrouped nat_eq world).filesystems ≡ world.filesystems
 regrouped_filesystems world = by _
   where
     by : (b : Bool) → (regrouped_by nat_eq b world).filesystems ≡ world.filesystems

@@ -1,5 +1,5 @@
 -- A directory that is not removed is reached from the root, and so is one that has an entry.
-use Rattle.std.proofs.Common.{eqb-true, ◌≡◌, ◌≢◌, refl, sym, ap, subst, ◌∙◌, true≢false, ℕ, nat_eq, eq-eqb, ne_eqb, Bool, true, false, not, cond, List, [], ◌∷◌, map, ◌&&◌, ◌||◌, ◌⊎◌, inl, inr, ⊎_elim, Option, Some, None, is_some}
+use Rattle.std.proofs.Common.{eqb-true, ◌≡◌, refl, sym, ap, subst, ◌∙◌, true≢false, ℕ, nat_eq, eq-eqb, Bool, true, false, not, cond, List, [], ◌∷◌, map, ◌&&◌, ◌||◌, Some, None, is_some}
 use Rattle.std.specs.declared.cmp.Ordering.{Ordering}
 use Rattle.std.specs.declared.cmp.Ordering.TheVariants.{Equal, Greater, Less}
 use Rattle.std.specs.Cmp.{tied_itself}
@@ -7,14 +7,13 @@ use Rattle.std.specs.Cmp.Lexicographic.{nat_list_cmp_total}
 use Rattle.std.specs.FinMap.Entries.{below_all, is_sorted}
 use Rattle.std.specs.Ordering.{eq_by_cmp, is_eq, is_lt}
 use Rattle.vt_spec.specs.Tree.{Entries, Tree, entries_in, entry_named, name_cmp, parent_in}
-use Rattle.vt_spec.specs.TreeLaws.{entry_at, HasName, IsDirectory, IsReached, IsTree}
-use Rattle.vt_spec.specs.Machine.FileTree.{FileTree, has_entry_to, is_removed, named_parent}
+use Rattle.vt_spec.specs.TreeLaws.{entry_at, IsDirectory, IsReached, IsTree}
+use Rattle.vt_spec.specs.Machine.FileTree.{has_entry_to, is_removed, named_parent}
 use Rattle.vt_spec.specs.Machine.Lists.{is_among, when}
 use Rattle.vt_spec.proofs.Nodes.{none_is_not, same_name}
 use Rattle.vt_spec.proofs.Trees.{root_reached}
 use Rattle.vt_laws.proofs.TreesAbove.{parent_named}
-use Rattle.vt_laws.proofs.TreesRearranged.{no_entries, node_with_entries}
-use Rattle.vt_laws.proofs.TreesWalked.{first_false, second_false}
+use Rattle.vt_laws.proofs.TreesRearranged.{no_entries}
 
 both_first : (a b : Bool) → (a && b) ≡ true → a ≡ true
 both_first true b e = refl

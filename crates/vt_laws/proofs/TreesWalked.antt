@@ -1,16 +1,14 @@
 -- What is known of the end of a walk: the directory of a name is one, and the name leads where its entry does.
-use Rattle.std.proofs.Common.{◌≡◌, refl, sym, ap, subst, ◌∙◌, true≢false, ℕ, zero, suc, ◌+◌, nat_eq, Bool, true, false, not, List, [], ◌∷◌, ◌&&◌, ◌||◌, ◌⊎◌, inl, inr, ⊎_elim, Option, Some, None, is_some, option_map, Result, Ok, Err, reverse}
+use Rattle.std.proofs.Common.{◌≡◌, refl, sym, ap, ◌∙◌, true≢false, ℕ, zero, suc, ◌+◌, nat_eq, Bool, true, false, not, List, [], ◌∷◌, ◌&&◌, ◌||◌, Option, Some, None, is_some, option_map, Result, Ok, Err, reverse}
 use Rattle.std.specs.Prelude.{⊤}
 use Rattle.vt_spec.specs.declared.errors.Deny.{Deny}
 use Rattle.vt_spec.specs.declared.errors.Rule.TheVariants.{W3, W6}
 use Rattle.vt_spec.specs.Errors.{Rules, and_then, unless}
-use Rattle.vt_spec.specs.Tree.{entries_in, entry_named}
-use Rattle.vt_spec.specs.TreeLaws.{entry_at}
 use Rattle.vt_spec.specs.Machine.Mounts.{Location, topmost}
 use Rattle.vt_spec.specs.Machine.Outcomes.{Outcome, after, judged}
-use Rattle.vt_spec.specs.Machine.Walk.{Here, LastWord, Place, Stop, entered, entry_location, file_or_link, file_walk, file_walked, final_word, followed, follow_rules, front_walked, is_directory_there, is_special, link_of, link_start, link_there, most_links, name_of, new_leaf_walk, new_name_rules, new_walk, object_named, old_leaf_walk, old_walk, path_text, place_walk, placed, search_rules, stepped, steps_at, stopped_by, then_walk, walk_end, walk_start, walk_unless}
+use Rattle.vt_spec.specs.Machine.Walk.{Here, LastWord, Place, Stop, entry_location, file_or_link, file_walk, file_walked, final_word, followed, follow_rules, front_walked, is_directory_there, is_special, link_of, link_start, link_there, most_links, name_of, new_leaf_walk, new_name_rules, new_walk, object_named, old_leaf_walk, old_walk, path_text, place_walk, placed, search_rules, steps_at, stopped_by, then_walk, walk_end, walk_start, walk_unless}
 use Rattle.vt_spec.specs.Machine.Walk.LastWord.{Dot, DotDot, Named, NoWord}
-use Rattle.vt_spec.specs.Machine.World.{Task, World, files_at, is_directory_at, is_removed_at, node_at}
+use Rattle.vt_spec.specs.Machine.World.{Task, World, is_directory_at}
 use Rattle.vt_spec.specs.PathText.{ends_in_slash, words}
 
 -- none of the rules fails
@@ -59,6 +57,10 @@ pub after_ends : {A : Type 0} (Q : A → Type 0) (P : World ℕ → Type 0) (wor
     → P (after world (walk_end r) next).world
 after_ends Q P world (Ok a) next p q h = h a q
 after_ends Q P world (Err stop) next p q h = p
+
+pub after_any : {A : Type 0} (P : World ℕ → Type 0) (world : World ℕ) (r : Result A (Stop ℕ)) (next : A → Outcome ℕ) → P world → ((a : A) → P (next a).world) → P (after world (walk_end r) next).world
+after_any P world (Ok a) next p h = h a
+after_any P world (Err stop) next p h = p
 
 pub after_holds : {A : Type 0} (P : World ℕ → Type 0) (world : World ℕ) (r : Result A Deny) (next : A → Outcome ℕ) → P world → ((a : A) → r ≡ Ok a → P (next a).world) → P (after world r next).world
 after_holds P world (Ok a) next p h = h a refl

@@ -1,5 +1,6 @@
 //! Trees stay trees.
 ghost use Rattle.vt_laws.specs.Trees.{ChangesKeepNumbers, ChangesKeepOwnParents, ChangesKeepTrees};
+ghost use Rattle.vt_laws.specs.Trees.Calls.{CallsKeepTrees, OpeningHasTrees};
 ghost use Rattle.vt_laws.specs.Trees.Settling.{ForgettingKeepsTrees, NamedIsUsed, SettlingKeepsTrees, UnusedIsGone, UsedStays};
 
 /// Each change of a tree makes a tree of it, with the numbers of its inodes beside it.
@@ -20,4 +21,12 @@ pub fn settling_keeps_trees()
     ensures named { NamedIsUsed }
     ensures used { UsedStays }
     ensures unused { UnusedIsGone }
+{}
+
+/// In a world of plain filesystems every call but the mount of an overlay leaves trees.
+///
+/// The opening world is one of trees.
+pub fn calls_keep_trees()
+    ensures opening { OpeningHasTrees }
+    ensures calls { CallsKeepTrees }
 {}

@@ -1,9 +1,3 @@
-use Rattle.vt_laws.proofs.TreesEntered
-use Rattle.vt_laws.proofs.ChangesByRemoving
-use Rattle.vt_laws.proofs.ChangesOfCalls
-use Rattle.vt_laws.proofs.TreesReached
-use Rattle.vt_laws.proofs.TreesOfWorlds
-use Rattle.vt_laws.proofs.TreesWalked
 use Rattle.vt_laws.proofs.TreesForgotten
 use Rattle.vt_laws.proofs.trees.settling_keeps_trees.Goals as goal
 

@@ -1,0 +1,8 @@
+use Rattle.vt_laws.proofs.ChangesByCalls
+use Rattle.vt_laws.proofs.trees.calls_keep_trees.Goals as goal
+
+pub returns-clause-opening : goal.returns-clause-opening
+returns-clause-opening c = ChangesByCalls.opening_has_trees
+
+pub returns-clause-calls : goal.returns-clause-calls
+returns-clause-calls c = ChangesByCalls.calls_keep_trees
