@@ -15,3 +15,4 @@ pub mod ChangesByRemoving
 pub mod TreesEntered
 pub mod ChangesByLinks
 pub mod ChangesByCalls
+pub mod SettlingStays

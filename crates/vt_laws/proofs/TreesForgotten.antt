@@ -93,7 +93,7 @@ module _ (used : List ℕ) (files : FileTree ℕ) (holds : HoldsTree used files)
   is_directory_kept number used_there is = ap is_directory_node (kept_node number used_there) ∙ is
 
   -- a directory with an entry is used: without a name it would be empty
-  entry_used : (directory : ℕ) (name : List ℕ) (number : ℕ) → entry_at files.tree directory name ≡ Some number → IsUsed directory
+  pub entry_used : (directory : ℕ) (name : List ℕ) (number : ℕ) → entry_at files.tree directory name ≡ Some number → IsUsed directory
   entry_used directory name number e =
       ⊎_elim (λ is. is)
       (λ unused. no_entries files.tree directory name number
@@ -208,7 +208,7 @@ pub only_used_is : (world : World ℕ) (chosen : Bool) (filesystem : Filesystem 
 only_used_is world true filesystem conditions = only_used_of_is (used_in nat_eq world filesystem) filesystem (named_is_used world filesystem conditions) conditions
 only_used_is world false filesystem conditions = conditions
 
-without_dead_in_is : (chosen : Filesystem ℕ → Bool) (world : World ℕ) → HasFileTrees world → HasFileTrees (without_dead_in nat_eq chosen world)
+pub without_dead_in_is : (chosen : Filesystem ℕ → Bool) (world : World ℕ) → HasFileTrees world → HasFileTrees (without_dead_in nat_eq chosen world)
 without_dead_in_is chosen world trees =
     All-map (λ filesystem. IsFileTree filesystem.files) (λ filesystem. only_used nat_eq world (chosen filesystem) filesystem) world.filesystems
     (All-weaker (λ filesystem. IsFileTree filesystem.files) (λ filesystem. IsFileTree (only_used nat_eq world (chosen filesystem) filesystem).files)

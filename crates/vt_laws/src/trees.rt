@@ -1,7 +1,7 @@
 //! Trees stay trees.
 ghost use Rattle.vt_laws.specs.Trees.{ChangesKeepNumbers, ChangesKeepOwnParents, ChangesKeepTrees};
 ghost use Rattle.vt_laws.specs.Trees.Calls.{CallsKeepTrees, OpeningHasTrees};
-ghost use Rattle.vt_laws.specs.Trees.Settling.{ForgettingKeepsTrees, NamedIsUsed, SettlingKeepsTrees, UnusedIsGone, UsedStays};
+ghost use Rattle.vt_laws.specs.Trees.Settling.{ForgettingKeepsTrees, LocatedStays, NamedIsUsed, NamedStays, SettlingKeepsTrees, UnusedIsGone, UsedStays};
 
 /// Each change of a tree makes a tree of it, with the numbers of its inodes beside it.
 ///
@@ -21,6 +21,8 @@ pub fn settling_keeps_trees()
     ensures named { NamedIsUsed }
     ensures used { UsedStays }
     ensures unused { UnusedIsGone }
+    ensures names { NamedStays }
+    ensures locations { LocatedStays }
 {}
 
 /// In a world of plain filesystems every call but the mount of an overlay leaves trees.

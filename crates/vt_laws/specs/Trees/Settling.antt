@@ -1,9 +1,11 @@
 -- What nothing uses goes, and what is left are trees.
-use Rattle.std.specs.Prelude.{All, List, None, false, nat_eq, true, ℕ, ◌≡◌}
+use Rattle.std.specs.Prelude.{All, List, None, false, map, nat_eq, true, ℕ, ◌≡◌}
+use Rattle.std.specs.List.{list_any}
 use Rattle.vt_spec.specs.Machine.FileTree.{FileTree}
 use Rattle.vt_spec.specs.Machine.Lists.{is_among}
-use Rattle.vt_spec.specs.Machine.Settled.{only_among, only_used, settled, used_in}
-use Rattle.vt_spec.specs.Machine.World.{Filesystem, World}
+use Rattle.vt_spec.specs.Machine.Mounts.{Location, same_location}
+use Rattle.vt_spec.specs.Machine.Settled.{is_mounted, only_among, only_used, settled, used_in, without_dead_mounts}
+use Rattle.vt_spec.specs.Machine.World.{Filesystem, World, all_locations, filesystem_numbered, node_at}
 use Rattle.vt_spec.specs.TreeLaws.{HasName}
 use Rattle.vt_laws.specs.Trees.{IsFileTree}
 
@@ -43,3 +45,20 @@ HasFileTrees world = All (λ filesystem. IsFileTree filesystem.files) world.file
 -- A world in which what nothing uses is gone has trees.
 abbrev pub SettlingKeepsTrees : Type 0
 SettlingKeepsTrees = (world : World ℕ) → HasFileTrees world → HasFileTrees (settled nat_eq world)
+
+-- An inode with a name stays, in a filesystem that is mounted.
+abbrev pub NamedStays : Type 0
+NamedStays =
+    (world : World ℕ) (number object : ℕ)
+    → HasFileTrees world → is_mounted nat_eq (without_dead_mounts nat_eq world) number ≡ true
+    → HasName (filesystem_numbered nat_eq world number).files.tree object
+    → (filesystem_numbered nat_eq (settled nat_eq world) number).files.tree.node object
+    ≡ (filesystem_numbered nat_eq world number).files.tree.node object
+
+-- What is at the root, working directory or descriptor of a task stays, with or without a name: unlink(2), umount(2).
+abbrev pub LocatedStays : Type 0
+LocatedStays =
+    (world : World ℕ) (location : Location ℕ)
+    → list_any (same_location nat_eq location) (all_locations world) ≡ true
+    → is_among nat_eq location.mount (map (λ mount. mount.number) world.mounts) ≡ true
+    → node_at nat_eq (settled nat_eq world) location ≡ node_at nat_eq world location

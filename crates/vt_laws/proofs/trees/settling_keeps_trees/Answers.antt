@@ -1,3 +1,4 @@
+use Rattle.vt_laws.proofs.SettlingStays
 use Rattle.vt_laws.proofs.TreesForgotten
 use Rattle.vt_laws.proofs.trees.settling_keeps_trees.Goals as goal
 
@@ -15,3 +16,9 @@ returns-clause-used c = TreesForgotten.used_stays
 
 pub returns-clause-unused : goal.returns-clause-unused
 returns-clause-unused c = TreesForgotten.unused_is_gone
+
+pub returns-clause-names : goal.returns-clause-names
+returns-clause-names c = SettlingStays.named_stays
+
+pub returns-clause-locations : goal.returns-clause-locations
+returns-clause-locations c = SettlingStays.located_stays
