@@ -16,3 +16,4 @@ pub mod TreesEntered
 pub mod ChangesByLinks
 pub mod ChangesByCalls
 pub mod SettlingStays
+pub mod TreesOfMounts

@@ -1,6 +1,6 @@
 //! Trees stay trees.
 ghost use Rattle.vt_laws.specs.Trees.{ChangesKeepNumbers, ChangesKeepOwnParents, ChangesKeepTrees};
-ghost use Rattle.vt_laws.specs.Trees.Calls.{CallsKeepTrees, OpeningHasTrees};
+ghost use Rattle.vt_laws.specs.Trees.Calls.{CallsKeepTrees, OpeningHasTrees, WorldsAreStanding};
 ghost use Rattle.vt_laws.specs.Trees.Settling.{ForgettingKeepsTrees, LocatedStays, NamedIsUsed, NamedStays, SettlingKeepsTrees, UnusedIsGone, UsedStays};
 
 /// Each change of a tree makes a tree of it, with the numbers of its inodes beside it.
@@ -30,5 +30,6 @@ pub fn settling_keeps_trees()
 /// The opening world is one of trees.
 pub fn calls_keep_trees()
     ensures opening { OpeningHasTrees }
+    ensures standing { WorldsAreStanding }
     ensures calls { CallsKeepTrees }
 {}

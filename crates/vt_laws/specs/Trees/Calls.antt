@@ -6,6 +6,7 @@ use Rattle.vt_spec.specs.Machine.Lists.{Fresh}
 use Rattle.vt_spec.specs.Machine.Mounts.{Location, root_of}
 use Rattle.vt_spec.specs.Machine.Policy.{policy}
 use Rattle.vt_spec.specs.Machine.World.{TaskName, World, is_directory_at, is_overlay, opening}
+use Rattle.vt_spec.specs.Machine.WorldLaws.{IsWorld}
 use Rattle.vt_laws.specs.Trees.Settling.{HasFileTrees}
 
 -- a world without overlays, whose filesystems are trees
@@ -21,6 +22,10 @@ pub record IsStanding (world : World ℕ) : Type 0 where
 -- the numbers handed in are numbers of no inode
 abbrev pub AreNew : Fresh ℕ → World ℕ → Type 0
 AreNew fresh world = All (λ filesystem. (k : ℕ) → filesystem.files.tree.node (fresh k) ≡ None) world.filesystems
+
+-- So it is in each world that has the conditions of worlds.
+abbrev pub WorldsAreStanding : Type 0
+WorldsAreStanding = (world : World ℕ) → IsWorld nat_eq world → IsStanding world
 
 -- the one call that makes an overlay
 abbrev pub mounts_overlay : Call → Bool
