@@ -17,3 +17,4 @@ pub mod ChangesByLinks
 pub mod ChangesByCalls
 pub mod SettlingStays
 pub mod TreesOfMounts
+pub mod TreesTasks

@@ -1,6 +1,7 @@
 -- Trees stay trees: what each change of a tree asks for, and what it keeps.
 pub mod Settling
 pub mod Calls
+pub mod Limits
 use Rattle.std.specs.Prelude.{List, None, Some, [], false, is_some, nat_eq, true, ℕ, ⊤, ◌≡◌, ◌≢◌}
 use Rattle.vt_spec.specs.Laws.Trees.{IsNewIn}
 use Rattle.vt_spec.specs.Machine.Changes.{Change, changed}

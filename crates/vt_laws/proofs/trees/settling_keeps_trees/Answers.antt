@@ -1,3 +1,4 @@
+use Rattle.vt_laws.proofs.TreesTasks
 use Rattle.vt_laws.proofs.SettlingStays
 use Rattle.vt_laws.proofs.TreesForgotten
 use Rattle.vt_laws.proofs.trees.settling_keeps_trees.Goals as goal
