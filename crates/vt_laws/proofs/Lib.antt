@@ -18,3 +18,4 @@ pub mod ChangesByCalls
 pub mod SettlingStays
 pub mod TreesOfMounts
 pub mod TreesTasks
+pub mod TreesLimits

@@ -1,13 +1,13 @@
 -- What calls do to tasks keeps the limits of tasks.
-use Rattle.std.proofs.Common.{◌≡◌, ◌≢◌, refl, sym, ap, subst, ◌∙◌, true≢false, ℕ, zero, suc, ◌+◌, ◌<◌, ◌≤◌, ◌==◌, ◌%◌, arith, nat_eq, nat_le, nat_lt, eq-eqb, eqb-true, le-leb, le-ltb, leb-true, leb-false, lt-ltb, ltb-true, ltb-false, Bool, true, false, not, cond, List, [], ◌∷◌, ◌++◌, length, map, ◌&&◌, ◌||◌, Option, Some, None}
+use Rattle.std.proofs.Common.{◌≡◌, ◌≢◌, refl, sym, ap, ◌∙◌, true≢false, ℕ, suc, ◌+◌, ◌<◌, ◌≤◌, ◌==◌, ◌%◌, arith, nat_le, nat_lt, eq-eqb, eqb-true, le-leb, le-ltb, leb-true, leb-false, lt-ltb, Bool, true, false, not, cond, List, [], ◌∷◌, ◌++◌, length, map, ◌&&◌, Option, Some, None}
 use Rattle.std.proofs.Math.Nat.{mod-lt}
 use Rattle.std.proofs.lemmas.List.{length-append}
 use Rattle.std.specs.List.{filter, list_all}
-use Rattle.vt_spec.specs.Machine.Calls.{Access, CapabilityWord, ForkWords}
+use Rattle.vt_spec.specs.Machine.Calls.{Access, ForkWords}
 use Rattle.vt_spec.specs.Machine.Mounts.{Location}
 use Rattle.vt_spec.specs.Machine.Outcome.Descriptors.{free_from, free_number, inserted, most_descriptors, with_descriptor, without_descriptor}
 use Rattle.vt_spec.specs.Machine.Outcome.Tasks.{child_credentials, child_name, child_of, deepest_name, most_forks, permission_bits}
-use Rattle.vt_spec.specs.Machine.World.{Descriptor, Task, TaskName, World, replaced_if_called, same_name, task_called, with_task}
+use Rattle.vt_spec.specs.Machine.World.{Descriptor, Task, replaced_if_called, same_name}
 use Rattle.vt_spec.specs.Machine.WorldLaws.{are_ascending_from, is_within_limits}
 
 pub both_first : (a b : Bool) → (a && b) ≡ true → a ≡ true
@@ -102,6 +102,7 @@ free_small number (descriptor ∷ list) = by (descriptor.number == number) (free
   where
     later : (a b c : ℕ) → c ≤ (a + 1) + b → c ≤ a + suc b
     later a b c h = omega arith
+
     by : (b : Bool) → free_from (number + 1) list ≤ (number + 1) + length list → cond b (free_from (number + 1) list) number ≤ number + suc (length list)
     by true h = later number (length list) (free_from (number + 1) list) h
     by false h = omega arith

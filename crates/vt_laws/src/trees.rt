@@ -1,6 +1,7 @@
 //! Trees stay trees.
 ghost use Rattle.vt_laws.specs.Trees.{ChangesKeepNumbers, ChangesKeepOwnParents, ChangesKeepTrees};
 ghost use Rattle.vt_laws.specs.Trees.Calls.{CallsKeepTrees, OpeningHasTrees, WorldsAreStanding};
+ghost use Rattle.vt_laws.specs.Trees.Limits.{CallsKeepSmallTasks, OpeningHasSmallTasks};
 ghost use Rattle.vt_laws.specs.Trees.Settling.{ForgettingKeepsTrees, LocatedStays, NamedIsUsed, NamedStays, SettlingKeepsTrees, UnusedIsGone, UsedStays};
 
 /// Each change of a tree makes a tree of it, with the numbers of its inodes beside it.
@@ -32,4 +33,10 @@ pub fn calls_keep_trees()
     ensures opening { OpeningHasTrees }
     ensures standing { WorldsAreStanding }
     ensures calls { CallsKeepTrees }
+{}
+
+/// No call breaks a limit of a task: how many files it has open, how often it forked, its groups and its umask.
+pub fn calls_keep_small_tasks()
+    ensures opening { OpeningHasSmallTasks }
+    ensures calls { CallsKeepSmallTasks }
 {}

@@ -1,4 +1,3 @@
-use Rattle.vt_laws.proofs.TreesTasks
 use Rattle.vt_laws.proofs.SettlingStays
 use Rattle.vt_laws.proofs.TreesForgotten
 use Rattle.vt_laws.proofs.trees.settling_keeps_trees.Goals as goal
