@@ -19,3 +19,4 @@ pub mod SettlingStays
 pub mod TreesOfMounts
 pub mod TreesTasks
 pub mod TreesLimits
+pub mod ChangesOfSizes

@@ -2,6 +2,7 @@
 pub mod Settling
 pub mod Calls
 pub mod Limits
+pub mod Sizes
 use Rattle.std.specs.Prelude.{List, None, Some, [], false, is_some, nat_eq, true, ℕ, ⊤, ◌≡◌, ◌≢◌}
 use Rattle.vt_spec.specs.Laws.Trees.{IsNewIn}
 use Rattle.vt_spec.specs.Machine.Changes.{Change, changed}

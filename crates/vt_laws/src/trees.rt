@@ -3,6 +3,7 @@ ghost use Rattle.vt_laws.specs.Trees.{ChangesKeepNumbers, ChangesKeepOwnParents,
 ghost use Rattle.vt_laws.specs.Trees.Calls.{CallsKeepTrees, OpeningHasTrees, WorldsAreStanding};
 ghost use Rattle.vt_laws.specs.Trees.Limits.{CallsKeepSmallTasks, OpeningHasSmallTasks};
 ghost use Rattle.vt_laws.specs.Trees.Settling.{ForgettingKeepsTrees, LocatedStays, NamedIsUsed, NamedStays, SettlingKeepsTrees, UnusedIsGone, UsedStays};
+ghost use Rattle.vt_laws.specs.Trees.Sizes.{ChangesKeepSizes, SettlingKeepsSizes};
 
 /// Each change of a tree makes a tree of it, with the numbers of its inodes beside it.
 ///
@@ -11,6 +12,12 @@ pub fn changes_keep_trees()
     ensures trees { ChangesKeepTrees }
     ensures numbers { ChangesKeepNumbers }
     ensures own_parents { ChangesKeepOwnParents }
+{}
+
+/// Changes keep names, link texts and files within their limits.
+pub fn changes_keep_sizes()
+    ensures changes { ChangesKeepSizes }
+    ensures settling { SettlingKeepsSizes }
 {}
 
 /// What nothing uses goes, and what is left are trees.
