@@ -14,6 +14,7 @@ pub mod ChangesOfCalls
 pub mod ChangesByRemoving
 pub mod TreesEntered
 pub mod ChangesByLinks
+pub mod ChangesByOthers
 pub mod ChangesByCalls
 pub mod SettlingStays
 pub mod TreesOfMounts
