@@ -70,7 +70,7 @@ used_plain world true filesystem plain = by _
     by false = mapped filesystem.overlay plain
 used_plain world false filesystem plain = plain
 
-without_dead_plain : (chosen : Filesystem ℕ → Bool) (world : World ℕ) → All (λ f. is_overlay f ≡ false) world.filesystems → All (λ f. is_overlay f ≡ false) (without_dead_in nat_eq chosen world).filesystems
+pub without_dead_plain : (chosen : Filesystem ℕ → Bool) (world : World ℕ) → All (λ f. is_overlay f ≡ false) world.filesystems → All (λ f. is_overlay f ≡ false) (without_dead_in nat_eq chosen world).filesystems
 without_dead_plain chosen world plain =
     All-map (λ f. is_overlay f ≡ false) (λ f. only_used nat_eq world (chosen f) f) world.filesystems
     (All-weaker (λ f. is_overlay f ≡ false) (λ f. is_overlay (only_used nat_eq world (chosen f) f) ≡ false) (λ f is. used_plain world (chosen f) f is) world.filesystems plain)

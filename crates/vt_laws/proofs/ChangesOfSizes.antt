@@ -119,17 +119,21 @@ all_alike test other keeps [] h = refl
 all_alike test other keeps (n ∷ list) h =
     both (other n) (list_all other list) (keeps n (both_first (test n) (list_all test list) h)) (all_alike test other keeps list (both_second (test n) (list_all test list) h))
 
-changed_fits : (files : FileTree ℕ) (number : ℕ) (change : Option (Node ℕ) → Option (Node ℕ)) → ((o : Option (Node ℕ)) → fits o ≡ true → fits (change o) ≡ true)
+pub changed_fits_there : (files : FileTree ℕ) (number : ℕ) (change : Option (Node ℕ) → Option (Node ℕ)) → (fits (files.tree.node number) ≡ true → fits (change (files.tree.node number)) ≡ true)
     → is_fit_tree files ≡ true → is_fit_tree (changed_node nat_eq files number change) ≡ true
-changed_fits files number change keeps h =
+changed_fits_there files number change keeps h =
     all_alike (λ n. fits (files.tree.node n)) (λ n. fits ((changed_node nat_eq files number change).tree.node n)) one files.numbers h
   where
     one : (n : ℕ) → fits (files.tree.node n) ≡ true → fits ((changed_node nat_eq files number change).tree.node n) ≡ true
     one n k = by (nat_eq n number) refl
       where
         by : (b : Bool) → nat_eq n number ≡ b → fits (cond b (change (files.tree.node number)) (files.tree.node n)) ≡ true
-        by true e = keeps (files.tree.node number) (ap (λ m. fits (files.tree.node m)) (sym (eqb-true n number e)) ∙ k)
+        by true e = keeps (ap (λ m. fits (files.tree.node m)) (sym (eqb-true n number e)) ∙ k)
         by false e = k
+
+changed_fits : (files : FileTree ℕ) (number : ℕ) (change : Option (Node ℕ) → Option (Node ℕ)) → ((o : Option (Node ℕ)) → fits o ≡ true → fits (change o) ≡ true)
+    → is_fit_tree files ≡ true → is_fit_tree (changed_node nat_eq files number change) ≡ true
+changed_fits files number change keeps h = changed_fits_there files number change (keeps (files.tree.node number)) h
 
 unparented_fits : (files : FileTree ℕ) (o : Option ℕ) → is_fit_tree files ≡ true → is_fit_tree (without_parent nat_eq files o) ≡ true
 unparented_fits files None h = h

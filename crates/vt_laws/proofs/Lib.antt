@@ -21,3 +21,5 @@ pub mod TreesOfMounts
 pub mod TreesTasks
 pub mod TreesLimits
 pub mod ChangesOfSizes
+pub mod TreesSizes
+pub mod ChangesWithinSizes

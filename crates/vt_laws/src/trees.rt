@@ -3,7 +3,7 @@ ghost use Rattle.vt_laws.specs.Trees.{ChangesKeepNumbers, ChangesKeepOwnParents,
 ghost use Rattle.vt_laws.specs.Trees.Calls.{CallsKeepTrees, OpeningHasTrees, WorldsAreStanding};
 ghost use Rattle.vt_laws.specs.Trees.Limits.{CallsKeepSmallTasks, OpeningHasSmallTasks};
 ghost use Rattle.vt_laws.specs.Trees.Settling.{ForgettingKeepsTrees, LocatedStays, NamedIsUsed, NamedStays, SettlingKeepsTrees, UnusedIsGone, UsedStays};
-ghost use Rattle.vt_laws.specs.Trees.Sizes.{ChangesKeepSizes, SettlingKeepsSizes};
+ghost use Rattle.vt_laws.specs.Trees.Sizes.{CallsKeepSizes, ChangesKeepSizes, OpeningIsFit, SettlingKeepsSizes};
 
 /// Each change of a tree makes a tree of it, with the numbers of its inodes beside it.
 ///
@@ -46,4 +46,11 @@ pub fn calls_keep_trees()
 pub fn calls_keep_small_tasks()
     ensures opening { OpeningHasSmallTasks }
     ensures calls { CallsKeepSmallTasks }
+{}
+
+/// In a world of plain filesystems every call but the mount of an overlay keeps names, link texts and files within
+/// their limits.
+pub fn calls_keep_sizes()
+    ensures opening { OpeningIsFit }
+    ensures calls { CallsKeepSizes }
 {}
