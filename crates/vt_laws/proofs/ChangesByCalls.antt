@@ -41,12 +41,14 @@ new_tree_is root = record {
   own_parents = λ k is unnamed. root_only root k (nat_eq k root) refl is;
 }
   where
-    listed : (b : Bool) → (b || false) ≡ is_some {T = Node ℕ} (cond b (Some (record { attr = root_attr; content = new_directory root })) None)
+    listed : (b : Bool)
+        → (b || false) ≡ is_some {T = Node ℕ} (cond b (Some (record { attr = root_attr; content = new_directory root })) None)
     listed true = refl
     listed false = refl
 
 -- a filesystem more
-pub more_filesystems : (world after_call : World ℕ) (filesystem : Filesystem ℕ) → after_call.filesystems ≡ world.filesystems ++ (filesystem ∷ [])
+pub more_filesystems : (world after_call : World ℕ) (filesystem : Filesystem ℕ)
+    → after_call.filesystems ≡ world.filesystems ++ (filesystem ∷ [])
     → is_overlay filesystem ≡ false → IsFileTree filesystem.files → IsWorldOfTrees world → IsWorldOfTrees after_call
 more_filesystems world after_call filesystem same plain tree conditions = record {
   plain = subst (All (λ f. is_overlay f ≡ false)) (sym same)
@@ -58,10 +60,12 @@ more_filesystems world after_call filesystem same plain tree conditions = record
 }
 
 -- What nothing uses goes
-used_plain : (world : World ℕ) (chosen : Bool) (filesystem : Filesystem ℕ) → is_overlay filesystem ≡ false → is_overlay (only_used nat_eq world chosen filesystem) ≡ false
+used_plain : (world : World ℕ) (chosen : Bool) (filesystem : Filesystem ℕ) → is_overlay filesystem ≡ false
+    → is_overlay (only_used nat_eq world chosen filesystem) ≡ false
 used_plain world true filesystem plain = by _
   where
-    mapped : (o : Option (Overlay ℕ)) → is_some o ≡ false → is_some (option_map (real_among nat_eq (used_in nat_eq world filesystem)) o) ≡ false
+    mapped : (o : Option (Overlay ℕ)) → is_some o ≡ false
+        → is_some (option_map (real_among nat_eq (used_in nat_eq world filesystem)) o) ≡ false
     mapped None e = refl
     mapped (Some overlay) e = e
 
@@ -70,7 +74,8 @@ used_plain world true filesystem plain = by _
     by false = mapped filesystem.overlay plain
 used_plain world false filesystem plain = plain
 
-pub without_dead_plain : (chosen : Filesystem ℕ → Bool) (world : World ℕ) → All (λ f. is_overlay f ≡ false) world.filesystems → All (λ f. is_overlay f ≡ false) (without_dead_in nat_eq chosen world).filesystems
+pub without_dead_plain : (chosen : Filesystem ℕ → Bool) (world : World ℕ) → All (λ f. is_overlay f ≡ false) world.filesystems
+    → All (λ f. is_overlay f ≡ false) (without_dead_in nat_eq chosen world).filesystems
 without_dead_plain chosen world plain =
     All-map (λ f. is_overlay f ≡ false) (λ f. only_used nat_eq world (chosen f) f) world.filesystems
     (All-weaker (λ f. is_overlay f ≡ false) (λ f. is_overlay (only_used nat_eq world (chosen f) f) ≡ false) (λ f is. used_plain world (chosen f) f is) world.filesystems plain)
@@ -128,7 +133,8 @@ module _ (fresh : Fresh ℕ) (world : World ℕ) (task : Task ℕ) (conditions :
   outcome_keeps (PivotRoot root put) other = pivot_keeps IsWorldOfTrees same_filesystems fresh world task conditions root put
   outcome_keeps ListMounts other = mounts_keeps IsWorldOfTrees same_filesystems fresh world task conditions
 
-finished_keeps : (before : World ℕ) (name : TaskName) (outcome : Outcome ℕ) (b : Bool) → IsWorldOfTrees outcome.world → IsWorldOfTrees (finished_by nat_eq b before name outcome).world
+finished_keeps : (before : World ℕ) (name : TaskName) (outcome : Outcome ℕ) (b : Bool) → IsWorldOfTrees outcome.world
+    → IsWorldOfTrees (finished_by nat_eq b before name outcome).world
 finished_keeps before name outcome true conditions = conditions
 finished_keeps before name outcome false conditions =
     same_filesystems (finished_by nat_eq false before name outcome).world (settled nat_eq outcome.world) refl (settled_keeps outcome.world conditions)

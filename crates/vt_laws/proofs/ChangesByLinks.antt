@@ -26,14 +26,16 @@ module _ (world : World ℕ) (task : Task ℕ) (old : Location ℕ) (place : Pla
   same_node : node_at nat_eq world old ≡ (files_at nat_eq world place.parent).tree.node old.node
   same_node = ap (λ m. (shown world m).tree.node old.node) one_mount
 
-  pub may_link : IsFileTree (files_at nat_eq world place.parent) → MayAddName (files_at nat_eq world place.parent).tree place.parent.node (name_of place.last) old.node
+  pub may_link : IsFileTree (files_at nat_eq world place.parent)
+      → MayAddName (files_at nat_eq world place.parent).tree place.parent.node (name_of place.last) old.node
   may_link trees = record {
     name_is_free = place_is_free world place (place_is_file world place.parent place.last place.object is.0) plain passed.0 is.1 trees;
     is_there = ap is_some (sym same_node) ∙ there;
     no_directory = ap is_directory_node (sym same_node) ∙ passed.1.0;
   }
 
-pub link_keeps : (fresh : Fresh ℕ) (world : World ℕ) (task : Task ℕ) → IsWorldOfTrees world → IsStanding world → (old new : List ℕ) → IsWorldOfTrees (link_outcome nat_eq fresh world task old new).world
+pub link_keeps : (fresh : Fresh ℕ) (world : World ℕ) (task : Task ℕ) → IsWorldOfTrees world → IsStanding world → (old new : List ℕ)
+    → IsWorldOfTrees (link_outcome nat_eq fresh world task old new).world
 unfolding link_outcome
 link_keeps fresh world task conditions standing old new =
     after_ends (λ here. is_some (node_at nat_eq world here.location) ≡ true) IsWorldOfTrees world (link_walk nat_eq world task old) _ conditions (ends_link_walk world conditions standing task old) (λ from there.

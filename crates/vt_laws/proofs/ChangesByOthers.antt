@@ -25,7 +25,8 @@ use Rattle.vt_laws.proofs.TreesWalked.{after_any, after_holds, judged_holds}
 
 -- Mounts that go, or get another type, leave the filesystems
 
-pub lazily_filesystems : (mounts : List (Mount ℕ)) (world : World ℕ) → (folded (unmounted_if_there nat_eq) world mounts).filesystems ≡ world.filesystems
+pub lazily_filesystems : (mounts : List (Mount ℕ)) (world : World ℕ)
+    → (folded (unmounted_if_there nat_eq) world mounts).filesystems ≡ world.filesystems
 lazily_filesystems [] world = refl
 lazily_filesystems (mount ∷ mounts) world = lazily_filesystems mounts (unmounted_if_there nat_eq world mount) ∙ by _
   where
@@ -33,7 +34,8 @@ lazily_filesystems (mount ∷ mounts) world = lazily_filesystems mounts (unmount
     by true = taken_filesystems world _
     by false = refl
 
-retyped_filesystems : (fresh : Fresh ℕ) (word : TypeWord) (k : ℕ) (world : World ℕ) (mounts : List (Mount ℕ)) → (retyped_each nat_eq fresh word k world mounts).filesystems ≡ world.filesystems
+retyped_filesystems : (fresh : Fresh ℕ) (word : TypeWord) (k : ℕ) (world : World ℕ) (mounts : List (Mount ℕ))
+    → (retyped_each nat_eq fresh word k world mounts).filesystems ≡ world.filesystems
 retyped_filesystems fresh word k world [] = refl
 retyped_filesystems fresh word k world (mount ∷ mounts) =
     retyped_filesystems fresh word (k + 1) (retyped nat_eq world (fresh k) word (mount_numbered nat_eq world mount.number)) mounts
@@ -44,7 +46,8 @@ retyped_filesystems fresh word k world (mount ∷ mounts) =
       master = with_master nat_eq world.master (fresh k) (master_after (mount_numbered nat_eq world mount.number).propagation);
     })
 
-pub typed_filesystems : (fresh : Fresh ℕ) (world : World ℕ) (number : ℕ) (word : TypeWord) (recursive : Bool) → (with_type nat_eq fresh world number word recursive).filesystems ≡ world.filesystems
+pub typed_filesystems : (fresh : Fresh ℕ) (world : World ℕ) (number : ℕ) (word : TypeWord) (recursive : Bool)
+    → (with_type nat_eq fresh world number word recursive).filesystems ≡ world.filesystems
 typed_filesystems fresh world number word true = retyped_filesystems fresh word 0 world (mount_tree nat_eq world.mounts (mount_numbered nat_eq world number))
 typed_filesystems fresh world number word false = retyped_filesystems fresh word 0 world (mount_numbered nat_eq world number ∷ [])
 
@@ -139,7 +142,8 @@ module _ (P : World ℕ → Type 0) (alike : (a b : World ℕ) → a.filesystems
       (λ passed. ended_keeps (namespace_entered nat_eq world task target.namespace) (alike (namespace_entered nat_eq world task target.namespace) world refl conditions)))
 
   -- calls on mounts
-  pub mount_plain_keeps : ((after_call : World ℕ) → after_call.filesystems ≡ world.filesystems ++ (plain_filesystem nat_eq fresh ∷ []) → P after_call) → (path : List ℕ) (flags : MountFlags) → P (mount_plain_outcome nat_eq fresh world task path flags).world
+  pub mount_plain_keeps : ((after_call : World ℕ) → after_call.filesystems ≡ world.filesystems ++ (plain_filesystem nat_eq fresh ∷ []) → P after_call)
+      → (path : List ℕ) (flags : MountFlags) → P (mount_plain_outcome nat_eq fresh world task path flags).world
   unfolding mount_plain_outcome
   mount_plain_keeps more path flags =
       judged_holds P world (admin_rules task) _ conditions (λ capable.

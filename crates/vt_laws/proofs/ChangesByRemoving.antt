@@ -56,7 +56,8 @@ module _ (world : World ℕ) (parent : Location ℕ) (name : List ℕ) where
       → (object.mount ≡ parent.mount) × (entry_at (files_at nat_eq world parent).tree parent.node name ≡ Some object.node)
   named_by object e = by (entry_named name (entries_in (node_at nat_eq world parent))) e
     where
-      by : (o : Option ℕ) → Some object ≡ option_map (λ number. record { mount = parent.mount; node = number }) o → (object.mount ≡ parent.mount) × (o ≡ Some object.node)
+      by : (o : Option ℕ) → Some object ≡ option_map (λ number. record { mount = parent.mount; node = number }) o
+          → (object.mount ≡ parent.mount) × (o ≡ Some object.node)
       by None h = none_is_not None object refl (sym h)
       by (Some number) h =
           let same = same_locations object (record { mount = parent.mount; node = number }) h in
@@ -81,7 +82,8 @@ module _ (world : World ℕ) (place : Place ℕ) (plain : is_special place.last 
   old_node : node_at nat_eq world object ≡ (files_at nat_eq world place.parent).tree.node object.node
   old_node = ap (λ m. (shown world m).tree.node object.node) old_named.0
 
-  pub old_removable : entries_in (node_at nat_eq world object) ≡ [] → MayRemove (files_at nat_eq world place.parent).tree place.parent.node (name_of place.last) object.node
+  pub old_removable : entries_in (node_at nat_eq world object) ≡ []
+      → MayRemove (files_at nat_eq world place.parent).tree place.parent.node (name_of place.last) object.node
   old_removable empty = record { named = old_named.1; empty = ap entries_in (sym old_node) ∙ empty }
 
 module _ (fresh : Fresh ℕ) (world : World ℕ) (task : Task ℕ) (conditions : IsWorldOfTrees world) where
@@ -125,7 +127,8 @@ module _ (fresh : Fresh ℕ) (world : World ℕ) (task : Task ℕ) (conditions :
   abbrev IsNewNamePlace : Place ℕ → Type 0
   IsNewNamePlace place = IsNewPlace world task place
 
-  ends_rename_new_walk : (path : List ℕ) (old_is_directory : Bool) → Ends IsNewNamePlace (rename_new_walk nat_eq world task path old_is_directory)
+  ends_rename_new_walk : (path : List ℕ) (old_is_directory : Bool)
+      → Ends IsNewNamePlace (rename_new_walk nat_eq world task path old_is_directory)
   ends_rename_new_walk path old_is_directory =
       ends_then IsNewNamePlace IsNewNamePlace (new_walk nat_eq world task path) _ (ends_new_walk world task path)
       (λ place is. ends_unless IsNewNamePlace place.steps ((place.slash && not old_is_directory, W3) ∷ []) place (λ passed. is))
@@ -170,7 +173,8 @@ module _ (world : World ℕ) (task : Task ℕ) (from to : Place ℕ)
   to_directory = ap (λ (f : FileTree ℕ). is_directory_node (f.tree.node to.parent.node)) (sym to_files) ∙ to_named.0
 
   -- what has the new name
-  new_object : (number : ℕ) → entry_at files.tree to.parent.node (name_of to.last) ≡ Some number → to.object ≡ Some (record { mount = to.parent.mount; node = number })
+  new_object : (number : ℕ) → entry_at files.tree to.parent.node (name_of to.last) ≡ Some number
+      → to.object ≡ Some (record { mount = to.parent.mount; node = number })
   new_object number entry =
       to_named.1
       ∙ ap (option_map (λ object. record { mount = to.parent.mount; node = object }))
@@ -257,7 +261,8 @@ module _ (world : World ℕ) (task : Task ℕ) (from to : Place ℕ)
   }
 
 module _ (fresh : Fresh ℕ) (world : World ℕ) (task : Task ℕ) (conditions : IsWorldOfTrees world) where
-  renamed_keeps : (from to : Place ℕ) → is_special from.last ≡ false → IsOldPlace world task from → is_special to.last ≡ false → IsNewPlace world task to
+  renamed_keeps : (from to : Place ℕ) → is_special from.last ≡ false → IsOldPlace world task from → is_special to.last ≡ false
+      → IsNewPlace world task to
       → (b : Bool) → is_one_object nat_eq world (object_there from) to.object ≡ b
       → IsWorldOfTrees (renamed_by nat_eq b fresh world task from to (object_there from)).world
   renamed_keeps from to from_plain from_is to_plain to_is true same =

@@ -136,15 +136,18 @@ changes_keep_own_parents files (SetMark directory opaque) conditions own may =
 changes_keep_own_parents files (CopyUp object) conditions own may = own
 
 -- numbers: a change of one inode neither makes nor takes away an inode
-pub numbers_stay : (files : FileTree ℕ) (number : ℕ) (change : Option (Node ℕ) → Option (Node ℕ)) → ((o : Option (Node ℕ)) → is_some (change o) ≡ is_some o)
+pub numbers_stay : (files : FileTree ℕ) (number : ℕ) (change : Option (Node ℕ) → Option (Node ℕ))
+    → ((o : Option (Node ℕ)) → is_some (change o) ≡ is_some o)
     → ListsNumbers nat_eq files → ListsNumbers nat_eq (changed_node nat_eq files number change)
 numbers_stay files number change same lists k = lists k ∙ sym (part_stays files number change is_some same k)
 
-pub numbers_unparented : (files : FileTree ℕ) (o : Option ℕ) → ListsNumbers nat_eq files → ListsNumbers nat_eq (without_parent nat_eq files o)
+pub numbers_unparented : (files : FileTree ℕ) (o : Option ℕ) → ListsNumbers nat_eq files
+    → ListsNumbers nat_eq (without_parent nat_eq files o)
 numbers_unparented files None lists = lists
 numbers_unparented files (Some object) lists = numbers_stay files object (node_with_parent object) (used-node_with_parent object) lists
 
-pub numbers_with_inode : (files : FileTree ℕ) (number : ℕ) (node : Node ℕ) → ListsNumbers nat_eq files → ListsNumbers nat_eq (with_inode nat_eq files number node)
+pub numbers_with_inode : (files : FileTree ℕ) (number : ℕ) (node : Node ℕ) → ListsNumbers nat_eq files
+    → ListsNumbers nat_eq (with_inode nat_eq files number node)
 numbers_with_inode files number node lists k = by (nat_eq k number)
   where
     by : (b : Bool) → (b || is_among nat_eq k files.numbers) ≡ is_some (cond b (Some node) (files.tree.node k))

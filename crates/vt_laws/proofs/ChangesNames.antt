@@ -15,7 +15,8 @@ use Rattle.vt_spec.proofs.Nodes.{entries-node_with_entry, entry_named-with_entry
 use Rattle.vt_laws.proofs.ChangesNodes.{elsewhere, entries-node_without_entry, there}
 
 -- entries without a name lead by the others where they led
-pub entry_named-without_entry : (q name : List ℕ) (entries : Entries ℕ) → entry_named q (without_entry name entries) ≡ cond (not (bytes_eq q name)) (entry_named q entries) None
+pub entry_named-without_entry : (q name : List ℕ) (entries : Entries ℕ)
+    → entry_named q (without_entry name entries) ≡ cond (not (bytes_eq q name)) (entry_named q entries) None
 entry_named-without_entry q name entries =
     find-where_key name_cmp (λ x. not (bytes_eq x name)) q (λ x tied. ap (λ y. not (bytes_eq y name)) (sym (same_name q x (ap is_eq tied)))) entries
 
@@ -24,7 +25,8 @@ module _ (files : FileTree ℕ) (directory : ℕ) (name : List ℕ) where
   entries_there : entries_in ((without_name nat_eq files directory name).tree.node directory) ≡ without_entry name (entries_in (files.tree.node directory))
   entries_there = ap entries_in (there files directory (node_without_entry name)) ∙ entries-node_without_entry name (files.tree.node directory)
 
-  entries_elsewhere : (other : ℕ) → other ≢ directory → entries_in ((without_name nat_eq files directory name).tree.node other) ≡ entries_in (files.tree.node other)
+  entries_elsewhere : (other : ℕ) → other ≢ directory
+      → entries_in ((without_name nat_eq files directory name).tree.node other) ≡ entries_in (files.tree.node other)
   entries_elsewhere other differ = ap entries_in (elsewhere files directory (node_without_entry name) other differ)
 
   -- what is left was there
@@ -38,7 +40,8 @@ module _ (files : FileTree ℕ) (directory : ℕ) (name : List ℕ) where
       (λ t. (sym (ap (entry_named n) (entries_elsewhere d t.1)) ∙ e, λ same. t.1 same.0))
       (eqb_tells d directory)
     where
-      by : (b : Bool) → bytes_eq n name ≡ b → d ≡ directory → cond (not b) (entry_named n (entries_in (files.tree.node directory))) None ≡ Some k
+      by : (b : Bool) → bytes_eq n name ≡ b → d ≡ directory
+          → cond (not b) (entry_named n (entries_in (files.tree.node directory))) None ≡ Some k
           → (entry_at files.tree d n ≡ Some k) × ¬ ((d ≡ directory) × (n ≡ name))
       by true same here is = none_is_not None k refl is
       by false differ here is = (
@@ -55,7 +58,8 @@ module _ (files : FileTree ℕ) (directory : ℕ) (name : List ℕ) where
       (λ t. inr (ap (entry_named n) (entries_elsewhere d t.1) ∙ e))
       (eqb_tells d directory)
     where
-      by : (b : Bool) → bytes_eq n name ≡ b → d ≡ directory → ((d ≡ directory) × (n ≡ name)) ⊎ (entry_at (without_name nat_eq files directory name).tree d n ≡ Some k)
+      by : (b : Bool) → bytes_eq n name ≡ b → d ≡ directory
+          → ((d ≡ directory) × (n ≡ name)) ⊎ (entry_at (without_name nat_eq files directory name).tree d n ≡ Some k)
       by true same here = inl (here, (bytes_decides n name).0 same)
       by false differ here = inr (ap (λ m. entry_at (without_name nat_eq files directory name).tree m n) here
           ∙ ap (entry_named n) entries_there
@@ -74,7 +78,8 @@ module _ (files : FileTree ℕ) (directory : ℕ) (name : List ℕ) where
       (λ t. ap (is_sorted name_cmp) (entries_elsewhere d t.1) ∙ sorted d)
       (eqb_tells d directory)
 
-  pub untaken_empty : (d : ℕ) → entries_in (files.tree.node d) ≡ [] → entries_in ((without_name nat_eq files directory name).tree.node d) ≡ []
+  pub untaken_empty : (d : ℕ) → entries_in (files.tree.node d) ≡ []
+      → entries_in ((without_name nat_eq files directory name).tree.node d) ≡ []
   untaken_empty d empty =
       ⊎_elim
       (λ t. ap (λ m. entries_in ((without_name nat_eq files directory name).tree.node m)) t.1 ∙ entries_there
@@ -87,7 +92,8 @@ module _ (files : FileTree ℕ) (directory : ℕ) (name : List ℕ) (number : �
   given_there : entries_in ((with_name nat_eq files directory name number).tree.node directory) ≡ with_entry name number (entries_in (files.tree.node directory))
   given_there = ap entries_in (there files directory (node_with_entry name number)) ∙ entries-node_with_entry name number (files.tree.node directory) in_directory
 
-  pub given_elsewhere : (other : ℕ) → other ≢ directory → entries_in ((with_name nat_eq files directory name number).tree.node other) ≡ entries_in (files.tree.node other)
+  pub given_elsewhere : (other : ℕ) → other ≢ directory
+      → entries_in ((with_name nat_eq files directory name number).tree.node other) ≡ entries_in (files.tree.node other)
   given_elsewhere other differ = ap entries_in (elsewhere files directory (node_with_entry name number) other differ)
 
   -- the name leads to the number
@@ -108,7 +114,8 @@ module _ (files : FileTree ℕ) (directory : ℕ) (name : List ℕ) (number : �
       (λ t. inr (sym (ap (entry_named n) (given_elsewhere d t.1)) ∙ e, λ same. t.1 same.0))
       (eqb_tells d directory)
     where
-      by : (b : Bool) → eq_by_cmp name_cmp n name ≡ b → d ≡ directory → cond b (Some number) (entry_named n (entries_in (files.tree.node directory))) ≡ Some k
+      by : (b : Bool) → eq_by_cmp name_cmp n name ≡ b → d ≡ directory
+          → cond b (Some number) (entry_named n (entries_in (files.tree.node directory))) ≡ Some k
           → ((d ≡ directory) × (n ≡ name) × (k ≡ number)) ⊎ ((entry_at files.tree d n ≡ Some k) × ¬ ((d ≡ directory) × (n ≡ name)))
       by true tie here is = inl (here, same_name n name tie, cc)
       by false apart here is = inr (
@@ -125,7 +132,8 @@ module _ (files : FileTree ℕ) (directory : ℕ) (name : List ℕ) (number : �
       (λ t. inr (ap (entry_named n) (given_elsewhere d t.1) ∙ e))
       (eqb_tells d directory)
     where
-      by : (b : Bool) → eq_by_cmp name_cmp n name ≡ b → d ≡ directory → ((d ≡ directory) × (n ≡ name)) ⊎ (entry_at (with_name nat_eq files directory name number).tree d n ≡ Some k)
+      by : (b : Bool) → eq_by_cmp name_cmp n name ≡ b → d ≡ directory
+          → ((d ≡ directory) × (n ≡ name)) ⊎ (entry_at (with_name nat_eq files directory name number).tree d n ≡ Some k)
       by true tie here = inl (here, same_name n name tie)
       by false apart here = inr (ap (λ m. entry_at (with_name nat_eq files directory name number).tree m n) here
           ∙ ap (entry_named n) given_there

@@ -23,10 +23,12 @@ part_stays files number change part same other =
     part_kept part files.tree number (change (files.tree.node number)) (same (files.tree.node number)) other
 
 -- the changed inode itself, and the others
-pub there : (files : FileTree ℕ) (number : ℕ) (change : Option (Node ℕ) → Option (Node ℕ)) → (changed_node nat_eq files number change).tree.node number ≡ change (files.tree.node number)
+pub there : (files : FileTree ℕ) (number : ℕ) (change : Option (Node ℕ) → Option (Node ℕ))
+    → (changed_node nat_eq files number change).tree.node number ≡ change (files.tree.node number)
 there files number change = node_set files.tree number (change (files.tree.node number))
 
-pub elsewhere : (files : FileTree ℕ) (number : ℕ) (change : Option (Node ℕ) → Option (Node ℕ)) (other : ℕ) → other ≢ number → (changed_node nat_eq files number change).tree.node other ≡ files.tree.node other
+pub elsewhere : (files : FileTree ℕ) (number : ℕ) (change : Option (Node ℕ) → Option (Node ℕ)) (other : ℕ) → other ≢ number
+    → (changed_node nat_eq files number change).tree.node other ≡ files.tree.node other
 elsewhere files number change other differ = node_other files.tree number (change (files.tree.node number)) other differ
 
 -- other attributes
@@ -115,7 +117,8 @@ module _ (parent : ℕ) where
       by Whiteout = refl
 
   -- a directory has it
-  pub parent-node_with_parent : (own : ℕ) (o : Option (Node ℕ)) → is_directory_node o ≡ true → parent_in own (node_with_parent parent o) ≡ parent
+  pub parent-node_with_parent : (own : ℕ) (o : Option (Node ℕ)) → is_directory_node o ≡ true
+      → parent_in own (node_with_parent parent o) ≡ parent
   parent-node_with_parent own None is = absurd (true≢false (sym is))
   parent-node_with_parent own (Some node) is = by node.content is
     where
@@ -142,7 +145,8 @@ module _ (name : List ℕ) where
   kind-node_without_entry None = refl
   kind-node_without_entry (Some node) = by node.content
     where
-      by : (content : Content ℕ) → is_directory (kind_of (with_entries content (without_entry name (entries_of content)))) ≡ is_directory (kind_of content)
+      by : (content : Content ℕ)
+          → is_directory (kind_of (with_entries content (without_entry name (entries_of content)))) ≡ is_directory (kind_of content)
       by (Directory parent entries opaque) = refl
       by (Regular bytes) = refl
       by (Symlink text) = refl
@@ -166,7 +170,8 @@ module _ (name : List ℕ) where
   entries-node_without_entry None = refl
   entries-node_without_entry (Some node) = by node.content
     where
-      by : (content : Content ℕ) → entries_of (with_entries content (without_entry name (entries_of content))) ≡ without_entry name (entries_of content)
+      by : (content : Content ℕ)
+          → entries_of (with_entries content (without_entry name (entries_of content))) ≡ without_entry name (entries_of content)
       by (Directory parent entries opaque) = refl
       by (Regular bytes) = refl
       by (Symlink text) = refl

@@ -34,8 +34,10 @@ mapped_none f (Some a) e = absurd (true≢false (ap is_some e))
 
 module _ (world : World ℕ) where
   -- a name that is missing, in a directory that is not removed, is free
-  pub place_is_free : (place : Place ℕ) → IsFilePlace world place → is_special place.last ≡ false → is_some place.object ≡ false → Passed (new_name_rules nat_eq world place)
-      → IsFileTree (files_at nat_eq world place.parent) → IsFree (files_at nat_eq world place.parent).tree place.parent.node (name_of place.last)
+  pub place_is_free : (place : Place ℕ) → IsFilePlace world place → is_special place.last ≡ false → is_some place.object ≡ false
+      → Passed (new_name_rules nat_eq world place)
+      → IsFileTree (files_at nat_eq world place.parent)
+      → IsFree (files_at nat_eq world place.parent).tree place.parent.node (name_of place.last)
   place_is_free place is plain missing passed conditions =
       let named = file_named world place.parent place.last place.object plain is in
       record {
@@ -48,7 +50,8 @@ module _ (world : World ℕ) where
 
 module _ (fresh : Fresh ℕ) (world : World ℕ) (task : Task ℕ) (conditions : IsWorldOfTrees world) (new : AreNew fresh world) where
   -- a new object under a free name
-  new_keeps : (place : Place ℕ) (node : Node ℕ) → IsNewIn place.parent.node node → IsFilePlace world place → is_special place.last ≡ false → is_some place.object ≡ false
+  new_keeps : (place : Place ℕ) (node : Node ℕ) → IsNewIn place.parent.node node → IsFilePlace world place
+      → is_special place.last ≡ false → is_some place.object ≡ false
       → Passed (new_name_rules nat_eq world place) → IsWorldOfTrees (with_new nat_eq fresh world place node)
   new_keeps place node fits is plain missing passed =
       change_keeps_world (odds fresh) world place.parent (making place (evens fresh 0) node) conditions (λ trees. record {
@@ -57,11 +60,13 @@ module _ (fresh : Fresh ℕ) (world : World ℕ) (task : Task ℕ) (conditions :
         fits = fits;
       })
 
-  new_place_keeps : (place : Place ℕ) (node : Node ℕ) → IsNewIn place.parent.node node → IsNewPlace world task place → is_special place.last ≡ false → is_some place.object ≡ false
+  new_place_keeps : (place : Place ℕ) (node : Node ℕ) → IsNewIn place.parent.node node → IsNewPlace world task place
+      → is_special place.last ≡ false → is_some place.object ≡ false
       → IsWorldOfTrees (with_new nat_eq fresh world place node)
   new_place_keeps place node fits is plain missing = new_keeps place node fits (place_is_file world place.parent place.last place.object is.0) plain missing is.1
 
-  made_keeps : (place : Place ℕ) (node : Node ℕ) → IsNewIn place.parent.node node → IsNewPlace world task place → IsWorldOfTrees (made_at nat_eq fresh world task place node).world
+  made_keeps : (place : Place ℕ) (node : Node ℕ) → IsNewIn place.parent.node node → IsNewPlace world task place
+      → IsWorldOfTrees (made_at nat_eq fresh world task place node).world
   made_keeps place node fits is =
       judged_holds IsWorldOfTrees world (new_rules nat_eq fresh world task place node) (granted Done (with_new nat_eq fresh world place node)) conditions
       (λ passed. new_place_keeps place node fits is passed.0 passed.1.0)
@@ -93,7 +98,8 @@ module _ (fresh : Fresh ℕ) (world : World ℕ) (task : Task ℕ) (conditions :
   bytes_keep : (file : Location ℕ) (bytes : List ℕ) → IsWorldOfTrees (with_change nat_eq fresh world file (SetBytes file.node bytes))
   bytes_keep file bytes = change_keeps_world fresh world file (SetBytes file.node bytes) conditions (λ trees. tt)
 
-  written_keeps : (place : Place ℕ) (bytes : List ℕ) → IsNewFilePlace world task place → is_special place.last ≡ false → (object : Option (Location ℕ)) → place.object ≡ object
+  written_keeps : (place : Place ℕ) (bytes : List ℕ) → IsNewFilePlace world task place → is_special place.last ≡ false
+      → (object : Option (Location ℕ)) → place.object ≡ object
       → IsWorldOfTrees (written nat_eq fresh world task place bytes object).world
   written_keeps place bytes is plain (Some file) e =
       judged_holds IsWorldOfTrees world (rewrite_rules nat_eq world task file bytes) (granted Done (with_change nat_eq fresh world file (SetBytes file.node bytes))) conditions
@@ -123,7 +129,8 @@ module _ (fresh : Fresh ℕ) (world : World ℕ) (task : Task ℕ) (conditions :
       same_filesystems (with_task (with_copy nat_eq (is_copied_up nat_eq world file access) fresh world file) (with_descriptor task file access))
       (with_copy nat_eq (is_copied_up nat_eq world file access) fresh world file) refl (copy_keeps (is_copied_up nat_eq world file access) file))
 
-  created_keeps : (place : Place ℕ) (access : Access) (mode : ℕ) → IsFilePlace world place → is_special place.last ≡ false → is_some place.object ≡ false
+  created_keeps : (place : Place ℕ) (access : Access) (mode : ℕ) → IsFilePlace world place → is_special place.last ≡ false
+      → is_some place.object ≡ false
       → Passed (new_name_rules nat_eq world place) → IsWorldOfTrees (create_file nat_eq fresh world task place access mode).world
   created_keeps place access mode is plain missing passed =
       judged_holds IsWorldOfTrees world (make_rules nat_eq world task place (making place (evens fresh 0) (new_file task mode [])))
@@ -132,12 +139,14 @@ module _ (fresh : Fresh ℕ) (world : World ℕ) (task : Task ℕ) (conditions :
       (with_new nat_eq fresh world place (new_file task mode [])) refl
       (new_keeps place (new_file task mode []) (inr refl) is plain missing passed))
 
-  opened_or_created_keeps : (place : Place ℕ) (access : Access) (mode : ℕ) → IsNewFilePlace world task place → is_special place.last ≡ false → (object : Option (Location ℕ)) → place.object ≡ object
+  opened_or_created_keeps : (place : Place ℕ) (access : Access) (mode : ℕ) → IsNewFilePlace world task place
+      → is_special place.last ≡ false → (object : Option (Location ℕ)) → place.object ≡ object
       → IsWorldOfTrees (opened_or_created nat_eq fresh world task place access mode object).world
   opened_or_created_keeps place access mode is plain (Some file) e = opened_file_keeps file access
   opened_or_created_keeps place access mode is plain None e = created_keeps place access mode is.0 plain (ap is_some e) is.1
 
-  open_by_keeps : (path : List ℕ) (access : Access) (creation : Creation) → IsWorldOfTrees (open_by nat_eq fresh world task path access creation).world
+  open_by_keeps : (path : List ℕ) (access : Access) (creation : Creation)
+      → IsWorldOfTrees (open_by nat_eq fresh world task path access creation).world
   open_by_keeps path access NoCreation =
       after_ends (λ here. ⊤) IsWorldOfTrees world (object_walk nat_eq world task path) (λ here. open_file nat_eq fresh world task here.location access) conditions
       (ends_anyhow (object_walk nat_eq world task path)) (λ here any. opened_file_keeps here.location access)
@@ -150,7 +159,8 @@ module _ (fresh : Fresh ℕ) (world : World ℕ) (task : Task ℕ) (conditions :
       (λ place is. judged_holds IsWorldOfTrees world (exclusive_word_rules place) (create_file nat_eq fresh world task place access mode) conditions
       (λ passed. created_keeps place access mode (place_is_file world place.parent place.last place.object is.0) passed.0 passed.1.1.0 is.1))
 
-  pub open_keeps : (path : List ℕ) (access : Access) (creation : Creation) → IsWorldOfTrees (open_outcome nat_eq fresh world task path access creation).world
+  pub open_keeps : (path : List ℕ) (access : Access) (creation : Creation)
+      → IsWorldOfTrees (open_outcome nat_eq fresh world task path access creation).world
   unfolding open_outcome
   open_keeps path access creation =
       judged_holds IsWorldOfTrees world (descriptor_rules task) (open_by nat_eq fresh world task path access creation) conditions (λ passed. open_by_keeps path access creation)
@@ -160,7 +170,8 @@ module _ (fresh : Fresh ℕ) (world : World ℕ) (task : Task ℕ) (conditions :
   pwritten_keeps file offset [] = conditions
   pwritten_keeps file offset (byte ∷ bytes) = bytes_keep file _
 
-  pub pwrite_keeps : (number offset : ℕ) (bytes : List ℕ) → IsWorldOfTrees (pwrite_outcome nat_eq fresh world task number offset bytes).world
+  pub pwrite_keeps : (number offset : ℕ) (bytes : List ℕ)
+      → IsWorldOfTrees (pwrite_outcome nat_eq fresh world task number offset bytes).world
   unfolding pwrite_outcome
   pwrite_keeps number offset bytes =
       after_holds IsWorldOfTrees world (descriptor_at task number (λ descriptor. descriptor.writes)) _ conditions (λ descriptor found.
@@ -168,7 +179,8 @@ module _ (fresh : Fresh ℕ) (world : World ℕ) (task : Task ℕ) (conditions :
       (λ passed. pwritten_keeps descriptor.location offset bytes))
 
   -- chmod(2), chown(2), setxattr(2)
-  pub attr_set_keeps : (object : Location ℕ) (allowed : Bool) (attr : Attr) → IsWorldOfTrees (attr_set nat_eq fresh world object allowed attr).world
+  pub attr_set_keeps : (object : Location ℕ) (allowed : Bool) (attr : Attr)
+      → IsWorldOfTrees (attr_set nat_eq fresh world object allowed attr).world
   attr_set_keeps object allowed attr =
       judged_holds IsWorldOfTrees world (attr_rules nat_eq world object allowed attr) (granted Done (with_change nat_eq fresh world object (SetAttr object.node attr))) conditions
       (λ passed. change_keeps_world fresh world object (SetAttr object.node attr) conditions (λ trees. tt))

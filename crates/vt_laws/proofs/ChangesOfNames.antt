@@ -26,10 +26,12 @@ decided_some (Some other) number = ⊎_elim (λ t. inl (ap Some t.1)) (λ t. inr
 
 -- Other attributes, bytes or marks
 module _ (files : FileTree ℕ) (number : ℕ) (change : Option (Node ℕ) → Option (Node ℕ)) (keeps : KeepsPlace change) (conditions : IsTree files.tree) where
-  still_entries : (directory : ℕ) → entries_in ((changed_node nat_eq files number change).tree.node directory) ≡ entries_in (files.tree.node directory)
+  still_entries : (directory : ℕ)
+      → entries_in ((changed_node nat_eq files number change).tree.node directory) ≡ entries_in (files.tree.node directory)
   still_entries directory = part_stays files number change entries_in keeps.entries directory
 
-  still_entry : (directory : ℕ) (name : List ℕ) → entry_at (changed_node nat_eq files number change).tree directory name ≡ entry_at files.tree directory name
+  still_entry : (directory : ℕ) (name : List ℕ)
+      → entry_at (changed_node nat_eq files number change).tree directory name ≡ entry_at files.tree directory name
   still_entry directory name = ap (entry_named name) (still_entries directory)
 
   pub still_rearranged : IsRearranged files.tree (changed_node nat_eq files number change).tree.node Nobody Nowhere
@@ -56,7 +58,8 @@ module _ (files : FileTree ℕ) (directory : ℕ) (name : List ℕ) (object : �
   abbrev linked : FileTree ℕ
   linked = with_name nat_eq files directory name object
 
-  linked_told : (d : ℕ) (n : List ℕ) (k : ℕ) → entry_at linked.tree d n ≡ Some k → ((d ≡ directory) × (n ≡ name) × (k ≡ object)) ⊎ ((entry_at files.tree d n ≡ Some k) × ¬ ((d ≡ directory) × (n ≡ name)))
+  linked_told : (d : ℕ) (n : List ℕ) (k : ℕ) → entry_at linked.tree d n ≡ Some k
+      → ((d ≡ directory) × (n ≡ name) × (k ≡ object)) ⊎ ((entry_at files.tree d n ≡ Some k) × ¬ ((d ≡ directory) × (n ≡ name)))
   linked_told d n k e = given_told files directory name object may.name_is_free.in_directory d n k e
 
   pub linked_rearranged : IsRearranged files.tree linked.tree.node Nobody Nowhere
@@ -130,7 +133,8 @@ module _ (files : FileTree ℕ) (directory : ℕ) (name : List ℕ) (object : �
       part_stays untaken object (node_with_parent object) is_directory_node (kind-node_with_parent object) k
       ∙ part_stays files directory (node_without_entry name) is_directory_node (kind-node_without_entry name) k
 
-  removed_told : (d : ℕ) (n : List ℕ) (k : ℕ) → entry_at removed.tree d n ≡ Some k → (entry_at files.tree d n ≡ Some k) × ¬ ((d ≡ directory) × (n ≡ name))
+  removed_told : (d : ℕ) (n : List ℕ) (k : ℕ) → entry_at removed.tree d n ≡ Some k
+      → (entry_at files.tree d n ≡ Some k) × ¬ ((d ≡ directory) × (n ≡ name))
   removed_told d n k e = untaken_told files directory name d n k (sym (removed_entry d n) ∙ e)
 
   removed_own : parent_in object (removed.tree.node object) ≡ object
@@ -178,7 +182,8 @@ module _ (files : FileTree ℕ) where
   unparented_root None = refl
   unparented_root (Some object) = refl
 
-  pub unparented_kind : (o : Option ℕ) (k : ℕ) → is_directory_node ((without_parent nat_eq files o).tree.node k) ≡ is_directory_node (files.tree.node k)
+  pub unparented_kind : (o : Option ℕ) (k : ℕ)
+      → is_directory_node ((without_parent nat_eq files o).tree.node k) ≡ is_directory_node (files.tree.node k)
   unparented_kind None k = refl
   unparented_kind (Some object) k = part_stays files object (node_with_parent object) is_directory_node (kind-node_with_parent object) k
 
@@ -186,7 +191,8 @@ module _ (files : FileTree ℕ) where
   unparented_used None k = refl
   unparented_used (Some object) k = part_stays files object (node_with_parent object) is_some (used-node_with_parent object) k
 
-  pub unparented_entries : (o : Option ℕ) (k : ℕ) → entries_in ((without_parent nat_eq files o).tree.node k) ≡ entries_in (files.tree.node k)
+  pub unparented_entries : (o : Option ℕ) (k : ℕ)
+      → entries_in ((without_parent nat_eq files o).tree.node k) ≡ entries_in (files.tree.node k)
   unparented_entries None k = refl
   unparented_entries (Some object) k = part_stays files object (node_with_parent object) entries_in (entries-node_with_parent object) k
 
@@ -196,6 +202,7 @@ module _ (files : FileTree ℕ) where
       subst (λ m. parent_in m ((without_parent nat_eq files (Some object)).tree.node m) ≡ m) (some_same object k e)
       (ap (parent_in object) (there files object (node_with_parent object)) ∙ own_parent-node_with_parent object (files.tree.node object))
 
-  pub unparented_parent : (o : Option ℕ) (k : ℕ) → o ≢ Some k → parent_in k ((without_parent nat_eq files o).tree.node k) ≡ parent_in k (files.tree.node k)
+  pub unparented_parent : (o : Option ℕ) (k : ℕ) → o ≢ Some k
+      → parent_in k ((without_parent nat_eq files o).tree.node k) ≡ parent_in k (files.tree.node k)
   unparented_parent None k differ = refl
   unparented_parent (Some object) k differ = ap (parent_in k) (elsewhere files object (node_with_parent object) k (λ same. differ (ap Some (sym same))))

@@ -26,7 +26,8 @@ fits o =
     is_no_larger files 0 && has_fit_names files 0 && has_fit_text files 0
 
 -- names of entries
-put_fits : (name : List ℕ) (number : ℕ) (entries : Entries ℕ) → is_fit_name name ≡ true → list_all is_fit_name (map (λ e. e.0) entries) ≡ true → list_all is_fit_name (map (λ e. e.0) (with_entry name number entries)) ≡ true
+put_fits : (name : List ℕ) (number : ℕ) (entries : Entries ℕ) → is_fit_name name ≡ true
+    → list_all is_fit_name (map (λ e. e.0) entries) ≡ true → list_all is_fit_name (map (λ e. e.0) (with_entry name number entries)) ≡ true
 put_fits name number [] h k = both (is_fit_name name) true h refl
 put_fits name number (entry ∷ entries) h k =
     by (name_cmp name entry.0) (put_fits name number entries h (both_second (is_fit_name entry.0) (list_all is_fit_name (map (λ e. e.0) entries)) k))
@@ -37,11 +38,13 @@ put_fits name number (entry ∷ entries) h k =
     by Equal rest = k
     by Greater rest = both (is_fit_name entry.0) (list_all is_fit_name (map (λ e. e.0) (with_entry name number entries))) (both_first (is_fit_name entry.0) (list_all is_fit_name (map (λ e. e.0) entries)) k) rest
 
-filter_fits : (stays : List ℕ × ℕ → Bool) (entries : Entries ℕ) → list_all is_fit_name (map (λ e. e.0) entries) ≡ true → list_all is_fit_name (map (λ e. e.0) (filter stays entries)) ≡ true
+filter_fits : (stays : List ℕ × ℕ → Bool) (entries : Entries ℕ) → list_all is_fit_name (map (λ e. e.0) entries) ≡ true
+    → list_all is_fit_name (map (λ e. e.0) (filter stays entries)) ≡ true
 filter_fits stays [] k = refl
 filter_fits stays (entry ∷ entries) k = by (stays entry) (filter_fits stays entries (both_second (is_fit_name entry.0) (list_all is_fit_name (map (λ e. e.0) entries)) k))
   where
-    by : (b : Bool) → list_all is_fit_name (map (λ e. e.0) (filter stays entries)) ≡ true → list_all is_fit_name (map (λ e. e.0) (cond b (entry ∷ filter stays entries) (filter stays entries))) ≡ true
+    by : (b : Bool) → list_all is_fit_name (map (λ e. e.0) (filter stays entries)) ≡ true
+        → list_all is_fit_name (map (λ e. e.0) (cond b (entry ∷ filter stays entries) (filter stays entries))) ≡ true
     by true rest = both (is_fit_name entry.0) (list_all is_fit_name (map (λ e. e.0) (filter stays entries))) (both_first (is_fit_name entry.0) (list_all is_fit_name (map (λ e. e.0) entries)) k) rest
     by false rest = rest
 
@@ -54,7 +57,8 @@ of_directory : (b : Bool) → b ≡ true → (true && b && true) ≡ true
 of_directory b e = ap (λ c. true && c && true) e
 
 -- Each change of an inode
-entry_fits : (name : List ℕ) (number : ℕ) → is_fit_name name ≡ true → (o : Option (Node ℕ)) → fits o ≡ true → fits (node_with_entry name number o) ≡ true
+entry_fits : (name : List ℕ) (number : ℕ) → is_fit_name name ≡ true → (o : Option (Node ℕ)) → fits o ≡ true
+    → fits (node_with_entry name number o) ≡ true
 entry_fits name number h None k = k
 entry_fits name number h (Some node) k = by node.attr node.content k
   where
@@ -83,7 +87,8 @@ parent_fits : (parent : ℕ) (o : Option (Node ℕ)) → fits o ≡ true → fit
 parent_fits parent None k = k
 parent_fits parent (Some node) k = by node.attr node.content k
   where
-    by : (attr : Attr) (content : Content ℕ) → fits (Some (record { attr = attr; content = content })) ≡ true → fits (node_with_parent parent (Some (record { attr = attr; content = content }))) ≡ true
+    by : (attr : Attr) (content : Content ℕ) → fits (Some (record { attr = attr; content = content })) ≡ true
+        → fits (node_with_parent parent (Some (record { attr = attr; content = content }))) ≡ true
     by attr (Directory old entries opaque) g = g
     by attr (Regular bytes) g = g
     by attr (Symlink text) g = g
@@ -97,29 +102,34 @@ mark_fits : (opaque : Bool) (o : Option (Node ℕ)) → fits o ≡ true → fits
 mark_fits opaque None k = k
 mark_fits opaque (Some node) k = by node.attr node.content k
   where
-    by : (attr : Attr) (content : Content ℕ) → fits (Some (record { attr = attr; content = content })) ≡ true → fits (node_with_mark opaque (Some (record { attr = attr; content = content }))) ≡ true
+    by : (attr : Attr) (content : Content ℕ) → fits (Some (record { attr = attr; content = content })) ≡ true
+        → fits (node_with_mark opaque (Some (record { attr = attr; content = content }))) ≡ true
     by attr (Directory parent entries old) g = g
     by attr (Regular bytes) g = g
     by attr (Symlink text) g = g
     by attr Whiteout g = g
 
-bytes_fit : (bytes : List ℕ) → nat_le (length bytes) largest_file ≡ true → (o : Option (Node ℕ)) → fits o ≡ true → fits (node_with_bytes bytes o) ≡ true
+bytes_fit : (bytes : List ℕ) → nat_le (length bytes) largest_file ≡ true → (o : Option (Node ℕ)) → fits o ≡ true
+    → fits (node_with_bytes bytes o) ≡ true
 bytes_fit bytes h None k = k
 bytes_fit bytes h (Some node) k = by node.attr node.content k
   where
-    by : (attr : Attr) (content : Content ℕ) → fits (Some (record { attr = attr; content = content })) ≡ true → fits (node_with_bytes bytes (Some (record { attr = attr; content = content }))) ≡ true
+    by : (attr : Attr) (content : Content ℕ) → fits (Some (record { attr = attr; content = content })) ≡ true
+        → fits (node_with_bytes bytes (Some (record { attr = attr; content = content }))) ≡ true
     by attr (Directory parent entries opaque) g = g
     by attr (Regular old) g = ap (λ b. b && true && true) h
     by attr (Symlink text) g = g
     by attr Whiteout g = g
 
 -- Trees
-all_alike : (test other : ℕ → Bool) → ((n : ℕ) → test n ≡ true → other n ≡ true) → (list : List ℕ) → list_all test list ≡ true → list_all other list ≡ true
+all_alike : (test other : ℕ → Bool) → ((n : ℕ) → test n ≡ true → other n ≡ true) → (list : List ℕ) → list_all test list ≡ true
+    → list_all other list ≡ true
 all_alike test other keeps [] h = refl
 all_alike test other keeps (n ∷ list) h =
     both (other n) (list_all other list) (keeps n (both_first (test n) (list_all test list) h)) (all_alike test other keeps list (both_second (test n) (list_all test list) h))
 
-pub changed_fits_there : (files : FileTree ℕ) (number : ℕ) (change : Option (Node ℕ) → Option (Node ℕ)) → (fits (files.tree.node number) ≡ true → fits (change (files.tree.node number)) ≡ true)
+pub changed_fits_there : (files : FileTree ℕ) (number : ℕ) (change : Option (Node ℕ) → Option (Node ℕ))
+    → (fits (files.tree.node number) ≡ true → fits (change (files.tree.node number)) ≡ true)
     → is_fit_tree files ≡ true → is_fit_tree (changed_node nat_eq files number change) ≡ true
 changed_fits_there files number change keeps h =
     all_alike (λ n. fits (files.tree.node n)) (λ n. fits ((changed_node nat_eq files number change).tree.node n)) one files.numbers h
@@ -131,7 +141,8 @@ changed_fits_there files number change keeps h =
         by true e = keeps (ap (λ m. fits (files.tree.node m)) (sym (eqb-true n number e)) ∙ k)
         by false e = k
 
-changed_fits : (files : FileTree ℕ) (number : ℕ) (change : Option (Node ℕ) → Option (Node ℕ)) → ((o : Option (Node ℕ)) → fits o ≡ true → fits (change o) ≡ true)
+changed_fits : (files : FileTree ℕ) (number : ℕ) (change : Option (Node ℕ) → Option (Node ℕ))
+    → ((o : Option (Node ℕ)) → fits o ≡ true → fits (change o) ≡ true)
     → is_fit_tree files ≡ true → is_fit_tree (changed_node nat_eq files number change) ≡ true
 changed_fits files number change keeps h = changed_fits_there files number change (keeps (files.tree.node number)) h
 
@@ -139,7 +150,8 @@ unparented_fits : (files : FileTree ℕ) (o : Option ℕ) → is_fit_tree files 
 unparented_fits files None h = h
 unparented_fits files (Some object) h = changed_fits files object (node_with_parent object) (parent_fits object) h
 
-inode_fits : (files : FileTree ℕ) (number : ℕ) (node : Node ℕ) → is_fit_node node ≡ true → is_fit_tree files ≡ true → is_fit_tree (with_inode nat_eq files number node) ≡ true
+inode_fits : (files : FileTree ℕ) (number : ℕ) (node : Node ℕ) → is_fit_node node ≡ true → is_fit_tree files ≡ true
+    → is_fit_tree (with_inode nat_eq files number node) ≡ true
 inode_fits files number node k h =
     both (fits ((with_inode nat_eq files number node).tree.node number)) (list_all (λ n. fits ((with_inode nat_eq files number node).tree.node n)) files.numbers)
     (ap (λ b. fits (cond b (Some node) (files.tree.node number))) (eq-eqb number number refl) ∙ k)
@@ -183,7 +195,8 @@ among_fits used files h =
         by true = k
         by false = refl
 
-used_fits : (world : World ℕ) (chosen : Bool) (filesystem : Filesystem ℕ) → is_fit_filesystem filesystem ≡ true → is_fit_filesystem (only_used nat_eq world chosen filesystem) ≡ true
+used_fits : (world : World ℕ) (chosen : Bool) (filesystem : Filesystem ℕ) → is_fit_filesystem filesystem ≡ true
+    → is_fit_filesystem (only_used nat_eq world chosen filesystem) ≡ true
 used_fits world true filesystem h = by _
   where
     by : (b : Bool) → is_fit_filesystem (only_used_by nat_eq b (used_in nat_eq world filesystem) filesystem) ≡ true
@@ -191,7 +204,8 @@ used_fits world true filesystem h = by _
     by false = among_fits (used_in nat_eq world filesystem) filesystem.files h
 used_fits world false filesystem h = h
 
-round_fits : (chosen : Filesystem ℕ → Bool) (world : World ℕ) → list_all is_fit_filesystem world.filesystems ≡ true → list_all is_fit_filesystem (without_dead_in nat_eq chosen world).filesystems ≡ true
+round_fits : (chosen : Filesystem ℕ → Bool) (world : World ℕ) → list_all is_fit_filesystem world.filesystems ≡ true
+    → list_all is_fit_filesystem (without_dead_in nat_eq chosen world).filesystems ≡ true
 round_fits chosen world h = all_mapped is_fit_filesystem (λ f. only_used nat_eq world (chosen f) f) (λ f k. used_fits world (chosen f) f k) world.filesystems h
 
 pub settling_keeps_sizes : SettlingKeepsSizes

@@ -68,7 +68,8 @@ module _ (fresh : Fresh ℕ) (world : World ℕ) (location : Location ℕ) (chan
   no_overlay : IsFitWorld world → old.overlay ≡ None
   no_overlay conditions = no_some old.overlay (numbered_anyhow (λ f. is_overlay f ≡ false) (mount_at nat_eq world location).filesystem world.filesystems conditions.plain refl)
 
-  pub change_fits : IsFitWorld world → (is_fit_tree (files_at nat_eq world location) ≡ true → is_fit_tree (changed nat_eq (files_at nat_eq world location) change) ≡ true)
+  pub change_fits : IsFitWorld world
+      → (is_fit_tree (files_at nat_eq world location) ≡ true → is_fit_tree (changed nat_eq (files_at nat_eq world location) change) ≡ true)
       → IsFitWorld (with_change nat_eq fresh world location change)
   change_fits conditions keeps =
       subst IsFitWorld (sym (ap (λ o. filesystem_changed nat_eq fresh world old o change) (no_overlay conditions))) (record {
@@ -86,7 +87,8 @@ module _ (fresh : Fresh ℕ) (world : World ℕ) (location : Location ℕ) (chan
       fitting = AllPass-from_list_all is_fit_filesystem world.filesystems conditions.fit
 
 -- bytes written into a file end where they end, or where it ended
-overwritten_length : (offset : ℕ) (more bytes : List ℕ) (most : ℕ) → offset + length more ≤ most → length bytes ≤ most → length (overwritten offset more bytes) ≤ most
+overwritten_length : (offset : ℕ) (more bytes : List ℕ) (most : ℕ) → offset + length more ≤ most → length bytes ≤ most
+    → length (overwritten offset more bytes) ≤ most
 overwritten_length offset more bytes most short old =
     omega (
       arith,
@@ -98,7 +100,8 @@ overwritten_length offset more bytes most short old =
       old,
     )
 
-overwritten_fits : (offset : ℕ) (more : List ℕ) → offset + length more ≤ largest_file → (o : Option (Node ℕ)) → fits o ≡ true → fits (node_with_bytes (overwritten offset more (bytes_in o)) o) ≡ true
+overwritten_fits : (offset : ℕ) (more : List ℕ) → offset + length more ≤ largest_file → (o : Option (Node ℕ)) → fits o ≡ true
+    → fits (node_with_bytes (overwritten offset more (bytes_in o)) o) ≡ true
 overwritten_fits offset more short None k = k
 overwritten_fits offset more short (Some node) k = by node.attr node.content k
   where
@@ -115,17 +118,21 @@ overwritten_fits offset more short (Some node) k = by node.attr node.content k
 
 module _ (fresh : Fresh ℕ) (world : World ℕ) (task : Task ℕ) (conditions : IsFitWorld world) where
   -- a change within the limits, also after mounts were taken away
-  fit_change : (any : Fresh ℕ) (location : Location ℕ) (change : Change ℕ) → IsFitChange change → IsFitWorld (with_change nat_eq any world location change)
+  fit_change : (any : Fresh ℕ) (location : Location ℕ) (change : Change ℕ) → IsFitChange change
+      → IsFitWorld (with_change nat_eq any world location change)
   fit_change any location change fit = change_fits any world location change conditions (λ small. changes_keep_sizes (files_at nat_eq world location) change small fit)
 
-  fit_change_after : (any : Fresh ℕ) (before : World ℕ) → before.filesystems ≡ world.filesystems → (location : Location ℕ) (change : Change ℕ) → IsFitChange change → IsFitWorld (with_change nat_eq any before location change)
+  fit_change_after : (any : Fresh ℕ) (before : World ℕ) → before.filesystems ≡ world.filesystems
+      → (location : Location ℕ) (change : Change ℕ) → IsFitChange change → IsFitWorld (with_change nat_eq any before location change)
   fit_change_after any before same location change fit =
       change_fits any before location change (alike_fit before world same conditions) (λ small. changes_keep_sizes (files_at nat_eq before location) change small fit)
 
-  fit_new : (place : Place ℕ) (node : Node ℕ) → HasFitLast world task place → is_special place.last ≡ false → is_fit_node node ≡ true → IsFitWorld (with_new nat_eq fresh world place node)
+  fit_new : (place : Place ℕ) (node : Node ℕ) → HasFitLast world task place → is_special place.last ≡ false → is_fit_node node ≡ true
+      → IsFitWorld (with_new nat_eq fresh world place node)
   fit_new place node last plain fit = fit_change (odds fresh) place.parent (making place (evens fresh 0) node) (fit_name_of place.last plain last, fit)
 
-  fit_made : (place : Place ℕ) (node : Node ℕ) → HasFitLast world task place → is_fit_node node ≡ true → IsFitWorld (made_at nat_eq fresh world task place node).world
+  fit_made : (place : Place ℕ) (node : Node ℕ) → HasFitLast world task place → is_fit_node node ≡ true
+      → IsFitWorld (made_at nat_eq fresh world task place node).world
   fit_made place node last fit =
       judged_holds IsFitWorld world (new_rules nat_eq fresh world task place node) (granted Done (with_new nat_eq fresh world place node)) conditions
       (λ passed. fit_new place node last passed.0 fit)
@@ -182,13 +189,15 @@ module _ (fresh : Fresh ℕ) (world : World ℕ) (task : Task ℕ) (conditions :
   replaced_filesystems None = refl
   replaced_filesystems (Some place) = taken_filesystems world _
 
-  fit_renamed : (from to : Place ℕ) → HasFitLast world task to → is_special to.last ≡ false → (b : Bool) → IsFitWorld (renamed_by nat_eq b fresh world task from to (object_there from)).world
+  fit_renamed : (from to : Place ℕ) → HasFitLast world task to → is_special to.last ≡ false → (b : Bool)
+      → IsFitWorld (renamed_by nat_eq b fresh world task from to (object_there from)).world
   fit_renamed from to last plain true = judged_holds IsFitWorld world (same_object_rules nat_eq world from to) (granted Done world) conditions (λ passed. conditions)
   fit_renamed from to last plain false =
       judged_holds IsFitWorld world (rename_rules nat_eq world task from to (object_there from)) _ conditions
       (λ passed. fit_change_after fresh (without_replaced nat_eq world to.object) (replaced_filesystems to.object) from.parent (moving from to (object_there from)) (fit_name_of to.last plain last))
 
-  fit_rename_walk : (path : List ℕ) (old_is_directory : Bool) → Ends (HasFitLast world task) (rename_new_walk nat_eq world task path old_is_directory)
+  fit_rename_walk : (path : List ℕ) (old_is_directory : Bool)
+      → Ends (HasFitLast world task) (rename_new_walk nat_eq world task path old_is_directory)
   fit_rename_walk path old_is_directory =
       ends_then (HasFitLast world task) (HasFitLast world task) (new_walk nat_eq world task path) _ (fit_new_walk world task path)
       (λ place last. ends_unless (HasFitLast world task) place.steps ((place.slash && not old_is_directory, W3) ∷ []) place (λ passed. last))
@@ -231,7 +240,8 @@ module _ (fresh : Fresh ℕ) (world : World ℕ) (task : Task ℕ) (conditions :
       (λ passed. fit_change fresh here.location (SetMark here.location.node mark) tt)))
 
   -- bytes
-  fit_written : (place : Place ℕ) (bytes : List ℕ) (object : Option (Location ℕ)) → HasFitLast world task place → is_special place.last ≡ false → IsFitWorld (written nat_eq fresh world task place bytes object).world
+  fit_written : (place : Place ℕ) (bytes : List ℕ) (object : Option (Location ℕ)) → HasFitLast world task place
+      → is_special place.last ≡ false → IsFitWorld (written nat_eq fresh world task place bytes object).world
   fit_written place bytes (Some file) last plain =
       judged_holds IsFitWorld world (rewrite_rules nat_eq world task file bytes) (granted Done (with_change nat_eq fresh world file (SetBytes file.node bytes))) conditions
       (λ passed. fit_change fresh file (SetBytes file.node bytes) (no_longer largest_file bytes passed.1.0))
@@ -248,7 +258,8 @@ module _ (fresh : Fresh ℕ) (world : World ℕ) (task : Task ℕ) (conditions :
       judged_holds IsFitWorld world (file_word_rules place) (written nat_eq fresh world task place bytes place.object) conditions
       (λ passed. fit_written place bytes place.object last (first_false (is_special place.last) place.slash passed.0)))
 
-  fit_pwritten : (file : Location ℕ) (offset : ℕ) (bytes : List ℕ) → Passed (pwrite_rules nat_eq world file offset bytes) → IsFitWorld (pwritten nat_eq fresh world file offset bytes)
+  fit_pwritten : (file : Location ℕ) (offset : ℕ) (bytes : List ℕ) → Passed (pwrite_rules nat_eq world file offset bytes)
+      → IsFitWorld (pwritten nat_eq fresh world file offset bytes)
   fit_pwritten file offset [] passed = conditions
   fit_pwritten file offset (byte ∷ bytes) passed =
       change_fits fresh world file (SetBytes file.node (overwritten offset (byte ∷ bytes) (bytes_in (node_at nat_eq world file)))) conditions
@@ -273,19 +284,22 @@ module _ (fresh : Fresh ℕ) (world : World ℕ) (task : Task ℕ) (conditions :
       (λ passed. alike_fit (with_task (with_copy nat_eq (is_copied_up nat_eq world file access) fresh world file) (with_descriptor task file access))
       (with_copy nat_eq (is_copied_up nat_eq world file access) fresh world file) refl (fit_copy (is_copied_up nat_eq world file access) file))
 
-  fit_create : (place : Place ℕ) (access : Access) (mode : ℕ) → HasFitLast world task place → is_special place.last ≡ false → IsFitWorld (create_file nat_eq fresh world task place access mode).world
+  fit_create : (place : Place ℕ) (access : Access) (mode : ℕ) → HasFitLast world task place → is_special place.last ≡ false
+      → IsFitWorld (create_file nat_eq fresh world task place access mode).world
   fit_create place access mode last plain =
       judged_holds IsFitWorld world (make_rules nat_eq world task place (making place (evens fresh 0) (new_file task mode [])))
       (opened (with_new nat_eq fresh world place (new_file task mode [])) task (record { mount = place.parent.mount; node = evens fresh 0 }) access) conditions
       (λ passed. alike_fit (with_task (with_new nat_eq fresh world place (new_file task mode [])) (with_descriptor task (record { mount = place.parent.mount; node = evens fresh 0 }) access))
       (with_new nat_eq fresh world place (new_file task mode [])) refl (fit_new place (new_file task mode []) last plain (ap (λ b. b && true && true) (le-leb 0 largest_file (omega arith)))))
 
-  fit_opened_or_created : (place : Place ℕ) (access : Access) (mode : ℕ) (object : Option (Location ℕ)) → HasFitLast world task place → is_special place.last ≡ false
+  fit_opened_or_created : (place : Place ℕ) (access : Access) (mode : ℕ) (object : Option (Location ℕ)) → HasFitLast world task place
+      → is_special place.last ≡ false
       → IsFitWorld (opened_or_created nat_eq fresh world task place access mode object).world
   fit_opened_or_created place access mode (Some file) last plain = fit_open_file file access
   fit_opened_or_created place access mode None last plain = fit_create place access mode last plain
 
-  fit_open_by : (path : List ℕ) (access : Access) (creation : Creation) → IsFitWorld (open_by nat_eq fresh world task path access creation).world
+  fit_open_by : (path : List ℕ) (access : Access) (creation : Creation)
+      → IsFitWorld (open_by nat_eq fresh world task path access creation).world
   fit_open_by path access NoCreation =
       after_any IsFitWorld world (object_walk nat_eq world task path) (λ here. open_file nat_eq fresh world task here.location access) conditions (λ here. fit_open_file here.location access)
   fit_open_by path access (OrCreate mode) =
@@ -296,13 +310,15 @@ module _ (fresh : Fresh ℕ) (world : World ℕ) (task : Task ℕ) (conditions :
       after_ends (HasFitLast world task) IsFitWorld world (new_walk nat_eq world task path) _ conditions (fit_new_walk world task path) (λ place last.
       judged_holds IsFitWorld world (exclusive_word_rules place) (create_file nat_eq fresh world task place access mode) conditions (λ passed. fit_create place access mode last passed.0))
 
-  fit_open : (path : List ℕ) (access : Access) (creation : Creation) → IsFitWorld (open_outcome nat_eq fresh world task path access creation).world
+  fit_open : (path : List ℕ) (access : Access) (creation : Creation)
+      → IsFitWorld (open_outcome nat_eq fresh world task path access creation).world
   unfolding open_outcome
   fit_open path access creation =
       judged_holds IsFitWorld world (descriptor_rules task) (open_by nat_eq fresh world task path access creation) conditions (λ passed. fit_open_by path access creation)
 
   -- a new plain filesystem
-  fit_more : (after_call : World ℕ) → after_call.filesystems ≡ world.filesystems ++ (plain_filesystem nat_eq fresh ∷ []) → IsFitWorld after_call
+  fit_more : (after_call : World ℕ) → after_call.filesystems ≡ world.filesystems ++ (plain_filesystem nat_eq fresh ∷ [])
+      → IsFitWorld after_call
   fit_more after_call same = record {
     plain = subst (All (λ f. is_overlay f ≡ false)) (sym same)
         (All-append (λ f. is_overlay f ≡ false) world.filesystems (plain_filesystem nat_eq fresh ∷ []) conditions.plain
@@ -361,7 +377,8 @@ fit_settled world conditions =
       fit = settling_keeps_sizes world conditions.fit;
     }
 
-fit_finished : (before : World ℕ) (name : TaskName) (outcome : Outcome ℕ) (b : Bool) → IsFitWorld outcome.world → IsFitWorld (finished_by nat_eq b before name outcome).world
+fit_finished : (before : World ℕ) (name : TaskName) (outcome : Outcome ℕ) (b : Bool) → IsFitWorld outcome.world
+    → IsFitWorld (finished_by nat_eq b before name outcome).world
 fit_finished before name outcome true conditions = conditions
 fit_finished before name outcome false conditions =
     alike_fit (finished_by nat_eq false before name outcome).world (settled nat_eq outcome.world) refl (fit_settled outcome.world conditions)

@@ -32,11 +32,13 @@ one_location a b e = λ i. record {
 }
 
 -- A filesystem of a shorter list, where those of its number stay
-filtered : (stays : ℕ → Bool) (number : ℕ) (list : List (Filesystem ℕ)) → stays number ≡ true → numbered number (filter (λ f. stays f.number) list) ≡ numbered number list
+filtered : (stays : ℕ → Bool) (number : ℕ) (list : List (Filesystem ℕ)) → stays number ≡ true
+    → numbered number (filter (λ f. stays f.number) list) ≡ numbered number list
 filtered stays number [] h = refl
 filtered stays number (filesystem ∷ list) h = by (nat_eq number filesystem.number) refl (stays filesystem.number) refl (filtered stays number list h)
   where
-    by : (b : Bool) → nat_eq number filesystem.number ≡ b → (c : Bool) → stays filesystem.number ≡ c → numbered number (filter (λ f. stays f.number) list) ≡ numbered number list
+    by : (b : Bool) → nat_eq number filesystem.number ≡ b → (c : Bool) → stays filesystem.number ≡ c
+        → numbered number (filter (λ f. stays f.number) list) ≡ numbered number list
         → numbered number (cond c (filesystem ∷ filter (λ f. stays f.number) list) (filter (λ f. stays f.number) list))
         ≡ unwrap_or (cond b (Some filesystem) (find (λ f. nat_eq number f.number) list)) (no_filesystem number)
     by true e true d rest = ap (λ b. unwrap_or (cond b (Some filesystem) (find (λ f. nat_eq number f.number) (filter (λ f. stays f.number) list))) (no_filesystem number)) e
@@ -45,12 +47,14 @@ filtered stays number (filesystem ∷ list) h = by (nat_eq number filesystem.num
     by false e false d rest = rest
 
 -- a mount of a shorter list, where those of its number stay
-filtered_mount : (stays : Mount ℕ → Bool) (number : ℕ) (list : List (Mount ℕ)) → ((mount : Mount ℕ) → mount.number ≡ number → stays mount ≡ true)
+filtered_mount : (stays : Mount ℕ → Bool) (number : ℕ) (list : List (Mount ℕ))
+    → ((mount : Mount ℕ) → mount.number ≡ number → stays mount ≡ true)
     → mount_in nat_eq (filter stays list) number ≡ mount_in nat_eq list number
 filtered_mount stays number [] h = refl
 filtered_mount stays number (mount ∷ list) h = by (nat_eq number mount.number) refl (stays mount) refl (filtered_mount stays number list h)
   where
-    by : (b : Bool) → nat_eq number mount.number ≡ b → (c : Bool) → stays mount ≡ c → mount_in nat_eq (filter stays list) number ≡ mount_in nat_eq list number
+    by : (b : Bool) → nat_eq number mount.number ≡ b → (c : Bool) → stays mount ≡ c
+        → mount_in nat_eq (filter stays list) number ≡ mount_in nat_eq list number
         → mount_in nat_eq (cond c (mount ∷ filter stays list) (filter stays list)) number
         ≡ unwrap_or (cond b (Some mount) (find (λ m. nat_eq number m.number) list)) (no_mount number)
     by true e true d rest = ap (λ b. unwrap_or (cond b (Some mount) (find (λ m. nat_eq number m.number) (filter stays list))) (no_mount number)) e
@@ -59,7 +63,8 @@ filtered_mount stays number (mount ∷ list) h = by (nat_eq number mount.number)
     by false e false d rest = rest
 
 -- a filesystem of a list of which each was changed, but not its number
-mapped_node : (change : Filesystem ℕ → Filesystem ℕ) → ((f : Filesystem ℕ) → (change f).number ≡ f.number) → (number object : ℕ) (list : List (Filesystem ℕ))
+mapped_node : (change : Filesystem ℕ → Filesystem ℕ) → ((f : Filesystem ℕ) → (change f).number ≡ f.number)
+    → (number object : ℕ) (list : List (Filesystem ℕ))
     → (change (numbered number list)).files.tree.node object ≡ (numbered number list).files.tree.node object
     → (numbered number (map change list)).files.tree.node object ≡ (numbered number list).files.tree.node object
 mapped_node change same number object [] h = refl
@@ -77,7 +82,8 @@ mapped_node change same number object (filesystem ∷ list) h =
     by true g rest = g
     by false g rest = rest g
 
-used_number : (world : World ℕ) (chosen : Bool) (filesystem : Filesystem ℕ) → (only_used nat_eq world chosen filesystem).number ≡ filesystem.number
+used_number : (world : World ℕ) (chosen : Bool) (filesystem : Filesystem ℕ)
+    → (only_used nat_eq world chosen filesystem).number ≡ filesystem.number
 used_number world true filesystem = by _
   where
     by : (b : Bool) → (only_used_by nat_eq b (used_in nat_eq world filesystem) filesystem).number ≡ filesystem.number
@@ -93,7 +99,8 @@ module _ (chosen : Filesystem ℕ → Bool) (world : World ℕ) (number object :
       mapped_node (λ f. only_used nat_eq world (chosen f) f) (λ f. used_number world (chosen f) f) number object world.filesystems
       (by (chosen (numbered number world.filesystems)))
     where
-      by : (b : Bool) → (only_used nat_eq world b (numbered number world.filesystems)).files.tree.node object ≡ (numbered number world.filesystems).files.tree.node object
+      by : (b : Bool)
+          → (only_used nat_eq world b (numbered number world.filesystems)).files.tree.node object ≡ (numbered number world.filesystems).files.tree.node object
       by true = used_stays world (numbered number world.filesystems) object used
       by false = refl
 
@@ -113,7 +120,8 @@ module _ (world : World ℕ) where
       is_mounted nat_eq mounted_world number
       || list_any (λ merged. has_layer_on nat_eq number merged && is_mounted nat_eq mounted_world merged.number) mounted_world.filesystems
 
-  living_numbered : (number : ℕ) → is_mounted nat_eq mounted_world number ≡ true → filesystem_numbered nat_eq living number ≡ filesystem_numbered nat_eq world number
+  living_numbered : (number : ℕ) → is_mounted nat_eq mounted_world number ≡ true
+      → filesystem_numbered nat_eq living number ≡ filesystem_numbered nat_eq world number
   living_numbered number mounted =
       filtered stays_by_number number world.filesystems
       (ap (λ b. b || list_any (λ merged. has_layer_on nat_eq number merged && is_mounted nat_eq mounted_world merged.number) mounted_world.filesystems) mounted)
@@ -171,13 +179,15 @@ named_stays world number object trees mounted named =
     living_trees = All-filter (filesystem_lives nat_eq (mounted_world world)) (λ f. IsFileTree f.files) world.filesystems trees
 
 -- Locations
-listed_node : (test : Location ℕ → Bool) (list : List (Location ℕ)) (location : Location ℕ) → list_any (same_location nat_eq location) list ≡ true → test location ≡ true
+listed_node : (test : Location ℕ → Bool) (list : List (Location ℕ)) (location : Location ℕ)
+    → list_any (same_location nat_eq location) list ≡ true → test location ≡ true
     → is_among nat_eq location.node (map (λ l. l.node) (filter test list)) ≡ true
 listed_node test [] location h t = absurd (true≢false (sym h))
 listed_node test (first ∷ list) location h t =
     by (same_location nat_eq location first) refl (test first) refl h (λ g. listed_node test list location g t)
   where
-    by : (b : Bool) → same_location nat_eq location first ≡ b → (c : Bool) → test first ≡ c → (b || list_any (same_location nat_eq location) list) ≡ true
+    by : (b : Bool) → same_location nat_eq location first ≡ b → (c : Bool) → test first ≡ c
+        → (b || list_any (same_location nat_eq location) list) ≡ true
         → (list_any (same_location nat_eq location) list ≡ true → is_among nat_eq location.node (map (λ l. l.node) (filter test list)) ≡ true)
         → is_among nat_eq location.node (map (λ l. l.node) (cond c (first ∷ filter test list) (filter test list))) ≡ true
     by true e true d g rest =
@@ -187,7 +197,8 @@ listed_node test (first ∷ list) location h t =
     by false e false d g rest = rest g
 
 -- its mount is located
-located_mount : (list : List (Location ℕ)) (location : Location ℕ) → list_any (same_location nat_eq location) list ≡ true → list_any (λ l. nat_eq location.mount l.mount) list ≡ true
+located_mount : (list : List (Location ℕ)) (location : Location ℕ) → list_any (same_location nat_eq location) list ≡ true
+    → list_any (λ l. nat_eq location.mount l.mount) list ≡ true
 located_mount [] location h = absurd (true≢false (sym h))
 located_mount (first ∷ list) location h = by (same_location nat_eq location first) refl h (λ g. located_mount list location g)
   where
@@ -210,12 +221,14 @@ listed_mounts (mount ∷ list) number h = by (nat_eq number mount.number) h (λ 
     by true g rest = ap (λ b. b || list_any (λ m. nat_eq mount.filesystem m.filesystem) list) (eq-eqb mount.filesystem mount.filesystem refl)
     by false g rest = or_second (nat_eq (mount_in nat_eq list number).filesystem mount.filesystem) (list_any (λ m. nat_eq (mount_in nat_eq list number).filesystem m.filesystem) list) (rest g)
 
-still_listed : (stays : Mount ℕ → Bool) (list : List (Mount ℕ)) (number : ℕ) → ((mount : Mount ℕ) → mount.number ≡ number → stays mount ≡ true)
+still_listed : (stays : Mount ℕ → Bool) (list : List (Mount ℕ)) (number : ℕ)
+    → ((mount : Mount ℕ) → mount.number ≡ number → stays mount ≡ true)
     → is_among nat_eq number (map (λ m. m.number) list) ≡ true → is_among nat_eq number (map (λ m. m.number) (filter stays list)) ≡ true
 still_listed stays [] number h g = g
 still_listed stays (mount ∷ list) number h g = by (nat_eq number mount.number) refl (stays mount) refl g (λ k. still_listed stays list number h k)
   where
-    by : (b : Bool) → nat_eq number mount.number ≡ b → (c : Bool) → stays mount ≡ c → (b || is_among nat_eq number (map (λ m. m.number) list)) ≡ true
+    by : (b : Bool) → nat_eq number mount.number ≡ b → (c : Bool) → stays mount ≡ c
+        → (b || is_among nat_eq number (map (λ m. m.number) list)) ≡ true
         → (is_among nat_eq number (map (λ m. m.number) list) ≡ true → is_among nat_eq number (map (λ m. m.number) (filter stays list)) ≡ true)
         → is_among nat_eq number (map (λ m. m.number) (cond c (mount ∷ filter stays list) (filter stays list))) ≡ true
     by true e true d k rest = ap (λ b. b || is_among nat_eq number (map (λ m. m.number) (filter stays list))) e
@@ -240,7 +253,8 @@ module _ (world : World ℕ) (location : Location ℕ) (located : list_any (same
   shown_mounted = listed_mounts (filter (mount_lives nat_eq world) world.mounts) location.mount (still_listed (mount_lives nat_eq world) world.mounts location.mount mount_stays listed)
 
   -- what it is at is used, in a world with these mounts and tasks
-  located_used : (filesystems : List (Filesystem ℕ)) → is_among nat_eq location.node (used_in nat_eq (record (mounted_world world) { filesystems = filesystems }) (numbered shown_filesystem filesystems)) ≡ true
+  located_used : (filesystems : List (Filesystem ℕ))
+      → is_among nat_eq location.node (used_in nat_eq (record (mounted_world world) { filesystems = filesystems }) (numbered shown_filesystem filesystems)) ≡ true
   located_used filesystems =
       among_located (record (mounted_world world) { filesystems = filesystems }) (numbered shown_filesystem filesystems) location.node
       (ap (λ n. is_among nat_eq location.node (located_in nat_eq (record (mounted_world world) { filesystems = filesystems }) n)) (number_numbered shown_filesystem filesystems)

@@ -58,7 +58,8 @@ module _ (tree : Tree ℕ) where
   parent_is_directory : (k d : ℕ) → named_parent nat_eq tree k ≡ Some d → IsDirectory tree d
   parent_is_directory k d e = by (nat_eq k tree.root) (has_entry_to nat_eq tree (parent_in k (tree.node k)) k) refl e
     where
-      by : (a b : Bool) → has_entry_to nat_eq tree (parent_in k (tree.node k)) k ≡ b → cond a None (when b (parent_in k (tree.node k))) ≡ Some d → IsDirectory tree d
+      by : (a b : Bool) → has_entry_to nat_eq tree (parent_in k (tree.node k)) k ≡ b
+          → cond a None (when b (parent_in k (tree.node k))) ≡ Some d → IsDirectory tree d
       by true b h e = none_is_not None d refl e
       by false true h e = subst (IsDirectory tree) (some_same (parent_in k (tree.node k)) d e) (entry_to_directory (tree.node (parent_in k (tree.node k))) k h)
       by false false h e = none_is_not None d refl e
@@ -86,14 +87,16 @@ module _ (tree : Tree ℕ) where
   in_chain (suc most) (suc k) d e le h =
       by (named_parent nat_eq tree d) (sym (up_first k (Some d)) ∙ h) (λ b g. in_chain most k b e (omega arith) g)
     where
-      by : (o : Option ℕ) → up tree k o ≡ Some e → ((b : ℕ) → up tree k (Some b) ≡ Some e → is_among nat_eq e (chain most (named_parent nat_eq tree) b) ≡ true)
+      by : (o : Option ℕ) → up tree k o ≡ Some e
+          → ((b : ℕ) → up tree k (Some b) ≡ Some e → is_among nat_eq e (chain most (named_parent nat_eq tree) b) ≡ true)
           → is_among nat_eq e (elim o [ None ↦ d ∷ [] | Some b ↦ d ∷ chain most (named_parent nat_eq tree) b ]) ≡ true
       by None g rest = none_is_not None e refl (sym (up_none k) ∙ g)
       by (Some b) g rest = or_second (nat_eq e d) (is_among nat_eq e (chain most (named_parent nat_eq tree) b)) (rest b g)
 
 module _ (tree : Tree ℕ) (conditions : IsTree tree) where
   -- the parent of a directory that has a name is the directory of the name
-  pub parent_named : (directory : ℕ) (name : List ℕ) (number : ℕ) → entry_at tree directory name ≡ Some number → IsDirectory tree number → named_parent nat_eq tree number ≡ Some directory
+  pub parent_named : (directory : ℕ) (name : List ℕ) (number : ℕ) → entry_at tree directory name ≡ Some number → IsDirectory tree number
+      → named_parent nat_eq tree number ≡ Some directory
   parent_named directory name number entry is =
       ap (λ b. cond b None (when (has_entry_to nat_eq tree (parent_in number (tree.node number)) number) (parent_in number (tree.node number))))
       (ne_eqb number tree.root (λ root. conditions.root_unnamed directory name (entry ∙ ap Some root)))
@@ -107,7 +110,8 @@ module _ (tree : Tree ℕ) (conditions : IsTree tree) where
       node_with_entries name step.0 (tree.node from) step.1
 
   -- names that lead down lead up
-  up_led : (from : ℕ) (names : List (List ℕ)) (to : ℕ) → led tree from names ≡ Some to → IsDirectory tree to → up tree (length names) (Some to) ≡ Some from
+  up_led : (from : ℕ) (names : List (List ℕ)) (to : ℕ) → led tree from names ≡ Some to → IsDirectory tree to
+      → up tree (length names) (Some to) ≡ Some from
   unfolding up
   up_led from [] to e is = sym e
   up_led from (name ∷ names) to e is =
@@ -192,7 +196,8 @@ module _ (files : FileTree ℕ) (conditions : IsFileTree files) (to : ℕ) (is :
       by false e g = absurd (true≢false (sym g))
   line_listed (suc k) q le h = by (nat_eq q (above (suc k))) refl h (λ g. line_listed k q (omega arith) g)
     where
-      by : (b : Bool) → nat_eq q (above (suc k)) ≡ b → (b || is_among nat_eq q (line k)) ≡ true → (is_among nat_eq q (line k) ≡ true → is_among nat_eq q files.numbers ≡ true)
+      by : (b : Bool) → nat_eq q (above (suc k)) ≡ b → (b || is_among nat_eq q (line k)) ≡ true
+          → (is_among nat_eq q (line k) ≡ true → is_among nat_eq q files.numbers ≡ true)
           → is_among nat_eq q files.numbers ≡ true
       by true e g rest = ap (λ n. is_among nat_eq n files.numbers) (eqb-true q (above (suc k)) e) ∙ above_listed (suc k) le
       by false e g rest = rest g
@@ -204,7 +209,8 @@ module _ (files : FileTree ℕ) (conditions : IsFileTree files) (to : ℕ) (is :
       omega (arith, few, line_length height)
 
   -- a directory from which names lead there is seen above
-  pub under_seen : (object : ℕ) (names : List (List ℕ)) → led files.tree object names ≡ Some to → is_directory_under nat_eq files object to ≡ true
+  pub under_seen : (object : ℕ) (names : List (List ℕ)) → led files.tree object names ≡ Some to
+      → is_directory_under nat_eq files object to ≡ true
   under_seen object names e =
       let steps = up_led files.tree conditions.tree object names to e is in
       let small : length names ≤ length files.numbers = omega (arith, low (length names) object steps, height_small) in

@@ -62,7 +62,8 @@ no_words (byte ∷ []) e h = by (byte == 47) refl e
     by false is g = absurd (one_part byte (parts 47 []) g)
 no_words (byte ∷ next ∷ bytes) e h = by (byte == 47) e (λ g. no_words (next ∷ bytes) g refl)
   where
-    by : (b : Bool) → filter (λ part. not (is_empty part)) (with_byte b byte (parts 47 (next ∷ bytes))) ≡ [] → (words (next ∷ bytes) ≡ [] → ends_in_slash (next ∷ bytes) ≡ true)
+    by : (b : Bool) → filter (λ part. not (is_empty part)) (with_byte b byte (parts 47 (next ∷ bytes))) ≡ []
+        → (words (next ∷ bytes) ≡ [] → ends_in_slash (next ∷ bytes) ≡ true)
         → ends_in_slash (next ∷ bytes) ≡ true
     by true g rest = rest g
     by false g rest = absurd (one_part byte (parts 47 (next ∷ bytes)) g)
@@ -111,7 +112,8 @@ module _ (world : World ℕ) (conditions : IsWorldOfTrees world) (standing : IsS
   place_there : (number : ℕ) (place : Location ℕ) → (mount_in nat_eq world.mounts number).place ≡ Some place → IsDirectoryThere place
   place_there number place e = by (find (λ mount. nat_eq number mount.number) world.mounts) refl e
     where
-      by : (o : Option (Mount ℕ)) → find (λ mount. nat_eq number mount.number) world.mounts ≡ o → (unwrap_or o (no_mount number)).place ≡ Some place → IsDirectoryThere place
+      by : (o : Option (Mount ℕ)) → find (λ mount. nat_eq number mount.number) world.mounts ≡ o
+          → (unwrap_or o (no_mount number)).place ≡ Some place → IsDirectoryThere place
       by None is h = none_is_not None place refl h
       by (Some mount) is h =
           found_all (λ m. (at : Location ℕ) → m.place ≡ Some at → is_directory_at nat_eq world at ≡ true) (λ m. nat_eq number m.number) world.mounts mount standing.places is place h
@@ -128,10 +130,13 @@ module _ (world : World ℕ) (conditions : IsWorldOfTrees world) (standing : IsS
     parent_there : (location : Location ℕ) → IsDirectoryThere location → IsDirectoryThere (parent_location nat_eq world location)
     parent_there location is = (tree_there location is).tree.parent_directory location.node is
 
-    up_there : (location reached : Location ℕ) → IsDirectoryThere location → up_from nat_eq world task location ≡ Ok reached → IsThere reached
+    up_there : (location reached : Location ℕ) → IsDirectoryThere location → up_from nat_eq world task location ≡ Ok reached
+        → IsThere reached
     up_there location reached is e = by (is_top nat_eq world task location) (is_lost nat_eq world location) e
       where
-        by : (p q : Bool) → cond p (Ok location) (unless ((q, W8) ∷ []) (Ok (topmost nat_eq world.mounts (parent_location nat_eq world location)))) ≡ Ok reached → IsThere reached
+        by : (p q : Bool)
+            → cond p (Ok location) (unless ((q, W8) ∷ []) (Ok (topmost nat_eq world.mounts (parent_location nat_eq world location)))) ≡ Ok reached
+            → IsThere reached
         by true q h = subst IsThere (ok_same location reached (Ok location) refl h) (directory_there location is)
         by false true h = absurd (true≢false (sym (ap is_ok_result h)))
           where
@@ -142,23 +147,27 @@ module _ (world : World ℕ) (conditions : IsWorldOfTrees world) (standing : IsS
             subst IsThere (ok_same (topmost nat_eq world.mounts (parent_location nat_eq world location)) reached _ refl h)
             (topmost_there (parent_location nat_eq world location) (directory_there (parent_location nat_eq world location) (parent_there location is)))
 
-    entry_there : (here : Location ℕ) (name : List ℕ) (object : Location ℕ) → IsDirectoryThere here → entry_location nat_eq world here name ≡ Some object → IsThere object
+    entry_there : (here : Location ℕ) (name : List ℕ) (object : Location ℕ) → IsDirectoryThere here
+        → entry_location nat_eq world here name ≡ Some object → IsThere object
     entry_there here name object is e = by (entry_named name (entries_in (node_at nat_eq world here))) refl e
       where
-        by : (o : Option ℕ) → entry_named name (entries_in (node_at nat_eq world here)) ≡ o → option_map (λ number. record { mount = here.mount; node = number }) o ≡ Some object → IsThere object
+        by : (o : Option ℕ) → entry_named name (entries_in (node_at nat_eq world here)) ≡ o
+            → option_map (λ number. record { mount = here.mount; node = number }) o ≡ Some object → IsThere object
         by None f h = none_is_not None object refl h
         by (Some number) f h =
             subst IsThere (ap (λ o. unwrap_or o object) h) ((tree_there here is).tree.alive here.node name number f)
 
     -- one word
-    step_there : (here : Location ℕ) (word : LastWord) (reached : Location ℕ) → IsDirectoryThere here → stepped nat_eq world task here word ≡ Ok reached → IsThere reached
+    step_there : (here : Location ℕ) (word : LastWord) (reached : Location ℕ) → IsDirectoryThere here
+        → stepped nat_eq world task here word ≡ Ok reached → IsThere reached
     step_there here NoWord reached is e = subst IsThere (ok_same here reached (Ok here) refl e) (directory_there here is)
     step_there here Dot reached is e = subst IsThere (ok_same here reached (Ok here) refl e) (directory_there here is)
     step_there here DotDot reached is e =
         up_there (last_or here (hops nat_eq world task here)) reached (chain_ends IsDirectoryThere (hop nat_eq world task) hop_there (length world.mounts) here here is) e
     step_there here (Named name) reached is e = by (entry_location nat_eq world here name) refl e
       where
-        by : (o : Option (Location ℕ)) → entry_location nat_eq world here name ≡ o → ok_or (option_map (topmost nat_eq world.mounts) o) (denial W6) ≡ Ok reached → IsThere reached
+        by : (o : Option (Location ℕ)) → entry_location nat_eq world here name ≡ o
+            → ok_or (option_map (topmost nat_eq world.mounts) o) (denial W6) ≡ Ok reached → IsThere reached
         by None f h = absurd (true≢false (sym (ap is_ok_result h)))
           where
             is_ok_result : Result (Location ℕ) Deny → Bool

@@ -34,11 +34,13 @@ among_right x xs ys h = list_any-append (nat_eq x) xs ys ∙ by (list_any (nat_e
     by true b h = refl
     by false b h = h
 
-pub among_flat_map : (f : ℕ → List ℕ) (xs : List ℕ) (x y : ℕ) → is_among nat_eq x xs ≡ true → is_among nat_eq y (f x) ≡ true → is_among nat_eq y (flat_map f xs) ≡ true
+pub among_flat_map : (f : ℕ → List ℕ) (xs : List ℕ) (x y : ℕ) → is_among nat_eq x xs ≡ true → is_among nat_eq y (f x) ≡ true
+    → is_among nat_eq y (flat_map f xs) ≡ true
 among_flat_map f [] x y h k = absurd (true≢false (sym h))
 among_flat_map f (z ∷ zs) x y h k = by (nat_eq x z) refl (λ e. among_flat_map f zs x y e k) h
   where
-    by : (b : Bool) → nat_eq x z ≡ b → (list_any (nat_eq x) zs ≡ true → is_among nat_eq y (flat_map f zs) ≡ true) → (b || list_any (nat_eq x) zs) ≡ true
+    by : (b : Bool) → nat_eq x z ≡ b → (list_any (nat_eq x) zs ≡ true → is_among nat_eq y (flat_map f zs) ≡ true)
+        → (b || list_any (nat_eq x) zs) ≡ true
         → is_among nat_eq y (f z ++ flat_map f zs) ≡ true
     by true same rest e = among_left y (f z) (flat_map f zs) (ap (λ n. is_among nat_eq y (f n)) (sym (eqb-true x z same)) ∙ k)
     by false differ rest e = among_right y (f z) (flat_map f zs) (rest e)
@@ -49,17 +51,20 @@ or_second true b h = refl
 or_second false b h = h
 
 -- where an entry leads is among the targets
-pub among_targets : (name : List ℕ) (entries : Entries ℕ) (number : ℕ) → entry_named name entries ≡ Some number → is_among nat_eq number (map (λ e. e.1) entries) ≡ true
+pub among_targets : (name : List ℕ) (entries : Entries ℕ) (number : ℕ) → entry_named name entries ≡ Some number
+    → is_among nat_eq number (map (λ e. e.1) entries) ≡ true
 among_targets name [] number e = none_is_not None number refl e
 among_targets name (entry ∷ entries) number e = by (eq_by_cmp name_cmp name entry.0) (among_targets name entries number) e
   where
-    by : (b : Bool) → (entry_named name entries ≡ Some number → is_among nat_eq number (map (λ e. e.1) entries) ≡ true) → cond b (Some entry.1) (entry_named name entries) ≡ Some number
+    by : (b : Bool) → (entry_named name entries ≡ Some number → is_among nat_eq number (map (λ e. e.1) entries) ≡ true)
+        → cond b (Some entry.1) (entry_named name entries) ≡ Some number
         → (nat_eq number entry.1 || is_among nat_eq number (map (λ e. e.1) entries)) ≡ true
     by true rest is = ap (λ b. b || is_among nat_eq number (map (λ e. e.1) entries)) (eq-eqb number entry.1 (sym (some_same entry.1 number is)))
     by false rest is = or_second (nat_eq number entry.1) _ (rest is)
 
 -- the named ones are those that have a name
-pub named_among : (files : FileTree ℕ) → IsFileTree files → (number : ℕ) → HasName files.tree number → is_among nat_eq number (named_in files) ≡ true
+pub named_among : (files : FileTree ℕ) → IsFileTree files → (number : ℕ) → HasName files.tree number
+    → is_among nat_eq number (named_in files) ≡ true
 named_among files conditions number named =
     among_flat_map (λ directory. targets_in (files.tree.node directory)) files.numbers named.0 number
     (conditions.numbers named.0 ∙ directory_used files.tree named.0 (node_with_entries named.1 number (files.tree.node named.0) named.2))
@@ -102,10 +107,12 @@ module _ (used : List ℕ) (files : FileTree ℕ) (holds : HoldsTree used files)
       (λ named. true≢false (sym (holds.named directory named) ∙ unused))) e)
       (decided (is_among nat_eq directory used))
 
-  entry_kept : (directory : ℕ) (name : List ℕ) (number : ℕ) → entry_at files.tree directory name ≡ Some number → entry_at kept directory name ≡ Some number
+  entry_kept : (directory : ℕ) (name : List ℕ) (number : ℕ) → entry_at files.tree directory name ≡ Some number
+      → entry_at kept directory name ≡ Some number
   entry_kept directory name number e = ap (λ o. entry_named name (entries_in o)) (kept_node directory (entry_used directory name number e)) ∙ e
 
-  entry_was : (directory : ℕ) (name : List ℕ) (number : ℕ) → entry_at kept directory name ≡ Some number → entry_at files.tree directory name ≡ Some number
+  entry_was : (directory : ℕ) (name : List ℕ) (number : ℕ) → entry_at kept directory name ≡ Some number
+      → entry_at files.tree directory name ≡ Some number
   entry_was directory name number e =
       ap (λ o. entry_named name (entries_in o))
       (sym (kept_node directory (kept_directory directory (node_with_entries name number (kept.node directory) e)))) ∙ e
@@ -179,7 +186,8 @@ module _ (world : World ℕ) (filesystem : Filesystem ℕ) where
       ++ flat_map (objects_of_overlay nat_eq filesystem.number) world.filesystems
 
   -- what a task, a mount or a place is at is used, and so are the named
-  pub among_named_or_located : (number : ℕ) → is_among nat_eq number (named_in filesystem.files ++ located_in nat_eq world filesystem.number) ≡ true
+  pub among_named_or_located : (number : ℕ)
+      → is_among nat_eq number (named_in filesystem.files ++ located_in nat_eq world filesystem.number) ≡ true
       → is_among nat_eq number (used_in nat_eq world filesystem) ≡ true
   among_named_or_located number h =
       or_second (nat_eq number filesystem.files.tree.root) (is_among nat_eq number used_under_root)
@@ -187,7 +195,8 @@ module _ (world : World ℕ) (filesystem : Filesystem ℕ) where
       (flat_map (objects_of_overlay nat_eq filesystem.number) world.filesystems)
       (among_left number (named_in filesystem.files ++ located_in nat_eq world filesystem.number) (layers_in nat_eq world filesystem.number) h))
 
-  pub among_located : (number : ℕ) → is_among nat_eq number (located_in nat_eq world filesystem.number) ≡ true → is_among nat_eq number (used_in nat_eq world filesystem) ≡ true
+  pub among_located : (number : ℕ) → is_among nat_eq number (located_in nat_eq world filesystem.number) ≡ true
+      → is_among nat_eq number (used_in nat_eq world filesystem) ≡ true
   among_located number h = among_named_or_located number (among_right number (named_in filesystem.files) (located_in nat_eq world filesystem.number) h)
 
   pub named_is_used : IsFileTree filesystem.files → HoldsTree (used_in nat_eq world filesystem) filesystem.files
@@ -197,18 +206,21 @@ module _ (world : World ℕ) (filesystem : Filesystem ℕ) where
         (among_left number (named_in filesystem.files) (located_in nat_eq world filesystem.number) (named_among filesystem.files conditions number named));
   }
 
-pub only_used_of_is : (used : List ℕ) (filesystem : Filesystem ℕ) → HoldsTree used filesystem.files → IsFileTree filesystem.files → IsFileTree (only_used_of nat_eq used filesystem).files
+pub only_used_of_is : (used : List ℕ) (filesystem : Filesystem ℕ) → HoldsTree used filesystem.files → IsFileTree filesystem.files
+    → IsFileTree (only_used_of nat_eq used filesystem).files
 only_used_of_is used filesystem holds conditions = by _
   where
     by : (b : Bool) → IsFileTree (only_used_by nat_eq b used filesystem).files
     by true = conditions
     by false = kept_file_tree used filesystem.files holds conditions
 
-pub only_used_is : (world : World ℕ) (chosen : Bool) (filesystem : Filesystem ℕ) → IsFileTree filesystem.files → IsFileTree (only_used nat_eq world chosen filesystem).files
+pub only_used_is : (world : World ℕ) (chosen : Bool) (filesystem : Filesystem ℕ) → IsFileTree filesystem.files
+    → IsFileTree (only_used nat_eq world chosen filesystem).files
 only_used_is world true filesystem conditions = only_used_of_is (used_in nat_eq world filesystem) filesystem (named_is_used world filesystem conditions) conditions
 only_used_is world false filesystem conditions = conditions
 
-pub without_dead_in_is : (chosen : Filesystem ℕ → Bool) (world : World ℕ) → HasFileTrees world → HasFileTrees (without_dead_in nat_eq chosen world)
+pub without_dead_in_is : (chosen : Filesystem ℕ → Bool) (world : World ℕ) → HasFileTrees world
+    → HasFileTrees (without_dead_in nat_eq chosen world)
 without_dead_in_is chosen world trees =
     All-map (λ filesystem. IsFileTree filesystem.files) (λ filesystem. only_used nat_eq world (chosen filesystem) filesystem) world.filesystems
     (All-weaker (λ filesystem. IsFileTree filesystem.files) (λ filesystem. IsFileTree (only_used nat_eq world (chosen filesystem) filesystem).files)
@@ -225,7 +237,8 @@ settling_keeps_trees world trees =
 pub used_stays : UsedStays
 used_stays world filesystem number is = by _
   where
-    by : (b : Bool) → (only_used_by nat_eq b (used_in nat_eq world filesystem) filesystem).files.tree.node number ≡ filesystem.files.tree.node number
+    by : (b : Bool)
+        → (only_used_by nat_eq b (used_in nat_eq world filesystem) filesystem).files.tree.node number ≡ filesystem.files.tree.node number
     by true = refl
     by false = ap (λ b. cond b (filesystem.files.tree.node number) None) is
 
@@ -234,7 +247,8 @@ all_pass : (test : ℕ → Bool) (xs : List ℕ) (x : ℕ) → list_all test xs 
 all_pass test [] x h k = refl
 all_pass test (y ∷ ys) x h k = by (nat_eq x y) refl (test y) refl (λ e. all_pass test ys x e k) h
   where
-    by : (b : Bool) → nat_eq x y ≡ b → (c : Bool) → test y ≡ c → (list_all test ys ≡ true → is_among nat_eq x ys ≡ false) → (c && list_all test ys) ≡ true
+    by : (b : Bool) → nat_eq x y ≡ b → (c : Bool) → test y ≡ c → (list_all test ys ≡ true → is_among nat_eq x ys ≡ false)
+        → (c && list_all test ys) ≡ true
         → (b || is_among nat_eq x ys) ≡ false
     by b e false f rest h = absurd (true≢false (sym h))
     by true e true f rest h = absurd (true≢false (sym f ∙ ap test (sym (eqb-true x y e)) ∙ k))

@@ -45,14 +45,17 @@ use Rattle.vt_laws.proofs.TreesWalked.{after_any, after_holds, first_false, judg
 pub same_tasks : (a b : World ℕ) → a.tasks ≡ b.tasks → HasSmallTasks b → HasSmallTasks a
 same_tasks a b same is = ap (list_all is_within_limits) same ∙ is
 
-changed_tasks : (fresh : Fresh ℕ) (world : World ℕ) (location : Location ℕ) (change : Change ℕ) → (with_change nat_eq fresh world location change).tasks ≡ world.tasks
+changed_tasks : (fresh : Fresh ℕ) (world : World ℕ) (location : Location ℕ) (change : Change ℕ)
+    → (with_change nat_eq fresh world location change).tasks ≡ world.tasks
 changed_tasks fresh world location change = by (filesystem_at nat_eq world location).overlay
   where
-    by_upper : (overlay : Overlay ℕ) (o : Option (Layer ℕ)) → (overlay_changed nat_eq fresh world (filesystem_at nat_eq world location) overlay o change).tasks ≡ world.tasks
+    by_upper : (overlay : Overlay ℕ) (o : Option (Layer ℕ))
+        → (overlay_changed nat_eq fresh world (filesystem_at nat_eq world location) overlay o change).tasks ≡ world.tasks
     by_upper overlay None = refl
     by_upper overlay (Some upper) = refl
 
-    by : (o : Option (Overlay ℕ)) → (filesystem_changed nat_eq fresh world (filesystem_at nat_eq world location) o change).tasks ≡ world.tasks
+    by : (o : Option (Overlay ℕ))
+        → (filesystem_changed nat_eq fresh world (filesystem_at nat_eq world location) o change).tasks ≡ world.tasks
     by None = refl
     by (Some overlay) = by_upper overlay overlay.upper
 
@@ -74,7 +77,8 @@ lazily_tasks (mount ∷ mounts) world = lazily_tasks mounts (unmounted_if_there 
     by true = taken_tasks world _
     by false = refl
 
-retyped_tasks : (fresh : Fresh ℕ) (word : TypeWord) (k : ℕ) (world : World ℕ) (mounts : List (Mount ℕ)) → (retyped_each nat_eq fresh word k world mounts).tasks ≡ world.tasks
+retyped_tasks : (fresh : Fresh ℕ) (word : TypeWord) (k : ℕ) (world : World ℕ) (mounts : List (Mount ℕ))
+    → (retyped_each nat_eq fresh word k world mounts).tasks ≡ world.tasks
 retyped_tasks fresh word k world [] = refl
 retyped_tasks fresh word k world (mount ∷ mounts) =
     retyped_tasks fresh word (k + 1) (retyped nat_eq world (fresh k) word (mount_numbered nat_eq world mount.number)) mounts
@@ -85,7 +89,8 @@ retyped_tasks fresh word k world (mount ∷ mounts) =
       master = with_master nat_eq world.master (fresh k) (master_after (mount_numbered nat_eq world mount.number).propagation);
     })
 
-typed_tasks : (fresh : Fresh ℕ) (world : World ℕ) (number : ℕ) (word : TypeWord) (recursive : Bool) → (with_type nat_eq fresh world number word recursive).tasks ≡ world.tasks
+typed_tasks : (fresh : Fresh ℕ) (world : World ℕ) (number : ℕ) (word : TypeWord) (recursive : Bool)
+    → (with_type nat_eq fresh world number word recursive).tasks ≡ world.tasks
 typed_tasks fresh world number word true = retyped_tasks fresh word 0 world (mount_tree nat_eq world.mounts (mount_numbered nat_eq world number))
 typed_tasks fresh world number word false = retyped_tasks fresh word 0 world (mount_numbered nat_eq world number ∷ [])
 
@@ -97,7 +102,8 @@ ended_keeps : (world : World ℕ) → HasSmallTasks world → HasSmallTasks (nam
 ended_keeps world small = same_tasks (namespaces_ended nat_eq world) world (taken_tasks world _) small
 
 -- the task that is found is one of the world
-found_within : (world : World ℕ) (name : TaskName) (list : List (Task ℕ)) (task : Task ℕ) → list_all is_within_limits list ≡ true → find (λ other. same_name name other.name) list ≡ Some task → is_within_limits task ≡ true
+found_within : (world : World ℕ) (name : TaskName) (list : List (Task ℕ)) (task : Task ℕ) → list_all is_within_limits list ≡ true
+    → find (λ other. same_name name other.name) list ≡ Some task → is_within_limits task ≡ true
 found_within world name [] task h e = none_is_not None task refl e
 found_within world name (first ∷ list) task h e =
     by (same_name name first.name) e (λ g. found_within world name list task (both_second (is_within_limits first) (list_all is_within_limits list) h) g)
@@ -108,7 +114,8 @@ found_within world name (first ∷ list) task h e =
     by false g rest = rest g
 
 module _ (fresh : Fresh ℕ) (world : World ℕ) (task : Task ℕ) (small : HasSmallTasks world) (is : is_within_limits task ≡ true) where
-  change_small : (any : Fresh ℕ) (before : World ℕ) → before.tasks ≡ world.tasks → (location : Location ℕ) (change : Change ℕ) → HasSmallTasks (with_change nat_eq any before location change)
+  change_small : (any : Fresh ℕ) (before : World ℕ) → before.tasks ≡ world.tasks → (location : Location ℕ) (change : Change ℕ)
+      → HasSmallTasks (with_change nat_eq any before location change)
   change_small any before same location change = same_tasks (with_change nat_eq any before location change) world (changed_tasks any before location change ∙ same) small
 
   new_small : (place : Place ℕ) (node : Node ℕ) → HasSmallTasks (with_new nat_eq fresh world place node)
@@ -225,7 +232,8 @@ module _ (fresh : Fresh ℕ) (world : World ℕ) (task : Task ℕ) (small : HasS
       judged_holds HasSmallTasks world (old_word_rules to) (renamed_by nat_eq (is_one_object nat_eq world (object_there from) to.object) fresh world task from to (object_there from)) small
       (λ to_plain. renamed_small from to (is_one_object nat_eq world (object_there from) to.object)))))
 
-  attr_set_small : (object : Location ℕ) (allowed : Bool) (attr : Attr) → HasSmallTasks (attr_set nat_eq fresh world object allowed attr).world
+  attr_set_small : (object : Location ℕ) (allowed : Bool) (attr : Attr)
+      → HasSmallTasks (attr_set nat_eq fresh world object allowed attr).world
   attr_set_small object allowed attr =
       judged_holds HasSmallTasks world (attr_rules nat_eq world object allowed attr) (granted Done (with_change nat_eq fresh world object (SetAttr object.node attr))) small
       (λ passed. change_small fresh world refl object (SetAttr object.node attr))
@@ -250,7 +258,8 @@ module _ (fresh : Fresh ℕ) (world : World ℕ) (task : Task ℕ) (small : HasS
       judged_holds HasSmallTasks world (opaque_rules nat_eq world here.location) (granted Done (with_change nat_eq fresh world here.location (SetMark here.location.node mark))) small
       (λ passed. change_small fresh world refl here.location (SetMark here.location.node mark))))
 
-  written_small : (place : Place ℕ) (bytes : List ℕ) (object : Option (Location ℕ)) → HasSmallTasks (written nat_eq fresh world task place bytes object).world
+  written_small : (place : Place ℕ) (bytes : List ℕ) (object : Option (Location ℕ))
+      → HasSmallTasks (written nat_eq fresh world task place bytes object).world
   written_small place bytes (Some file) =
       judged_holds HasSmallTasks world (rewrite_rules nat_eq world task file bytes) (granted Done (with_change nat_eq fresh world file (SetBytes file.node bytes))) small
       (λ passed. change_small fresh world refl file (SetBytes file.node bytes))
@@ -280,7 +289,8 @@ module _ (fresh : Fresh ℕ) (world : World ℕ) (task : Task ℕ) (small : HasS
   abbrev HasRoom : Type 0
   HasRoom = nat_le most_descriptors (length task.descriptors) ≡ false
 
-  opened_small : HasRoom → (after_call : World ℕ) → after_call.tasks ≡ world.tasks → (file : Location ℕ) (access : Access) → HasSmallTasks (with_task after_call (with_descriptor task file access))
+  opened_small : HasRoom → (after_call : World ℕ) → after_call.tasks ≡ world.tasks → (file : Location ℕ) (access : Access)
+      → HasSmallTasks (with_task after_call (with_descriptor task file access))
   opened_small room after_call same file access =
       task_keeps after_call (with_descriptor task file access) (opened_within task file access is room) (same_tasks after_call world same small)
 
@@ -293,18 +303,21 @@ module _ (fresh : Fresh ℕ) (world : World ℕ) (task : Task ℕ) (small : HasS
       judged_holds HasSmallTasks world (open_rules nat_eq world task file access) (opened (with_copy nat_eq (is_copied_up nat_eq world file access) fresh world file) task file access) small
       (λ passed. opened_small room (with_copy nat_eq (is_copied_up nat_eq world file access) fresh world file) (copy_tasks (is_copied_up nat_eq world file access) file) file access)
 
-  create_small : HasRoom → (place : Place ℕ) (access : Access) (mode : ℕ) → HasSmallTasks (create_file nat_eq fresh world task place access mode).world
+  create_small : HasRoom → (place : Place ℕ) (access : Access) (mode : ℕ)
+      → HasSmallTasks (create_file nat_eq fresh world task place access mode).world
   create_small room place access mode =
       judged_holds HasSmallTasks world (make_rules nat_eq world task place (making place (evens fresh 0) (new_file task mode [])))
       (opened (with_new nat_eq fresh world place (new_file task mode [])) task (record { mount = place.parent.mount; node = evens fresh 0 }) access) small
       (λ passed. opened_small room (with_new nat_eq fresh world place (new_file task mode []))
       (changed_tasks (odds fresh) world place.parent (making place (evens fresh 0) (new_file task mode []))) (record { mount = place.parent.mount; node = evens fresh 0 }) access)
 
-  opened_or_created_small : HasRoom → (place : Place ℕ) (access : Access) (mode : ℕ) (object : Option (Location ℕ)) → HasSmallTasks (opened_or_created nat_eq fresh world task place access mode object).world
+  opened_or_created_small : HasRoom → (place : Place ℕ) (access : Access) (mode : ℕ) (object : Option (Location ℕ))
+      → HasSmallTasks (opened_or_created nat_eq fresh world task place access mode object).world
   opened_or_created_small room place access mode (Some file) = open_file_small room file access
   opened_or_created_small room place access mode None = create_small room place access mode
 
-  open_by_small : HasRoom → (path : List ℕ) (access : Access) (creation : Creation) → HasSmallTasks (open_by nat_eq fresh world task path access creation).world
+  open_by_small : HasRoom → (path : List ℕ) (access : Access) (creation : Creation)
+      → HasSmallTasks (open_by nat_eq fresh world task path access creation).world
   open_by_small room path access NoCreation =
       after_any HasSmallTasks world (object_walk nat_eq world task path) (λ here. open_file nat_eq fresh world task here.location access) small (λ here. open_file_small room here.location access)
   open_by_small room path access (OrCreate mode) =
@@ -314,7 +327,8 @@ module _ (fresh : Fresh ℕ) (world : World ℕ) (task : Task ℕ) (small : HasS
       after_any HasSmallTasks world (new_walk nat_eq world task path) _ small (λ place.
       judged_holds HasSmallTasks world (exclusive_word_rules place) (create_file nat_eq fresh world task place access mode) small (λ passed. create_small room place access mode))
 
-  open_small : (path : List ℕ) (access : Access) (creation : Creation) → HasSmallTasks (open_outcome nat_eq fresh world task path access creation).world
+  open_small : (path : List ℕ) (access : Access) (creation : Creation)
+      → HasSmallTasks (open_outcome nat_eq fresh world task path access creation).world
   unfolding open_outcome
   open_small path access creation =
       judged_holds HasSmallTasks world (descriptor_rules task) (open_by nat_eq fresh world task path access creation) small (λ passed. open_by_small passed.0 path access creation)
@@ -350,7 +364,8 @@ module _ (fresh : Fresh ℕ) (world : World ℕ) (task : Task ℕ) (small : HasS
   drop_small which =
       task_keeps world _ is small
 
-  fork_small : (words : Option ForkWords) (given : (some : ForkWords) → words ≡ Some some → nat_le (length some.groups) 32 ≡ true) → HasSmallTasks (fork_outcome world task words).world
+  fork_small : (words : Option ForkWords) (given : (some : ForkWords) → words ≡ Some some → nat_le (length some.groups) 32 ≡ true)
+      → HasSmallTasks (fork_outcome world task words).world
   unfolding fork_outcome
   fork_small words given =
       judged_holds HasSmallTasks world (fork_rules task (child_credentials task.credentials words)) _ small (λ passed.
@@ -387,7 +402,8 @@ module _ (fresh : Fresh ℕ) (world : World ℕ) (task : Task ℕ) (small : HasS
       (granted Done (mounted nat_eq (odds fresh) world here.location (plain_filesystem nat_eq fresh) flags)) small
       (λ passed. same_tasks (mounted nat_eq (odds fresh) world here.location (plain_filesystem nat_eq fresh) flags) world refl small)))
 
-  overlay_by_small : (place : Location ℕ) (options : Option OverlayWords) (flags : MountFlags) → HasSmallTasks (overlay_by nat_eq fresh world task place options flags).world
+  overlay_by_small : (place : Location ℕ) (options : Option OverlayWords) (flags : MountFlags)
+      → HasSmallTasks (overlay_by nat_eq fresh world task place options flags).world
   overlay_by_small place None flags = small
   overlay_by_small place (Some words) flags =
       after_holds HasSmallTasks world (layers_walked nat_eq world task words) _ small (λ places found.
@@ -396,7 +412,8 @@ module _ (fresh : Fresh ℕ) (world : World ℕ) (task : Task ℕ) (small : HasS
       (granted Done (overlay_mounted nat_eq fresh world task place places flags)) small
       (λ passed. same_tasks (overlay_mounted nat_eq fresh world task place places flags) world refl small)))
 
-  mount_overlay_small : (path : List ℕ) (options : Option OverlayWords) (flags : MountFlags) → HasSmallTasks (mount_overlay_outcome nat_eq fresh world task path options flags).world
+  mount_overlay_small : (path : List ℕ) (options : Option OverlayWords) (flags : MountFlags)
+      → HasSmallTasks (mount_overlay_outcome nat_eq fresh world task path options flags).world
   unfolding mount_overlay_outcome
   mount_overlay_small path options flags =
       judged_holds HasSmallTasks world (admin_rules task) _ small (λ capable.
@@ -444,7 +461,8 @@ module _ (fresh : Fresh ℕ) (world : World ℕ) (task : Task ℕ) (small : HasS
       judged_holds HasSmallTasks world (remount_rules nat_eq world task here.location flags) (granted Done (with_flags nat_eq world here.location flags)) small
       (λ passed. same_tasks (with_flags nat_eq world here.location flags) world refl small)))
 
-  type_small : (path : List ℕ) (word : TypeWord) (recursive : Bool) → HasSmallTasks (type_outcome nat_eq fresh world task path word recursive).world
+  type_small : (path : List ℕ) (word : TypeWord) (recursive : Bool)
+      → HasSmallTasks (type_outcome nat_eq fresh world task path word recursive).world
   unfolding type_outcome
   type_small path word recursive =
       judged_holds HasSmallTasks world (admin_rules task) _ small (λ capable.
@@ -458,7 +476,8 @@ module _ (fresh : Fresh ℕ) (world : World ℕ) (task : Task ℕ) (small : HasS
       keeps : (other : Task ℕ) → is_within_limits other ≡ true → is_within_limits (pivoted_task nat_eq task.namespace root new other) ≡ true
       keeps other h = by (nat_eq task.namespace other.namespace)
         where
-          by : (b : Bool) → is_within_limits (cond b (record other { root = pivoted_location nat_eq root new other.root; directory = pivoted_location nat_eq root new other.directory }) other) ≡ true
+          by : (b : Bool)
+              → is_within_limits (cond b (record other { root = pivoted_location nat_eq root new other.root; directory = pivoted_location nat_eq root new other.directory }) other) ≡ true
           by true = h
           by false = h
 
@@ -472,7 +491,8 @@ module _ (fresh : Fresh ℕ) (world : World ℕ) (task : Task ℕ) (small : HasS
       (λ passed. pivoted_small (mount_at nat_eq world task.root) (mount_at nat_eq world from.location) here.location))))
 
 -- each call
-fork_given : (words : Option ForkWords) → names_few_groups (Fork words) ≡ true → (given : ForkWords) → words ≡ Some given → nat_le (length given.groups) 32 ≡ true
+fork_given : (words : Option ForkWords) → names_few_groups (Fork words) ≡ true → (given : ForkWords) → words ≡ Some given
+    → nat_le (length given.groups) 32 ≡ true
 fork_given None few given e = none_is_not None given refl e
 fork_given (Some words) few given e = ap (λ (w : ForkWords). nat_le (length w.groups) 32) (sym (ap (λ o. unwrap_or o words) e)) ∙ few
 
@@ -518,7 +538,8 @@ module _ (fresh : Fresh ℕ) (world : World ℕ) (task : Task ℕ) (small : HasS
   outcome_small (PivotRoot new put) few = pivot_small fresh world task small is new put
   outcome_small ListMounts few = mounts_small fresh world task small is
 
-finished_small : (before : World ℕ) (name : TaskName) (outcome : Outcome ℕ) (b : Bool) → HasSmallTasks outcome.world → HasSmallTasks (finished_by nat_eq b before name outcome).world
+finished_small : (before : World ℕ) (name : TaskName) (outcome : Outcome ℕ) (b : Bool) → HasSmallTasks outcome.world
+    → HasSmallTasks (finished_by nat_eq b before name outcome).world
 finished_small before name outcome true small = small
 finished_small before name outcome false small = all_mapped is_within_limits (raised_task name) keeps outcome.world.tasks small
   where

@@ -36,7 +36,8 @@ numbered_all P number (filesystem ∷ list) h =
         (λ none. inr (none.0, All-cons (λ other. nat_eq number other.number ≡ false) filesystem list e none.1)) rest
 
 -- what holds of a filesystem by its number in any case
-pub numbered_anyhow : (P : Filesystem ℕ → Type 0) (number : ℕ) (list : List (Filesystem ℕ)) → All P list → P (no_filesystem number) → P (numbered number list)
+pub numbered_anyhow : (P : Filesystem ℕ → Type 0) (number : ℕ) (list : List (Filesystem ℕ)) → All P list → P (no_filesystem number)
+    → P (numbered number list)
 numbered_anyhow P number list h none = ⊎_elim (λ is. is) (λ missing. subst P (sym missing.0) none) (numbered_all P number list h)
 
 -- its number is the one it is found by
@@ -59,7 +60,8 @@ replaced_all P new (filesystem ∷ list) h either =
     (replaced_all P new list (All-tail P filesystem list h)
     (⊎_elim inl (λ none. inr (All-tail (λ other. nat_eq new.number other.number ≡ false) filesystem list none)) either))
   where
-    by : (b : Bool) → nat_eq new.number filesystem.number ≡ b → P new ⊎ All (λ other. nat_eq new.number other.number ≡ false) (filesystem ∷ list) → P (cond b new filesystem)
+    by : (b : Bool) → nat_eq new.number filesystem.number ≡ b
+        → P new ⊎ All (λ other. nat_eq new.number other.number ≡ false) (filesystem ∷ list) → P (cond b new filesystem)
     by true e (inl is) = is
     by true e (inr none) = absurd (true≢false (sym e ∙ All-head (λ other. nat_eq new.number other.number ≡ false) filesystem list none))
     by false e either = All-head P filesystem list h
@@ -85,7 +87,8 @@ module _ (fresh : Fresh ℕ) (world : World ℕ) (location : Location ℕ) (chan
     own_parents = changes_keep_own_parents old.files change conditions.tree conditions.own_parents proper;
   }
 
-  pub change_keeps_world : IsWorldOfTrees world → (IsFileTree (files_at nat_eq world location) → IsProper (files_at nat_eq world location).tree change)
+  pub change_keeps_world : IsWorldOfTrees world
+      → (IsFileTree (files_at nat_eq world location) → IsProper (files_at nat_eq world location).tree change)
       → IsWorldOfTrees (with_change nat_eq fresh world location change)
   change_keeps_world conditions proper =
       subst IsWorldOfTrees (sym (change_of_plain conditions)) (record {
@@ -99,7 +102,8 @@ module _ (fresh : Fresh ℕ) (world : World ℕ) (location : Location ℕ) (chan
       })
 
 -- a number that is handed in is new wherever it is used
-pub new_at : (fresh : Fresh ℕ) (world : World ℕ) (location : Location ℕ) → AreNew fresh world → (k : ℕ) → (files_at nat_eq world location).tree.node (fresh k) ≡ None
+pub new_at : (fresh : Fresh ℕ) (world : World ℕ) (location : Location ℕ) → AreNew fresh world → (k : ℕ)
+    → (files_at nat_eq world location).tree.node (fresh k) ≡ None
 new_at fresh world location new k =
     numbered_anyhow (λ filesystem. (j : ℕ) → filesystem.files.tree.node (fresh j) ≡ None) (mount_at nat_eq world location).filesystem world.filesystems new (λ j. refl) k
 
@@ -107,20 +111,24 @@ new_at fresh world location new k =
 going_number : (world : World ℕ) (gone : List ℕ) (mount : Mount ℕ) → (after_going nat_eq world gone mount).number ≡ mount.number
 going_number world gone mount = by _
   where
-    by : (b : Bool) → (cond b (detached mount) (record mount { place = option_map (place_left nat_eq world gone) mount.place })).number ≡ mount.number
+    by : (b : Bool)
+        → (cond b (detached mount) (record mount { place = option_map (place_left nat_eq world gone) mount.place })).number ≡ mount.number
     by true = refl
     by false = refl
 
 going_filesystem : (world : World ℕ) (gone : List ℕ) (mount : Mount ℕ) → (after_going nat_eq world gone mount).filesystem ≡ mount.filesystem
 going_filesystem world gone mount = by _
   where
-    by : (b : Bool) → (cond b (detached mount) (record mount { place = option_map (place_left nat_eq world gone) mount.place })).filesystem ≡ mount.filesystem
+    by : (b : Bool)
+        → (cond b (detached mount) (record mount { place = option_map (place_left nat_eq world gone) mount.place })).filesystem ≡ mount.filesystem
     by true = refl
     by false = refl
 
 -- a change of mounts that keeps their numbers and filesystems
-mapped_filesystem : (f : Mount ℕ → Mount ℕ) → ((mount : Mount ℕ) → (f mount).number ≡ mount.number) → ((mount : Mount ℕ) → (f mount).filesystem ≡ mount.filesystem)
-    → (mounts : List (Mount ℕ)) (number : ℕ) → (mount_in nat_eq (map f mounts) number).filesystem ≡ (mount_in nat_eq mounts number).filesystem
+mapped_filesystem : (f : Mount ℕ → Mount ℕ) → ((mount : Mount ℕ) → (f mount).number ≡ mount.number)
+    → ((mount : Mount ℕ) → (f mount).filesystem ≡ mount.filesystem)
+    → (mounts : List (Mount ℕ)) (number : ℕ)
+    → (mount_in nat_eq (map f mounts) number).filesystem ≡ (mount_in nat_eq mounts number).filesystem
 mapped_filesystem f same_number same_filesystem [] number = refl
 mapped_filesystem f same_number same_filesystem (mount ∷ mounts) number =
     ap (λ n. (unwrap_or (cond (nat_eq number n) (Some (f mount)) (find (λ m. nat_eq number m.number) (map f mounts))) (no_mount number)).filesystem) (same_number mount)
@@ -139,23 +147,27 @@ regrouped_filesystems world = by _
     by true = refl
     by false = refl
 
-regrouped_shows : (world : World ℕ) (number : ℕ) → (mount_in nat_eq (regrouped nat_eq world).mounts number).filesystem ≡ (mount_in nat_eq world.mounts number).filesystem
+regrouped_shows : (world : World ℕ) (number : ℕ)
+    → (mount_in nat_eq (regrouped nat_eq world).mounts number).filesystem ≡ (mount_in nat_eq world.mounts number).filesystem
 regrouped_shows world number = by _
   where
-    by : (b : Bool) → (mount_in nat_eq (regrouped_by nat_eq b world).mounts number).filesystem ≡ (mount_in nat_eq world.mounts number).filesystem
+    by : (b : Bool)
+        → (mount_in nat_eq (regrouped_by nat_eq b world).mounts number).filesystem ≡ (mount_in nat_eq world.mounts number).filesystem
     by true = mapped_filesystem (inheriting nat_eq world) (λ mount. refl) (λ mount. refl) world.mounts number
     by false = refl
 
 pub taken_filesystems : (world : World ℕ) (gone : List ℕ) → (taken_away nat_eq world gone).filesystems ≡ world.filesystems
 taken_filesystems world gone = regrouped_filesystems (with_mounts world (map (after_going nat_eq world gone) world.mounts))
 
-pub taken_shows : (world : World ℕ) (gone : List ℕ) (location : Location ℕ) → (mount_at nat_eq (taken_away nat_eq world gone) location).filesystem ≡ (mount_at nat_eq world location).filesystem
+pub taken_shows : (world : World ℕ) (gone : List ℕ) (location : Location ℕ)
+    → (mount_at nat_eq (taken_away nat_eq world gone) location).filesystem ≡ (mount_at nat_eq world location).filesystem
 taken_shows world gone location =
     regrouped_shows (with_mounts world (map (after_going nat_eq world gone) world.mounts)) location.mount
     ∙ mapped_filesystem (after_going nat_eq world gone) (going_number world gone) (going_filesystem world gone) world.mounts location.mount
 
 -- so the trees seen at each location stay
-pub taken_files : (world : World ℕ) (gone : List ℕ) (location : Location ℕ) → files_at nat_eq (taken_away nat_eq world gone) location ≡ files_at nat_eq world location
+pub taken_files : (world : World ℕ) (gone : List ℕ) (location : Location ℕ)
+    → files_at nat_eq (taken_away nat_eq world gone) location ≡ files_at nat_eq world location
 taken_files world gone location = λ i. (numbered (taken_shows world gone location i) (taken_filesystems world gone i)).files
 
 -- a world with the filesystems of a world of trees is one

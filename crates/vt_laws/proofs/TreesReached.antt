@@ -24,24 +24,28 @@ both_second true b e = e
 both_second false b e = absurd (true≢false (sym e))
 
 -- a name below all others is none of them
-below_missing : (name : List ℕ) (entries : Entries ℕ) (number : ℕ) → below_all name_cmp name entries ≡ true → entry_named name entries ≡ Some number → ⊥
+below_missing : (name : List ℕ) (entries : Entries ℕ) (number : ℕ) → below_all name_cmp name entries ≡ true
+    → entry_named name entries ≡ Some number → ⊥
 below_missing name [] number below e = none_is_not None number refl e
 below_missing name (entry ∷ entries) number below e = by (name_cmp name entry.0) below e (λ b h. below_missing name entries number b h)
   where
-    by : (o : Ordering) → (is_lt o && below_all name_cmp name entries) ≡ true → cond (is_eq o) (Some entry.1) (entry_named name entries) ≡ Some number
+    by : (o : Ordering) → (is_lt o && below_all name_cmp name entries) ≡ true
+        → cond (is_eq o) (Some entry.1) (entry_named name entries) ≡ Some number
         → (below_all name_cmp name entries ≡ true → entry_named name entries ≡ Some number → ⊥) → ⊥
     by Less b h rest = rest b h
     by Equal b h rest = absurd (true≢false (sym b))
     by Greater b h rest = absurd (true≢false (sym b))
 
 -- where some entry leads, a name leads
-listed_entry : (entries : Entries ℕ) (number : ℕ) → is_sorted name_cmp entries ≡ true → is_among nat_eq number (map (λ e. e.1) entries) ≡ true
+listed_entry : (entries : Entries ℕ) (number : ℕ) → is_sorted name_cmp entries ≡ true
+    → is_among nat_eq number (map (λ e. e.1) entries) ≡ true
     → (name : List ℕ) × (entry_named name entries ≡ Some number)
 listed_entry [] number sorted h = absurd (true≢false (sym h))
 listed_entry (entry ∷ entries) number sorted h =
     by (nat_eq number entry.1) refl h (λ g. listed_entry entries number (both_second (below_all name_cmp entry.0 entries) (is_sorted name_cmp entries) sorted) g)
   where
-    later : (name : List ℕ) → entry_named name entries ≡ Some number → (b : Bool) → eq_by_cmp name_cmp name entry.0 ≡ b → cond b (Some entry.1) (entry_named name entries) ≡ Some number
+    later : (name : List ℕ) → entry_named name entries ≡ Some number → (b : Bool) → eq_by_cmp name_cmp name entry.0 ≡ b
+        → cond b (Some entry.1) (entry_named name entries) ≡ Some number
     later name e true tie =
         absurd (below_missing entry.0 entries number (both_first (below_all name_cmp entry.0 entries) (is_sorted name_cmp entries) sorted)
         (ap (λ n. entry_named n entries) (sym (same_name name entry.0 tie)) ∙ e))
@@ -65,7 +69,8 @@ module _ (tree : Tree ℕ) (conditions : IsTree tree) (directory : ℕ) (is : Is
   not_removed_reached stays =
       by (nat_eq directory tree.root) (has_entry_to nat_eq tree (parent_in directory (tree.node directory)) directory) refl refl stays
     where
-      by : (a b : Bool) → nat_eq directory tree.root ≡ a → has_entry_to nat_eq tree (parent_in directory (tree.node directory)) directory ≡ b
+      by : (a b : Bool) → nat_eq directory tree.root ≡ a
+          → has_entry_to nat_eq tree (parent_in directory (tree.node directory)) directory ≡ b
           → not (a || is_some (cond a None (when b (parent_in directory (tree.node directory))))) ≡ false → IsReached tree directory
       by true b e f h = subst (IsReached tree) (sym (eqb-true directory tree.root e)) (root_reached tree)
       by false true e f h =

@@ -13,7 +13,8 @@ pub some_same : (a b : ℕ) → Some a ≡ Some b → a ≡ b
 some_same a b e = cc
 
 -- what holds where a list of names begins, and goes on along each entry, holds where they lead
-pub led_closed : (tree : Tree ℕ) (P : ℕ → Type 0) → ((directory : ℕ) (name : List ℕ) (number : ℕ) → P directory → entry_at tree directory name ≡ Some number → P number)
+pub led_closed : (tree : Tree ℕ) (P : ℕ → Type 0)
+    → ((directory : ℕ) (name : List ℕ) (number : ℕ) → P directory → entry_at tree directory name ≡ Some number → P number)
     → (from : ℕ) (names : List (List ℕ)) (number : ℕ) → P from → led tree from names ≡ Some number → P number
 led_closed tree P step from [] number p e = subst P (some_same from number e) p
 led_closed tree P step from (name ∷ names) number p e =
@@ -21,7 +22,8 @@ led_closed tree P step from (name ∷ names) number p e =
     led_closed tree P step first.0 names number (step from name first.0 p first.1) first.2
 
 -- what has an entry is a directory
-pub node_with_entries : (name : List ℕ) (number : ℕ) (o : Option (Node ℕ)) → entry_named name (entries_in o) ≡ Some number → is_directory_node o ≡ true
+pub node_with_entries : (name : List ℕ) (number : ℕ) (o : Option (Node ℕ)) → entry_named name (entries_in o) ≡ Some number
+    → is_directory_node o ≡ true
 node_with_entries name number None e = none_is_not None number refl e
 node_with_entries name number (Some node) e = by node.content e
   where
@@ -32,7 +34,8 @@ node_with_entries name number (Some node) e = by node.content e
     by Whiteout h = none_is_not None number refl h
 
 -- what has no entries has none of this name
-pub no_entries : {P : Type 0} (tree : Tree ℕ) (directory : ℕ) (name : List ℕ) (number : ℕ) → entries_in (tree.node directory) ≡ [] → entry_at tree directory name ≡ Some number → P
+pub no_entries : {P : Type 0} (tree : Tree ℕ) (directory : ℕ) (name : List ℕ) (number : ℕ) → entries_in (tree.node directory) ≡ []
+    → entry_at tree directory name ≡ Some number → P
 no_entries tree directory name number empty e = none_is_not (entry_at tree directory name) number (ap (entry_named name) empty) e
 
 -- an object that gets no other name is gone: it has no entries, and is its own parent
@@ -45,18 +48,25 @@ pub record Vanishes (before after : Option (Node ℕ)) (number : ℕ) : Type 0 w
 pub record IsRearranged (tree : Tree ℕ) (node : ℕ → Option (Node ℕ)) (Leaves : ℕ → Type 0) (Arrives : ℕ → List ℕ → ℕ → Type 0) : Type 0 where
   pub directories : (number : ℕ) → is_directory_node (node number) ≡ is_directory_node (tree.node number)
   pub in_order : (directory : ℕ) → is_sorted name_cmp (entries_in (node directory)) ≡ true
-  pub alive : (directory : ℕ) (name : List ℕ) (number : ℕ) → entry_named name (entries_in (node directory)) ≡ Some number → is_some (node number) ≡ true
+  pub alive : (directory : ℕ) (name : List ℕ) (number : ℕ) → entry_named name (entries_in (node directory)) ≡ Some number
+      → is_some (node number) ≡ true
   pub kept : (directory : ℕ) (name : List ℕ) (number : ℕ) → entry_at tree directory name ≡ Some number → IsDirectory tree number
       → Leaves number ⊎ (entry_named name (entries_in (node directory)) ≡ Some number)
-  pub told : (directory : ℕ) (name : List ℕ) (number : ℕ) → entry_named name (entries_in (node directory)) ≡ Some number → IsDirectory tree number
+  pub told : (directory : ℕ) (name : List ℕ) (number : ℕ) → entry_named name (entries_in (node directory)) ≡ Some number
+      → IsDirectory tree number
       → Arrives directory name number ⊎ ((entry_at tree directory name ≡ Some number) × ¬ (Leaves number))
   pub decided : (number : ℕ) → Leaves number ⊎ (¬ (Leaves number))
-  pub arrives_entry : (directory : ℕ) (name : List ℕ) (number : ℕ) → Arrives directory name number → entry_named name (entries_in (node directory)) ≡ Some number
+  pub arrives_entry : (directory : ℕ) (name : List ℕ) (number : ℕ) → Arrives directory name number
+      → entry_named name (entries_in (node directory)) ≡ Some number
   pub arrives_leaves : (directory : ℕ) (name : List ℕ) (number : ℕ) → Arrives directory name number → Leaves number
-  pub arrives_once : (directory other : ℕ) (name again : List ℕ) (number : ℕ) → Arrives directory name number → Arrives other again number → name ≡ again
-  pub arrives_reached : (directory : ℕ) (name : List ℕ) (number : ℕ) → Arrives directory name number → IsReached (record { root = tree.root; node = node }) directory
-  pub arrives_parent : (directory : ℕ) (name : List ℕ) (number : ℕ) → Arrives directory name number → IsDirectory tree number → parent_in number (node number) ≡ directory
-  pub stays_parent : (number : ℕ) → IsDirectory tree number → ¬ (Leaves number) → parent_in number (node number) ≡ parent_in number (tree.node number)
+  pub arrives_once : (directory other : ℕ) (name again : List ℕ) (number : ℕ) → Arrives directory name number
+      → Arrives other again number → name ≡ again
+  pub arrives_reached : (directory : ℕ) (name : List ℕ) (number : ℕ) → Arrives directory name number
+      → IsReached (record { root = tree.root; node = node }) directory
+  pub arrives_parent : (directory : ℕ) (name : List ℕ) (number : ℕ) → Arrives directory name number → IsDirectory tree number
+      → parent_in number (node number) ≡ directory
+  pub stays_parent : (number : ℕ) → IsDirectory tree number → ¬ (Leaves number)
+      → parent_in number (node number) ≡ parent_in number (tree.node number)
   pub leaves_how : (number : ℕ) → IsDirectory tree number → Leaves number
       → ((directory : ℕ) × (name : List ℕ) × Arrives directory name number) ⊎ Vanishes (tree.node number) (node number) number
   pub root_stays : ¬ (Leaves tree.root)
@@ -77,7 +87,8 @@ module _ (tree : Tree ℕ) (node : ℕ → Option (Node ℕ)) (Leaves : ℕ → 
   abbrev Remains : ℕ → Type 0
   Remains number = IsDirectory tree number → IsReached after number ⊎ (Leaves number × (entries_in (tree.node number) ≡ []))
 
-  remains_along : (directory : ℕ) (name : List ℕ) (number : ℕ) → Remains directory → entry_at tree directory name ≡ Some number → Remains number
+  remains_along : (directory : ℕ) (name : List ℕ) (number : ℕ) → Remains directory → entry_at tree directory name ≡ Some number
+      → Remains number
   remains_along directory name number remains e is =
       ⊎_elim
       (λ reached. ⊎_elim
@@ -90,18 +101,21 @@ module _ (tree : Tree ℕ) (node : ℕ → Option (Node ℕ)) (Leaves : ℕ → 
       (λ gone. no_entries tree directory name number gone.1 e)
       (remains (node_with_entries name number (tree.node directory) e))
 
-  remains_reached : (number : ℕ) → IsDirectory tree number → IsReached tree number → IsReached after number ⊎ (Leaves number × (entries_in (tree.node number) ≡ []))
+  remains_reached : (number : ℕ) → IsDirectory tree number → IsReached tree number
+      → IsReached after number ⊎ (Leaves number × (entries_in (tree.node number) ≡ []))
   remains_reached number is reached =
       led_closed tree Remains remains_along tree.root reached.0 number (λ root. inl (root_reached after)) reached.1 is
 
-  after_one_parent : (directory : ℕ) (name : List ℕ) (number : ℕ) → entry_at after directory name ≡ Some number → IsDirectory after number → parent_in number (node number) ≡ directory
+  after_one_parent : (directory : ℕ) (name : List ℕ) (number : ℕ) → entry_at after directory name ≡ Some number
+      → IsDirectory after number → parent_in number (node number) ≡ directory
   after_one_parent directory name number e is =
       ⊎_elim
       (λ arrives. moves.arrives_parent directory name number arrives (before_directory number is))
       (λ old. moves.stays_parent number (before_directory number is) old.1 ∙ conditions.one_parent directory name number old.0 (before_directory number is))
       (moves.told directory name number e (before_directory number is))
 
-  after_one_name : (directory : ℕ) (name other : List ℕ) (number : ℕ) → entry_at after directory name ≡ Some number → entry_at after directory other ≡ Some number → IsDirectory after number → name ≡ other
+  after_one_name : (directory : ℕ) (name other : List ℕ) (number : ℕ) → entry_at after directory name ≡ Some number
+      → entry_at after directory other ≡ Some number → IsDirectory after number → name ≡ other
   after_one_name directory name other number e f is =
       ⊎_elim
       (λ arrives. ⊎_elim
@@ -141,7 +155,8 @@ module _ (tree : Tree ℕ) (node : ℕ → Option (Node ℕ)) (Leaves : ℕ → 
   was_unnamed number is stays unnamed named =
       ⊎_elim stays (λ entry. unnamed (named.0, named.1, entry)) (moves.kept named.0 named.1 number named.2 is)
 
-  after_unnamed_empty : (number : ℕ) → IsDirectory after number → number ≢ tree.root → ¬ (HasName after number) → entries_in (node number) ≡ []
+  after_unnamed_empty : (number : ℕ) → IsDirectory after number → number ≢ tree.root → ¬ (HasName after number)
+      → entries_in (node number) ≡ []
   after_unnamed_empty number is root unnamed =
       ⊎_elim
       (λ leaves. ⊎_elim

@@ -17,7 +17,8 @@ pub no_longer : (most : ℕ) (bytes : List ℕ) → nat_lt most (length bytes) �
 no_longer most bytes h = le-leb (length bytes) most (ltb-false most (length bytes) h)
 
 -- words that are not too long are names
-parts_fit : (list : List (List ℕ)) → list_any (λ word. nat_lt longest_name (length word)) (filter (λ part. not (is_empty part)) list) ≡ false
+parts_fit : (list : List (List ℕ))
+    → list_any (λ word. nat_lt longest_name (length word)) (filter (λ part. not (is_empty part)) list) ≡ false
     → list_all is_fit_name (filter (λ part. not (is_empty part)) list) ≡ true
 parts_fit [] h = refl
 parts_fit (part ∷ list) h = by (is_empty part) refl h (λ g. parts_fit list g)
@@ -33,7 +34,8 @@ parts_fit (part ∷ list) h = by (is_empty part) refl h (λ g. parts_fit list g)
         both (is_fit_name part) (list_all is_fit_name (filter (λ p. not (is_empty p)) list))
         (both (not (is_empty part)) (nat_le (length part) longest_name) (ap not e) (no_longer longest_name part short)) (rest later)
 
-all_turned : (test : List ℕ → Bool) (list done : List (List ℕ)) → list_all test list ≡ true → list_all test done ≡ true → list_all test (reverse_aux list done) ≡ true
+all_turned : (test : List ℕ → Bool) (list done : List (List ℕ)) → list_all test list ≡ true → list_all test done ≡ true
+    → list_all test (reverse_aux list done) ≡ true
 all_turned test [] done h k = k
 all_turned test (x ∷ list) done h k =
     all_turned test list (x ∷ done) (both_second (test x) (list_all test list) h) (both (test x) (list_all test done) (both_first (test x) (list_all test list) h) k)
@@ -74,7 +76,8 @@ module _ (world : World ℕ) (task : Task ℕ) where
   abbrev pub HasFitLast : Place ℕ → Type 0
   HasFitLast place = IsFitWord place.last
 
-  fit_placed : (here : Here ℕ) (word : LastWord) (slash : Bool) → IsFitWord word → Ends HasFitLast (placed nat_eq world task here word slash)
+  fit_placed : (here : Here ℕ) (word : LastWord) (slash : Bool) → IsFitWord word
+      → Ends HasFitLast (placed nat_eq world task here word slash)
   fit_placed here NoWord slash fit = tt
   fit_placed here Dot slash fit =
       ends_step HasFitLast (steps_at nat_eq world task here Dot) (search_rules nat_eq world task here.location) (object_named nat_eq world task here.location Dot) _ (λ passed object e. tt)
@@ -111,12 +114,14 @@ module _ (world : World ℕ) (task : Task ℕ) where
       then_walk (walk_unless place.steps (follow_rules nat_eq world (link_of here place) inner) (link_start nat_eq world task here.location (link_of here place) inner))
       (λ next. file_walked nat_eq depth world task next inner (slash || ends_in_slash text))
 
-  fit_file_or_link : (place : Place ℕ) (text : Option (List ℕ)) (follow : List ℕ → Result (Place ℕ) (Stop ℕ)) → HasFitLast place → ((inner : List ℕ) → Ends HasFitLast (follow inner))
+  fit_file_or_link : (place : Place ℕ) (text : Option (List ℕ)) (follow : List ℕ → Result (Place ℕ) (Stop ℕ)) → HasFitLast place
+      → ((inner : List ℕ) → Ends HasFitLast (follow inner))
       → Ends HasFitLast (file_or_link nat_eq world place text follow)
   fit_file_or_link place None follow fit rest = fit
   fit_file_or_link place (Some text) follow fit rest = rest text
 
-  fit_file_walked : (depth : ℕ) (start : Here ℕ) (text : List ℕ) (slash : Bool) → HasFitWords text → Ends HasFitLast (file_walked nat_eq depth world task start text slash)
+  fit_file_walked : (depth : ℕ) (start : Here ℕ) (text : List ℕ) (slash : Bool) → HasFitWords text
+      → Ends HasFitLast (file_walked nat_eq depth world task start text slash)
   fit_file_walked zero start text slash fit = tt
   fit_file_walked (suc depth) start text slash fit =
       ends_next HasFitLast (front_walked nat_eq world task (followed nat_eq world task) start (reverse (words text)))

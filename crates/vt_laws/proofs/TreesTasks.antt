@@ -70,12 +70,14 @@ within task is =
     }
 
 -- lists of tasks
-pub all_mapped : {A : Type 0} (test : A → Bool) (change : A → A) → ((a : A) → test a ≡ true → test (change a) ≡ true) → (list : List A) → list_all test list ≡ true → list_all test (map change list) ≡ true
+pub all_mapped : {A : Type 0} (test : A → Bool) (change : A → A) → ((a : A) → test a ≡ true → test (change a) ≡ true) → (list : List A)
+    → list_all test list ≡ true → list_all test (map change list) ≡ true
 all_mapped test change keeps [] h = refl
 all_mapped test change keeps (a ∷ list) h =
     both (test (change a)) (list_all test (map change list)) (keeps a (both_first (test a) (list_all test list) h)) (all_mapped test change keeps list (both_second (test a) (list_all test list) h))
 
-pub all_filtered : {A : Type 0} (test stays : A → Bool) (list : List A) → list_all test list ≡ true → list_all test (filter stays list) ≡ true
+pub all_filtered : {A : Type 0} (test stays : A → Bool) (list : List A) → list_all test list ≡ true
+    → list_all test (filter stays list) ≡ true
 all_filtered test stays [] h = refl
 all_filtered test stays (a ∷ list) h = by (stays a) (all_filtered test stays list (both_second (test a) (list_all test list) h))
   where
@@ -83,12 +85,14 @@ all_filtered test stays (a ∷ list) h = by (stays a) (all_filtered test stays l
     by true rest = both (test a) (list_all test (filter stays list)) (both_first (test a) (list_all test list) h) rest
     by false rest = rest
 
-pub all_appended : {A : Type 0} (test : A → Bool) (list : List A) (a : A) → list_all test list ≡ true → test a ≡ true → list_all test (list ++ (a ∷ [])) ≡ true
+pub all_appended : {A : Type 0} (test : A → Bool) (list : List A) (a : A) → list_all test list ≡ true → test a ≡ true
+    → list_all test (list ++ (a ∷ [])) ≡ true
 all_appended test [] a h k = both (test a) true k refl
 all_appended test (b ∷ list) a h k =
     both (test b) (list_all test (list ++ (a ∷ []))) (both_first (test b) (list_all test list) h) (all_appended test list a (both_second (test b) (list_all test list) h) k)
 
-pub replaced_within : (new old : Task ℕ) → is_within_limits new ≡ true → is_within_limits old ≡ true → is_within_limits (replaced_if_called new old) ≡ true
+pub replaced_within : (new old : Task ℕ) → is_within_limits new ≡ true → is_within_limits old ≡ true
+    → is_within_limits (replaced_if_called new old) ≡ true
 replaced_within new old h k = by (same_name new.name old.name)
   where
     by : (b : Bool) → is_within_limits (cond b new old) ≡ true
@@ -103,7 +107,8 @@ free_small number (descriptor ∷ list) = by (descriptor.number == number) (free
     later : (a b c : ℕ) → c ≤ (a + 1) + b → c ≤ a + suc b
     later a b c h = omega arith
 
-    by : (b : Bool) → free_from (number + 1) list ≤ (number + 1) + length list → cond b (free_from (number + 1) list) number ≤ number + suc (length list)
+    by : (b : Bool) → free_from (number + 1) list ≤ (number + 1) + length list
+        → cond b (free_from (number + 1) list) number ≤ number + suc (length list)
     by true h = later number (length list) (free_from (number + 1) list) h
     by false h = omega arith
 
@@ -119,19 +124,23 @@ inserted_length : (new : Descriptor ℕ) (list : List (Descriptor ℕ)) → leng
 inserted_length new [] = refl
 inserted_length new (descriptor ∷ list) = by (nat_lt new.number descriptor.number) (inserted_length new list)
   where
-    by : (b : Bool) → length (inserted new list) ≡ suc (length list) → length (cond b (new ∷ descriptor ∷ list) (descriptor ∷ inserted new list)) ≡ suc (suc (length list))
+    by : (b : Bool) → length (inserted new list) ≡ suc (length list)
+        → length (cond b (new ∷ descriptor ∷ list) (descriptor ∷ inserted new list)) ≡ suc (suc (length list))
     by true h = refl
     by false h = ap suc h
 
-inserted_all : (test : Descriptor ℕ → Bool) (new : Descriptor ℕ) (list : List (Descriptor ℕ)) → test new ≡ true → list_all test list ≡ true → list_all test (inserted new list) ≡ true
+inserted_all : (test : Descriptor ℕ → Bool) (new : Descriptor ℕ) (list : List (Descriptor ℕ)) → test new ≡ true
+    → list_all test list ≡ true → list_all test (inserted new list) ≡ true
 inserted_all test new [] h k = both (test new) true h refl
 inserted_all test new (descriptor ∷ list) h k = by (nat_lt new.number descriptor.number) (inserted_all test new list h (both_second (test descriptor) (list_all test list) k))
   where
-    by : (b : Bool) → list_all test (inserted new list) ≡ true → list_all test (cond b (new ∷ descriptor ∷ list) (descriptor ∷ inserted new list)) ≡ true
+    by : (b : Bool) → list_all test (inserted new list) ≡ true
+        → list_all test (cond b (new ∷ descriptor ∷ list) (descriptor ∷ inserted new list)) ≡ true
     by true rest = both (test new) (list_all test (descriptor ∷ list)) h k
     by false rest = both (test descriptor) (list_all test (inserted new list)) (both_first (test descriptor) (list_all test list) k) rest
 
-inserted_ascending : (least : ℕ) (new : Descriptor ℕ) (list : List (Descriptor ℕ)) → new.number ≡ free_from least list → are_ascending_from least list ≡ true → are_ascending_from least (inserted new list) ≡ true
+inserted_ascending : (least : ℕ) (new : Descriptor ℕ) (list : List (Descriptor ℕ)) → new.number ≡ free_from least list
+    → are_ascending_from least list ≡ true → are_ascending_from least (inserted new list) ≡ true
 inserted_ascending least new [] e h = both (nat_le least new.number) true (le-leb least new.number (omega (arith, e))) refl
 inserted_ascending least new (descriptor ∷ list) e h =
     by (descriptor.number == least) refl e (λ f g. inserted_ascending (least + 1) new list f g)
@@ -165,14 +174,16 @@ inserted_ascending least new (descriptor ∷ list) e h =
             omega (arith, f, apart, above)
 
 -- what is in order from a number on is from a lower one
-ascending_lower : (lower least : ℕ) (list : List (Descriptor ℕ)) → lower ≤ least → are_ascending_from least list ≡ true → are_ascending_from lower list ≡ true
+ascending_lower : (lower least : ℕ) (list : List (Descriptor ℕ)) → lower ≤ least → are_ascending_from least list ≡ true
+    → are_ascending_from lower list ≡ true
 ascending_lower lower least [] le h = refl
 ascending_lower lower least (descriptor ∷ list) le h =
     let above = leb-true least descriptor.number (both_first (nat_le least descriptor.number) (are_ascending_from (descriptor.number + 1) list) h) in
     both (nat_le lower descriptor.number) (are_ascending_from (descriptor.number + 1) list) (le-leb lower descriptor.number (omega (arith, above, le)))
     (both_second (nat_le least descriptor.number) (are_ascending_from (descriptor.number + 1) list) h)
 
-filtered_ascending : (stays : Descriptor ℕ → Bool) (least : ℕ) (list : List (Descriptor ℕ)) → are_ascending_from least list ≡ true → are_ascending_from least (filter stays list) ≡ true
+filtered_ascending : (stays : Descriptor ℕ → Bool) (least : ℕ) (list : List (Descriptor ℕ)) → are_ascending_from least list ≡ true
+    → are_ascending_from least (filter stays list) ≡ true
 filtered_ascending stays least [] h = refl
 filtered_ascending stays least (descriptor ∷ list) h =
     by (stays descriptor) (filtered_ascending stays (descriptor.number + 1) list (both_second (nat_le least descriptor.number) (are_ascending_from (descriptor.number + 1) list) h))
@@ -180,7 +191,8 @@ filtered_ascending stays least (descriptor ∷ list) h =
     low : nat_le least descriptor.number ≡ true
     low = both_first (nat_le least descriptor.number) (are_ascending_from (descriptor.number + 1) list) h
 
-    by : (b : Bool) → are_ascending_from (descriptor.number + 1) (filter stays list) ≡ true → are_ascending_from least (cond b (descriptor ∷ filter stays list) (filter stays list)) ≡ true
+    by : (b : Bool) → are_ascending_from (descriptor.number + 1) (filter stays list) ≡ true
+        → are_ascending_from least (cond b (descriptor ∷ filter stays list) (filter stays list)) ≡ true
     by true rest = both (nat_le least descriptor.number) (are_ascending_from (descriptor.number + 1) (filter stays list)) low rest
     by false rest =
         let above = leb-true least descriptor.number low in
@@ -190,12 +202,14 @@ filtered_length : (stays : Descriptor ℕ → Bool) (list : List (Descriptor ℕ
 filtered_length stays [] = omega arith
 filtered_length stays (descriptor ∷ list) = by (stays descriptor) (filtered_length stays list)
   where
-    by : (b : Bool) → length (filter stays list) ≤ length list → length (cond b (descriptor ∷ filter stays list) (filter stays list)) ≤ suc (length list)
+    by : (b : Bool) → length (filter stays list) ≤ length list
+        → length (cond b (descriptor ∷ filter stays list) (filter stays list)) ≤ suc (length list)
     by true h = omega (arith, h)
     by false h = omega (arith, h)
 
 -- a descriptor more, where there are fewer than 256; and one less
-pub opened_within : (task : Task ℕ) (location : Location ℕ) (access : Access) → is_within_limits task ≡ true → nat_le most_descriptors (length task.descriptors) ≡ false
+pub opened_within : (task : Task ℕ) (location : Location ℕ) (access : Access) → is_within_limits task ≡ true
+    → nat_le most_descriptors (length task.descriptors) ≡ false
     → is_within_limits (with_descriptor task location access) ≡ true
 opened_within task location access is room =
     let limits = within task is in
@@ -228,7 +242,8 @@ closed_within task number is =
     })
 
 -- a parent and its child
-pub parent_within : (task : Task ℕ) → is_within_limits task ≡ true → nat_le most_forks task.forks ≡ false → is_within_limits (record task { forks = task.forks + 1 }) ≡ true
+pub parent_within : (task : Task ℕ) → is_within_limits task ≡ true → nat_le most_forks task.forks ≡ false
+    → is_within_limits (record task { forks = task.forks + 1 }) ≡ true
 parent_within task is room =
     let limits = within task is in
     let fewer = leb-false most_forks task.forks room in
@@ -242,12 +257,14 @@ parent_within task is room =
       umask = limits.umask;
     })
 
-few_groups : (task : Task ℕ) (words : Option ForkWords) → nat_le (length task.credentials.groups) 32 ≡ true → ((given : ForkWords) → words ≡ Some given → nat_le (length given.groups) 32 ≡ true)
+few_groups : (task : Task ℕ) (words : Option ForkWords) → nat_le (length task.credentials.groups) 32 ≡ true
+    → ((given : ForkWords) → words ≡ Some given → nat_le (length given.groups) 32 ≡ true)
     → nat_le (length (child_credentials task.credentials words).groups) 32 ≡ true
 few_groups task None own given = own
 few_groups task (Some words) own given = given words refl
 
-pub child_within : (task : Task ℕ) (words : Option ForkWords) → is_within_limits task ≡ true → nat_le deepest_name (length task.name) ≡ false
+pub child_within : (task : Task ℕ) (words : Option ForkWords) → is_within_limits task ≡ true
+    → nat_le deepest_name (length task.name) ≡ false
     → ((given : ForkWords) → words ≡ Some given → nat_le (length given.groups) 32 ≡ true)
     → is_within_limits (child_of task (child_credentials task.credentials words)) ≡ true
 child_within task words is room given =
@@ -263,7 +280,8 @@ child_within task words is room given =
       umask = limits.umask;
     })
 
-pub masked_within : (task : Task ℕ) (mode : ℕ) → is_within_limits task ≡ true → is_within_limits (record task { umask = permission_bits mode }) ≡ true
+pub masked_within : (task : Task ℕ) (mode : ℕ) → is_within_limits task ≡ true
+    → is_within_limits (record task { umask = permission_bits mode }) ≡ true
 masked_within task mode is =
     let limits = within task is in
     limits_of (record task { umask = permission_bits mode }) (record {

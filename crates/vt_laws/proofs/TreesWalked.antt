@@ -17,7 +17,8 @@ Passed [] = ⊤
 Passed ((test, rule) ∷ rows) = (test ≡ false) × Passed rows
 
 -- what holds of the world as it is, and of the one that is left where no rule fails, holds after the judgement
-pub judged_holds : (P : World ℕ → Type 0) (world : World ℕ) (rules : Rules) (outcome : Outcome ℕ) → P world → (Passed rules → P outcome.world) → P (judged world rules outcome).world
+pub judged_holds : (P : World ℕ → Type 0) (world : World ℕ) (rules : Rules) (outcome : Outcome ℕ) → P world
+    → (Passed rules → P outcome.world) → P (judged world rules outcome).world
 judged_holds P world [] outcome p h = h tt
 judged_holds P world ((true, rule) ∷ rows) outcome p h = p
 judged_holds P world ((false, rule) ∷ rows) outcome p h = judged_holds P world rows outcome p (λ rest. h (refl, rest))
@@ -31,15 +32,18 @@ pub ends_anyhow : {A : Type 0} (r : Result A (Stop ℕ)) → Ends (λ a. ⊤) r
 ends_anyhow (Ok a) = tt
 ends_anyhow (Err stop) = tt
 
-pub ends_then : {A B : Type 0} (Q : A → Type 0) (R : B → Type 0) (r : Result A (Stop ℕ)) (next : A → Result B (Stop ℕ)) → Ends Q r → ((a : A) → Q a → Ends R (next a)) → Ends R (then_walk r next)
+pub ends_then : {A B : Type 0} (Q : A → Type 0) (R : B → Type 0) (r : Result A (Stop ℕ)) (next : A → Result B (Stop ℕ)) → Ends Q r
+    → ((a : A) → Q a → Ends R (next a)) → Ends R (then_walk r next)
 ends_then Q R (Ok a) next q h = h a q
 ends_then Q R (Err stop) next q h = tt
 
-pub ends_next : {A B : Type 0} (R : B → Type 0) (r : Result A (Stop ℕ)) (next : A → Result B (Stop ℕ)) → ((a : A) → Ends R (next a)) → Ends R (then_walk r next)
+pub ends_next : {A B : Type 0} (R : B → Type 0) (r : Result A (Stop ℕ)) (next : A → Result B (Stop ℕ)) → ((a : A) → Ends R (next a))
+    → Ends R (then_walk r next)
 ends_next R (Ok a) next h = h a
 ends_next R (Err stop) next h = tt
 
-pub ends_unless : {A : Type 0} (Q : A → Type 0) (steps : List (List ℕ)) (rules : Rules) (a : A) → (Passed rules → Q a) → Ends Q (walk_unless steps rules a)
+pub ends_unless : {A : Type 0} (Q : A → Type 0) (steps : List (List ℕ)) (rules : Rules) (a : A) → (Passed rules → Q a)
+    → Ends Q (walk_unless steps rules a)
 ends_unless Q steps [] a h = h tt
 ends_unless Q steps ((true, rule) ∷ rows) a h = tt
 ends_unless Q steps ((false, rule) ∷ rows) a h = ends_unless Q steps rows a (λ rest. h (refl, rest))
@@ -53,16 +57,19 @@ ends_step Q steps [] (Err deny) next h = tt
 ends_step Q steps ((true, rule) ∷ rows) answer next h = tt
 ends_step Q steps ((false, rule) ∷ rows) answer next h = ends_step Q steps rows answer next (λ rest. h (refl, rest))
 
-pub after_ends : {A : Type 0} (Q : A → Type 0) (P : World ℕ → Type 0) (world : World ℕ) (r : Result A (Stop ℕ)) (next : A → Outcome ℕ) → P world → Ends Q r → ((a : A) → Q a → P (next a).world)
+pub after_ends : {A : Type 0} (Q : A → Type 0) (P : World ℕ → Type 0) (world : World ℕ) (r : Result A (Stop ℕ)) (next : A → Outcome ℕ)
+    → P world → Ends Q r → ((a : A) → Q a → P (next a).world)
     → P (after world (walk_end r) next).world
 after_ends Q P world (Ok a) next p q h = h a q
 after_ends Q P world (Err stop) next p q h = p
 
-pub after_any : {A : Type 0} (P : World ℕ → Type 0) (world : World ℕ) (r : Result A (Stop ℕ)) (next : A → Outcome ℕ) → P world → ((a : A) → P (next a).world) → P (after world (walk_end r) next).world
+pub after_any : {A : Type 0} (P : World ℕ → Type 0) (world : World ℕ) (r : Result A (Stop ℕ)) (next : A → Outcome ℕ) → P world
+    → ((a : A) → P (next a).world) → P (after world (walk_end r) next).world
 after_any P world (Ok a) next p h = h a
 after_any P world (Err stop) next p h = p
 
-pub after_holds : {A : Type 0} (P : World ℕ → Type 0) (world : World ℕ) (r : Result A Deny) (next : A → Outcome ℕ) → P world → ((a : A) → r ≡ Ok a → P (next a).world) → P (after world r next).world
+pub after_holds : {A : Type 0} (P : World ℕ → Type 0) (world : World ℕ) (r : Result A Deny) (next : A → Outcome ℕ) → P world
+    → ((a : A) → r ≡ Ok a → P (next a).world) → P (after world r next).world
 after_holds P world (Ok a) next p h = h a refl
 after_holds P world (Err deny) next p h = p
 
@@ -110,21 +117,24 @@ IsFileOf world parent (Named name) object = (is_directory_at nat_eq world parent
 abbrev pub IsFilePlace : World ℕ → Place ℕ → Type 0
 IsFilePlace world place = IsFileOf world place.parent place.last place.object
 
-pub place_named : (world : World ℕ) (parent : Location ℕ) (last : LastWord) (object : Option (Location ℕ)) → is_special last ≡ false → IsPlaceOf world parent last object
+pub place_named : (world : World ℕ) (parent : Location ℕ) (last : LastWord) (object : Option (Location ℕ)) → is_special last ≡ false
+    → IsPlaceOf world parent last object
     → (is_directory_at nat_eq world parent ≡ true) × (object ≡ entry_location nat_eq world parent (name_of last))
 place_named world parent NoWord object plain is = absurd (true≢false plain)
 place_named world parent Dot object plain is = absurd (true≢false plain)
 place_named world parent DotDot object plain is = absurd (true≢false plain)
 place_named world parent (Named name) object plain is = is
 
-pub file_named : (world : World ℕ) (parent : Location ℕ) (last : LastWord) (object : Option (Location ℕ)) → is_special last ≡ false → IsFileOf world parent last object
+pub file_named : (world : World ℕ) (parent : Location ℕ) (last : LastWord) (object : Option (Location ℕ)) → is_special last ≡ false
+    → IsFileOf world parent last object
     → (is_directory_at nat_eq world parent ≡ true) × (object ≡ None → entry_location nat_eq world parent (name_of last) ≡ None)
 file_named world parent NoWord object plain is = absurd (true≢false plain)
 file_named world parent Dot object plain is = absurd (true≢false plain)
 file_named world parent DotDot object plain is = absurd (true≢false plain)
 file_named world parent (Named name) object plain is = is
 
-pub place_is_file : (world : World ℕ) (parent : Location ℕ) (last : LastWord) (object : Option (Location ℕ)) → IsPlaceOf world parent last object → IsFileOf world parent last object
+pub place_is_file : (world : World ℕ) (parent : Location ℕ) (last : LastWord) (object : Option (Location ℕ))
+    → IsPlaceOf world parent last object → IsFileOf world parent last object
 place_is_file world parent NoWord object is = tt
 place_is_file world parent Dot object is = tt
 place_is_file world parent DotDot object is = tt
@@ -177,7 +187,8 @@ module _ (world : World ℕ) (task : Task ℕ) where
       (λ place is. ends_unless IsOldPlace place.steps ((place.slash && not (is_directory_there nat_eq world place), W3) ∷ []) place (λ passed. is))
 
   -- files
-  entered_file : (parent : Location ℕ) (last : LastWord) (object : Option (Location ℕ)) → IsPlaceOf world parent last object → IsFileOf world parent last (option_map (topmost nat_eq world.mounts) object)
+  entered_file : (parent : Location ℕ) (last : LastWord) (object : Option (Location ℕ)) → IsPlaceOf world parent last object
+      → IsFileOf world parent last (option_map (topmost nat_eq world.mounts) object)
   entered_file parent NoWord object is = tt
   entered_file parent Dot object is = tt
   entered_file parent DotDot object is = tt
@@ -187,7 +198,8 @@ module _ (world : World ℕ) (task : Task ℕ) where
       was_none None e = refl
       was_none (Some x) e = absurd (true≢false (ap is_some e))
 
-  ends_file_or_link : (place : Place ℕ) (text : Option (List ℕ)) (follow : List ℕ → Result (Place ℕ) (Stop ℕ)) → IsPlace world place → ((inner : List ℕ) → Ends (IsFilePlace world) (follow inner))
+  ends_file_or_link : (place : Place ℕ) (text : Option (List ℕ)) (follow : List ℕ → Result (Place ℕ) (Stop ℕ)) → IsPlace world place
+      → ((inner : List ℕ) → Ends (IsFilePlace world) (follow inner))
       → Ends (IsFilePlace world) (file_or_link nat_eq world place text follow)
   ends_file_or_link place None follow is rest = entered_file place.parent place.last place.object is
   ends_file_or_link place (Some text) follow is rest = rest text
@@ -203,7 +215,8 @@ module _ (world : World ℕ) (task : Task ℕ) where
       then_walk (placed nat_eq world task here (final_word (reverse (words text))) (slash || ends_in_slash text))
       (λ place. file_or_link nat_eq world place (link_there nat_eq world place) (linked_file depth text slash here place))
 
-  ends_file_walked : (depth : ℕ) (start : Here ℕ) (text : List ℕ) (slash : Bool) → Ends (IsFilePlace world) (file_walked nat_eq depth world task start text slash)
+  ends_file_walked : (depth : ℕ) (start : Here ℕ) (text : List ℕ) (slash : Bool)
+      → Ends (IsFilePlace world) (file_walked nat_eq depth world task start text slash)
   ends_file_walked zero start text slash = tt
   ends_file_walked (suc depth) start text slash =
       ends_next (IsFilePlace world) (front_walked nat_eq world task (followed nat_eq world task) start (reverse (words text)))
