@@ -19,13 +19,13 @@ pub record IsStanding (world : World ℕ) : Type 0 where
   pub roots : All (λ mount. is_directory_at nat_eq world (root_of mount) ≡ true) world.mounts
   pub places : All (λ mount. (place : Location ℕ) → mount.place ≡ Some place → is_directory_at nat_eq world place ≡ true) world.mounts
 
+-- In each world that has the conditions of worlds they are.
+abbrev pub WorldsAreStanding : Type 0
+WorldsAreStanding = (world : World ℕ) → IsWorld nat_eq world → IsStanding world
+
 -- the numbers handed in are numbers of no inode
 abbrev pub AreNew : Fresh ℕ → World ℕ → Type 0
 AreNew fresh world = All (λ filesystem. (k : ℕ) → filesystem.files.tree.node (fresh k) ≡ None) world.filesystems
-
--- So it is in each world that has the conditions of worlds.
-abbrev pub WorldsAreStanding : Type 0
-WorldsAreStanding = (world : World ℕ) → IsWorld nat_eq world → IsStanding world
 
 -- the one call that makes an overlay
 abbrev pub mounts_overlay : Call → Bool

@@ -46,7 +46,9 @@ ChangesKeepSizes =
 
 -- So does what forgets the inodes that nothing uses.
 abbrev pub SettlingKeepsSizes : Type 0
-SettlingKeepsSizes = (world : World ℕ) → list_all is_fit_filesystem world.filesystems ≡ true → list_all is_fit_filesystem (settled nat_eq world).filesystems ≡ true
+SettlingKeepsSizes =
+    (world : World ℕ) → list_all is_fit_filesystem world.filesystems ≡ true
+    → list_all is_fit_filesystem (settled nat_eq world).filesystems ≡ true
 
 -- A world without overlays, within the limits; the opening world is one.
 pub record IsFitWorld (world : World ℕ) : Type 0 where
