@@ -3,3 +3,4 @@ pub mod Denials
 pub mod Mounts
 pub mod Numbers
 pub mod RuleOrder
+pub mod Trees

@@ -5,3 +5,4 @@ pub mod denials;
 pub mod mounts;
 pub mod numbers;
 pub mod rules;
+pub mod trees;

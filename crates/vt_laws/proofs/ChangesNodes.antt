@@ -1,0 +1,178 @@
+-- What an inode keeps when it loses an entry, its entries, or gets another parent, attributes or mark.
+use Rattle.std.proofs.Common.{◌≡◌, ◌≢◌, refl, sym, true≢false, ℕ, nat_eq, Bool, true, List, Option, Some, None, is_some}
+use Rattle.vt_spec.specs.declared.attributes.Attr.{Attr}
+use Rattle.vt_spec.specs.Rights.{is_directory}
+use Rattle.vt_spec.specs.Tree.{Node, Content, kind_of, entries_of, with_entries, is_directory_node, entries_in, parent_of, parent_in}
+use Rattle.vt_spec.specs.Tree.Content.{Directory, Regular, Symlink, Whiteout}
+use Rattle.vt_spec.specs.Machine.Changes.{changed_node, content_with_mark, content_with_parent, node_with_attr, node_with_mark, node_with_parent, node_without_entry, without_entry}
+use Rattle.vt_spec.specs.Machine.FileTree.{FileTree}
+use Rattle.vt_spec.proofs.Nodes.{node_other, node_set, part_kept}
+
+-- a change of a node that keeps its kind, entries and parent, and that it is there
+pub record KeepsPlace (change : Option (Node ℕ) → Option (Node ℕ)) : Type 0 where
+  pub kind : (o : Option (Node ℕ)) → is_directory_node (change o) ≡ is_directory_node o
+  pub used : (o : Option (Node ℕ)) → is_some (change o) ≡ is_some o
+  pub entries : (o : Option (Node ℕ)) → entries_in (change o) ≡ entries_in o
+  pub parent : (own : ℕ) (o : Option (Node ℕ)) → parent_in own (change o) ≡ parent_in own o
+
+-- what a change of one inode keeps of it is kept at every inode
+pub part_stays : {A : Type 0} (files : FileTree ℕ) (number : ℕ) (change : Option (Node ℕ) → Option (Node ℕ)) (part : Option (Node ℕ) → A)
+    → ((o : Option (Node ℕ)) → part (change o) ≡ part o)
+    → (other : ℕ) → part ((changed_node nat_eq files number change).tree.node other) ≡ part (files.tree.node other)
+part_stays files number change part same other =
+    part_kept part files.tree number (change (files.tree.node number)) (same (files.tree.node number)) other
+
+-- the changed inode itself, and the others
+pub there : (files : FileTree ℕ) (number : ℕ) (change : Option (Node ℕ) → Option (Node ℕ))
+    → (changed_node nat_eq files number change).tree.node number ≡ change (files.tree.node number)
+there files number change = node_set files.tree number (change (files.tree.node number))
+
+pub elsewhere : (files : FileTree ℕ) (number : ℕ) (change : Option (Node ℕ) → Option (Node ℕ)) (other : ℕ) → other ≢ number
+    → (changed_node nat_eq files number change).tree.node other ≡ files.tree.node other
+elsewhere files number change other differ = node_other files.tree number (change (files.tree.node number)) other differ
+
+-- other attributes
+pub attr_keeps_place : (attr : Attr) → KeepsPlace (node_with_attr attr)
+attr_keeps_place attr = record { kind = kind; used = used; entries = entries; parent = parent }
+  where
+    kind : (o : Option (Node ℕ)) → is_directory_node (node_with_attr attr o) ≡ is_directory_node o
+    kind None = refl
+    kind (Some node) = refl
+
+    used : (o : Option (Node ℕ)) → is_some (node_with_attr attr o) ≡ is_some o
+    used None = refl
+    used (Some node) = refl
+
+    entries : (o : Option (Node ℕ)) → entries_in (node_with_attr attr o) ≡ entries_in o
+    entries None = refl
+    entries (Some node) = refl
+
+    parent : (own : ℕ) (o : Option (Node ℕ)) → parent_in own (node_with_attr attr o) ≡ parent_in own o
+    parent own None = refl
+    parent own (Some node) = refl
+
+-- another mark
+module _ (opaque : Bool) where
+  mark_kind : (content : Content ℕ) → is_directory (kind_of (content_with_mark opaque content)) ≡ is_directory (kind_of content)
+  mark_kind (Directory parent entries old) = refl
+  mark_kind (Regular bytes) = refl
+  mark_kind (Symlink text) = refl
+  mark_kind Whiteout = refl
+
+  mark_entries : (content : Content ℕ) → entries_of (content_with_mark opaque content) ≡ entries_of content
+  mark_entries (Directory parent entries old) = refl
+  mark_entries (Regular bytes) = refl
+  mark_entries (Symlink text) = refl
+  mark_entries Whiteout = refl
+
+  mark_parent : (own : ℕ) (content : Content ℕ) → parent_of own (content_with_mark opaque content) ≡ parent_of own content
+  mark_parent own (Directory parent entries old) = refl
+  mark_parent own (Regular bytes) = refl
+  mark_parent own (Symlink text) = refl
+  mark_parent own Whiteout = refl
+
+  pub mark_keeps_place : KeepsPlace (node_with_mark opaque)
+  mark_keeps_place = record { kind = kind; used = used; entries = entries; parent = parent }
+    where
+      kind : (o : Option (Node ℕ)) → is_directory_node (node_with_mark opaque o) ≡ is_directory_node o
+      kind None = refl
+      kind (Some node) = mark_kind node.content
+
+      used : (o : Option (Node ℕ)) → is_some (node_with_mark opaque o) ≡ is_some o
+      used None = refl
+      used (Some node) = refl
+
+      entries : (o : Option (Node ℕ)) → entries_in (node_with_mark opaque o) ≡ entries_in o
+      entries None = refl
+      entries (Some node) = mark_entries node.content
+
+      parent : (own : ℕ) (o : Option (Node ℕ)) → parent_in own (node_with_mark opaque o) ≡ parent_in own o
+      parent own None = refl
+      parent own (Some node) = mark_parent own node.content
+
+-- another parent
+module _ (parent : ℕ) where
+  pub kind-node_with_parent : (o : Option (Node ℕ)) → is_directory_node (node_with_parent parent o) ≡ is_directory_node o
+  kind-node_with_parent None = refl
+  kind-node_with_parent (Some node) = by node.content
+    where
+      by : (content : Content ℕ) → is_directory (kind_of (content_with_parent parent content)) ≡ is_directory (kind_of content)
+      by (Directory old entries opaque) = refl
+      by (Regular bytes) = refl
+      by (Symlink text) = refl
+      by Whiteout = refl
+
+  pub used-node_with_parent : (o : Option (Node ℕ)) → is_some (node_with_parent parent o) ≡ is_some o
+  used-node_with_parent None = refl
+  used-node_with_parent (Some node) = refl
+
+  pub entries-node_with_parent : (o : Option (Node ℕ)) → entries_in (node_with_parent parent o) ≡ entries_in o
+  entries-node_with_parent None = refl
+  entries-node_with_parent (Some node) = by node.content
+    where
+      by : (content : Content ℕ) → entries_of (content_with_parent parent content) ≡ entries_of content
+      by (Directory old entries opaque) = refl
+      by (Regular bytes) = refl
+      by (Symlink text) = refl
+      by Whiteout = refl
+
+  -- a directory has it
+  pub parent-node_with_parent : (own : ℕ) (o : Option (Node ℕ)) → is_directory_node o ≡ true
+      → parent_in own (node_with_parent parent o) ≡ parent
+  parent-node_with_parent own None is = absurd (true≢false (sym is))
+  parent-node_with_parent own (Some node) is = by node.content is
+    where
+      by : (content : Content ℕ) → is_directory (kind_of content) ≡ true → parent_of own (content_with_parent parent content) ≡ parent
+      by (Directory old entries opaque) d = refl
+      by (Regular bytes) d = absurd (true≢false (sym d))
+      by (Symlink text) d = absurd (true≢false (sym d))
+      by Whiteout d = absurd (true≢false (sym d))
+
+-- with itself as the parent, it is its own
+pub own_parent-node_with_parent : (own : ℕ) (o : Option (Node ℕ)) → parent_in own (node_with_parent own o) ≡ own
+own_parent-node_with_parent own None = refl
+own_parent-node_with_parent own (Some node) = by node.content
+  where
+    by : (content : Content ℕ) → parent_of own (content_with_parent own content) ≡ own
+    by (Directory old entries opaque) = refl
+    by (Regular bytes) = refl
+    by (Symlink text) = refl
+    by Whiteout = refl
+
+-- an entry less
+module _ (name : List ℕ) where
+  pub kind-node_without_entry : (o : Option (Node ℕ)) → is_directory_node (node_without_entry name o) ≡ is_directory_node o
+  kind-node_without_entry None = refl
+  kind-node_without_entry (Some node) = by node.content
+    where
+      by : (content : Content ℕ)
+          → is_directory (kind_of (with_entries content (without_entry name (entries_of content)))) ≡ is_directory (kind_of content)
+      by (Directory parent entries opaque) = refl
+      by (Regular bytes) = refl
+      by (Symlink text) = refl
+      by Whiteout = refl
+
+  pub used-node_without_entry : (o : Option (Node ℕ)) → is_some (node_without_entry name o) ≡ is_some o
+  used-node_without_entry None = refl
+  used-node_without_entry (Some node) = refl
+
+  pub parent-node_without_entry : (own : ℕ) (o : Option (Node ℕ)) → parent_in own (node_without_entry name o) ≡ parent_in own o
+  parent-node_without_entry own None = refl
+  parent-node_without_entry own (Some node) = by node.content
+    where
+      by : (content : Content ℕ) → parent_of own (with_entries content (without_entry name (entries_of content))) ≡ parent_of own content
+      by (Directory parent entries opaque) = refl
+      by (Regular bytes) = refl
+      by (Symlink text) = refl
+      by Whiteout = refl
+
+  pub entries-node_without_entry : (o : Option (Node ℕ)) → entries_in (node_without_entry name o) ≡ without_entry name (entries_in o)
+  entries-node_without_entry None = refl
+  entries-node_without_entry (Some node) = by node.content
+    where
+      by : (content : Content ℕ)
+          → entries_of (with_entries content (without_entry name (entries_of content))) ≡ without_entry name (entries_of content)
+      by (Directory parent entries opaque) = refl
+      by (Regular bytes) = refl
+      by (Symlink text) = refl
+      by Whiteout = refl
