@@ -10,6 +10,7 @@ use Rattle.vt_spec.specs.Machine.Changes.Change.{AddName, CopyUp, Make, Move, Re
 use Rattle.vt_spec.specs.Machine.FileTree.{FileTree}
 use Rattle.vt_spec.specs.Machine.WorldLaws.{ListsNumbers}
 use Rattle.vt_spec.specs.Tree.{Node, Tree, entries_in, is_directory_node, parent_in}
+pub use Rattle.vt_spec.specs.TreeLaws.{HasOwnParents}
 use Rattle.vt_spec.specs.TreeLaws.{HasName, IsDirectory, IsReached, IsTree, entry_at, led}
 
 -- a name that is free, in a directory that names lead to from the root: EEXIST and ENOENT of mkdir(2)
@@ -55,10 +56,6 @@ IsProper tree (SetBytes file bytes) = ⊤
 IsProper tree (SetAttr object attr) = ⊤
 IsProper tree (SetMark directory opaque) = ⊤
 IsProper tree (CopyUp object) = ⊤
-
--- a directory without a name is its own parent: rmdir(2) while it is in use
-abbrev pub HasOwnParents : Tree ℕ → Type 0
-HasOwnParents tree = (number : ℕ) → IsDirectory tree number → ¬ (HasName tree number) → parent_in number (tree.node number) ≡ number
 
 -- Each change of a tree makes a tree of it.
 abbrev pub ChangesKeepTrees : Type 0

@@ -24,6 +24,10 @@ module _ {N : Type 0} where
   abbrev pub IsReached : Tree N → N → Type 0
   IsReached tree number = (names : List (List ℕ)) × (led tree tree.root names ≡ Some number)
 
+  -- a directory without a name is its own parent: rmdir(2) while it is in use
+  abbrev pub HasOwnParents : Tree N → Type 0
+  HasOwnParents tree = (number : N) → IsDirectory tree number → ¬ (HasName tree number) → parent_in number (tree.node number) ≡ number
+
   pub record IsTree (tree : Tree N) : Type 0 where
     -- the root is a directory, its own parent, and no entry leads to it
     pub root_directory : IsDirectory tree tree.root

@@ -21,7 +21,7 @@ use Rattle.vt_spec.specs.Machine.Receives.{groups_up, has_members}
 use Rattle.vt_spec.specs.PathText.{is_empty, longest_name, longest_path}
 use Rattle.vt_spec.specs.Tree.{Content, Node, bytes_in, is_directory_node, names_in}
 use Rattle.vt_spec.specs.Tree.Content.{Directory, Regular, Symlink}
-use Rattle.vt_spec.specs.TreeLaws.{IsTree, led}
+use Rattle.vt_spec.specs.TreeLaws.{HasOwnParents, IsTree, led}
 use Rattle.vt_spec.specs.Machine.World.{Descriptor, Filesystem, Layer, Namespace, Overlay, Real, Task, World, all_locations, filesystem_numbered, is_directory_at, is_overlay, layers_of, mount_at, mounts_of, open_layer, same_name, shown_layers}
 use Rattle.vt_spec.specs.Machine.World.Real.{Upper}
 
@@ -170,6 +170,7 @@ module _ {N : Type 0} (eq : N → N → Bool) where
   pub record IsWorld (world : World N) : Type 0 where
     -- trees: path_resolution(7)
     pub trees : All (λ filesystem. IsTree filesystem.files.tree) world.filesystems
+    pub own_parents : All (λ filesystem. HasOwnParents filesystem.files.tree) world.filesystems
     pub numbers : All (λ filesystem. ListsNumbers filesystem.files) world.filesystems
     -- overlays: overlayfs
     pub overlays_merge : (number : N) (overlay : Overlay N) → (filesystem_numbered eq world number).overlay ≡ Some overlay → IsMerged world (filesystem_numbered eq world number) overlay
