@@ -1,1 +1,4 @@
 pub mod Outcomes
+pub mod ShownFronts
+pub mod ShownAtPath
+pub mod ShownNames

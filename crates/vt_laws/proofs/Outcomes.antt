@@ -1,6 +1,6 @@
 -- What outcomes leave as it was.
 use Rattle.std.proofs.Common.{◌≡◌, refl}
-use Rattle.std.specs.Prelude.{Bool, true, false, List, [], ◌∷◌, Result, Ok, Err, ℕ}
+use Rattle.std.specs.Prelude.{true, false, [], ◌∷◌, Result, Ok, Err}
 use Rattle.vt_spec.specs.declared.errors.Deny.{Deny}
 use Rattle.vt_spec.specs.Errors.{Rules}
 use Rattle.vt_spec.specs.Machine.Outcomes.{Outcome, after, judged}

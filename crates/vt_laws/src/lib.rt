@@ -2,3 +2,4 @@
 #![tactic(auto)]
 
 pub mod denials;
+pub mod layers;

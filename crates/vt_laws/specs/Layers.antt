@@ -1,0 +1,2 @@
+-- Laws of overlays: what their layers show, and what a change leaves as it was.
+pub mod Shown
