@@ -2,3 +2,9 @@ pub mod Outcomes
 pub mod ShownFronts
 pub mod ShownAtPath
 pub mod ShownNames
+pub mod LowersKept
+pub mod LowersWorld
+pub mod LowersMounts
+pub mod LowersCalls
+pub mod LowersEachCall
+pub mod LowersEveryCall

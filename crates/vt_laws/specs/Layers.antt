@@ -1,2 +1,3 @@
 -- Laws of overlays: what their layers show, and what a change leaves as it was.
 pub mod Shown
+pub mod Untouched
