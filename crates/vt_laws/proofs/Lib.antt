@@ -8,3 +8,9 @@ pub mod LowersMounts
 pub mod LowersCalls
 pub mod LowersEachCall
 pub mod LowersEveryCall
+pub mod UpperLine
+pub mod UpperChain
+pub mod UpperCopies
+pub mod UpperChanges
+pub mod UpperShown
+pub mod UpperWorld

@@ -93,7 +93,7 @@ name_of_layer (top ∷ lower) path name (suc depth) layer e h =
     right false b e = e
 
 -- names lead through the place that all but the last lead to
-last_name : (tree : Tree ℕ) (from : ℕ) (path : List (List ℕ)) (name : List ℕ) → led tree from (path ++ name ∷ []) ≡ option_and_then (λ directory. entry_at tree directory name) (led tree from path)
+pub last_name : (tree : Tree ℕ) (from : ℕ) (path : List (List ℕ)) (name : List ℕ) → led tree from (path ++ name ∷ []) ≡ option_and_then (λ directory. entry_at tree directory name) (led tree from path)
 last_name tree from [] name = by (entry_at tree from name)
   where
     by : (o : Option ℕ) → option_and_then (λ next. Some next) o ≡ o

@@ -1,3 +1,4 @@
 -- Laws of overlays: what their layers show, and what a change leaves as it was.
 pub mod Shown
 pub mod Untouched
+pub mod Upper

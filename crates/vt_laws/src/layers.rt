@@ -1,6 +1,7 @@
 //! Laws of overlays: what their layers show, and what a change leaves as it was.
 ghost use Rattle.vt_laws.specs.Layers.Shown.{OneObjectIsShown, ShownIsComputed, NothingIsShown, NamesAreThoseShown};
 ghost use Rattle.vt_laws.specs.Layers.Untouched.{OtherInodesStay, OtherFilesystemsStay, ChangeKeepsTheRest, LockedInodesStay};
+ghost use Rattle.vt_laws.specs.Layers.Upper.{UpperFilesystemKeepsTheRest};
 
 /// What is shown at a path is one object or none: that of the highest layer that has one there and is not cut, unless
 /// it is a whiteout. A directory shows just the names for which something is shown.
@@ -12,10 +13,12 @@ pub fn one_object_is_shown()
 {}
 
 /// A change leaves every inode but its own as it was, and every filesystem but the one that is mounted and that of its
-/// upper layer. What is locked, as each lower layer is, stays as it was in every call on files.
+/// upper layer, in which it writes to new inodes and to the overlay's own objects. What is locked, as each lower layer is,
+/// stays as it was in every call on files.
 pub fn lower_layers_stay()
     ensures inodes { OtherInodesStay }
     ensures filesystems { OtherFilesystemsStay }
     ensures rest { ChangeKeepsTheRest }
+    ensures upper { UpperFilesystemKeepsTheRest }
     ensures locked { LockedInodesStay }
 {}
