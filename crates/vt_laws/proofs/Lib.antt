@@ -14,3 +14,11 @@ pub mod UpperCopies
 pub mod UpperChanges
 pub mod UpperShown
 pub mod UpperWorld
+pub mod UpperFit
+pub mod CopyingParts
+pub mod CopyingSound
+pub mod CopyingEach
+pub mod CopyingNames
+pub mod CopyingReady
+pub mod CopyingChanges
+pub mod CopyingEachChange

@@ -121,7 +121,7 @@ module _ (world : World ℕ) (conditions : IsWorld nat_eq world) (number : ℕ) 
         by (Some seen) inode h same = refl
 
     -- a directory with an entry for an upper object is in the upper layer
-    above_upper : (from : ℕ) (old : List ℕ) (object : ℕ) → entry_at files.tree from old ≡ Some object → HasUpper overlay.real object → HasUpper overlay.real from
+    pub above_upper : (from : ℕ) (old : List ℕ) (object : ℕ) → entry_at files.tree from old ≡ Some object → HasUpper overlay.real object → HasUpper overlay.real from
     above_upper from old object e h =
         let reached = is_reached_in files overlay_tree from old object e in
         let way = way_to files.tree reached.0 from reached.1 in
@@ -130,7 +130,7 @@ module _ (world : World ℕ) (conditions : IsWorld nat_eq world) (number : ℕ) 
         (ap (λ o. is_some (upper_object o)) (sym (real_named (way.0 ++ old ∷ []) object (led-append files.tree files.tree.root way.0 old from object way.1 e))) ∙ h)
 
     -- what lies only below has one name
-    one_below : (from other : ℕ) (old name : List ℕ) (object : ℕ) → entry_at files.tree from old ≡ Some object → entry_at files.tree other name ≡ Some object → is_some (upper_object (overlay.real object)) ≡ false → from ≡ other
+    pub one_below : (from other : ℕ) (old name : List ℕ) (object : ℕ) → entry_at files.tree from old ≡ Some object → entry_at files.tree other name ≡ Some object → is_some (upper_object (overlay.real object)) ≡ false → from ≡ other
     one_below from other old name object e f low =
         let reached = is_reached_in files overlay_tree from old object e in
         let way = way_to files.tree reached.0 from reached.1 in

@@ -2,3 +2,4 @@
 pub mod Shown
 pub mod Untouched
 pub mod Upper
+pub mod ChangesUpper

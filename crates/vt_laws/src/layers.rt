@@ -1,4 +1,5 @@
 //! Laws of overlays: what their layers show, and what a change leaves as it was.
+ghost use Rattle.vt_laws.specs.Layers.ChangesUpper.{OverlayChanges, OverlaysAreFit};
 ghost use Rattle.vt_laws.specs.Layers.Shown.{OneObjectIsShown, ShownIsComputed, NothingIsShown, NamesAreThoseShown};
 ghost use Rattle.vt_laws.specs.Layers.Untouched.{OtherInodesStay, OtherFilesystemsStay, ChangeKeepsTheRest, LockedInodesStay};
 ghost use Rattle.vt_laws.specs.Layers.Upper.{UpperFilesystemKeepsTheRest};
@@ -21,4 +22,12 @@ pub fn lower_layers_stay()
     ensures rest { ChangeKeepsTheRest }
     ensures upper { UpperFilesystemKeepsTheRest }
     ensures locked { LockedInodesStay }
+{}
+
+/// A change of an overlay changes its tree as any tree, and in the upper layer what is asked: copies with their parents,
+/// whiteouts where a lower name is left, opaque marks where a lower directory would be merged, and nothing else. Each
+/// overlay of a world is one of which this is said.
+pub fn overlays_change_their_upper_layer()
+    ensures changes { OverlayChanges }
+    ensures fit { OverlaysAreFit }
 {}

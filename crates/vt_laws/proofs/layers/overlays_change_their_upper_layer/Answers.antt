@@ -1,0 +1,9 @@
+use Rattle.vt_laws.proofs.CopyingEachChange.{overlay_changes_as_asked}
+use Rattle.vt_laws.proofs.UpperFit.{overlays_are_fit}
+use Rattle.vt_laws.proofs.layers.overlays_change_their_upper_layer.Goals as goal
+
+pub returns-clause-changes : goal.returns-clause-changes
+returns-clause-changes c = overlay_changes_as_asked
+
+pub returns-clause-fit : goal.returns-clause-fit
+returns-clause-fit c = overlays_are_fit
