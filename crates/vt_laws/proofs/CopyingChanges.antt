@@ -1,40 +1,34 @@
 -- A change of an overlay does to its upper layer what it is asked, clause by clause.
-use Rattle.std.proofs.Common.{◌≡◌, ◌≢◌, ◌⊎◌, inl, inr, refl, sym, ap, subst, ◌∙◌, true≢false, arith, ℕ, zero, suc, ◌+◌, ◌*◌, nat_eq, eq-eqb, ne_eqb, Bool, true, false, cond, ◌||◌, List, [], ◌∷◌, ◌++◌, Option, Some, None, is_some, unwrap_or, ⊎_elim}
-use Rattle.vt_spec.specs.Machine.Changes.{Change, changed, content_with_parent, node_with_attr, node_with_mark, with_inode, with_moved, with_name}
-use Rattle.vt_spec.specs.Machine.Changes.Change.{AddName, CopyUp, Make, Move, Remove, SetAttr, SetBytes, SetMark}
-use Rattle.vt_spec.specs.Machine.CopyUp.{Merge, Stack, changed_both, copied_up, emptied, hides_directory, line_to, linked, made, marked, merge_changed, moved, name_left_by, removed, shown_below, upper_directory_named, upper_of, with_real}
+use Rattle.std.proofs.Common.{◌≡◌, ◌≢◌, refl, sym, ap, ◌∙◌, true≢false, arith, ℕ, suc, nat_eq, eq-eqb, ne_eqb, Bool, true, false, cond, ◌||◌, List, [], ◌∷◌, ◌++◌, Option, Some, None, is_some, unwrap_or}
+use Rattle.vt_spec.specs.Machine.Changes.{content_with_parent, with_inode, with_moved, with_name}
+use Rattle.vt_spec.specs.Machine.CopyUp.{Merge, Stack, emptied, hides_directory, made, marked, moved, name_left_by, removed, shown_below, upper_directory_named, upper_of}
 use Rattle.vt_spec.specs.Machine.FileTree.{FileTree, is_opaque_in}
-use Rattle.vt_spec.specs.Machine.Lists.{Fresh, evens, odds, then_some}
+use Rattle.vt_spec.specs.Machine.Lists.{Fresh, then_some}
 use Rattle.vt_spec.specs.Machine.World.{Real, upper_object}
 use Rattle.vt_spec.specs.Machine.World.Real.{Upper}
 use Rattle.vt_spec.specs.Tree.{Content, Node, entries_in, entry_named, is_directory_node, new_directory, node_with_bytes, node_with_entry}
 use Rattle.vt_spec.specs.TreeLaws.{IsDirectory, IsTree, entry_at}
 use Rattle.vt_spec.specs.Machine.WorldLaws.{number_at_path}
-use Rattle.vt_spec.proofs.Nodes.{directory_used, node_set}
+use Rattle.vt_spec.proofs.Nodes.{node_set}
 use Rattle.vt_spec.proofs.Trees.{led-append}
-use Rattle.vt_laws.specs.Layers.ChangesUpper.{ChangesUpper, IsFitToChange, IsLeft, MarksAreRight, RemovedIsEmpty, copied_for}
-use Rattle.vt_laws.specs.Layers.Untouched.{IsKept}
-use Rattle.vt_laws.specs.Layers.Upper.{SpeaksOfWhatIsThere}
-use Rattle.vt_laws.proofs.CopyingEach.{IsNew, last_in_line}
-use Rattle.vt_laws.proofs.CopyingNames.{LeftWith, emptied_is_empty, emptied_other, emptied_part, is_left_by, left_part, left_stays, left_where, marked_entries, marked_itself, marked_other, moved_part}
-use Rattle.vt_laws.proofs.CopyingParts.{KeepsButNames}
-use Rattle.vt_laws.proofs.CopyingReady.{IsReady, leaves_upper, next_line, one_line, parent_in_line, stands_now}
+use Rattle.vt_laws.specs.Layers.ChangesUpper.{IsLeft}
+use Rattle.vt_laws.proofs.CopyingEach.{IsNew}
+use Rattle.vt_laws.proofs.CopyingNames.{emptied_is_empty, emptied_other, emptied_part, is_left_by, left_part, left_stays, left_where, marked_entries, marked_itself, marked_other, moved_part}
 use Rattle.vt_laws.proofs.CopyingSound.{IsSound, State}
 use Rattle.vt_laws.proofs.LowersKept.{kept_elsewhere}
 use Rattle.vt_laws.proofs.UpperChain.{one_depth}
-use Rattle.vt_laws.proofs.UpperChanges.{changes_keep}
 use Rattle.vt_laws.proofs.UpperLine.{has_entries, is_reached_in}
 use Rattle.vt_laws.proofs.UpperShown.{way_to}
 
 -- no directory has an entry for itself
-no_loop : (files : FileTree ℕ) → IsTree files.tree → (directory : ℕ) (name : List ℕ) → entry_at files.tree directory name ≢ Some directory
+pub no_loop : (files : FileTree ℕ) → IsTree files.tree → (directory : ℕ) (name : List ℕ) → entry_at files.tree directory name ≢ Some directory
 no_loop files tree directory name e =
     let reached = is_reached_in files tree directory name directory e in
     let same = one_depth files tree (suc reached.0) reached.0 directory (directory, name, reached.1, e, has_entries files.tree directory name directory e) reached.1 in
     let no : ⊥ = omega arith in no
 
 -- names lead to a directory that has an entry
-path_to : (files : FileTree ℕ) → IsTree files.tree → (directory : ℕ) (name : List ℕ) (object : ℕ) → entry_at files.tree directory name ≡ Some object → (path : List (List ℕ)) × (number_at_path files path ≡ Some directory)
+pub path_to : (files : FileTree ℕ) → IsTree files.tree → (directory : ℕ) (name : List ℕ) (object : ℕ) → entry_at files.tree directory name ≡ Some object → (path : List (List ℕ)) × (number_at_path files path ≡ Some directory)
 path_to files tree directory name object e =
     let reached = is_reached_in files tree directory name object e in
     way_to files.tree reached.0 directory reached.1
@@ -57,6 +51,7 @@ directory_named merge directory name object e = by (entry_named name (entries_in
     chosen : (number : ℕ) (b : Bool) → cond b (upper_object (merge.real number)) None ≡ Some object → upper_object (merge.real number) ≡ Some object
     chosen number true e = e
     chosen number false e = absurd (true≢false (sym (ap is_some e)))
+
     by : (o : Option ℕ) → entry_at merge.files.tree directory name ≡ o → then_some o (λ number. cond (is_directory_node (merge.files.tree.node number)) (upper_object (merge.real number)) None) ≡ Some object → (number : ℕ) × (entry_at merge.files.tree directory name ≡ Some number) × (upper_object (merge.real number) ≡ Some object)
     by None f e = absurd (true≢false (sym (ap is_some e)))
     by (Some number) f e = (number, f, chosen number (is_directory_node (merge.files.tree.node number)) e)
@@ -85,6 +80,7 @@ module _ (files : FileTree ℕ) (tree : IsTree files.tree) (first : ℕ → Opti
           let found = directory_named here directory name (upper_of here directory) same in
           no_loop files tree directory name
           (found.1 ∙ ap Some (sound.one found.0 directory seen (found.2 ∙ ap Some (upper_of_is here directory seen has)) has))
+
       not_new : upper_directory_named here directory name ≢ Some (fresh 0)
       not_new same =
           let found = directory_named here directory name (fresh 0) same in
@@ -101,9 +97,9 @@ module _ (files : FileTree ℕ) (tree : IsTree files.tree) (first : ℕ → Opti
       let added = with_inode nat_eq upper (fresh 0) object in
       let named = with_name nat_eq added (upper_of here directory) name (fresh 0) in
       let there : named.tree.node (fresh 0) ≡ Some object =
-          kept_elsewhere added (upper_of here directory) (node_with_entry name (fresh 0)) (fresh 0)
-          (ne_eqb (fresh 0) (upper_of here directory) (λ same. old_differs directory seen has (sym (upper_of_is here directory seen has) ∙ sym same)))
-          ∙ node_set upper.tree (fresh 0) (Some object) in
+      kept_elsewhere added (upper_of here directory) (node_with_entry name (fresh 0)) (fresh 0)
+      (ne_eqb (fresh 0) (upper_of here directory) (λ same. old_differs directory seen has (sym (upper_of_is here directory seen has) ∙ sym same)))
+      ∙ node_set upper.tree (fresh 0) (Some object) in
       let made_directory = ap (content_with_parent (upper_of here directory)) e in
       ap (λ n. is_opaque_in ((marked nat_eq (hides_directory nat_eq stack here directory name) named (fresh 0)).tree.node n))
       (ap (λ b. unwrap_or (upper_object (cond b (Some (Upper (fresh 0))) (real number))) number) (eq-eqb number number refl))

@@ -1,15 +1,13 @@
 -- Each change of an overlay does to its upper layer what it is asked.
-use Rattle.std.proofs.Common.{◌≡◌, ◌≢◌, refl, sym, ap, subst, ◌∙◌, true≢false, arith, ℕ, ◌+◌, ◌*◌, nat_eq, Bool, true, false, List, [], ◌∷◌, ◌++◌, Option, Some, None, is_some}
+use Rattle.std.proofs.Common.{◌≡◌, ◌≢◌, refl, sym, ap, subst, ◌∙◌, true≢false, arith, ℕ, ◌+◌, ◌*◌, nat_eq, Bool, true, false, ◌++◌, Some, is_some}
 use Rattle.vt_spec.specs.Machine.Changes.{Change, node_with_attr, node_with_mark}
 use Rattle.vt_spec.specs.Machine.Changes.Change.{AddName, CopyUp, Make, Move, Remove, SetAttr, SetBytes, SetMark}
 use Rattle.vt_spec.specs.Machine.CopyUp.{Merge, Stack, changed_both, copied_up, line_to, linked, made, merge_changed, moved, removed}
-use Rattle.vt_spec.specs.Machine.FileTree.{a_name}
 use Rattle.vt_spec.specs.Machine.Lists.{Fresh, evens, odds}
-use Rattle.vt_spec.specs.Machine.World.{Real, upper_object}
-use Rattle.vt_spec.specs.Tree.{Node, node_with_bytes}
-use Rattle.vt_spec.specs.TreeLaws.{entry_at}
+use Rattle.vt_spec.specs.Machine.World.{upper_object}
+use Rattle.vt_spec.specs.Tree.{node_with_bytes}
 use Rattle.vt_spec.proofs.Nodes.{directory_used}
-use Rattle.vt_laws.specs.Layers.ChangesUpper.{ChangesUpper, IsFitToChange, IsLeft, MarksAreRight, RemovedIsEmpty, asked_copies, copied_for}
+use Rattle.vt_laws.specs.Layers.ChangesUpper.{ChangesUpper, IsFitToChange, IsLeft, MarksAreRight, NamesLeft, RemovedIsEmpty}
 use Rattle.vt_laws.specs.Layers.Untouched.{IsKept}
 use Rattle.vt_laws.specs.Layers.Upper.{SpeaksOfWhatIsThere}
 use Rattle.vt_laws.proofs.CopyingChanges.{made_marked, moved_left, moved_marked, object_there, removed_empty, removed_left}
@@ -90,13 +88,12 @@ module _ (fresh : Fresh ℕ) (stack : Stack ℕ) (before : Merge ℕ) (fit : IsF
       }
   overlay_changes (Remove directory name object) there =
       let ready = by_evens directory in
-      let is = directory_used before.files.tree directory (has_entries before.files.tree directory name object there) in
-      let seen = object_there ready.soundly.real directory (ready.all directory (in_own_line directory) is) in
+      let seen = object_there ready.soundly.real directory (ready.all directory (in_own_line directory) there) in
       record {
         tree = ap (λ m. (removed nat_eq (odds fresh) stack m directory name object).files) ready.soundly.is;
         stands = stands_now fresh before fit (IsNew (odds fresh)) (line_to nat_eq before.files directory) _ ready;
-        names_left = subst (λ m. IsLeft stack m (removed nat_eq (odds fresh) stack m directory name object) directory name) (sym ready.soundly.is)
-            (removed_left before.files fit.tree before.real (odds fresh) stack ready.soundly.real ready.soundly.upper ready.soundly.sound directory name object seen.0 there seen.1);
+        names_left = subst (λ m. NamesLeft stack m (removed nat_eq (odds fresh) stack m directory name object) (Remove directory name object)) (sym ready.soundly.is)
+            (λ e. removed_left before.files fit.tree before.real (odds fresh) stack ready.soundly.real ready.soundly.upper ready.soundly.sound directory name object seen.0 e seen.1);
         removed_empty = subst (λ m. RemovedIsEmpty m (removed nat_eq (odds fresh) stack m directory name object) (Remove directory name object)) (sym ready.soundly.is)
             (removed_empty before.files fit.tree before.real (odds fresh) stack ready.soundly.real ready.soundly.upper ready.soundly.sound directory name object);
         marks = tt;
@@ -106,10 +103,10 @@ module _ (fresh : Fresh ℕ) (stack : Stack ℕ) (before : Merge ℕ) (fit : IsF
       let ready = then_odd_evens object to in
       let is = fit.tree.alive from old object there.0 in
       let grows = λ (number : ℕ) (h : is_some (upper_object (before.real number)) ≡ true).
-          let stood = object_there before.real number h in ap is_some (ready.soundly.grows number stood.0 stood.1) in
+      let stood = object_there before.real number h in ap is_some (ready.soundly.grows number stood.0 stood.1) in
       let from_upper = leaves_upper fresh before fit ready.soundly.real grows from old object there.0
-          (λ named e. ready.all named.0 (among_first named.0 object to (parent_in_line before.files object named e))
-          (directory_used before.files.tree named.0 (has_entries before.files.tree named.0 named.1 object (named_so before.files fit.tree object named e)))) in
+      (λ named e. ready.all named.0 (among_first named.0 object to (parent_in_line before.files object named e))
+      (directory_used before.files.tree named.0 (has_entries before.files.tree named.0 named.1 object (named_so before.files fit.tree object named e)))) in
       let seen_from = object_there ready.soundly.real from from_upper in
       let seen = object_there ready.soundly.real object (ready.all object (among_first object object to (in_own_line object)) is) in
       record {

@@ -1,5 +1,5 @@
 -- What stands in the upper layer where a name was, and what a mark changes.
-use Rattle.std.proofs.Common.{◌≡◌, ◌≢◌, refl, sym, ap, subst, ◌∙◌, true≢false, ℕ, nat_eq, eq-eqb, ne_eqb, Bool, true, false, cond, not, ◌||◌, List, [], ◌∷◌, filter, Option, Some, None, is_some}
+use Rattle.std.proofs.Common.{◌≡◌, ◌≢◌, refl, sym, ap, subst, ◌∙◌, true≢false, ℕ, nat_eq, ne_eqb, Bool, true, false, cond, not, ◌||◌, List, [], ◌∷◌, Option, Some, None, is_some}
 use Rattle.std.specs.Cmp.{tied_itself}
 use Rattle.std.specs.Cmp.Lexicographic.{nat_list_cmp_total, texts_ties}
 use Rattle.std.specs.Ordering.{eq_by_cmp, is_eq}
@@ -10,7 +10,7 @@ use Rattle.vt_spec.specs.Machine.FileTree.{FileTree, is_opaque_in, opaque_of}
 use Rattle.vt_spec.specs.Machine.Layers.{Shown}
 use Rattle.vt_spec.specs.Machine.Lists.{Fresh}
 use Rattle.vt_spec.specs.Rights.{is_directory}
-use Rattle.vt_spec.specs.Tree.{Content, Entries, Node, entries_in, entries_of, entry_named, is_directory_node, kind_of, name_cmp, node_with_entry, with_entries, with_entry}
+use Rattle.vt_spec.specs.Tree.{Content, Entries, Node, entries_in, entries_of, entry_named, is_directory_node, kind_of, name_cmp, node_with_entry, with_entries}
 use Rattle.vt_spec.specs.Tree.Content.{Directory, Regular, Symlink, Whiteout}
 use Rattle.vt_spec.specs.TreeLaws.{entry_at}
 use Rattle.vt_spec.proofs.Nodes.{entries-node_with_entry, entry_named-with_entry, node_set}
@@ -27,6 +27,7 @@ name_gone name (entry ∷ entries) = by (bytes_eq entry.0 name) refl (name_gone 
     other e false t = refl
     other e true t =
         absurd (true≢false (sym (texts_ties entry.0 name ∙ ap (λ n. eq_by_cmp name_cmp n name) (sym (Rattle.vt_spec.proofs.Nodes.same_name name entry.0 t)) ∙ ap is_eq (tied_itself nat_list_cmp_total name)) ∙ e))
+
     by : (b : Bool) → bytes_eq entry.0 name ≡ b → entry_named name (without_entry name entries) ≡ None → entry_named name (cond (not b) (entry ∷ without_entry name entries) (without_entry name entries)) ≡ None
     by true e rest = rest
     by false e rest = other e (eq_by_cmp name_cmp name entry.0) refl ∙ rest
@@ -42,7 +43,7 @@ no_name_left name (Some node) = by node.content
     by Whiteout = refl
 
 -- a name that was put in is there
-name_put : (name : List ℕ) (number : ℕ) (inode : Option (Node ℕ)) → is_directory_node inode ≡ true → entry_named name (entries_in (node_with_entry name number inode)) ≡ Some number
+pub name_put : (name : List ℕ) (number : ℕ) (inode : Option (Node ℕ)) → is_directory_node inode ≡ true → entry_named name (entries_in (node_with_entry name number inode)) ≡ Some number
 name_put name number inode d =
     ap (entry_named name) (entries-node_with_entry name number inode d)
     ∙ entry_named-with_entry name name number (entries_in inode)
@@ -64,8 +65,7 @@ left_where fresh None stack upper directory name d differ =
     ap (λ o. entry_named name (entries_in o)) (node_set upper.tree directory (node_without_entry name (upper.tree.node directory))) ∙ no_name_left name (upper.tree.node directory)
 left_where fresh (Some seen) stack upper directory name d differ =
     let whited = with_inode nat_eq upper (fresh 0) (whiteout_of stack.mounter) in
-    let same = ap (λ b. cond b (Some (whiteout_of stack.mounter)) (upper.tree.node directory)) (ne_eqb directory (fresh 0) differ) in
-    (
+    let same = ap (λ b. cond b (Some (whiteout_of stack.mounter)) (upper.tree.node directory)) (ne_eqb directory (fresh 0) differ) in (
       ap (λ o. entry_named name (entries_in o)) (node_set whited.tree directory (node_with_entry name (fresh 0) (whited.tree.node directory)))
           ∙ name_put name (fresh 0) (whited.tree.node directory) (ap is_directory_node same ∙ d),
       kept_elsewhere whited directory (node_with_entry name (fresh 0)) (fresh 0) (ne_eqb (fresh 0) directory (λ e. differ (sym e)))

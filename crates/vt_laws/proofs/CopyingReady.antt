@@ -1,18 +1,17 @@
 -- What a change of an overlay finds when what it asks to be copied is copied.
-use Rattle.std.proofs.Common.{◌≡◌, ◌≢◌, ◌⊎◌, inl, inr, refl, sym, ap, subst, ◌∙◌, true≢false, arith, ℕ, zero, suc, ◌+◌, ◌*◌, nat_eq, eq-eqb, Bool, true, false, cond, ◌||◌, List, [], ◌∷◌, ◌++◌, reverse, Option, Some, None, is_some, unwrap_or, ⊎_elim, length}
+use Rattle.std.proofs.Common.{◌≡◌, ◌⊎◌, inl, inr, refl, sym, ap, subst, ◌∙◌, true≢false, ℕ, zero, suc, nat_eq, eq-eqb, Bool, true, false, ◌||◌, List, [], ◌∷◌, ◌++◌, reverse, Option, Some, None, is_some, ⊎_elim, length}
 use Rattle.std.specs.List.{list_any}
 use Rattle.std.proofs.lemmas.List.Folds.{list_any-append}
 use mathlib.Core.List.{reverse-cons}
-use Rattle.vt_spec.specs.Machine.CopyUp.{Merge, copied_up, directories_to, line_by, line_to, upper_of}
-use Rattle.vt_spec.specs.Machine.FileTree.{FileTree, a_name, ancestors, named_parent}
-use Rattle.vt_spec.specs.Machine.Lists.{Fresh, chain, evens, is_among, odds}
+use Rattle.vt_spec.specs.Machine.CopyUp.{Merge, copied_up, directories_to, line_by, line_to}
+use Rattle.vt_spec.specs.Machine.FileTree.{FileTree, a_name, named_parent}
+use Rattle.vt_spec.specs.Machine.Lists.{Fresh, chain, is_among}
 use Rattle.vt_spec.specs.Machine.World.{Real, upper_object}
-use Rattle.vt_spec.specs.TreeLaws.{IsDirectory, IsTree, entry_at}
-use Rattle.vt_spec.proofs.Nodes.{directory_used}
+use Rattle.vt_spec.specs.TreeLaws.{entry_at}
 use Rattle.vt_laws.specs.Layers.ChangesUpper.{IsFitToChange, StandsNow}
-use Rattle.vt_laws.proofs.CopyingEach.{CopiesAll, IsNew, last_in_line, line_copied}
+use Rattle.vt_laws.proofs.CopyingEach.{IsNew, line_copied}
 use Rattle.vt_laws.proofs.CopyingSound.{IsSound, Soundly, State}
-use Rattle.vt_laws.proofs.UpperLine.{has_entries, named_so}
+use Rattle.vt_laws.proofs.UpperLine.{named_so}
 use Rattle.vt_laws.proofs.UpperShown.{has_a_name}
 
 or_right : (a b : Bool) → b ≡ true → (a || b) ≡ true
@@ -28,7 +27,7 @@ or_cases true b e = inl refl
 or_cases false b e = inr e
 
 -- a directory is in the line to itself, and so in the line to what it has a name of
-in_its_line : (files : FileTree ℕ) (directory : ℕ) → is_among nat_eq directory (directories_to nat_eq files directory) ≡ true
+pub in_its_line : (files : FileTree ℕ) (directory : ℕ) → is_among nat_eq directory (directories_to nat_eq files directory) ≡ true
 in_its_line files directory = by (length files.numbers)
   where
     last : (rest : List ℕ) → is_among nat_eq directory (reverse (directory ∷ rest)) ≡ true
@@ -36,6 +35,7 @@ in_its_line files directory = by (length files.numbers)
         ap (list_any (nat_eq directory)) (reverse-cons directory rest)
         ∙ list_any-append (nat_eq directory) (reverse rest) (directory ∷ [])
         ∙ or_right (list_any (nat_eq directory) (reverse rest)) _ (ap (λ b. b || false) (eq-eqb directory directory refl))
+
     by : (most : ℕ) → is_among nat_eq directory (reverse (chain most (named_parent nat_eq files.tree) directory)) ≡ true
     by zero = last []
     by (suc most) = step (named_parent nat_eq files.tree directory)
@@ -75,7 +75,7 @@ module _ (fresh : Fresh ℕ) (before : Merge ℕ) (fit : IsFitToChange fresh bef
       → (object : ℕ) → IsReady spare (line_to nat_eq files object) (copied_up nat_eq supply before object)
   one_line spare new supply distinct apart own object =
       let copies = line_copied files before.real spare supply distinct apart object before.real before.upper (start spare new)
-          (λ j number e. let found = own j in fit.unused found.0 number (e ∙ ap Some found.1)) in
+      (λ j number e. let found = own j in fit.unused found.0 number (e ∙ ap Some found.1)) in
       record {
         soundly = record {
           real = copies.soundly.real;
@@ -94,13 +94,13 @@ module _ (fresh : Fresh ℕ) (before : Merge ℕ) (fit : IsFitToChange fresh bef
   next_line wide spare narrower list merge ready supply distinct apart spared own object =
       let sound = ready.soundly.sound in
       let copies = line_copied files before.real spare supply distinct apart object ready.soundly.real ready.soundly.upper
-          (record {
-            one = sound.one;
-            kinds = sound.kinds;
-            stands = sound.stands;
-            spared = λ number seen e s. sound.spared number seen e (narrower seen s);
-          })
-          (λ j number e. sound.spared number (supply j) e (spared j)) in
+      (record {
+        one = sound.one;
+        kinds = sound.kinds;
+        stands = sound.stands;
+        spared = λ number seen e s. sound.spared number seen e (narrower seen s);
+      })
+      (λ j number e. sound.spared number (supply j) e (spared j)) in
       subst (λ m. IsReady spare (list ++ line_to nat_eq files object) (copied_up nat_eq supply m object)) (sym ready.soundly.is)
       (record {
         soundly = record {
@@ -147,6 +147,7 @@ module _ (fresh : Fresh ℕ) (before : Merge ℕ) (fit : IsFitToChange fresh bef
       named low None a h = absurd (true≢false (sym h))
       named low (Some name) a h =
           subst (λ n. is_some (upper_object (later n)) ≡ true) (fit.one_name name.0 from name.1 old object (named_so files fit.tree object name a) e low) (parent name a)
+
       by : (b : Bool) → is_some (upper_object (before.real object)) ≡ b → is_some (upper_object (later from)) ≡ true
       by true h = grows from (fit.above from old object e h)
       by false low = named low (a_name nat_eq files object) refl (has_a_name files fit.numbers from old object e)

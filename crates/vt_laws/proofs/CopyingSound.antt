@@ -1,10 +1,9 @@
 -- What is copied up stands in the upper layer: each inode has its own object there, of its kind, and a copy is what is shown.
-use Rattle.std.proofs.Common.{◌≡◌, ◌≢◌, ◌≤◌, ◌⊎◌, inl, inr, refl, sym, ap, subst, ◌∙◌, true≢false, arith, ℕ, zero, suc, ◌+◌, nat_eq, eq-eqb, eqb-true, ne_eqb, Bool, true, false, cond, ◌||◌, List, [], ◌∷◌, Option, Some, None, is_some, ⊎_elim}
+use Rattle.std.proofs.Common.{◌≡◌, ◌≢◌, ◌⊎◌, inl, inr, refl, sym, ap, subst, ◌∙◌, ℕ, nat_eq, eq-eqb, ne_eqb, true, false, cond, List, Option, Some, None, is_some, ⊎_elim}
 use Rattle.std.proofs.lemmas.Bool.Decides.{eqb_tells}
-use Rattle.vt_spec.specs.Machine.Changes.{changed_node, with_inode, with_name}
-use Rattle.vt_spec.specs.Machine.CopyUp.{Merge, copied_content, copied_each, copy_named, copy_of, copy_of_node, copy_parent, is_in_upper, upper_of, with_real}
-use Rattle.vt_spec.specs.Machine.FileTree.{FileTree, a_name, attr_in, is_opaque_in, kind_in, opaque_of}
-use Rattle.vt_spec.specs.Machine.Lists.{Fresh, is_among}
+use Rattle.vt_spec.specs.Machine.Changes.{with_inode}
+use Rattle.vt_spec.specs.Machine.CopyUp.{Merge, copied_content, copy_named, copy_of_node, copy_parent, upper_of, with_real}
+use Rattle.vt_spec.specs.Machine.FileTree.{FileTree, a_name, opaque_of}
 use Rattle.vt_spec.specs.Machine.World.{Real, upper_object}
 use Rattle.vt_spec.specs.Machine.World.Real.{Upper}
 use Rattle.vt_spec.specs.Machine.WorldLaws.{number_at_path}
@@ -33,6 +32,18 @@ copy_mark parent (Directory old entries opaque) = refl
 copy_mark parent (Regular bytes) = refl
 copy_mark parent (Symlink text) = refl
 copy_mark parent Whiteout = refl
+
+-- a copied inode is a copy of what is shown
+pub is_copy_of : (parent : ℕ) (seen : Option (Node ℕ)) (node : Node ℕ) → seen ≡ Some node → IsCopyOf seen (Some (record { attr = node.attr; content = copied_content parent node.content }))
+is_copy_of parent seen node e =
+    subst (λ o. IsCopyOf o (Some (record { attr = node.attr; content = copied_content parent node.content }))) (sym e)
+    (record {
+      there = refl;
+      kind = copy_kind parent node.content;
+      attr = refl;
+      bytes = copy_bytes parent node.content;
+      mark = copy_mark parent node.content;
+    })
 
 module _ (files : FileTree ℕ) (first : ℕ → Option (Real ℕ)) (spare : ℕ → Type 0) where
   abbrev pub State : (ℕ → Option (Real ℕ)) → FileTree ℕ → Merge ℕ
@@ -91,14 +102,8 @@ module _ (files : FileTree ℕ) (first : ℕ → Option (Real ℕ)) (spare : ℕ
 
     is_copy : IsCopyOf (files.tree.node object) (with_copy.tree.node copy)
     is_copy =
-        subst (λ o. IsCopyOf o (with_copy.tree.node copy)) (sym is_node)
-        (subst (IsCopyOf (Some node)) (sym at_copy) (record {
-          there = refl;
-          kind = copy_kind (copy_parent (State real upper) copy (a_name nat_eq files object)) node.content;
-          attr = refl;
-          bytes = copy_bytes (copy_parent (State real upper) copy (a_name nat_eq files object)) node.content;
-          mark = copy_mark (copy_parent (State real upper) copy (a_name nat_eq files object)) node.content;
-        }))
+        subst (IsCopyOf (files.tree.node object)) (sym at_copy)
+        (is_copy_of (copy_parent (State real upper) copy (a_name nat_eq files object)) (files.tree.node object) node is_node)
 
     other_object : (number seen : ℕ) → upper_object (real number) ≡ Some seen → seen ≢ copy
     other_object number seen e same = unused number (e ∙ ap Some same)
@@ -138,11 +143,13 @@ module _ (files : FileTree ℕ) (first : ℕ → Option (Real ℕ)) (spare : ℕ
     pub record CopiesOne (merge : Merge ℕ) : Type 0 where
       pub soundly : Soundly real (λ seen. seen ≡ copy) merge
       pub copied : is_some (upper_object (soundly.real object)) ≡ true
+      pub others : (number : ℕ) → nat_eq number object ≡ false → soundly.real number ≡ real number
 
     pub soundly_copied : CopiesOne (copy_of_node nat_eq (State real upper) object copy node)
     soundly_copied = record {
       soundly = soundly;
       copied = ap (λ b. is_some (upper_object (cond b (Some (Upper copy)) (real object)))) (eq-eqb object object refl);
+      others = λ number e. ap (λ b. cond b (Some (Upper copy)) (real number)) e;
     }
       where
         soundly : Soundly real (λ seen. seen ≡ copy) (copy_of_node nat_eq (State real upper) object copy node)
@@ -159,4 +166,3 @@ module _ (files : FileTree ℕ) (first : ℕ → Option (Real ℕ)) (spare : ℕ
           told = λ number seen e.
               ⊎_elim (λ t. inr t.1) (λ t. inl t) (told_later number seen e);
         }
-

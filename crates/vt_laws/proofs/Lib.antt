@@ -20,5 +20,6 @@ pub mod CopyingSound
 pub mod CopyingEach
 pub mod CopyingNames
 pub mod CopyingReady
+pub mod CopyingLast
 pub mod CopyingChanges
 pub mod CopyingEachChange

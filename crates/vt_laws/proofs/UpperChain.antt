@@ -93,10 +93,10 @@ module _ (files : FileTree ℕ) (tree : IsTree files.tree) where
   up_from most steps directory r =
       ap (λ o. elim o as (λ _. List ℕ) [ None ↦ directory ∷ [] | Some b ↦ directory ∷ chain most (named_parent nat_eq files.tree) b ]) (parent_of_reached steps directory r)
 
-  abbrev IsAbove : ℕ → ℕ → Type 0
+  abbrev pub IsAbove : ℕ → ℕ → Type 0
   IsAbove steps q = (fewer : ℕ) × (fewer ≤ steps) × ReachedIn files.tree fewer q
 
-  all_above : (steps directory : ℕ) → ReachedIn files.tree steps directory → (q : ℕ) → list_any (nat_eq q) (chain steps (named_parent nat_eq files.tree) directory) ≡ true → IsAbove steps q
+  pub all_above : (steps directory : ℕ) → ReachedIn files.tree steps directory → (q : ℕ) → list_any (nat_eq q) (chain steps (named_parent nat_eq files.tree) directory) ≡ true → IsAbove steps q
   all_above zero directory r q e = by (nat_eq q directory) refl e
     where
       by : (b : Bool) → nat_eq q directory ≡ b → (b || false) ≡ true → IsAbove zero q

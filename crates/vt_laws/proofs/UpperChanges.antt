@@ -9,11 +9,9 @@ use Rattle.vt_spec.specs.Machine.World.{Real, upper_object}
 use Rattle.vt_spec.specs.Machine.WorldLaws.{ListsNumbers}
 use Rattle.vt_spec.specs.Tree.{Node, entries_in, entry_named, is_directory_node, node_with_bytes, node_with_entry}
 use Rattle.vt_spec.specs.TreeLaws.{IsTree, entry_at}
-use Rattle.vt_spec.proofs.Nodes.{directory_used}
 use Rattle.vt_laws.specs.Layers.Untouched.{IsKept}
 use Rattle.vt_laws.specs.Layers.Upper.{SpeaksOfWhatIsThere}
 use Rattle.vt_laws.proofs.LowersKept.{kept_both, kept_elsewhere, kept_moved, kept_same}
-use Rattle.vt_laws.proofs.UpperLine.{has_entries}
 use Rattle.vt_laws.proofs.UpperCopies.{HasUpper, IsApart, MergeOf, up_arrives, upper_differs}
 
 -- Changes of the upper tree that are not of the inode
@@ -124,7 +122,7 @@ module _ (files : FileTree ℕ) (tree : IsTree files.tree) (numbers : ListsNumbe
         (subst (λ m. After (linked nat_eq m directory name object)) (sym copied.is)
         (kept_same node _ (linked_keeps fresh new stack copied.real copied.upper copied.fine directory name object copied.copied)))
     changes_keep (Remove directory name object) there from_too =
-        let copied = (up_arrives files tree numbers inode node (evens fresh) (λ k. new (2 * k)) real upper fine directory (directory_used files.tree directory (has_entries files.tree directory name object there))).arrives in
+        let copied = (up_arrives files tree numbers inode node (evens fresh) (λ k. new (2 * k)) real upper fine directory there).arrives in
         subst (λ m. After (removed nat_eq (odds fresh) stack m directory name object)) (sym copied.is)
         (kept_same node _ (removed_keeps (odds fresh) (λ k. new (2 * k + 1)) stack copied.real copied.upper copied.fine directory name object copied.copied))
     changes_keep (Move from old to name object) there from_too =

@@ -1,20 +1,19 @@
 -- Each overlay of a world is fit to change.
-use Rattle.std.proofs.Common.{◌≡◌, ◌≢◌, refl, sym, ap, subst, ◌∙◌, true≢false, ℕ, zero, suc, nat_eq, Bool, true, false, cond, not, List, [], ◌∷◌, ◌++◌, map, Option, Some, None, is_some, slice_get}
+use Rattle.std.proofs.Common.{◌≡◌, refl, sym, ap, subst, ◌∙◌, true≢false, ℕ, zero, suc, nat_eq, true, List, ◌∷◌, ◌++◌, map, Option, Some, None, is_some}
 use Rattle.std.specs.Prelude.{option_map, option_to_list}
 use Rattle.vt_spec.specs.Machine.Filesystems.{merge_of}
 use Rattle.vt_spec.specs.Machine.Layers.{OpenLayer, Shown, shown}
 use Rattle.vt_spec.specs.Machine.Lists.{Fresh, holds_of, then_some}
-use Rattle.vt_spec.specs.Machine.Merging.{layer_node, merged_at, real_object}
+use Rattle.vt_spec.specs.Machine.Merging.{layer_node, real_object}
 use Rattle.vt_spec.specs.Machine.World.{Filesystem, Layer, Overlay, Real, World, filesystem_numbered, open_layer, upper_object}
 use Rattle.vt_spec.specs.Machine.World.Real.{Below, Upper}
-use Rattle.vt_spec.specs.Machine.WorldLaws.{IsMerged, IsWorld, SameObject, is_there, number_at_path, same_content}
+use Rattle.vt_spec.specs.Machine.WorldLaws.{IsWorld, SameObject, is_there, number_at_path, same_content}
 use Rattle.vt_spec.specs.Rights.{is_directory}
 use Rattle.vt_spec.specs.Tree.{Content, Node, is_directory_node, kind_of}
 use Rattle.vt_spec.specs.Tree.Content.{Directory, Regular, Symlink, Whiteout}
 use Rattle.vt_laws.specs.Layers.ChangesUpper.{IsFitToChange}
 use Rattle.vt_laws.specs.Layers.Untouched.{inode_in}
 use Rattle.vt_laws.proofs.ShownAtPath.{none_is_some, some_is_one}
-use Rattle.vt_laws.proofs.UpperShown.{real_at}
 use Rattle.vt_laws.proofs.UpperWorld.{above_upper, one_below, overlay_merges, overlay_numbers, overlay_tree, real_named, root_is_upper}
 
 -- an upper object is a real one
@@ -71,6 +70,7 @@ module _ (world : World ℕ) (conditions : IsWorld nat_eq world) (number : ℕ) 
       seen_so : (layer found : ℕ) → upper_object (Some (real_object true layer (record { path = path; seen = record { layer = layer; object = found } }))) ≡ Some object → SameObject (merged.files.tree.node inode) (layer_node (top ∷ lower) (record { layer = layer; object = found })) → is_directory_node (top.tree.node object) ≡ is_directory_node (merged.files.tree.node inode)
       seen_so zero found u same = ap (λ o. is_directory_node (top.tree.node o)) (sym (some_is_one found object u)) ∙ same_directory (merged.files.tree.node inode) (top.tree.node found) same
       seen_so (suc layer) found u same = none_is_some object u
+
       by : (o : Option (Shown ℕ)) → shown (top ∷ lower) path ≡ o → upper_object (option_map (λ m. real_object true m.seen.layer m) (option_map (λ seen. record { path = path; seen = seen }) o)) ≡ Some object → SameObject (merged.files.tree.node inode) (then_some o (layer_node (top ∷ lower))) → is_directory_node (top.tree.node object) ≡ is_directory_node (merged.files.tree.node inode)
       by None s u same = none_is_some object u
       by (Some seen) s u same = seen_so seen.layer seen.object u same

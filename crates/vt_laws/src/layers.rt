@@ -1,5 +1,5 @@
 //! Laws of overlays: what their layers show, and what a change leaves as it was.
-ghost use Rattle.vt_laws.specs.Layers.ChangesUpper.{OverlayChanges, OverlaysAreFit};
+ghost use Rattle.vt_laws.specs.Layers.ChangesUpper.{CopiesHaveTheirName, OverlayChanges, OverlaysAreFit};
 ghost use Rattle.vt_laws.specs.Layers.Shown.{OneObjectIsShown, ShownIsComputed, NothingIsShown, NamesAreThoseShown};
 ghost use Rattle.vt_laws.specs.Layers.Untouched.{OtherInodesStay, OtherFilesystemsStay, ChangeKeepsTheRest, LockedInodesStay};
 ghost use Rattle.vt_laws.specs.Layers.Upper.{UpperFilesystemKeepsTheRest};
@@ -29,5 +29,6 @@ pub fn lower_layers_stay()
 /// overlay of a world is one of which this is said.
 pub fn overlays_change_their_upper_layer()
     ensures changes { OverlayChanges }
+    ensures copies { CopiesHaveTheirName }
     ensures fit { OverlaysAreFit }
 {}

@@ -1,15 +1,14 @@
 -- What a change of an overlay does to its tree and to its upper layer, clause by clause: the kernel's overlayfs document,
 -- "upper and lower" (copy_up) and "whiteouts and opaque directories".
-use Rattle.std.specs.Prelude.{Bool, List, None, Option, Some, [], false, is_some, nat_eq, true, ℕ, ⊤, ◌++◌, ◌||◌, ◌≡◌, ◌≢◌, ◌⊎◌}
+use Rattle.std.specs.Prelude.{List, None, Option, Some, [], false, is_some, nat_eq, true, ℕ, ⊤, ◌++◌, ◌||◌, ◌≡◌, ◌≢◌, ◌⊎◌}
 use Rattle.vt_spec.specs.Machine.Changes.{Change, changed}
 use Rattle.vt_spec.specs.Machine.Changes.Change.{AddName, CopyUp, Make, Move, Remove, SetAttr, SetBytes, SetMark}
 use Rattle.vt_spec.specs.Machine.CopyUp.{Merge, Stack, copied_up, hides_directory, line_to, merge_changed, shown_below, upper_directory_named, upper_of, whiteout_of}
-use Rattle.vt_spec.specs.Machine.FileTree.{FileTree, attr_in, is_opaque_in, kind_in}
+use Rattle.vt_spec.specs.Machine.FileTree.{FileTree, a_name, attr_in, is_opaque_in, kind_in}
 use Rattle.vt_spec.specs.Machine.Layers.{Shown}
 use Rattle.vt_spec.specs.Machine.Lists.{Fresh, evens, is_among, odds}
 use Rattle.vt_spec.specs.Machine.Filesystems.{merge_of}
-use Rattle.vt_spec.specs.Machine.World.{Layer, Overlay, Real, World, filesystem_numbered, upper_object}
-use Rattle.vt_spec.specs.Machine.World.Real.{Upper}
+use Rattle.vt_spec.specs.Machine.World.{Layer, Overlay, World, filesystem_numbered, upper_object}
 use Rattle.vt_spec.specs.Machine.WorldLaws.{IsWorld, ListsNumbers, number_at_path}
 use Rattle.vt_spec.specs.Tree.{Node, bytes_in, entries_in, is_directory_node, new_directory}
 use Rattle.vt_spec.specs.TreeLaws.{IsDirectory, IsTree, entry_at}
@@ -84,7 +83,8 @@ IsLeft stack copied later directory name =
 
 -- the names that a change removes or leaves
 abbrev pub NamesLeft : Stack ℕ → Merge ℕ → Merge ℕ → Change ℕ → Type 0
-NamesLeft stack copied later (Remove directory name object) = IsLeft stack copied later directory name
+NamesLeft stack copied later (Remove directory name object) =
+    entry_at copied.files.tree directory name ≡ Some object → IsLeft stack copied later directory name
 NamesLeft stack copied later (Move from old to new object) = IsLeft stack copied later from old
 NamesLeft stack copied later change = ⊤
 
@@ -135,3 +135,15 @@ OverlaysAreFit =
     → (filesystem_numbered nat_eq world number).overlay ≡ Some overlay → overlay.upper ≡ Some upper
     → ((j k : ℕ) → fresh j ≡ fresh k → j ≡ k) → ((k : ℕ) → inode_in world upper.filesystem (fresh k) ≡ None)
     → IsFitToChange fresh (merge_of nat_eq world (filesystem_numbered nat_eq world number) overlay upper)
+
+-- An object that lay only below is copied as an inode with no names in it, which stands under the name that the object has, or
+-- under none.
+abbrev pub CopiesHaveTheirName : Type 0
+CopiesHaveTheirName =
+    (fresh : Fresh ℕ) (before : Merge ℕ) (object : ℕ)
+    → IsFitToChange fresh before → IsThere before.files object → upper_object (before.real object) ≡ None
+    → (copy : ℕ) × (upper_object ((copied_up nat_eq fresh before object).real object) ≡ Some copy)
+    × IsCopyOf (before.files.tree.node object) ((copied_up nat_eq fresh before object).upper.tree.node copy)
+    × (entries_in ((copied_up nat_eq fresh before object).upper.tree.node copy) ≡ [])
+    × ((name : ℕ × List ℕ) → a_name nat_eq before.files object ≡ Some name
+    → entry_at (copied_up nat_eq fresh before object).upper.tree (upper_of (copied_up nat_eq fresh before object) name.0) name.1 ≡ Some copy)

@@ -20,7 +20,7 @@ IsThere files number = is_some (files.tree.node number) ≡ true
 abbrev pub SpeaksOfWhatIsThere : FileTree ℕ → Change ℕ → Type 0
 SpeaksOfWhatIsThere files (Make directory name number node) = IsThere files directory
 SpeaksOfWhatIsThere files (AddName directory name object) = IsThere files directory × IsThere files object
-SpeaksOfWhatIsThere files (Remove directory name object) = entry_at files.tree directory name ≡ Some object
+SpeaksOfWhatIsThere files (Remove directory name object) = IsThere files directory
 SpeaksOfWhatIsThere files (Move from old to new object) = (entry_at files.tree from old ≡ Some object) × IsThere files to
 SpeaksOfWhatIsThere files (SetBytes file bytes) = IsThere files file
 SpeaksOfWhatIsThere files (SetAttr object attr) = IsThere files object
