@@ -21,5 +21,12 @@ pub mod CopyingEach
 pub mod CopyingNames
 pub mod CopyingReady
 pub mod CopyingLast
+pub mod ShownDirectories
+pub mod ShownObjects
+pub mod ShownPaths
+pub mod ShownMerged
+pub mod ShownTree
+pub mod ShownWhole
+pub mod ShownMounted
 pub mod CopyingChanges
 pub mod CopyingEachChange

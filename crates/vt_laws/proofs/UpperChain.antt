@@ -132,8 +132,8 @@ module _ (files : FileTree ℕ) (tree : IsTree files.tree) where
   length_up (suc steps) directory r = ap length (up_from steps steps directory r) ∙ ap (λ n. suc n) (length_up steps r.0 r.2)
 
   -- so the steps from the root are fewer than the inodes
-  pub depth_bound : ListsNumbers nat_eq files → (steps directory : ℕ) → ReachedIn files.tree steps directory → steps ≤ length files.numbers
-  depth_bound numbers steps directory r =
+  pub depth_below : ListsNumbers nat_eq files → (steps directory : ℕ) → ReachedIn files.tree steps directory → suc steps ≤ length files.numbers
+  depth_below numbers steps directory r =
       let counted = length_up steps directory r in
       let bounded = no_longer (chain steps (named_parent nat_eq files.tree) directory) files.numbers (distinct_up steps directory r)
       (λ q e. is_listed q (all_above steps directory r q e)) in
@@ -141,3 +141,6 @@ module _ (files : FileTree ℕ) (tree : IsTree files.tree) where
     where
       is_listed : (q : ℕ) → IsAbove steps q → list_any (nat_eq q) files.numbers ≡ true
       is_listed q above = numbers q ∙ directory_used files.tree q (reached_directory files tree above.0 q above.2)
+
+  pub depth_bound : ListsNumbers nat_eq files → (steps directory : ℕ) → ReachedIn files.tree steps directory → steps ≤ length files.numbers
+  depth_bound numbers steps directory r = let h = depth_below numbers steps directory r in omega arith

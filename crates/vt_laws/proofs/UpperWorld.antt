@@ -28,7 +28,7 @@ use Rattle.vt_laws.proofs.UpperLine.{and_first, and_second, is_reached_in, named
 use Rattle.vt_laws.proofs.UpperShown.{below_is_at, front_of_longer, has_a_name, real_at, real_is_upper, upper_is_real, way_to}
 
 -- What holds of each filesystem of a list holds of the one that is found.
-all_found : (P : Filesystem ℕ → Type 0) (test : Filesystem ℕ → Bool) (list : List (Filesystem ℕ)) → All P list → (filesystem : Filesystem ℕ) → find test list ≡ Some filesystem → P filesystem
+pub all_found : (P : Filesystem ℕ → Type 0) (test : Filesystem ℕ → Bool) (list : List (Filesystem ℕ)) → All P list → (filesystem : Filesystem ℕ) → find test list ≡ Some filesystem → P filesystem
 all_found P test [] all filesystem e = none_is_some filesystem e
 all_found P test (first ∷ list) all filesystem e =
     by (test first) e (all_found P test list (λ k d h. all (suc k) d (let l : suc k < suc (length list) = omega arith in l)) filesystem)

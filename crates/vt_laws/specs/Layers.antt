@@ -3,3 +3,4 @@ pub mod Shown
 pub mod Untouched
 pub mod Upper
 pub mod ChangesUpper
+pub mod Mounted

@@ -1,5 +1,6 @@
 //! Laws of overlays: what their layers show, and what a change leaves as it was.
 ghost use Rattle.vt_laws.specs.Layers.ChangesUpper.{CopiesHaveTheirName, OverlayChanges, OverlaysAreFit};
+ghost use Rattle.vt_laws.specs.Layers.Mounted.{NewOverlayIsMerged, RemountShowsTheSame};
 ghost use Rattle.vt_laws.specs.Layers.Shown.{OneObjectIsShown, ShownIsComputed, NothingIsShown, NamesAreThoseShown};
 ghost use Rattle.vt_laws.specs.Layers.Untouched.{OtherInodesStay, OtherFilesystemsStay, ChangeKeepsTheRest, LockedInodesStay};
 ghost use Rattle.vt_laws.specs.Layers.Upper.{UpperFilesystemKeepsTheRest};
@@ -31,4 +32,11 @@ pub fn overlays_change_their_upper_layer()
     ensures changes { OverlayChanges }
     ensures copies { CopiesHaveTheirName }
     ensures fit { OverlaysAreFit }
+{}
+
+/// A newly mounted overlay has at every path what its layers show. So an overlay that is mounted anew over the layers that
+/// another one left shows the same tree, whoever mounts it.
+pub fn new_overlays_show_their_layers()
+    ensures merged { NewOverlayIsMerged }
+    ensures remount { RemountShowsTheSame }
 {}
