@@ -16,7 +16,7 @@ pub fn one_object_is_shown()
 
 /// A change leaves every inode but its own as it was, and every filesystem but the one that is mounted and that of its
 /// upper layer, in which it writes to new inodes and to the overlay's own objects. What is locked, as each lower layer is,
-/// stays as it was in every call on files.
+/// stays as it was in every call that changes no mount by its own, if no overlay has its upper layer in that tree.
 pub fn lower_layers_stay()
     ensures inodes { OtherInodesStay }
     ensures filesystems { OtherFilesystemsStay }

@@ -26,10 +26,16 @@ pub record IsFitToChange (fresh : Fresh ℕ) (merge : Merge ℕ) : Type 0 where
   pub tree : IsTree merge.files.tree
   pub numbers : ListsNumbers nat_eq merge.files
   pub root : StandsInUpper merge merge.files.tree.root
-  pub above : (directory : ℕ) (name : List ℕ) (object : ℕ) → entry_at merge.files.tree directory name ≡ Some object → StandsInUpper merge object → StandsInUpper merge directory
-  pub one_name : (directory other : ℕ) (name other_name : List ℕ) (object : ℕ) → entry_at merge.files.tree directory name ≡ Some object → entry_at merge.files.tree other other_name ≡ Some object → is_some (upper_object (merge.real object)) ≡ false → directory ≡ other
-  pub one_to_one : (a b object : ℕ) → upper_object (merge.real a) ≡ Some object → upper_object (merge.real b) ≡ Some object → a ≡ b
-  pub kinds : (path : List (List ℕ)) (number object : ℕ) → number_at_path merge.files path ≡ Some number → upper_object (merge.real number) ≡ Some object → is_directory_node (merge.upper.tree.node object) ≡ is_directory_node (merge.files.tree.node number)
+  pub above : (directory : ℕ) (name : List ℕ) (object : ℕ)
+      → entry_at merge.files.tree directory name ≡ Some object → StandsInUpper merge object → StandsInUpper merge directory
+  pub one_name : (directory other : ℕ) (name other_name : List ℕ) (object : ℕ)
+      → entry_at merge.files.tree directory name ≡ Some object → entry_at merge.files.tree other other_name ≡ Some object
+      → is_some (upper_object (merge.real object)) ≡ false → directory ≡ other
+  pub one_to_one : (a b object : ℕ)
+      → upper_object (merge.real a) ≡ Some object → upper_object (merge.real b) ≡ Some object → a ≡ b
+  pub kinds : (path : List (List ℕ)) (number object : ℕ)
+      → number_at_path merge.files path ≡ Some number → upper_object (merge.real number) ≡ Some object
+      → is_directory_node (merge.upper.tree.node object) ≡ is_directory_node (merge.files.tree.node number)
   pub unused : (k number : ℕ) → upper_object (merge.real number) ≢ Some (fresh k)
   pub distinct : (j k : ℕ) → fresh j ≡ fresh k → j ≡ k
 
@@ -111,7 +117,8 @@ pub record ChangesUpper (fresh : Fresh ℕ) (stack : Stack ℕ) (before : Merge 
   -- its tree changes as any tree does
   pub tree : later.files ≡ changed nat_eq before.files change
   -- what is asked stands in the upper layer, missing parents too, with the shown owner, mode and content, and no mark
-  pub stands : (number : ℕ) → is_among nat_eq number (asked_copies before.files change) ≡ true → IsThere before.files number → StandsNow before (copied_for fresh before change) number
+  pub stands : (number : ℕ)
+      → is_among nat_eq number (asked_copies before.files change) ≡ true → IsThere before.files number → StandsNow before (copied_for fresh before change) number
   -- where a name was removed or left stands a whiteout if something is shown below, else nothing
   pub names_left : NamesLeft stack (copied_for fresh before change) later change
   -- a removed directory keeps no whiteout in it
@@ -119,7 +126,9 @@ pub record ChangesUpper (fresh : Fresh ℕ) (stack : Stack ℕ) (before : Merge 
   -- a new or moved directory is opaque if a directory is shown below
   pub marks : MarksAreRight stack (copied_for fresh before change) later change
   -- all else in the upper layer is as it was
-  pub rest : (inode : ℕ) → ((k : ℕ) → inode ≢ fresh k) → ((number : ℕ) → upper_object (before.real number) ≢ Some inode) → IsKept (before.upper.tree.node inode) (later.upper.tree.node inode)
+  pub rest : (inode : ℕ)
+      → ((k : ℕ) → inode ≢ fresh k) → ((number : ℕ) → upper_object (before.real number) ≢ Some inode)
+      → IsKept (before.upper.tree.node inode) (later.upper.tree.node inode)
 
 abbrev pub OverlayChanges : Type 0
 OverlayChanges =

@@ -24,7 +24,8 @@ NewOverlayIsMerged =
 abbrev pub ShowTheSame : Filesystem ℕ → Filesystem ℕ → Type 0
 ShowTheSame one other =
     (path : List (List ℕ))
-    → SameObject (then_some (number_at_path one.files path) one.files.tree.node) (then_some (number_at_path other.files path) other.files.tree.node)
+    → SameObject (then_some (number_at_path one.files path) one.files.tree.node)
+    (then_some (number_at_path other.files path) other.files.tree.node)
 
 -- An overlay that is mounted anew over layers that are as another overlay left them shows the tree that the other showed,
 -- whoever mounts it.

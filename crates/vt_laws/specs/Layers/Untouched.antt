@@ -50,19 +50,22 @@ abbrev pub OtherFilesystemsStay : Type 0
 OtherFilesystemsStay =
     (fresh : Fresh ℕ) (world : World ℕ) (location : Location ℕ) (change : Change ℕ) (number : ℕ)
     → number ≢ (mount_at nat_eq world location).filesystem
-    → ((overlay : Overlay ℕ) (upper : Layer ℕ) → (filesystem_at nat_eq world location).overlay ≡ Some overlay → overlay.upper ≡ Some upper → number ≢ upper.filesystem)
+    → ((overlay : Overlay ℕ) (upper : Layer ℕ)
+    → (filesystem_at nat_eq world location).overlay ≡ Some overlay → overlay.upper ≡ Some upper → number ≢ upper.filesystem)
     → filesystem_numbered nat_eq (with_change nat_eq fresh world location change) number ≡ filesystem_numbered nat_eq world number
 
 -- mounts, groups, namespaces and tasks are as they were
 abbrev pub ChangeKeepsTheRest : Type 0
 ChangeKeepsTheRest =
     (fresh : Fresh ℕ) (world : World ℕ) (location : Location ℕ) (change : Change ℕ)
-    → (with_change nat_eq fresh world location change) ≡ record world { filesystems = (with_change nat_eq fresh world location change).filesystems }
+    → (with_change nat_eq fresh world location change)
+    ≡ record world { filesystems = (with_change nat_eq fresh world location change).filesystems }
 
 -- a plain tree in which no overlay has its upper layer
 pub record HasNoUpperLayer (world : World ℕ) (filesystem : ℕ) : Type 0 where
   pub plain : (filesystem_numbered nat_eq world filesystem).overlay ≡ None
-  pub no_upper : (number : ℕ) (overlay : Overlay ℕ) (upper : Layer ℕ) → (filesystem_numbered nat_eq world number).overlay ≡ Some overlay → overlay.upper ≡ Some upper → filesystem ≢ upper.filesystem
+  pub no_upper : (number : ℕ) (overlay : Overlay ℕ) (upper : Layer ℕ)
+      → (filesystem_numbered nat_eq world number).overlay ≡ Some overlay → overlay.upper ≡ Some upper → filesystem ≢ upper.filesystem
 
 -- calls on files, descriptors, links, directories, and on what a task has: all that change no mount by their own
 abbrev pub changes_no_mount : Call → Bool
@@ -81,7 +84,8 @@ changes_no_mount (PivotRoot new put) = false
 changes_no_mount call = true
 
 -- What lies in a lower layer is locked, and while it is, every such call of every task leaves it as it was: through mounts
--- of its own filesystem, and through overlays, which write elsewhere.
+-- of its own filesystem, and through overlays, which write elsewhere. (The world is the one before what nothing uses any more
+-- is let go.)
 abbrev pub LockedInodesStay : Type 0
 LockedInodesStay =
     (fresh : Fresh ℕ) (world : World ℕ) (task : Task ℕ) (call : Call) (filesystem inode : ℕ)

@@ -40,4 +40,5 @@ UpperFilesystemKeepsTheRest =
     → (filesystem_at nat_eq world location).overlay ≡ Some overlay → overlay.upper ≡ Some upper
     → SpeaksOfWhatIsThere (files_at nat_eq world location) change
     → ((k : ℕ) → inode ≢ fresh k) → ¬ (IsUpperObject overlay inode)
-    → IsKept (inode_in world upper.filesystem inode) (inode_in (with_change nat_eq fresh world location change) upper.filesystem inode)
+    → IsKept (inode_in world upper.filesystem inode)
+    (inode_in (with_change nat_eq fresh world location change) upper.filesystem inode)
