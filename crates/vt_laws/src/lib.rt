@@ -2,6 +2,7 @@
 #![tactic(auto)]
 
 pub mod denials;
+pub mod layers;
 pub mod mounts;
 pub mod numbers;
 pub mod rules;

@@ -1,0 +1,6 @@
+-- Laws of overlays: what their layers show, and what a change leaves as it was.
+pub mod Shown
+pub mod Untouched
+pub mod Upper
+pub mod ChangesUpper
+pub mod Mounted
