@@ -1,13 +1,21 @@
 -- Texts printed in runs of plain bytes, with an escape after each.
-use Rattle.std.proofs.Common.{◌≡◌, ℕ, suc, ◌<◌, ◌/◌, ◌%◌, cond, false, List, [], ◌∷◌, ◌++◌, length, map, All, IsTrue, slice_index, refl, sym, ap, ◌∙◌, arith, append_assoc}
+use Rattle.std.proofs.Common.{◌≡◌, ℕ, Result, Ok, Err, codes, decimal, suc, ◌<◌, ◌/◌, ◌%◌, cond, false, List, [], ◌∷◌, ◌++◌, length, map, All, IsTrue, slice_index, refl, sym, ap, ◌∙◌, arith, append_assoc}
 use Rattle.std.proofs.lemmas.List.{append-nil}
 use Rattle.std.proofs.lemmas.List.Concat.{flat_map-append}
 use Rattle.std.specs.List.{flat_map}
-use Rattle.vt_spec.specs.Script.{is_plain}
+use Rattle.vt_spec.specs.Machine.Script.{is_plain}
 use Rattle.std.specs.Global.{Vec}
-use Rattle.vt_spec.specs.World.Answer.{Names}
-use Rattle.vt_spec.specs.Printed.{hex_digit, printed_byte, printed_text, printed_value}
-use Rattle.vt_line.specs.Answers.{printed_names}
+use Rattle.vt_spec.specs.Machine.Outcomes.Answer.{Names}
+use Rattle.vt_spec.specs.Machine.Outcomes.{StatLine}
+use Rattle.vt_spec.specs.declared.attributes.Kind.{Kind}
+use Rattle.vt_spec.specs.declared.attributes.Kind.TheVariants.{Dir, File, Link, White}
+use Rattle.vt_spec.specs.declared.errors.Deny.{Deny}
+use Rattle.vt_spec.specs.Machine.Printed.{hex_digit, owner_words, printed_byte, printed_line, printed_rows, printed_text, printed_value, reply_line, spaced, stat_words}
+use Rattle.vt_request.specs.Answers.{answer_of, result_of}
+use Rattle.vt_request.specs.declared.answer.Answer.{Answer}
+use Rattle.vt_request.specs.declared.answer.Answer.TheVariants.{Done, Bytes, Told, Opened, Child}
+use Rattle.vt_request.specs.declared.answer.Answer.TheVariants as answers
+use Rattle.vt_line.specs.Printing.{further_words, kind_text, printed_names, reply_words}
 
 abbrev pub escape : ℕ → List ℕ
 escape byte = 92 ∷ 120 ∷ hex_digit (byte / 16) ∷ hex_digit (byte % 16) ∷ []
@@ -60,6 +68,30 @@ printed-escape done plain others rest text after byte so_far whole all some firs
     ∙ printed-front done plain others rest text so_far whole all some
 
 -- the names of an answer
-pub printed_names-value : (names : List (Vec ℕ)) → printed_names names ≡ printed_value (Names (map (λ name. name.items) names))
+pub printed_names-value : (names : List (Vec ℕ)) → printed_names names ≡ spaced (printed_value (Names (map (λ name. name.items) names)))
 printed_names-value [] = refl
 printed_names-value (name ∷ names) = ap (λ rest. (32 ∷ printed_text name.items) ++ rest) (printed_names-value names)
+
+-- what is told of an object: its owner, and the rest
+pub stat_words-further : (kind : Kind) (line : StatLine) →
+    spaced (stat_words kind line) ≡ spaced (owner_words (kind_text kind) line.attr) ++ spaced (further_words kind line)
+stat_words-further Dir line = flat_map-append (λ word. 32 ∷ word) (owner_words (codes "dir") line.attr) (further_words Dir line)
+stat_words-further File line = flat_map-append (λ word. 32 ∷ word) (owner_words (codes "file") line.attr) (further_words File line)
+stat_words-further Link line = flat_map-append (λ word. 32 ∷ word) (owner_words (codes "link") line.attr) (further_words Link line)
+stat_words-further White line = sym (append-nil (spaced (owner_words (codes "white") line.attr)))
+
+-- an answer of these calls has no rows
+no_rows : (answer : Answer) → printed_rows (answer_of answer) ≡ []
+no_rows Done = refl
+no_rows (Bytes bytes) = refl
+no_rows (answers.Names names) = refl
+no_rows (Told line) = refl
+no_rows (Opened descriptor) = refl
+no_rows (Child name) = refl
+
+pub reply_line-words : (number : ℕ) (outcome : Result Answer Deny) →
+    reply_line number (result_of outcome) ≡ decimal number ++ spaced (reply_words (result_of outcome)) ++ codes "\n"
+reply_line-words number (Ok answer) =
+    ap (λ rows. printed_line number (codes "ok" ∷ printed_value (answer_of answer)) ++ flat_map (printed_line number) rows) (no_rows answer)
+    ∙ append-nil (printed_line number (codes "ok" ∷ printed_value (answer_of answer)))
+reply_line-words number (Err deny) = refl

@@ -4,7 +4,7 @@ use Rattle.std.proofs.lemmas.List.{at_drop_more, at_drop_all}
 use Rattle.std.proofs.lemmas.Iterator.{YieldsList}
 use Rattle.std.specs.List.{slice_split}
 use Rattle.vt_spec.specs.PathText.{parts}
-use Rattle.vt_spec.specs.Script.{each_of, with_first}
+use Rattle.vt_spec.specs.Machine.Script.{each_of, with_first}
 use Rattle.vt_line.proofs.TokenLemmas.{parts-split}
 
 -- a split yields the parts

@@ -6,7 +6,7 @@ use Rattle.std.proofs.lemmas.Bool.Decides.{nat_tests}
 use Rattle.std.specs.Option.{option_map_or}
 use Rattle.std.specs.List.{find, slice_split, onto_first}
 use Rattle.vt_spec.specs.PathText.{parts, with_byte, is_empty}
-use Rattle.vt_spec.specs.Script.{is_silent, raw_tokens, is_silent_token, with_first}
+use Rattle.vt_spec.specs.Machine.Script.{is_silent, raw_tokens, is_silent_token, with_first}
 
 -- the parts of a text are those of a split
 with_byte-onto_first : (byte : ℕ) (texts : List (List ℕ)) → with_byte false byte texts ≡ onto_first byte texts

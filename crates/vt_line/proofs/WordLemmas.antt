@@ -1,5 +1,5 @@
 -- Task names and capabilities.
-use Rattle.std.proofs.Common.{◌≡◌, ℕ, zero, suc, Bool, true, false, cond, List, [], ◌∷◌, codes, length, Option, Some, None, option_map, refl, sym, ap, ◌∙◌, arith, nat_eq, eqb, ltb, ◌&&◌, subst, lit<}
+use Rattle.std.proofs.Common.{◌≡◌, ℕ, zero, suc, Bool, true, false, cond, List, [], ◌∷◌, codes, length, Option, Some, None, option_map, refl, sym, ap, ◌∙◌, arith, nat_eq, eqb, leb, ltb, ◌≤◌, ◌<◌, ◌&&◌, subst, lit<}
 use Rattle.std.proofs.lemmas.Bool.{ltb-true}
 use Rattle.std.specs.List.{list_all}
 use Rattle.std.specs.Str.{bytes_eq, IsUtf8, IsAscii}
@@ -11,9 +11,9 @@ use Rattle.std.proofs.lemmas.Str.{IsUtf8-from_ascii}
 use Rattle.std.proofs.lemmas.Slice.Eq.{bytes_eq-Decides}
 use Rattle.bitflags.specs.Sets.{find_row, find_name}
 use Rattle.vt_cred.specs.Caps.{capability_table}
-use Rattle.vt_spec.specs.Calls.CapabilityWord.{These}
+use Rattle.vt_spec.specs.Machine.Calls.CapabilityWord.{These}
 use Rattle.vt_spec.specs.PathText.{parts}
-use Rattle.vt_spec.specs.Script.{task_word, name_of_parts, each_of, with_first, child_number, capability_named, capabilities_word, union}
+use Rattle.vt_spec.specs.Machine.Script.{task_word, name_of_parts, each_of, with_first, child_number, capability_named, capabilities_word, union, groups_word, identity_word}
 
 -- a task's name by its first part
 pub task_word-other : (text first : List ℕ) (rest : List (List ℕ)) → parts 46 text ≡ first ∷ rest → bytes_eq first (codes "t") ≡ false → task_word text ≡ None
@@ -113,3 +113,25 @@ capability_named-no_text name not_text =
     (none_or _ 32 _ (not_the_name name (codes "CAP_SETUID") not_text (ascii_text (codes "CAP_SETUID") refl))
     (none_or _ 64 _ (not_the_name name (codes "CAP_SYS_CHROOT") not_text (ascii_text (codes "CAP_SYS_CHROOT") refl))
     (none_or _ 128 _ (not_the_name name (codes "CAP_SYS_ADMIN") not_text (ascii_text (codes "CAP_SYS_ADMIN") refl)) refl)))))))
+
+-- groups by the number and the reading of their parts
+pub groups_word-parts : (text : List ℕ) → bytes_eq text (codes "-") ≡ false
+    → groups_word text ≡ cond (leb (length (parts 44 text)) 32) (each_of identity_word (parts 44 text)) None
+groups_word-parts text some = rw some refl
+
+pub groups_word-few : (text : List ℕ) → bytes_eq text (codes "-") ≡ false → length (parts 44 text) ≤ 32 → groups_word text ≡ each_of identity_word (parts 44 text)
+groups_word-few text some few =
+    let test : leb (length (parts 44 text)) 32 ≡ true = grind (arith, nat_tests) in
+    groups_word-parts text some ∙ ap (λ test. cond test (each_of identity_word (parts 44 text)) None) test
+
+pub groups_word-many : (text : List ℕ) → bytes_eq text (codes "-") ≡ false → 32 < length (parts 44 text) → groups_word text ≡ None
+groups_word-many text some many =
+    let test : leb (length (parts 44 text)) 32 ≡ false = grind (arith, nat_tests) in
+    groups_word-parts text some ∙ ap (λ test. cond test (each_of identity_word (parts 44 text)) None) test
+
+none-either : (test : Bool) (read : Option (List ℕ)) → read ≡ None → cond test read None ≡ None
+none-either true read e = e
+none-either false read e = refl
+
+pub groups_word-wrong : (text : List ℕ) → bytes_eq text (codes "-") ≡ false → each_of identity_word (parts 44 text) ≡ None → groups_word text ≡ None
+groups_word-wrong text some wrong = groups_word-parts text some ∙ none-either (leb (length (parts 44 text)) 32) (each_of identity_word (parts 44 text)) wrong

@@ -1,4 +1,4 @@
 pub mod Tokens
-pub mod Requests
+pub mod FileCalls
 pub mod Lines
-pub mod Answers
+pub mod Printing

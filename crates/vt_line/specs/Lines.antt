@@ -1,9 +1,10 @@
 -- What a line of a script says.
 use Rattle.std.specs.Prelude.{◌≡◌, ◌≤◌, ℕ, true, false, List, length, Some}
-use Rattle.vt_spec.specs.Script.{longest_line, is_silent, request_of}
+use Rattle.vt_spec.specs.Machine.Script.{files, longest_line, is_silent, request_of}
+use Rattle.vt_spec.specs.Machine.Script.Request.{Calling}
 use Rattle.vt_line.specs.declared.line.Line.{Line}
 use Rattle.vt_line.specs.declared.line.Line.TheVariants.{Silent, Call}
-use Rattle.vt_line.specs.Requests.{call_of}
+use Rattle.vt_request.specs.Requests.{call_of}
 
 -- a line that has no answer
 abbrev pub IsSilent : List ℕ → Type 0
@@ -13,7 +14,7 @@ IsSilent text = (length text ≤ longest_line) × (is_silent text ≡ true)
 abbrev pub IsSpoken : List ℕ → Type 0
 IsSpoken text = (length text ≤ longest_line) × (is_silent text ≡ false)
 
--- the line is what the text says
+-- the line is what the text says, in the grammar of the calls on files and tasks
 abbrev pub IsReadingOf : List ℕ → Line → Type 0
 IsReadingOf text Silent = IsSilent text
-IsReadingOf text (Call task call) = IsSpoken text × (request_of text ≡ Some (record { task = task; call = call_of call }))
+IsReadingOf text (Call task call) = IsSpoken text × (request_of files text ≡ Some (Calling task (call_of call)))

@@ -1,7 +1,7 @@
 -- The readings of tokens, and the texts that they spell, free of capacities.
 use Rattle.std.specs.Prelude.{ℕ, List, map}
 use Rattle.std.specs.Global.{Vec}
-use Rattle.vt_spec.specs.Script as spec
+use Rattle.vt_spec.specs.Machine.Script as spec
 use Rattle.vt_line.specs.declared.token.Reading.{Reading}
 use Rattle.vt_line.specs.declared.token.Reading.TheVariants.{Between, AfterBackslash, AfterX, AfterHigh, Failed}
 

@@ -1,15 +1,15 @@
 //! The lines of a script.
 ghost use Rattle.std.specs.Prelude.{◌≡◌, ◌<◌, ◌↔◌, ◌⊎◌, length, IfOk, IfErr};
 ghost use Rattle.vt_spec.specs.Errors.{denial};
-ghost use Rattle.vt_spec.specs.Script.{longest_line, request_of};
+ghost use Rattle.vt_spec.specs.Machine.Script.{files, longest_line, request_of};
 ghost use Rattle.vt_spec.specs.declared.errors.Rule.TheVariants.{S1, S5};
 ghost use Rattle.vt_line.specs.Lines.{IsSilent, IsSpoken, IsReadingOf};
 
 use crate::calls::request;
-use crate::request::{Call, TaskName};
 use crate::token::is_silent;
 use std::alloc::{AllocError, Global};
 use vt_io::line::LONGEST_LINE;
+use vt_request::{Call, TaskName};
 use vt_spec::errors::{Deny, Rule};
 
 /// A line of a script.
@@ -35,7 +35,7 @@ impl Line {
         ensures refused { IfErr result (λ deny. (deny ≡ denial S1) ⊎ (deny ≡ denial S5)) }
         ensures no_request { result ≡ Err (denial S1)
             → (longest_line < length line.now)
-            ⊎ (IsSpoken line.now × (request_of line.now ≡ None)) }
+            ⊎ (IsSpoken line.now × (request_of files line.now ≡ None)) }
         ensures no_memory { result ≡ Err (denial S5) → IsSpoken line.now }
     {
         if line.len() > LONGEST_LINE {

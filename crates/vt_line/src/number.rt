@@ -1,6 +1,6 @@
 //! The numbers of the grammar.
 ghost use Rattle.std.specs.Prelude.{◌≡◌, ◌≤◌, ◌<◌, ◌+◌, ◌-◌, ◌&&◌, nat_le, nat_lt, if◌then◌else◌, IfSome};
-ghost use Rattle.vt_spec.specs.Script.{number_in, mode_word, child_number};
+ghost use Rattle.vt_spec.specs.Machine.Script.{number_in, mode_word, child_number, identity_word, offset_word, descriptor_word};
 
 use vt_spec::attributes::Mode;
 
@@ -53,4 +53,25 @@ pub fn child_number(text: &[u8]) -> Option<u8>
         return None;
     }
     Some(number(10, 2, 64, text)? as u8)
+}
+
+/// A user or a group: at most 4294967294, since -1 of chown(2) is none.
+pub fn identity_word(text: &[u8]) -> Option<u32>
+    ensures { result ≡ identity_word text.now }
+{
+    number(10, 10, u32::MAX - 1, text)
+}
+
+/// An offset or a size: at most 4294967295.
+pub fn offset_word(text: &[u8]) -> Option<u32>
+    ensures { result ≡ offset_word text.now }
+{
+    number(10, 10, u32::MAX, text)
+}
+
+/// The number of a descriptor: at most 255.
+pub fn descriptor_word(text: &[u8]) -> Option<u8>
+    ensures { result ≡ descriptor_word text.now }
+{
+    Some(number(10, 10, 255, text)? as u8)
 }

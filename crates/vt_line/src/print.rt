@@ -1,16 +1,19 @@
 //! How answers are printed, without taking memory.
-ghost use Rattle.std.specs.Prelude.{◌≡◌, ◌+◌, ◌/◌, ◌%◌, ◌^◌, ◌<◌, [], ◌∷◌, ◌++◌, false, length, slice_index, All, IsTrue, IfErr};
-ghost use Rattle.vt_spec.specs.Printed.{hex_digit, printed_text, printed_value, printed_result, reply_line};
-ghost use Rattle.vt_spec.specs.Script.{is_plain};
+ghost use Rattle.std.specs.Prelude.{◌≡◌, ◌+◌, ◌/◌, ◌%◌, ◌^◌, ◌<◌, [], ◌∷◌, ◌++◌, decimal, false, length, slice_index, All, IsTrue, IfErr};
+ghost use Rattle.vt_spec.specs.Machine.Printed.{hex_digit, owner_words, printed_mode, printed_task, printed_text, printed_value, reply_line, spaced, stat_words};
+ghost use Rattle.vt_spec.specs.Machine.Script.{is_plain};
 ghost use Rattle.vt_io.specs.Sink.{Prints};
-ghost use Rattle.vt_line.specs.Answers.{answer_of, result_of, printed_names};
+ghost use Rattle.vt_request.specs.Answers.{answer_of, result_of, stat_line_of};
+ghost use Rattle.vt_line.specs.Printing.{further_words, kind_text, printed_names, printed_numbers, reply_words};
 
-use crate::answer::{Answer, RunFault};
+use crate::fault::RunFault;
 use crate::hex::HexDigit;
 use crate::token::is_plain;
 use itoa::Buffer;
 use vt_io::output::{Sink, SinkFailed};
 use vt_io::writing::{write_all, write_parts};
+use vt_request::{Answer, StatLine, TaskName};
+use vt_spec::attributes::{Attr, Kind, Mode};
 use vt_spec::errors::Deny;
 
 /// The longest front of bytes that are printed as they are, and what follows it.
@@ -65,10 +68,109 @@ fn write_names<W: Sink>(sink: &mut W, names: &[Vec<u8>]) -> Result<(), SinkFaile
     Ok(())
 }
 
+/// A word, behind a space.
+fn write_word<W: Sink>(sink: &mut W, word: &[u8]) -> Result<(), SinkFailed>
+    requires countable { W.failures sink.old + 1 < 2 ^ 64 }
+    ensures printed { Prints W.Sink (32 ∷ word.now) result sink.old sink.new }
+{
+    write_parts(sink, &[b" ", word])
+}
+
+/// A number in decimal digits, behind a space.
+fn write_number<W: Sink>(sink: &mut W, number: u64) -> Result<(), SinkFailed>
+    requires countable { W.failures sink.old + 1 < 2 ^ 64 }
+    ensures printed { Prints W.Sink (32 ∷ decimal number) result sink.old sink.new }
+{
+    let mut buffer = Buffer::new();
+    write_word(sink, buffer.format(number).as_bytes())
+}
+
+/// The four octal digits of a mode.
+fn mode_digits(mode: Mode) -> [u8; 4]
+    ensures { result ≡ printed_mode mode }
+{
+    let bits = mode.bits();
+    [
+        b'0' + (bits / 512 % 8) as u8,
+        b'0' + (bits / 64 % 8) as u8,
+        b'0' + (bits / 8 % 8) as u8,
+        b'0' + (bits % 8) as u8,
+    ]
+}
+
+/// An object's kind, mode, user and group, behind a space each.
+fn write_owner<W: Sink>(sink: &mut W, kind: &[u8], attr: &Attr) -> Result<(), SinkFailed>
+    requires countable { W.failures sink.old + 1 < 2 ^ 64 }
+    ensures printed { Prints W.Sink (spaced (owner_words kind.now attr.now)) result sink.old sink.new }
+{
+    let mode = mode_digits(attr.mode);
+    let mut uid_buffer = Buffer::new();
+    let uid = uid_buffer.format(attr.uid).as_bytes();
+    let mut gid_buffer = Buffer::new();
+    let gid = gid_buffer.format(attr.gid).as_bytes();
+    write_parts(sink, &[b" ", kind, b" ", &mode, b" ", uid, b" ", gid])
+}
+
+/// What an object is called.
+fn kind_text(kind: Kind) -> &'static [u8]
+    ensures { result.now ≡ kind_text kind }
+{
+    match kind {
+        Kind::Dir => b"dir",
+        Kind::File => b"file",
+        Kind::Link => b"link",
+        Kind::White => b"white",
+    }
+}
+
+/// What is told of an object beside its owner, behind a space.
+fn write_further<W: Sink>(sink: &mut W, line: &StatLine) -> Result<(), SinkFailed>
+    requires countable { W.failures sink.old + 1 < 2 ^ 64 }
+    ensures printed { let words = further_words line.now.kind (stat_line_of line.now) in
+        Prints W.Sink (spaced words) result sink.old sink.new }
+{
+    match line.kind {
+        Kind::Dir if line.opaque => write_word(sink, b"opaque"),
+        Kind::File | Kind::Link => write_number(sink, line.size as u64),
+        Kind::Dir | Kind::White => Ok(()),
+    }
+}
+
+/// What is told of an object, behind a space each.
+fn write_stat<W: Sink>(sink: &mut W, line: &StatLine) -> Result<(), SinkFailed>
+    requires countable { W.failures sink.old + 1 < 2 ^ 64 }
+    ensures printed { let words = stat_words line.now.kind (stat_line_of line.now) in
+        Prints W.Sink (spaced words) result sink.old sink.new }
+{
+    write_owner(sink, kind_text(line.kind), &line.attr)?;
+    write_further(sink, line)
+}
+
+/// The numbers of a task's name, behind a point each.
+fn write_numbers<W: Sink>(sink: &mut W, numbers: &[u8]) -> Result<(), SinkFailed>
+    requires countable { W.failures sink.old + 1 < 2 ^ 64 }
+    ensures printed { Prints W.Sink (printed_numbers numbers.now) result sink.old sink.new }
+{
+    for number in numbers {
+        let mut buffer = Buffer::new();
+        write_parts(sink, &[b".", buffer.format(*number).as_bytes()])?;
+    }
+    Ok(())
+}
+
+/// The name of a task, behind a space.
+fn write_task<W: Sink>(sink: &mut W, name: &TaskName) -> Result<(), SinkFailed>
+    requires countable { W.failures sink.old + 1 < 2 ^ 64 }
+    ensures printed { Prints W.Sink (32 ∷ printed_task name.now) result sink.old sink.new }
+{
+    write_word(sink, b"t")?;
+    write_numbers(sink, name.numbers())
+}
+
 /// An answer's value, behind a space each.
 fn write_value<W: Sink>(sink: &mut W, answer: &Answer) -> Result<(), SinkFailed>
     requires countable { W.failures sink.old + 1 < 2 ^ 64 }
-    ensures printed { let text = printed_value (answer_of answer.now) in
+    ensures printed { let text = spaced (printed_value (answer_of answer.now)) in
         Prints W.Sink text result sink.old sink.new }
 {
     match answer {
@@ -78,13 +180,16 @@ fn write_value<W: Sink>(sink: &mut W, answer: &Answer) -> Result<(), SinkFailed>
             write_text(sink, bytes)
         }
         Answer::Names(names) => write_names(sink, names),
+        Answer::Told(line) => write_stat(sink, line),
+        Answer::Opened(descriptor) => write_number(sink, u64::from(*descriptor)),
+        Answer::Child(name) => write_task(sink, name),
     }
 }
 
 /// A refusal: the error's number and name, and the rule.
 fn write_denial<W: Sink>(sink: &mut W, deny: &Deny) -> Result<(), SinkFailed>
     requires countable { W.failures sink.old + 1 < 2 ^ 64 }
-    ensures printed { Prints W.Sink (printed_result (Err deny.now)) result sink.old sink.new }
+    ensures printed { Prints W.Sink (spaced (reply_words (Err deny.now))) result sink.old sink.new }
 {
     let mut buffer = Buffer::new();
     let number = buffer.format(deny.errno.number()).as_bytes();
@@ -96,7 +201,7 @@ fn write_denial<W: Sink>(sink: &mut W, deny: &Deny) -> Result<(), SinkFailed>
 /// What a call was answered with.
 fn write_result<W: Sink>(sink: &mut W, outcome: &Result<Answer, Deny>) -> Result<(), SinkFailed>
     requires countable { W.failures sink.old + 1 < 2 ^ 64 }
-    ensures printed { let text = printed_result (result_of outcome.now) in
+    ensures printed { let text = spaced (reply_words (result_of outcome.now)) in
         Prints W.Sink text result sink.old sink.new }
 {
     match outcome {

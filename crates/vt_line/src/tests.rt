@@ -1,15 +1,15 @@
 //! The edges of the grammar, and the forms of printed answers.
 
-use crate::answer::{Answer, RunFault};
+use crate::fault::RunFault;
 use crate::line::Line;
 use crate::print::write_reply;
-use crate::request::{Call, CapsWord, TaskName};
 use std::alloc::{AllocError, Global};
 use std::test::Fail;
 use vt_cred::{Caps, Flags};
 use vt_io::line::LONGEST_LINE;
 use vt_io::memory::BytesSink;
-use vt_spec::attributes::Mode;
+use vt_request::{Access, Answer, Call, CapsWord, Creation, ForkWords, StatLine, TaskName};
+use vt_spec::attributes::{Attr, Kind, Mode};
 use vt_spec::errors::Rule;
 
 /// A line that begins like this and has this length.
@@ -25,6 +25,23 @@ fn request(alloc: Global, line: &[u8]) -> Option<(TaskName, Call)> {
         Ok(Line::Call(task, call)) => Some((task, call)),
         _ => None,
     }
+}
+
+/// The call of a line.
+fn call(alloc: Global, line: &[u8]) -> Result<Call, Fail> {
+    let (_, call) = request(alloc, line).ok_or("no call")?;
+    Ok(call)
+}
+
+/// The path `/a`.
+fn path(alloc: Global) -> Result<Vec<u8>, AllocError> {
+    b"/a".to_vec(alloc)
+}
+
+/// The mode of these bits.
+fn mode(bits: u16) -> Result<Mode, Fail> {
+    let mode = Mode::new(bits).ok_or("no mode")?;
+    Ok(mode)
 }
 
 #[test]
@@ -148,6 +165,299 @@ fn reads_calls(rt: HostRuntime) -> Result<(), Fail> {
 }
 
 #[test]
+fn refuses_words_missing_and_words_too_many(rt: HostRuntime) {
+    let lines: [&[u8]; 50] = [
+        b"t stat",
+        b"t stat /a /b",
+        b"t lstat",
+        b"t lstat /a /b",
+        b"t readlink",
+        b"t readlink /a /b",
+        b"t read",
+        b"t read /a /b",
+        b"t exec",
+        b"t exec /a /b",
+        b"t symlink a",
+        b"t symlink a /b /c",
+        b"t link /a",
+        b"t link /a /b /c",
+        b"t unlink",
+        b"t unlink /a /b",
+        b"t rmdir",
+        b"t rmdir /a /b",
+        b"t rename /a",
+        b"t rename /a /b /c",
+        b"t chmod /a",
+        b"t chmod /a 755 1",
+        b"t chown /a 1",
+        b"t chown /a 1 2 3",
+        b"t open /a",
+        b"t open /a r create",
+        b"t open /a r excl",
+        b"t open /a r create 644 excl",
+        b"t open /a r excl 644 644",
+        b"t pread 1 2",
+        b"t pread 1 2 3 4",
+        b"t pwrite 1 2",
+        b"t pwrite 1 2 a b",
+        b"t close",
+        b"t close 1 2",
+        b"t umask",
+        b"t umask 22 1",
+        b"t drop",
+        b"t drop - -",
+        b"t fork 0",
+        b"t fork 0 0",
+        b"t fork 0 0 -",
+        b"t fork 0 0 - - -",
+        b"t exit 0",
+        b"t mkdir",
+        b"t write",
+        b"t ls",
+        b"t open",
+        b"t chown /a",
+        b"t pwrite",
+    ];
+    for line in lines {
+        assert_eq!(rt;
+            Line::parse(rt.alloc(), line),
+            Err(Rule::S1.denial()),
+            "at {line:?}"
+        );
+    }
+}
+
+#[test]
+fn refuses_words_past_their_limits(rt: HostRuntime) {
+    let lines: [&[u8]; 36] = [
+        b"t chmod /a 2000",
+        b"t chmod /a -",
+        b"t chmod /\\x00 755",
+        b"t umask 2000",
+        b"t umask 8",
+        b"t chown /a - -",
+        b"t chown /a 4294967295 1",
+        b"t chown /a 1 4294967295",
+        b"t chown /a 00000000001 1",
+        b"t chown /a \\e 1",
+        b"t open /a x",
+        b"t open /a wr",
+        b"t open /a r make 644",
+        b"t open /a r create 2000",
+        b"t open /a r excl 2000",
+        b"t pread 256 0 0",
+        b"t pread 0 4294967296 0",
+        b"t pread 0 0 4294967296",
+        b"t pread -1 0 0",
+        b"t pwrite 256 0 a",
+        b"t pwrite 0 4294967296 a",
+        b"t close 256",
+        b"t close -",
+        b"t close 00000000001",
+        b"t fork 4294967295 0 - -",
+        b"t fork 0 4294967295 - -",
+        b"t fork 0 0 4294967295 -",
+        b"t fork 0 0 \\e -",
+        b"t fork 0 0 1, -",
+        b"t fork 0 0 1,,2 -",
+        b"t fork 0 0 -,1 -",
+        b"t fork 0 0 1,1,1,1,1,1,1,1,1,1,1,1,1,1,1,1,1,1,1,1,1,1,1,1,1,1,1,1,1,1,1,1,1 -",
+        b"t fork 0 0 - CAP_SYS_BOOT",
+        b"t symlink \\x00 /a",
+        b"t link /a /\\x00",
+        b"t stat \\x00",
+    ];
+    for line in lines {
+        assert_eq!(rt;
+            Line::parse(rt.alloc(), line),
+            Err(Rule::S1.denial()),
+            "at {line:?}"
+        );
+    }
+}
+
+#[test]
+fn refuses_calls_that_are_not_there(rt: HostRuntime) {
+    let lines: [&[u8]; 15] = [
+        b"t whiteout /a",
+        b"t opaque /a yes",
+        b"t chdir /",
+        b"t chroot /",
+        b"t unshare",
+        b"t setns t",
+        b"t mount plain /",
+        b"t bind / /",
+        b"t umount /",
+        b"t mounts",
+        b"t pivot_root / /",
+        b"t peers",
+        b"! peers",
+        b"! sealed t",
+        b"! ls /",
+    ];
+    for line in lines {
+        assert_eq!(rt;
+            Line::parse(rt.alloc(), line),
+            Err(Rule::S1.denial()),
+            "at {line:?}"
+        );
+    }
+}
+
+#[test]
+fn reads_calls_with_a_path_alone(rt: HostRuntime) -> Result<(), Fail> {
+    let alloc = rt.alloc();
+    let calls = [
+        (b"t ls /a".as_slice(), Call::Ls { path: path(alloc)? }),
+        (b"t stat /a", Call::Stat { path: path(alloc)? }),
+        (b"t lstat /a", Call::Lstat { path: path(alloc)? }),
+        (b"t readlink /a", Call::Readlink { path: path(alloc)? }),
+        (b"t read /a", Call::Read { path: path(alloc)? }),
+        (b"t exec /a", Call::Exec { path: path(alloc)? }),
+        (b"t unlink /a", Call::Unlink { path: path(alloc)? }),
+        (b"t rmdir /a", Call::Rmdir { path: path(alloc)? }),
+    ];
+    for (line, want) in &calls {
+        assert_eq!(rt; call(alloc, line)?, *want, "at {line:?}");
+    }
+    Ok(())
+}
+
+#[test]
+fn reads_calls_with_two_texts(rt: HostRuntime) -> Result<(), Fail> {
+    let alloc = rt.alloc();
+    let text = b"../b".to_vec(alloc)?;
+    let want = Call::Symlink {
+        text,
+        path: path(alloc)?,
+    };
+    assert_eq!(rt; call(alloc, b"t symlink ../b /a")?, want);
+    let new = b"/b".to_vec(alloc)?;
+    let want = Call::Link {
+        old: path(alloc)?,
+        new,
+    };
+    assert_eq!(rt; call(alloc, b"t link /a /b")?, want);
+    let new = b"/b".to_vec(alloc)?;
+    let want = Call::Rename {
+        old: path(alloc)?,
+        new,
+    };
+    assert_eq!(rt; call(alloc, b"t rename /a /b")?, want);
+    Ok(())
+}
+
+#[test]
+fn reads_modes_and_owners(rt: HostRuntime) -> Result<(), Fail> {
+    let alloc = rt.alloc();
+    let want = Call::Chmod {
+        path: path(alloc)?,
+        mode: mode(0o1777)?,
+    };
+    assert_eq!(rt; call(alloc, b"t chmod /a 1777")?, want);
+    let want = Call::Umask { mode: mode(0o22)? };
+    assert_eq!(rt; call(alloc, b"t umask 022")?, want);
+    let owners = [
+        (b"t chown /a 0 -".as_slice(), Some(0), None),
+        (b"t chown /a - 7", None, Some(7)),
+        (
+            b"t chown /a 4294967294 0000000010",
+            Some(4294967294),
+            Some(10),
+        ),
+    ];
+    for (line, uid, gid) in owners {
+        let path = path(alloc)?;
+        let want = Call::Chown { path, uid, gid };
+        assert_eq!(rt; call(alloc, line)?, want, "at {line:?}");
+    }
+    Ok(())
+}
+
+#[test]
+fn reads_what_a_file_is_opened_for(rt: HostRuntime) -> Result<(), Fail> {
+    let alloc = rt.alloc();
+    let words = [
+        (b"t open /a r".as_slice(), true, false, Creation::Never),
+        (b"t open /a w", false, true, Creation::Never),
+        (
+            b"t open /a rw create 644",
+            true,
+            true,
+            Creation::OrCreate(mode(0o644)?),
+        ),
+        (
+            b"t open /a r excl 0",
+            true,
+            false,
+            Creation::Exclusive(mode(0)?),
+        ),
+    ];
+    for (line, reads, writes, creation) in words {
+        let want = Call::OpenFile {
+            path: path(alloc)?,
+            access: Access { reads, writes },
+            creation,
+        };
+        assert_eq!(rt; call(alloc, line)?, want, "at {line:?}");
+    }
+    Ok(())
+}
+
+#[test]
+fn reads_calls_on_descriptors(rt: HostRuntime) -> Result<(), Fail> {
+    let alloc = rt.alloc();
+    let want = Call::Pread {
+        descriptor: 255,
+        offset: 4294967295,
+        size: 4294967295,
+    };
+    assert_eq!(rt; call(alloc, b"t pread 255 4294967295 4294967295")?, want);
+    let want = Call::Pwrite {
+        descriptor: 3,
+        offset: 4,
+        bytes: Vec::new(alloc),
+    };
+    assert_eq!(rt; call(alloc, b"t pwrite 3 4 \\e")?, want);
+    let want = Call::Close { descriptor: 0 };
+    assert_eq!(rt; call(alloc, b"t close 0000000000")?, want);
+    Ok(())
+}
+
+#[test]
+fn reads_children_and_ends(rt: HostRuntime) -> Result<(), Fail> {
+    let alloc = rt.alloc();
+    assert_eq!(rt; call(alloc, b"t exit")?, Call::Exit);
+    assert_eq!(rt; call(alloc, b"t fork")?, Call::Fork { words: None });
+    let words = ForkWords {
+        uid: 4294967294,
+        gid: 1,
+        groups: Vec::new(alloc),
+        caps: CapsWord::Held,
+    };
+    let want = Call::Fork { words: Some(words) };
+    assert_eq!(rt; call(alloc, b"t fork 4294967294 1 - *")?, want);
+    let words = ForkWords {
+        uid: 0,
+        gid: 0,
+        groups: vec![in alloc; 5, 4294967294, 5]?,
+        caps: CapsWord::Named(Caps::CAP_CHOWN),
+    };
+    let want = Call::Fork { words: Some(words) };
+    assert_eq!(rt; call(alloc, b"t fork 0 0 5,4294967294,5 CAP_CHOWN")?, want);
+    let words = ForkWords {
+        uid: 0,
+        gid: 0,
+        groups: vec![in alloc; 1; 32]?,
+        caps: CapsWord::Named(Caps::empty()),
+    };
+    let want = Call::Fork { words: Some(words) };
+    let line = b"t fork 0 0 1,1,1,1,1,1,1,1,1,1,1,1,1,1,1,1,1,1,1,1,1,1,1,1,1,1,1,1,1,1,1,1 -";
+    assert_eq!(rt; call(alloc, line)?, want);
+    Ok(())
+}
+
+#[test]
 fn reads_no_line_over_the_limit(rt: HostRuntime) -> Result<(), Fail> {
     let alloc = rt.alloc();
     let longest = long_line(alloc, b"t write f ", LONGEST_LINE)?;
@@ -164,10 +474,12 @@ fn reads_no_line_over_the_limit(rt: HostRuntime) -> Result<(), Fail> {
 /// A call, or the refusal of memory: also where an allocation fails.
 #[test]
 fn refuses_by_no_other_rule_where_memory_fails(rt: HostRuntime) {
-    let lines: [&[u8]; 3] = [
+    let lines: [&[u8]; 5] = [
         b"t.1.2 mkdir /a/long/path/of/some/words 755",
         b"t write /f a\\x20text\\x20of\\x20some\\x20words",
         b"t drop CAP_CHOWN,CAP_SETUID",
+        b"t fork 0 0 1,2,3,4,5,6,7,8 *",
+        b"t rename /a/long/path/of/some/words /another/long/path",
     ];
     for line in lines {
         let parsed = Line::parse(rt.alloc(), line);
@@ -207,6 +519,53 @@ fn prints_answers(rt: HostRuntime) -> Result<(), Fail> {
     ];
     for (number, outcome, want) in &replies {
         let mut sink = BytesSink::new(alloc, 3);
+        assert_eq!(rt; write_reply(&mut sink, *number, outcome), Ok(()));
+        assert_eq!(rt; sink.bytes(), want.as_bytes());
+    }
+    Ok(())
+}
+
+#[test]
+fn prints_what_is_told_of_objects(rt: HostRuntime) -> Result<(), Fail> {
+    let attr = Attr {
+        uid: 4294967294,
+        gid: 0,
+        mode: mode(0o1750)?,
+    };
+    let told = [
+        (Kind::Dir, 0, false, "9 ok dir 1750 4294967294 0\n"),
+        (Kind::Dir, 0, true, "9 ok dir 1750 4294967294 0 opaque\n"),
+        (Kind::File, 10, false, "9 ok file 1750 4294967294 0 10\n"),
+        (Kind::Link, 0, false, "9 ok link 1750 4294967294 0 0\n"),
+        (Kind::White, 0, false, "9 ok white 1750 4294967294 0\n"),
+    ];
+    for (kind, size, opaque, want) in told {
+        let line = StatLine {
+            kind,
+            attr,
+            size,
+            opaque,
+        };
+        let mut sink = BytesSink::new(rt.alloc(), 5);
+        assert_eq!(rt; write_reply(&mut sink, 9, &Ok(Answer::Told(line))), Ok(()));
+        assert_eq!(rt; sink.bytes(), want.as_bytes());
+    }
+    Ok(())
+}
+
+#[test]
+fn prints_descriptors_and_children(rt: HostRuntime) -> Result<(), Fail> {
+    let alloc = rt.alloc();
+    let first = TaskName::new(Vec::new(alloc));
+    let child = first.child(1)?.child(64)?;
+    let replies = [
+        (1, Ok(Answer::Opened(0)), "1 ok 0\n"),
+        (2, Ok(Answer::Opened(255)), "2 ok 255\n"),
+        (3, Ok(Answer::Child(first)), "3 ok t\n"),
+        (4, Ok(Answer::Child(child)), "4 ok t.1.64\n"),
+    ];
+    for (number, outcome, want) in &replies {
+        let mut sink = BytesSink::new(alloc, 2);
         assert_eq!(rt; write_reply(&mut sink, *number, outcome), Ok(()));
         assert_eq!(rt; sink.bytes(), want.as_bytes());
     }

@@ -1,6 +1,6 @@
 //! The tokens of a line, and the texts that they spell.
 ghost use Rattle.std.specs.Prelude.{◌≡◌, option_map, IfOk};
-ghost use Rattle.vt_spec.specs.Script.{is_silent, is_plain, raw_tokens, token_text, each_of, next_reading, completed};
+ghost use Rattle.vt_spec.specs.Machine.Script.{is_silent, is_plain, raw_tokens, token_text, each_of, next_reading, completed};
 ghost use Rattle.vt_line.specs.Tokens.{reading_of, texts_of};
 
 use crate::hex::HexDigit;

@@ -1,5 +1,5 @@
 -- The entries that an index map keeps under names in order, and the entries that contracts see.
-use Rattle.std.proofs.Common.{◌≡◌, ℕ, ◌+◌, Bool, true, false, cond, ◌&&◌, T, List, [], ◌∷◌, map, get_or, nat_eq, Some, Ordering, sym, refl, ap, subst, ◌∙◌, true≢false, arith}
+use Rattle.std.proofs.Common.{◌≡◌, ℕ, ◌+◌, Bool, true, false, cond, not, ◌&&◌, T, List, [], ◌∷◌, map, get_or, nat_eq, Some, Ordering, sym, refl, ap, subst, ◌∙◌, true≢false, arith}
 use Rattle.std.specs.declared.cmp.Ordering.TheVariants.{Less, Equal, Greater}
 use Rattle.std.specs.declared.vec.Vec.{Vec}
 use Rattle.std.specs.Ordering.{nat_cmp, is_lt, is_eq, eq_by_cmp, ordering_reverse}
@@ -8,11 +8,13 @@ use Rattle.std.specs.Cmp.Lexicographic.{slice_cmp, pointwise, texts_ties}
 use Rattle.std.proofs.lemmas.Cmp.{nat_list_cmp_total, nat_list_eq_equiv}
 use Rattle.std.specs.List.{AllByRecursion, IsDistinct}
 use Rattle.std.specs.List.Sorted.{IsSorted, IsStrictlySortedBy}
-use Rattle.std.specs.Map.{keys_of, lookup, KeepsOthers}
+use Rattle.std.specs.Map.{keys_of, lookup, remove_entry, KeepsOthers}
 use Rattle.std.specs.FinMap.{nat_cmp-IsAntisymmetric, slice_cmp-IsAntisymmetric}
 use Rattle.std.specs.FinMap.Entries.{find, is_sorted, below_all, same_entries, find-put, is_sorted-put}
 use Rattle.std.proofs.lemmas.Map.Keys.{Less-from_sorted, apart_from_distinct, sorted_from_all_adjacent, sorted_head, sorted_tail}
-use Rattle.vt_spec.specs.Tree.{name_cmp, with_entry}
+use Rattle.std.specs.Str.{bytes_eq}
+use Rattle.vt_spec.specs.Tree.{Entries, name_cmp, with_entry}
+use Rattle.vt_spec.specs.Machine.Changes.{without_entry}
 use Rattle.vt_node.specs.Listed.{listed}
 
 -- two names tie only where they are one
@@ -49,6 +51,18 @@ less Less p = refl
 less Equal p = absurd p
 less Greater p = absurd p
 
+-- what a name stands before is another name
+no_less : (x y : List ℕ) → T (is_lt (name_cmp x y)) → bytes_eq y x ≡ false
+no_less x y below = nat_list_eq_equiv.symm y x ∙ texts_ties x y ∙ ap is_eq (less (name_cmp x y) below)
+
+-- and no entry after it has it
+stays_without : (name first_name : List ℕ) (es : Entries ℕ) → name ≡ first_name → T (below_all name_cmp first_name es) → without_entry name es ≡ es
+stays_without name first_name [] same below = refl
+stays_without name first_name (e ∷ es) same below =
+    ap (λ b. cond (not b) (e ∷ without_entry name es) (without_entry name es))
+    (ap (bytes_eq e.0) same ∙ no_less first_name e.0 (first _ _ below))
+    ∙ ap (λ rest. e ∷ rest) (stays_without name first_name es same (second _ _ below))
+
 pub holds : (b : Bool) → T b → b ≡ true
 holds true p = refl
 holds false p = absurd p
@@ -76,6 +90,25 @@ module _ {A : Type 0} where
   pub names-listed : (es : List (Vec ℕ A × ℕ)) → map (λ name. name.items) (keys_of es) ≡ map (λ entry. entry.0) (listed es)
   names-listed [] = refl
   names-listed (e ∷ es) = ap (λ names. e.0.items ∷ names) (names-listed es)
+
+  -- the first entry with a name is the only one
+  pub listed-remove : (name : List ℕ) (es : List (Vec ℕ A × ℕ)) → T (is_sorted name_cmp (listed es))
+      → listed (remove_entry (λ k. pointwise nat_eq name k.items) es) ≡ without_entry name (listed es)
+  listed-remove name [] h = refl
+  listed-remove name (e ∷ es) h = by (listed-remove name es (second _ _ h)) (pointwise nat_eq name e.0.items) refl
+    where
+      by : listed (remove_entry (λ k. pointwise nat_eq name k.items) es) ≡ without_entry name (listed es)
+          → (b : Bool) → pointwise nat_eq name e.0.items ≡ b
+          → listed (cond b es (e ∷ remove_entry (λ k. pointwise nat_eq name k.items) es)) ≡ without_entry name (listed (e ∷ es))
+      by rest true is =
+          let same : name ≡ e.0.items = same_name name e.0.items (is_eq-Equal _ (sym (texts_ties name e.0.items) ∙ is)) in
+          sym (stays_without name e.0.items (listed es) same (first _ _ h))
+          ∙ ap (λ b. cond (not b) ((e.0.items, e.1) ∷ without_entry name (listed es)) (without_entry name (listed es)))
+          (sym (nat_list_eq_equiv.symm e.0.items name ∙ is))
+      by rest false is =
+          ap (λ entries. (e.0.items, e.1) ∷ entries) rest
+          ∙ ap (λ b. cond (not b) ((e.0.items, e.1) ∷ without_entry name (listed es)) (without_entry name (listed es)))
+          (sym (nat_list_eq_equiv.symm e.0.items name ∙ is))
 
   below_all-listed : (x : Vec ℕ A) (es : List (Vec ℕ A × ℕ)) → AllByRecursion (λ y. key_cmp x y ≡ Less) (keys_of es) → T (below_all name_cmp x.items (listed es))
   below_all-listed x [] h = tt

@@ -1,7 +1,8 @@
 //! The entries of a directory: a map from names, listed in the order of the names' bytes.
-ghost use Rattle.std.specs.Prelude.{◌≡◌, [], map, length, true, IsTrue, ◌↔◌, OnOk, OnErr};
+ghost use Rattle.std.specs.Prelude.{◌≡◌, [], map, length, true, IsSome, IsTrue, IsOk, ◌↔◌, OnOk, OnErr};
 ghost use Rattle.std.specs.FinMap.Entries.{is_sorted};
 ghost use Rattle.vt_spec.specs.Tree.{name_cmp, entry_named, with_entry};
+ghost use Rattle.vt_spec.specs.Machine.Changes.{without_entry};
 
 use crate::NodeId;
 use indexmap::IndexMap;
@@ -47,10 +48,20 @@ impl DirectoryEntries {
     /// Puts an entry in its place. It fails only for want of memory, which a name that is there does not take.
     pub fn insert(&mut self, name: Vec<u8>, id: NodeId) -> Result<(), AllocError>
         ensures ok { OnOk result (self.new ≡ with_entry name.items id self.old) }
+        ensures present { IsSome (entry_named name.items self.old) → IsOk result }
+        ensures in_order { is_sorted name_cmp self.old ≡ true }
         ensures err { OnErr result (self.new ≡ self.old) }
     {
         self.by_name.insert_sorted(name, id)?;
         Ok(())
+    }
+
+    /// Takes an entry out, if it is there, and tells the number that it led to. The others stay in order. It takes no memory.
+    pub fn remove(&mut self, name: &[u8]) -> Option<NodeId>
+        ensures value { result ≡ entry_named name.now self.old }
+        ensures removed { self.new ≡ without_entry name.now self.old }
+    {
+        self.by_name.shift_remove(name)
     }
 
     /// The names, in the order of their bytes.

@@ -1,7 +1,11 @@
 //! Nodes: their attributes, and what they hold by their kind.
-ghost use Rattle.std.specs.Prelude.{◌≡◌, map, OnOk, OnErr};
+ghost use Rattle.std.specs.FinMap.Entries.{is_sorted};
+ghost use Rattle.std.specs.Prelude.{◌≡◌, true, ◌+◌, ◌<◌, ◌^◌, map, length, not, take, drop, IsSome, IsOk, OnOk, OnErr};
 ghost use Rattle.vt_spec.specs.Rights.{is_directory};
-ghost use Rattle.vt_spec.specs.Tree.{kind_of, entries_of, bytes_of, parent_of, entry_named, new_directory, with_entries, with_entry, with_bytes};
+ghost use Rattle.vt_spec.specs.Machine.Changes.{content_with_parent, without_entry};
+ghost use Rattle.vt_spec.specs.Machine.Lists.{is_empty_list};
+ghost use Rattle.vt_spec.specs.Machine.Outcome.Descriptors.{overwritten};
+ghost use Rattle.vt_spec.specs.Tree.{name_cmp, kind_of, entries_of, bytes_of, parent_of, entry_named, new_directory, with_entries, with_entry, with_bytes};
 ghost use Rattle.vt_spec.specs.Tree.Content.{Regular, Symlink, Whiteout};
 
 use crate::{Attr, DirectoryEntries, Kind, NodeId};
@@ -145,6 +149,27 @@ impl Node {
         }
     }
 
+    /// At most so many bytes of a file from an offset on, or of a link's text: pread(2). Past the end there are none.
+    pub fn bytes_part(&self, offset: usize, size: usize) -> &[u8]
+        ensures { result.now ≡ take size (drop offset (bytes_of self.now.content)) }
+    {
+        let bytes = self.bytes();
+        let start = offset.min(bytes.len());
+        let rest = &bytes[start..];
+        let most = size.min(rest.len());
+        &rest[..most]
+    }
+
+    /// Whether it is a directory with entries.
+    pub fn is_filled(&self) -> bool
+        ensures { result ≡ not (is_empty_list (entries_of self.now.content)) }
+    {
+        match &self.content {
+            Content::Directory { entries, .. } => !entries.is_empty(),
+            _ => false,
+        }
+    }
+
     /// The names of a directory, in the order of their bytes; of any other node none.
     pub fn names(&self) -> &[Vec<u8>]
         ensures { map (λ name. name.items) result.now ≡ map (λ entry. entry.0) (entries_of self.now.content) }
@@ -155,16 +180,62 @@ impl Node {
         }
     }
 
-    /// Puts an entry into a directory, in its place; any other node stays as it is.
+    /// Puts an entry into a directory, in its place; any other node stays as it is. A name that is there takes no memory.
     pub fn insert_entry(&mut self, name: Vec<u8>, id: NodeId) -> Result<(), AllocError>
         ensures ok { OnOk result (self.new ≡ record {
           attr = self.old.attr;
           content = with_entries self.old.content (with_entry name.items id (entries_of self.old.content));
         }) }
+        ensures present { IsSome (entry_named name.items (entries_of self.old.content)) → IsOk result }
+        ensures in_order { is_sorted name_cmp (entries_of self.old.content) ≡ true }
         ensures err { OnErr result (self.new ≡ self.old) }
     {
         match &mut self.content {
             Content::Directory { entries, .. } => entries.insert(name, id),
+            _ => Ok(()),
+        }
+    }
+
+    /// Takes an entry out of a directory, if it is there; any other node stays as it is. It takes no memory.
+    pub fn remove_entry(&mut self, name: &[u8])
+        ensures { self.new ≡ record {
+          attr = self.old.attr;
+          content = with_entries self.old.content (without_entry name.now (entries_of self.old.content));
+        } }
+    {
+        if let Content::Directory { entries, .. } = &mut self.content {
+            entries.remove(name);
+        }
+    }
+
+    /// Sets the parent of a directory; any other node stays as it is. It takes no memory.
+    pub fn set_parent(&mut self, parent: NodeId)
+        ensures { self.new ≡ record { attr = self.old.attr; content = content_with_parent parent self.old.content } }
+    {
+        if let Content::Directory { parent: old, .. } = &mut self.content {
+            *old = parent;
+        }
+    }
+
+    /// Sets its owner, group and mode. It takes no memory.
+    pub fn set_attr(&mut self, attr: Attr)
+        ensures { self.new ≡ record { attr = attr; content = self.old.content } }
+    {
+        self.attr = attr;
+    }
+
+    /// Writes bytes into a file from an offset on, and zeros into a gap before them: pwrite(2). Any other node stays as it is.
+    /// It fails only for want of memory, and only a file that gets longer takes any.
+    pub fn write_at(&mut self, offset: usize, bytes: &[u8]) -> Result<(), AllocError>
+        requires { offset + length bytes.now < 2 ^ 64 }
+        ensures ok { OnOk result (self.new ≡ record {
+          attr = self.old.attr;
+          content = with_bytes self.old.content (overwritten offset bytes.now (bytes_of self.old.content));
+        }) }
+        ensures err { OnErr result (self.new ≡ self.old) }
+    {
+        match &mut self.content {
+            Content::Regular { bytes: old } => overwrite(old, offset, bytes),
             _ => Ok(()),
         }
     }
@@ -177,4 +248,17 @@ impl Node {
             *old = bytes;
         }
     }
+}
+
+// Writes bytes into others from an offset on.
+fn overwrite(old: &mut Vec<u8>, offset: usize, bytes: &[u8]) -> Result<(), AllocError>
+    requires { offset + length bytes.now < 2 ^ 64 }
+    ensures ok { OnOk result (old.new.items ≡ overwritten offset bytes.now old.old.items) }
+    ensures err { OnErr result (old.new.items ≡ old.old.items) }
+{
+    let end = offset + bytes.len();
+    let longer = old.len().max(end);
+    old.resize(longer, 0)?;
+    old[offset..end].copy_from_slice(bytes);
+    Ok(())
 }

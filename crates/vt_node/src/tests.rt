@@ -63,3 +63,52 @@ fn other_nodes_have_no_entries(rt: HostRuntime) -> Result<(), Fail> {
     }
     Ok(())
 }
+
+#[test]
+fn an_entry_that_is_taken_out_leaves_the_others_in_order(rt: HostRuntime) -> Result<(), Fail> {
+    let mut directory = Node::new_directory(rt.alloc(), plain()?, NodeId::new(7));
+    assert!(rt; !directory.is_filled());
+    for (number, name) in [b"a".as_slice(), b"b", b"c", b"d"].iter().enumerate() {
+        let name = Vec::from_slice(rt.alloc(), *name)?;
+        directory.insert_entry(name, NodeId::new(number))?;
+    }
+    assert!(rt; directory.is_filled());
+    directory.remove_entry(b"b");
+    directory.remove_entry(b"x");
+    assert_eq!(rt; directory.names().len(), 3);
+    for (name, wanted) in directory.names().iter().zip(b"acd".iter()) {
+        assert_eq!(rt; name.as_slice(), [*wanted].as_slice());
+    }
+    assert_eq!(rt; directory.entry(b"b"), None);
+    assert_eq!(rt; directory.entry(b"c"), Some(NodeId::new(2)));
+    directory.set_parent(NodeId::new(5));
+    assert_eq!(rt; directory.parent(NodeId::new(9)), NodeId::new(5));
+    let mode = Mode::new(0o700).ok_or("a mode")?;
+    let attr = Attr {
+        uid: 3,
+        gid: 4,
+        mode,
+    };
+    directory.set_attr(attr);
+    assert_eq!(rt; directory.attr(), attr);
+    Ok(())
+}
+
+#[test]
+fn bytes_are_written_over_others_and_behind_them(rt: HostRuntime) -> Result<(), Fail> {
+    let bytes = Vec::from_slice(rt.alloc(), b"abcdef")?;
+    let mut file = Node::new_file(plain()?, bytes);
+    file.write_at(2, b"XY")?;
+    assert_eq!(rt; file.bytes(), b"abXYef".as_slice());
+    file.write_at(5, b"123")?;
+    assert_eq!(rt; file.bytes(), b"abXYe123".as_slice());
+    file.write_at(10, b"!")?;
+    assert_eq!(rt; file.bytes(), b"abXYe123\0\0!".as_slice());
+    assert_eq!(rt; file.bytes_part(3, 4), b"Ye12".as_slice());
+    assert_eq!(rt; file.bytes_part(10, 4), b"!".as_slice());
+    assert_eq!(rt; file.bytes_part(12, 4), b"".as_slice());
+    let mut link = Node::new_link(plain()?, Vec::from_slice(rt.alloc(), b"to")?);
+    link.write_at(0, b"no")?;
+    assert_eq!(rt; link.bytes(), b"to".as_slice());
+    Ok(())
+}

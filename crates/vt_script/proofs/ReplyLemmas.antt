@@ -17,9 +17,9 @@ use Rattle.vt_io.specs.declared.output.Sink.{Ghosts}
 use Rattle.vt_io.specs.Sink.{Wrote, WroteFront, Prints}
 use Rattle.vt_io.specs.LineBuffer.{LineSoFar, Holds}
 use Rattle.vt_io.proofs.Printing.{Wrote-nothing}
-use Rattle.vt_line.specs.declared.answer.Answer.{Answer}
-use Rattle.vt_line.specs.Answers.{result_of}
-use Rattle.vt_line.specs.Lines.{IsSilent, IsSpoken}
+use Rattle.vt_first_line.specs.declared.answer.Answer.{Answer}
+use Rattle.vt_first_line.specs.Answers.{result_of}
+use Rattle.vt_first_line.specs.Lines.{IsSilent, IsSpoken}
 use Rattle.vt_script.specs.declared.world.World.{World as Held}
 use Rattle.vt_script.specs.WorldValue.{world_of, Meets}
 use Rattle.vt_script.specs.Session.{IsHanded, Replied, Replies}

@@ -6,9 +6,9 @@ use Rattle.vt_spec.specs.Errors.{denial}
 use Rattle.vt_spec.specs.World.{World, Outcome}
 use Rattle.vt_spec.specs.Calls.{Call}
 use Rattle.vt_spec.specs.Calls.Call.{Mkdir, Write, Read, Ls, Drop}
-use Rattle.vt_tree.specs.TreeValue.{tree_of, next_number}
-use Rattle.vt_line.specs.declared.answer.Answer.{Answer}
-use Rattle.vt_line.specs.Answers.{answer_of}
+use Rattle.vt_first_tree.specs.TreeValue.{tree_of, next_number}
+use Rattle.vt_first_line.specs.declared.answer.Answer.{Answer}
+use Rattle.vt_first_line.specs.Answers.{answer_of}
 use Rattle.vt_script.specs.declared.world.World.{World as Held}
 
 abbrev pub world_of : Held → World ℕ

@@ -3,8 +3,8 @@ ghost use Rattle.std.specs.Prelude.{◌≡◌, Ok, IsErrOf, None, true, false, n
 ghost use Rattle.vt_spec.specs.declared.errors.Rule.TheVariants.{S5};
 ghost use Rattle.vt_spec.specs.Errors.{denial};
 ghost use Rattle.vt_spec.specs.Policy.{policy, mkdir_outcome, write_outcome, rewrite_outcome, create_outcome, read_outcome, list_outcome, drop_outcome};
-ghost use Rattle.vt_line.specs.Requests.{call_of, capabilities_of};
-ghost use Rattle.vt_line.specs.Answers.{answer_of};
+ghost use Rattle.vt_first_line.specs.Requests.{call_of, capabilities_of};
+ghost use Rattle.vt_first_line.specs.Answers.{answer_of};
 ghost use Rattle.vt_spec.specs.Tree.{is_directory_node};
 ghost use Rattle.vt_spec.specs.Walk.{is_special, object_at};
 ghost use Rattle.vt_script.specs.WalkValue.{last_of, place_of};
@@ -13,8 +13,8 @@ ghost use Rattle.vt_script.specs.WorldValue.{world_of, fresh_number, Meets, Take
 use crate::walk::{Place, directory_walk, object_walk, parent_walk};
 use crate::world::World;
 use vt_cred::{Caps, Mode, Rights};
-use vt_line::answer::Answer;
-use vt_line::request::{Call, CapsWord, TaskName};
+use vt_first_line::answer::Answer;
+use vt_first_line::request::{Call, CapsWord, TaskName};
 use vt_node::NodeId;
 use vt_spec::errors::{Deny, Rule};
 use vt_text::path::PathText;

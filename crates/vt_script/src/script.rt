@@ -6,7 +6,7 @@ use crate::session::Session;
 use std::alloc::Global;
 use vt_io::input::Source;
 use vt_io::output::Sink;
-use vt_line::answer::RunFault;
+use vt_first_line::answer::RunFault;
 
 /// How many bytes are asked for at a time.
 const CHUNK: usize = 8192;

@@ -3,7 +3,7 @@
 
 mod table;
 
-pub use table::{Slot, Slots};
+pub use table::Slots;
 
 #[cfg(test)]
 mod tests;

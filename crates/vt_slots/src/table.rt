@@ -1,9 +1,10 @@
 //! `Slots`, and the slot of one node.
-ghost use Rattle.std.specs.Prelude.{◌≡◌, [], ◌+◌, ◌<◌, ◌≤◌, None, Some, IsSome, IsOk, IfOk, IfErr, OnOk, OnErr, option_copied, option_and_then, if◌then◌else◌};
-ghost use Rattle.std.specs.Option.{option_map, option_copied_mut};
+ghost use Rattle.std.specs.Prelude.{◌≡◌, [], ◌+◌, ◌-◌, ◌<◌, ◌≤◌, None, Some, IsSome, IsOk, IfOk, IfErr, IsErrOf, OnOk, OnErr, ◌↔◌, option_copied, if◌then◌else◌};
+ghost use Rattle.std.specs.Option.{option_copied_mut};
 ghost use Rattle.std.specs.Borrow.{Lends, sem};
 ghost use Rattle.vt_spec.specs.Errors.{denial};
 ghost use Rattle.vt_spec.specs.declared.errors.Rule.TheVariants.{S5};
+ghost use Rattle.vt_spec.specs.OneTree.Inodes.{uses_in, used_once_less, used_once_more};
 
 use slab::Slab;
 use std::alloc::Global;
@@ -11,11 +12,20 @@ use std::marker::Model;
 use vt_node::{Node, NodeId};
 use vt_spec::errors::{Deny, Rule};
 
-/// A node and how often it is in use.
+// A node and how often it is in use.
 #[derive(Debug, Drop)]
-pub struct Slot {
-    pub node: Node,
-    pub uses: u64,
+struct Slot {
+    node: Node,
+    uses: u64,
+}
+
+impl Model for Slot {
+    ghost use Rattle.std.specs.Prelude.{ℕ};
+    ghost use Rattle.vt_spec.specs.OneTree.Inodes.{Inode};
+
+    ghost Value = { Inode ℕ };
+
+    ghost view = { λ s. record { node = s.node; uses = s.uses } };
 }
 
 impl Slot {
@@ -33,8 +43,8 @@ impl Slot {
 
 /// Nodes by number.
 ///
-/// Each use of a node counts: an entry that leads to it, an open file, a place where a task stands. Like a `refcount_t` of
-/// the kernel the count stays at 2^64 - 1 once it is there, and such a node never goes.
+/// Each use of a node counts: an entry that leads to it, an open file, a place where a task stands. The count is exact: a use
+/// beyond 2^64 - 1 is refused.
 #[derive(Debug, Drop)]
 pub struct Slots {
     slab: Slab<Slot>,
@@ -55,7 +65,7 @@ impl Model for Slots {
 }
 
 impl Slots {
-    ghost use Rattle.vt_slots.specs.Slots.{Slots as Table, slot_at, node_at, uses_of, put_at, with_uses, acquired, released, goes};
+    ghost use Rattle.vt_slots.specs.Slots.{Slots as Table, slots_len, slot_at, node_at, put_at, most_uses, with_uses, goes};
     ghost use Rattle.vt_slots.specs.Lends.{lends_node, lends_present};
 
     /// No nodes. It takes no memory.
@@ -97,12 +107,19 @@ impl Slots {
 
     /// How often the node with this number is in use: 0 where there is none.
     pub fn uses(&self, id: NodeId) -> u64
-        ensures { result ≡ uses_of (slot_at self.now id) }
+        ensures { result ≡ uses_in (slot_at self.now id) }
     {
         match self.slab.get(id.index()) {
             Some(slot) => slot.uses,
             None => 0,
         }
+    }
+
+    /// How many nodes there are.
+    pub fn len(&self) -> usize
+        ensures { result ≡ slots_len self.now }
+    {
+        self.slab.len()
     }
 
     /// The number that the next insert gives out.
@@ -134,6 +151,7 @@ impl Slots {
         ensures number { result ≡ self.old.next }
         ensures vacant { slot_at self.old result ≡ None }
         ensures inserted { slot_at self.new ≡ put_at (slot_at self.old) result (Some (record { node = node; uses = 1 })) }
+        ensures len { slots_len self.new ≡ slots_len self.old + 1 }
         ensures room { self.new.room + 1 ≡ self.old.room }
     {
         NodeId::new(self.slab.insert_reserved(Slot { node, uses: 1 }))
@@ -144,6 +162,7 @@ impl Slots {
         ensures number { IfOk result (λ id. id ≡ self.old.next) }
         ensures vacant { IfOk result (λ id. slot_at self.old id ≡ None) }
         ensures inserted { IfOk result (λ id. slot_at self.new ≡ put_at (slot_at self.old) id (Some (record { node = node; uses = 1 }))) }
+        ensures len { OnOk result (slots_len self.new ≡ slots_len self.old + 1) }
         ensures succeeds { 0 < self.old.room → IsOk result }
         ensures memory { IfErr result (λ deny. deny ≡ denial S5) }
         ensures err { OnErr result (self.new ≡ record self.old { room = self.new.room }) }
@@ -152,35 +171,57 @@ impl Slots {
         Ok(self.insert_reserved(node))
     }
 
-    /// Counts one use more of a node that is there.
-    pub fn acquire(&mut self, id: NodeId)
-        ensures acquired { slot_at self.new ≡ put_at (slot_at self.old) id (option_map acquired (slot_at self.old id)) }
+    /// Counts one use more of a node that is there. It takes no memory. S5: the count is at its limit, 2^64 - 1.
+    pub fn acquire(&mut self, id: NodeId) -> Result<(), Deny>
+        ensures acquired { OnOk result (slot_at self.new ≡ put_at (slot_at self.old) id (used_once_more (slot_at self.old id))) }
+        ensures limit { IsErrOf result (denial S5) ↔ (uses_in (slot_at self.old id) ≡ most_uses) }
+        ensures memory { IfErr result (λ deny. deny ≡ denial S5) }
         ensures next { self.new.next ≡ self.old.next }
+        ensures len { slots_len self.new ≡ slots_len self.old }
+        ensures room { self.new.room ≡ self.old.room }
+        ensures err { OnErr result (self.new ≡ self.old) }
+    {
+        if self.uses(id) == u64::MAX {
+            return Err(Rule::S5.denial());
+        }
+        self.count_use(id);
+        Ok(())
+    }
+
+    /// Counts one use more of a node that is there, for a caller that knows that the count is below its limit.
+    pub fn count_use(&mut self, id: NodeId)
+        requires { uses_in (slot_at self.old id) < most_uses }
+        ensures acquired { slot_at self.new ≡ put_at (slot_at self.old) id (used_once_more (slot_at self.old id)) }
+        ensures next { self.new.next ≡ self.old.next }
+        ensures len { slots_len self.new ≡ slots_len self.old }
         ensures room { self.new.room ≡ self.old.room }
     {
         let uses = self.uses(id);
-        self.set_uses(id, uses.saturating_add(1));
+        self.set_uses(id, uses + 1);
     }
 
-    /// Counts one use less of a node that is there. With its last use the node goes, and its number is the next to be given out.
-    pub fn release(&mut self, id: NodeId)
-        ensures released { slot_at self.new ≡ put_at (slot_at self.old) id (option_and_then released (slot_at self.old id)) }
+    /// Counts one use less of a node that is there, and tells whether that was the last: with it the node goes, and its number is
+    /// the next to be given out. It takes no memory.
+    pub fn release(&mut self, id: NodeId) -> bool
+        ensures released { slot_at self.new ≡ put_at (slot_at self.old) id (used_once_less (slot_at self.old id)) }
+        ensures gone { result ≡ goes (slot_at self.old id) }
         ensures next { self.new.next ≡ (if goes (slot_at self.old id) then id else self.old.next) }
+        ensures len { slots_len self.new ≡ (if goes (slot_at self.old id) then slots_len self.old - 1 else slots_len self.old) }
         ensures room { self.old.room ≤ self.new.room }
     {
-        match self.uses(id) {
-            0 | 1 => {
-                self.slab.try_remove(id.index());
-            }
-            u64::MAX => {}
-            uses => self.set_uses(id, uses - 1),
+        let uses = self.uses(id);
+        if uses <= 1 {
+            return self.slab.try_remove(id.index()).is_some();
         }
+        self.set_uses(id, uses - 1);
+        false
     }
 
     // Sets the count of a node that is there.
     fn set_uses(&mut self, id: NodeId, uses: u64)
-        ensures set { slot_at self.new ≡ put_at (slot_at self.old) id (option_map (with_uses uses) (slot_at self.old id)) }
+        ensures set { slot_at self.new ≡ put_at (slot_at self.old) id (with_uses uses (slot_at self.old id)) }
         ensures next { self.new.next ≡ self.old.next }
+        ensures len { slots_len self.new ≡ slots_len self.old }
         ensures room { self.new.room ≡ self.old.room }
     {
         if let Some(slot) = self.slab.get_mut(id.index()) {

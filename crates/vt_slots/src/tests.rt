@@ -18,16 +18,19 @@ fn a_node_stays_until_its_last_use_goes(rt: HostRuntime) -> Result<(), Fail> {
     let file = slots.insert(Node::new_file(plain()?, Vec::new(rt.alloc())))?;
     let directory = slots.insert(Node::new_directory(rt.alloc(), plain()?, file))?;
     assert_ne!(rt; file, directory);
-    slots.acquire(file);
+    assert_eq!(rt; slots.len(), 2);
+    slots.acquire(file)?;
     assert_eq!(rt; slots.uses(file), 2);
-    slots.release(file);
+    assert!(rt; !slots.release(file));
     let bytes = Vec::from_slice(rt.alloc(), b"hi")?;
     slots.get_mut(file).ok_or("the file")?.set_bytes(bytes);
     assert_eq!(rt;
         slots.get(file).ok_or("the file")?.bytes(),
         b"hi".as_slice()
     );
-    slots.release(file);
+    assert!(rt; slots.release(file));
+    assert!(rt; !slots.release(file));
+    assert_eq!(rt; slots.len(), 1);
     assert!(rt; slots.get(file).is_none());
     assert_eq!(rt; slots.uses(file), 0);
     assert_eq!(rt; slots.next(), file);

@@ -51,7 +51,7 @@ fn split_first_word(text: &[u8]) -> Option<(&[u8], &[u8])>
 }
 
 // What stands before the last word of a text, and that word.
-fn split_last_word(text: &[u8]) -> Option<(&[u8], &[u8])>
+pub(crate) fn split_last_word(text: &[u8]) -> Option<(&[u8], &[u8])>
     ensures { MatchOption result (words text.now ≡ []) (λ parts. words text.now ≡ words parts.0.now ++ parts.1.now ∷ []) }
 {
     let last = text.iter().rposition(|byte| *byte != b'/')?;
@@ -63,6 +63,15 @@ fn split_last_word(text: &[u8]) -> Option<(&[u8], &[u8])>
 #[derive(Debug, Drop)]
 pub struct Words<'a> {
     text: &'a [u8],
+}
+
+impl<'a> Words<'a> {
+    // The words of any text.
+    pub(crate) fn of(text: &'a [u8]) -> Words<'a>
+        ensures { result ≡ words text.now }
+    {
+        Words { text }
+    }
 }
 
 impl<'a> Model for Words<'a> {
@@ -124,7 +133,7 @@ impl<'a> Clone for PathText<'a> {
 }
 
 // Whether a word of the text is over its limit.
-fn has_long_word(text: &[u8]) -> bool
+pub(crate) fn has_long_word(text: &[u8]) -> bool
     ensures { result ≡ list_any (λ word. nat_lt longest_name (length word)) (words text.now) }
 {
     Words { text }.any(|word| word.len() > LONGEST_NAME)

@@ -1,1 +1,2 @@
 pub mod TreeValue
+pub mod TreeRules

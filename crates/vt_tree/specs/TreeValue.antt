@@ -1,18 +1,22 @@
 -- What a contract sees of a `Tree`.
-use Rattle.std.specs.Prelude.{ℕ, List, Option, None, slice_index_or}
-use Rattle.std.specs.Option.{option_map}
+use Rattle.std.specs.Prelude.{ℕ, List, Option, None, count_by, is_some, slice_index_or}
+use Rattle.vt_spec.specs.OneTree.Inodes.{Inode, Inodes, tree_of as tree_of_inodes}
 use Rattle.vt_spec.specs.Tree.{Tree}
-use Rattle.vt_slots.specs.declared.table.Slot.{Slot}
 
--- the number of the root, what is at each number from 0 on, and the number that the next new object gets
+-- the number of the root, the inode at each number from 0 on, and the number that the next new object gets
 pub record TreeValue : Type 0 where
   pub root : ℕ
-  pub slots : List (Option Slot)
+  pub slots : List (Option (Inode ℕ))
   pub next : ℕ
+
+-- the inodes with their uses, and how many there are
+abbrev pub inodes_of : TreeValue → Inodes ℕ
+inodes_of value =
+    record { root = value.root; inode = λ id. slice_index_or value.slots id None; count = count_by is_some value.slots }
 
 -- the finite map of nodes
 abbrev pub tree_of : TreeValue → Tree ℕ
-tree_of value = record { root = value.root; node = λ id. option_map (λ slot. slot.node) (slice_index_or value.slots id None) }
+tree_of value = tree_of_inodes (inodes_of value)
 
 -- the number that the next new object gets
 abbrev pub next_number : TreeValue → ℕ

@@ -1,6 +1,7 @@
 //! A tree of inodes, as a finite map from their numbers that its calls change.
 #![tactic(auto)]
 
+mod changes;
 mod copies;
 mod trees;
 

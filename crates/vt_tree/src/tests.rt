@@ -1,8 +1,9 @@
 //! What no clause says: that calls succeed with ample memory, and what a refused allocation leaves.
 use super::*;
+use std::alloc::Global;
 use std::test::Fail;
-use vt_node::{Attr, Mode};
-use vt_spec::errors::Rule;
+use vt_node::{Attr, Mode, Node, NodeId};
+use vt_spec::errors::{Deny, Rule};
 
 fn plain() -> Result<Attr, Fail> {
     let mode = Mode::new(0o755).ok_or("a mode")?;
@@ -13,17 +14,49 @@ fn plain() -> Result<Attr, Fail> {
     })
 }
 
+fn owned(alloc: Global, bytes: &[u8]) -> Result<Vec<u8>, Deny> {
+    Vec::from_slice(alloc, bytes).map_err(|_error| Rule::S5.denial())
+}
+
+// mkdir(2)
+fn make_directory(
+    tree: &mut Tree,
+    alloc: Global,
+    directory: NodeId,
+    name: &[u8],
+    attr: Attr,
+) -> Result<NodeId, Deny> {
+    let name = owned(alloc, name)?;
+    tree.create(directory, name, Node::new_directory(alloc, attr, directory))
+}
+
+// open(2) with O_CREAT and O_EXCL, and write(2)
+fn make_file(
+    tree: &mut Tree,
+    alloc: Global,
+    directory: NodeId,
+    name: &[u8],
+    attr: Attr,
+    bytes: &[u8],
+) -> Result<NodeId, Deny> {
+    let name = owned(alloc, name)?;
+    let bytes = owned(alloc, bytes)?;
+    tree.create(directory, name, Node::new_file(attr, bytes))
+}
+
 #[test]
 fn a_tree_has_what_was_made_in_it(rt: HostRuntime) -> Result<(), Fail> {
     let mut tree = Tree::new(rt.alloc(), plain()?)?;
     let root = tree.root();
-    let directory = tree.create_directory(root, b"d", plain()?)?;
-    let hi = Vec::from_slice(rt.alloc(), b"hi")?;
-    let file = tree.create_file(root, b"c", plain()?, hi)?;
+    let directory = make_directory(&mut tree, rt.alloc(), root, b"d", plain()?)?;
+    let file = make_file(&mut tree, rt.alloc(), root, b"c", plain()?, b"hi")?;
     assert_eq!(rt; tree.look(root, b"d"), Some(directory));
     assert_eq!(rt; tree.parent(directory), root);
     assert!(rt; tree.is_directory(directory));
+    assert!(rt; tree.is_filled(root));
+    assert!(rt; !tree.is_filled(directory));
     assert!(rt; tree.node(file).is_some());
+    assert_eq!(rt; tree.len(), 3);
     assert_eq!(rt; tree.read(file)?.as_slice(), b"hi".as_slice());
     tree.write(file, Vec::new(rt.alloc()))?;
     assert_eq!(rt; tree.read(file)?.as_slice(), b"".as_slice());
@@ -31,6 +64,14 @@ fn a_tree_has_what_was_made_in_it(rt: HostRuntime) -> Result<(), Fail> {
     assert_eq!(rt; names.len(), 2);
     assert_eq!(rt; names[0].as_slice(), b"c".as_slice());
     assert_eq!(rt; names[1].as_slice(), b"d".as_slice());
+    let mode = Mode::new(0o600).ok_or("a mode")?;
+    let private = Attr {
+        uid: 5,
+        gid: 6,
+        mode,
+    };
+    tree.set_attr(file, private);
+    assert_eq!(rt; tree.node(file).ok_or("the file")?.attr(), private);
     Ok(())
 }
 
@@ -38,10 +79,10 @@ fn a_tree_has_what_was_made_in_it(rt: HostRuntime) -> Result<(), Fail> {
 fn calls_are_refused_by_their_rules(rt: HostRuntime) -> Result<(), Fail> {
     let mut tree = Tree::new(rt.alloc(), plain()?)?;
     let root = tree.root();
-    let file = tree.create_file(root, b"f", plain()?, Vec::new(rt.alloc()))?;
-    let again = tree.create_directory(root, b"f", plain()?);
+    let file = make_file(&mut tree, rt.alloc(), root, b"f", plain()?, b"")?;
+    let again = make_directory(&mut tree, rt.alloc(), root, b"f", plain()?);
     assert_eq!(rt; again, Err(Rule::E1.denial()));
-    let below = tree.create_directory(file, b"f", plain()?);
+    let below = make_directory(&mut tree, rt.alloc(), file, b"f", plain()?);
     assert_eq!(rt; below, Err(Rule::E3.denial()));
     assert_eq!(rt; tree.read(root).err(), Some(Rule::E2.denial()));
     assert_eq!(rt;
@@ -53,6 +94,127 @@ fn calls_are_refused_by_their_rules(rt: HostRuntime) -> Result<(), Fail> {
     let more = vec![in rt.alloc(); 0u8; 1_048_577]?;
     assert_eq!(rt; tree.write(file, more), Err(Rule::E6.denial()));
     assert_eq!(rt; tree.read(file)?.len(), 1_048_576);
+    assert_eq!(rt; tree.write_at(file, 1_048_575, b"z"), Ok(()));
+    assert_eq!(rt;
+        tree.write_at(file, 1_048_575, b"zz"),
+        Err(Rule::E6.denial())
+    );
+    assert_eq!(rt;
+        tree.write_at(file, usize::MAX, b"z"),
+        Err(Rule::E6.denial())
+    );
+    assert_eq!(rt; tree.write_at(root, 0, b"z"), Err(Rule::E2.denial()));
+    Ok(())
+}
+
+#[test]
+fn parts_of_a_file_are_read_and_written(rt: HostRuntime) -> Result<(), Fail> {
+    let mut tree = Tree::new(rt.alloc(), plain()?)?;
+    let root = tree.root();
+    let file = make_file(&mut tree, rt.alloc(), root, b"f", plain()?, b"abcdef")?;
+    tree.write_at(file, 4, b"1234")?;
+    assert_eq!(rt; tree.read(file)?.as_slice(), b"abcd1234".as_slice());
+    assert_eq!(rt; tree.read_part(file, 2, 3)?.as_slice(), b"cd1".as_slice());
+    assert_eq!(rt; tree.read_part(file, 7, 9)?.as_slice(), b"4".as_slice());
+    assert_eq!(rt; tree.read_part(file, 9, 9)?.len(), 0);
+    Ok(())
+}
+
+#[test]
+fn a_file_goes_with_its_last_name(rt: HostRuntime) -> Result<(), Fail> {
+    let mut tree = Tree::new(rt.alloc(), plain()?)?;
+    let root = tree.root();
+    let file = make_file(&mut tree, rt.alloc(), root, b"a", plain()?, b"hi")?;
+    tree.link(root, owned(rt.alloc(), b"b")?, file)?;
+    assert_eq!(rt;
+        tree.link(root, owned(rt.alloc(), b"b")?, file),
+        Err(Rule::E1.denial())
+    );
+    assert_eq!(rt;
+        tree.link(root, owned(rt.alloc(), b"c")?, root),
+        Err(Rule::E7.denial())
+    );
+    assert_eq!(rt;
+        tree.link(root, owned(rt.alloc(), b"c")?, tree.next_number()),
+        Err(Rule::W6.denial())
+    );
+    assert_eq!(rt; tree.unlink(root, b"c", file), Err(Rule::W6.denial()));
+    tree.unlink(root, b"a", file)?;
+    assert_eq!(rt; tree.read(file)?.as_slice(), b"hi".as_slice());
+    tree.unlink(root, b"b", file)?;
+    assert!(rt; tree.node(file).is_none());
+    assert_eq!(rt; tree.len(), 1);
+    assert_eq!(rt; tree.next_number(), file);
+    Ok(())
+}
+
+#[test]
+fn a_pinned_file_stays_without_a_name(rt: HostRuntime) -> Result<(), Fail> {
+    let mut tree = Tree::new(rt.alloc(), plain()?)?;
+    let root = tree.root();
+    let file = make_file(&mut tree, rt.alloc(), root, b"a", plain()?, b"hi")?;
+    tree.pin(file)?;
+    tree.unlink(root, b"a", file)?;
+    assert!(rt; tree.look(root, b"a").is_none());
+    assert_eq!(rt; tree.read(file)?.as_slice(), b"hi".as_slice());
+    tree.unpin(file);
+    assert!(rt; tree.node(file).is_none());
+    Ok(())
+}
+
+#[test]
+fn a_filled_directory_stays(rt: HostRuntime) -> Result<(), Fail> {
+    let mut tree = Tree::new(rt.alloc(), plain()?)?;
+    let root = tree.root();
+    let directory = make_directory(&mut tree, rt.alloc(), root, b"d", plain()?)?;
+    let file = make_file(&mut tree, rt.alloc(), directory, b"f", plain()?, b"")?;
+    assert_eq!(rt; tree.unlink(root, b"d", directory), Err(Rule::E4.denial()));
+    tree.unlink(directory, b"f", file)?;
+    tree.unlink(root, b"d", directory)?;
+    assert_eq!(rt; tree.len(), 1);
+    Ok(())
+}
+
+#[test]
+fn an_object_gets_another_name(rt: HostRuntime) -> Result<(), Fail> {
+    let mut tree = Tree::new(rt.alloc(), plain()?)?;
+    let root = tree.root();
+    let top = make_directory(&mut tree, rt.alloc(), root, b"t", plain()?)?;
+    let below = make_directory(&mut tree, rt.alloc(), top, b"b", plain()?)?;
+    let file = make_file(&mut tree, rt.alloc(), root, b"f", plain()?, b"new")?;
+    let other = make_file(&mut tree, rt.alloc(), below, b"g", plain()?, b"old")?;
+    assert!(rt; tree.is_under(root, below));
+    assert!(rt; tree.is_under(below, below));
+    assert!(rt; !tree.is_under(below, top));
+
+    tree.rename(root, b"f", below, owned(rt.alloc(), b"g")?, file)?;
+    assert!(rt; tree.look(root, b"f").is_none());
+    assert_eq!(rt; tree.look(below, b"g"), Some(file));
+    assert!(rt; tree.node(other).is_none());
+
+    tree.rename(below, b"g", below, owned(rt.alloc(), b"a")?, file)?;
+    assert!(rt; tree.look(below, b"g").is_none());
+    assert_eq!(rt; tree.look(below, b"a"), Some(file));
+
+    let own = tree.rename(root, b"t", below, owned(rt.alloc(), b"x")?, top);
+    assert_eq!(rt; own, Err(Rule::E5.denial()));
+    let over_file = tree.rename(root, b"t", below, owned(rt.alloc(), b"a")?, top);
+    assert_eq!(rt; over_file, Err(Rule::E3.denial()));
+    let over_directory = tree.rename(below, b"a", root, owned(rt.alloc(), b"t")?, file);
+    assert_eq!(rt; over_directory, Err(Rule::E2.denial()));
+    let empty = make_directory(&mut tree, rt.alloc(), root, b"e", plain()?)?;
+    let over_filled = tree.rename(root, b"e", root, owned(rt.alloc(), b"t")?, empty);
+    assert_eq!(rt; over_filled, Err(Rule::E4.denial()));
+    let missing = tree.rename(root, b"q", root, owned(rt.alloc(), b"r")?, file);
+    assert_eq!(rt; missing, Err(Rule::W6.denial()));
+
+    tree.rename(top, b"b", root, owned(rt.alloc(), b"e")?, below)?;
+    assert_eq!(rt; tree.parent(below), root);
+    assert!(rt; tree.node(empty).is_none());
+    tree.link(root, owned(rt.alloc(), b"h")?, file)?;
+    tree.rename(root, b"h", below, owned(rt.alloc(), b"a")?, file)?;
+    assert_eq!(rt; tree.look(root, b"h"), Some(file));
+    assert_eq!(rt; tree.look(below, b"a"), Some(file));
     Ok(())
 }
 
@@ -67,10 +229,10 @@ fn a_refused_allocation_changes_nothing(rt: HostRuntime) -> Result<(), Fail> {
     };
     let root = tree.root();
     for name in [b"b".as_slice(), b"c", b"a", b"e", b"d"] {
-        if let Err(deny) = tree.create_directory(root, name, plain()?) {
+        if let Err(deny) = make_directory(&mut tree, rt.alloc(), root, name, plain()?) {
             assert_eq!(rt; deny, Rule::S5.denial());
             assert!(rt; tree.look(root, name).is_none());
-            tree.create_directory(root, name, plain()?)?;
+            make_directory(&mut tree, rt.alloc(), root, name, plain()?)?;
         }
     }
     let names = match tree.list(root) {
@@ -85,5 +247,57 @@ fn a_refused_allocation_changes_nothing(rt: HostRuntime) -> Result<(), Fail> {
         assert_eq!(rt; name.as_slice(), [*wanted].as_slice());
         assert!(rt; tree.look(root, name).is_some());
     }
+    Ok(())
+}
+
+// The same, where the first attempt may be refused memory.
+fn surely_owned(alloc: Global, bytes: &[u8]) -> Result<Vec<u8>, Deny> {
+    match owned(alloc, bytes) {
+        Ok(owned) => Ok(owned),
+        Err(_deny) => owned(alloc, bytes),
+    }
+}
+
+// What a second attempt must find as the first did, where that was refused memory.
+#[test]
+fn a_refused_rename_or_write_changes_nothing(rt: HostRuntime) -> Result<(), Fail> {
+    let mut tree = match Tree::new(rt.alloc(), plain()?) {
+        Ok(tree) => tree,
+        Err(_deny) => Tree::new(rt.alloc(), plain()?)?,
+    };
+    let root = tree.root();
+    let directory = match make_directory(&mut tree, rt.alloc(), root, b"d", plain()?) {
+        Ok(directory) => directory,
+        Err(_deny) => make_directory(&mut tree, rt.alloc(), root, b"d", plain()?)?,
+    };
+    let file = match make_file(&mut tree, rt.alloc(), root, b"f", plain()?, b"abc") {
+        Ok(file) => file,
+        Err(_deny) => make_file(&mut tree, rt.alloc(), root, b"f", plain()?, b"abc")?,
+    };
+    let new = surely_owned(rt.alloc(), b"g")?;
+    if let Err(deny) = tree.rename(root, b"f", directory, new, file) {
+        assert_eq!(rt; deny, Rule::S5.denial());
+        assert_eq!(rt; tree.look(root, b"f"), Some(file));
+        assert!(rt; tree.look(directory, b"g").is_none());
+        tree.rename(root, b"f", directory, owned(rt.alloc(), b"g")?, file)?;
+    }
+    assert!(rt; tree.look(root, b"f").is_none());
+    assert_eq!(rt; tree.look(directory, b"g"), Some(file));
+    if let Err(deny) = tree.write_at(file, 100, b"z") {
+        assert_eq!(rt; deny, Rule::S5.denial());
+        let kept = tree.node(file).ok_or("the file")?;
+        assert_eq!(rt; kept.bytes(), b"abc".as_slice());
+        tree.write_at(file, 100, b"z")?;
+    }
+    assert_eq!(rt; tree.node(file).ok_or("the file")?.bytes().len(), 101);
+    let name = surely_owned(rt.alloc(), b"h")?;
+    if let Err(deny) = tree.link(directory, name, file) {
+        assert_eq!(rt; deny, Rule::S5.denial());
+        assert!(rt; tree.look(directory, b"h").is_none());
+        tree.link(directory, owned(rt.alloc(), b"h")?, file)?;
+    }
+    tree.unlink(directory, b"g", file)?;
+    assert_eq!(rt; tree.look(directory, b"h"), Some(file));
+    assert!(rt; tree.node(file).is_some());
     Ok(())
 }

@@ -1,15 +1,23 @@
 //! `Tree`, and what its calls change.
-ghost use Rattle.std.specs.Prelude.{◌≡◌, nat_eq, nat_lt, Bool, true, false, [], ◌∷◌, map, length, Ok, None, Some, IsSome, IfOk, IfErr, OnOk, OnErr, IsErrOf, IsTrue, ◌↔◌, ◌⊎◌, option_copied};
-ghost use Rattle.vt_spec.specs.Errors.{denial, unless};
-ghost use Rattle.vt_spec.specs.declared.errors.Rule.TheVariants.{S5, E1, E2, E3, E6};
-ghost use Rattle.vt_spec.specs.Tree.{Node as Inode, Content, is_directory_node, node_with_entry, node_with_bytes, parent_in, names_in, bytes_in, new_directory, with_object, with_file_bytes, tree_of_root};
-ghost use Rattle.vt_spec.specs.Tree.Content.{Regular};
+ghost use Rattle.std.specs.Prelude.{◌≡◌, ◌≢◌, ◌+◌, nat_eq, [], ◌∷◌, map, length, drop, take, Ok, None, Some, IfOk, IfErr, OnOk, OnErr, IsErrOf, IsOkUnless, IsTrue, ◌↔◌, ◌⊎◌, option_copied};
+ghost use Rattle.vt_spec.specs.Errors.{denial};
+ghost use Rattle.vt_spec.specs.declared.errors.Rule.TheVariants.{S5, E2};
+ghost use Rattle.vt_spec.specs.Laws.Trees.{IsNewIn};
+ghost use Rattle.vt_spec.specs.Machine.Changes.Change.{AddName, Make, Move, Remove, SetAttr, SetBytes};
+ghost use Rattle.vt_spec.specs.Machine.Outcome.Descriptors.{overwritten};
+ghost use Rattle.vt_spec.specs.OneTree.Fits.{Fits};
+ghost use Rattle.vt_spec.specs.OneTree.Inodes.{changed, is_directory_under, one_directory, pinned, unpinned, uses_in};
+ghost use Rattle.vt_spec.specs.OneTree.Rules.{is_filled};
+ghost use Rattle.vt_spec.specs.Tree.{is_directory_node, parent_in, names_in, bytes_in};
 ghost use Rattle.vt_spec.specs.TreeLaws.{entry_at};
-ghost use Rattle.vt_spec.specs.Laws.Trees.{IsNewIn, IsWholeTree};
-ghost use Rattle.vt_spec.specs.Policy.{largest_file};
-ghost use Rattle.vt_tree.specs.TreeValue.{tree_of, next_number};
-ghost use Rattle.vt_slots.specs.Slots.{node_at, put_at};
+ghost use Rattle.vt_tree.specs.TreeRules.{AnswersBy, leads_to, link_rules, make_rules, rename_rules, ruling, unlink_rules, write_rules};
+ghost use Rattle.vt_tree.specs.TreeValue.{inodes_of, tree_of, next_number};
+ghost use Rattle.vt_slots.specs.Slots.{most_uses};
 
+use crate::changes::{
+    insert_entry, release, remove_entry, remove_object, set_attr, set_bytes, set_parent,
+    write_bytes,
+};
 use crate::copies::{copied_bytes, copied_names};
 use std::alloc::Global;
 use std::marker::Model;
@@ -20,9 +28,8 @@ use vt_spec::errors::{Deny, Rule};
 // The most bytes of a file.
 const LARGEST_FILE: usize = 1_048_576;
 
-/// A tree of directories, files, links and whiteouts, each with a number.
-///
-/// It always meets the conditions of a tree. No call removes a directory, so names lead to each from the root.
+/// A tree of directories, files, links and whiteouts, each with a number, and with a count of its uses: the names that lead to it,
+/// and what a caller pins. With its last use an object goes.
 #[derive(Debug, Drop)]
 pub struct Tree {
     slots: Slots,
@@ -36,18 +43,12 @@ impl Model for Tree {
     ghost Value = { TreeValue };
 
     ghost view = { λ t. record { root = t.root; slots = t.slots.slots; next = t.slots.next } };
-
-    ghost use Rattle.vt_spec.specs.Laws.Trees.{IsWholeTree};
-    ghost use Rattle.vt_tree.specs.TreeValue.{tree_of};
-
-    ghost invariant = { λ t. IsWholeTree (tree_of (record { root = t.root; slots = t.slots.slots; next = t.slots.next })) };
 }
 
 impl Tree {
-    /// A tree of one empty directory, its root. S5: memory was refused.
+    /// A tree of one empty directory, its root, with the number 0. S5: memory was refused.
     pub fn new(alloc: Global, attr: Attr) -> Result<Self, Deny>
-        ensures ok { IfOk result (λ tree. tree_of tree ≡ tree_of_root nat_eq (tree_of tree).root attr) }
-        ensures root { IfOk result (λ tree. (tree_of tree).root ≡ 0) }
+        ensures ok { IfOk result (λ tree. inodes_of tree ≡ one_directory nat_eq 0 attr) }
         ensures memory { IfErr result (λ deny. deny ≡ denial S5) }
     {
         let mut slots = Slots::new(alloc);
@@ -60,9 +61,15 @@ impl Tree {
     /// The number of its root directory.
     pub fn root(&self) -> NodeId
         ensures value { result ≡ (tree_of self.now).root }
-        ensures whole { IsWholeTree (tree_of self.now) }
     {
         self.root
+    }
+
+    /// How many objects there are.
+    pub fn len(&self) -> usize
+        ensures { result ≡ (inodes_of self.now).count }
+    {
+        self.slots.len()
     }
 
     /// The number that the next new object gets, which no node has.
@@ -86,6 +93,16 @@ impl Tree {
     {
         match self.slots.get(id) {
             Some(node) => node.is_directory(),
+            None => false,
+        }
+    }
+
+    /// Whether the number is of a directory with entries.
+    pub fn is_filled(&self, id: NodeId) -> bool
+        ensures { result ≡ is_filled (tree_of self.now) id }
+    {
+        match self.slots.get(id) {
+            Some(node) => node.is_filled(),
             None => false,
         }
     }
@@ -131,57 +148,145 @@ impl Tree {
         }
     }
 
-    /// Makes an empty directory under a name of a directory: mkdir(2).
-    ///
-    /// E1: the name is there. E3: no directory. S5: memory was refused.
-    pub fn create_directory(
-        &mut self,
-        directory: NodeId,
-        name: &[u8],
-        attr: Attr,
-    ) -> Result<NodeId, Deny>
-        ensures ok { IfOk result (λ id. tree_of self.new ≡ with_object nat_eq (tree_of self.old) directory name.now id (record { attr = attr; content = new_directory directory })) }
-        ensures number { IfOk result (λ id. id ≡ next_number self.old) }
-        ensures vacant { IfOk result (λ id. (tree_of self.old).node id ≡ None) }
-        ensures exists { IsErrOf result (denial E1) ↔ IsSome (entry_at (tree_of self.old) directory name.now) }
-        ensures no_directory { IsErrOf result (denial E3) ↔ (is_directory_node ((tree_of self.old).node directory) ≡ false) }
-        ensures errors { IfErr result (λ deny. (deny ≡ denial E1) ⊎ (deny ≡ denial E3) ⊎ (deny ≡ denial S5)) }
-        ensures err { OnErr result (self.new ≡ self.old) }
+    /// At most so many bytes of a file from an offset on: pread(2). Past the end there are none. S5: memory was refused.
+    pub fn read_part(&self, file: NodeId, offset: usize, size: usize) -> Result<Vec<u8>, Deny>
+        ensures ok { IfOk result (λ bytes. bytes.items ≡ take size (drop offset (bytes_in ((tree_of self.now).node file)))) }
+        ensures memory { IfErr result (λ deny. deny ≡ denial S5) }
     {
-        let node = Node::new_directory(self.alloc, attr, directory);
-        self.create(directory, name, node)
+        match self.slots.get(file) {
+            Some(node) => copied_bytes(self.alloc, node.bytes_part(offset, size)),
+            None => Ok(Vec::new(self.alloc)),
+        }
     }
 
-    /// Makes a regular file with these bytes under a name of a directory: open(2) with O_CREAT and O_EXCL.
+    /// Whether a directory is at or under another: going up by parents meets it.
+    pub fn is_under(&self, top: NodeId, directory: NodeId) -> bool
+        ensures { result ≡ is_directory_under nat_eq (inodes_of self.now) top directory }
+    {
+        let mut here = directory;
+        let mut left = self.len();
+        while left > 0 {
+            if top == here {
+                return true;
+            }
+            if here == self.root {
+                return false;
+            }
+            here = self.parent(here);
+            left -= 1;
+        }
+        top == here
+    }
+
+    /// Makes an object under a name of a directory: mkdir(2), open(2) with O_CREAT, symlink(2), mknod(2).
     ///
-    /// E1: the name is there. E3: no directory. S5: memory was refused.
-    pub fn create_file(
-        &mut self,
-        directory: NodeId,
-        name: &[u8],
-        attr: Attr,
-        bytes: Vec<u8>,
-    ) -> Result<NodeId, Deny>
-        ensures ok { IfOk result (λ id. tree_of self.new ≡ with_object nat_eq (tree_of self.old) directory name.now id (record { attr = attr; content = Regular bytes.items })) }
+    /// E3: no directory. E1: the name is there. S5: memory was refused.
+    pub fn create(&mut self, directory: NodeId, name: Vec<u8>, node: Node) -> Result<NodeId, Deny>
+        requires { IsNewIn directory node }
+        ensures ok { IfOk result (λ id. inodes_of self.new ≡ changed nat_eq (inodes_of self.old) (Make directory name.items id node)) }
         ensures number { IfOk result (λ id. id ≡ next_number self.old) }
-        ensures vacant { IfOk result (λ id. (tree_of self.old).node id ≡ None) }
-        ensures exists { IsErrOf result (denial E1) ↔ IsSome (entry_at (tree_of self.old) directory name.now) }
-        ensures no_directory { IsErrOf result (denial E3) ↔ (is_directory_node ((tree_of self.old).node directory) ≡ false) }
-        ensures errors { IfErr result (λ deny. (deny ≡ denial E1) ⊎ (deny ≡ denial E3) ⊎ (deny ≡ denial S5)) }
+        ensures answer { AnswersBy (make_rules (inodes_of self.old) directory name.items) result }
+        ensures fits { Fits (inodes_of self.old) (Make directory name.items (next_number self.old) node) → IsOkUnless result (denial S5) }
         ensures err { OnErr result (self.new ≡ self.old) }
     {
-        self.create(directory, name, Node::new_file(attr, bytes))
+        if let Err(deny) = self.check_name(directory, &name) {
+            return Err(deny);
+        }
+        self.slots.reserve(1)?;
+        let id = self.slots.next();
+        insert_entry(&mut self.slots, directory, name, id)?;
+        Ok(self.slots.insert_reserved(node))
+    }
+
+    /// Gives an object a name more: link(2).
+    ///
+    /// E3: no directory. E1: the name is there. W6: no such object. E7: the object is a directory. S5: memory was refused, or the
+    /// object has 2^64 - 1 uses.
+    pub fn link(&mut self, directory: NodeId, name: Vec<u8>, object: NodeId) -> Result<(), Deny>
+        ensures ok { OnOk result (inodes_of self.new ≡ changed nat_eq (inodes_of self.old) (AddName directory name.items object)) }
+        ensures answer { AnswersBy (link_rules (inodes_of self.old) directory name.items object) result }
+        ensures fits { Fits (inodes_of self.old) (AddName directory name.items object) → IsOkUnless result (denial S5) }
+        ensures err { OnErr result (self.new ≡ self.old) }
+    {
+        if let Err(deny) = self.check_name(directory, &name) {
+            return Err(deny);
+        }
+        if self.slots.get(object).is_none() {
+            return Err(Rule::W6.denial());
+        }
+        if self.is_directory(object) {
+            return Err(Rule::E7.denial());
+        }
+        if self.slots.uses(object) == u64::MAX {
+            return Err(Rule::S5.denial());
+        }
+        insert_entry(&mut self.slots, directory, name, object)?;
+        self.slots.count_use(object);
+        Ok(())
+    }
+
+    /// Takes a name from an object: unlink(2), rmdir(2). With its last use the object goes. It takes no memory.
+    ///
+    /// W6: the name is not the object's. E4: the object is a directory with entries.
+    pub fn unlink(&mut self, directory: NodeId, name: &[u8], object: NodeId) -> Result<(), Deny>
+        ensures ok { OnOk result (inodes_of self.new ≡ changed nat_eq (inodes_of self.old) (Remove directory name.now object)) }
+        ensures answer { result ≡ ruling (unlink_rules (inodes_of self.old) directory name.now object) }
+        ensures fits { Fits (inodes_of self.old) (Remove directory name.now object) → result ≡ Ok tt }
+        ensures err { OnErr result (self.new ≡ self.old) }
+    {
+        if !self.leads_to(directory, name, object) {
+            return Err(Rule::W6.denial());
+        }
+        if self.is_filled(object) {
+            return Err(Rule::E4.denial());
+        }
+        remove_entry(&mut self.slots, directory, name);
+        remove_object(&mut self.slots, object);
+        Ok(())
+    }
+
+    /// Gives an object another name, and takes the place of what had that: rename(2). Two names of one object stay.
+    ///
+    /// W6: the old name is not the object's. E3: no directory, or a directory over what is none. E2: no directory over a directory.
+    /// E4: a directory over one with entries. E5: a directory under itself. S5: memory was refused.
+    pub fn rename(
+        &mut self,
+        from: NodeId,
+        old: &[u8],
+        to: NodeId,
+        new: Vec<u8>,
+        object: NodeId,
+    ) -> Result<(), Deny>
+        ensures ok { entry_at (tree_of self.old) to new.items ≢ Some object
+            → OnOk result (inodes_of self.new ≡ changed nat_eq (inodes_of self.old) (Move from old.now to new.items object)) }
+        ensures one_object { entry_at (tree_of self.old) to new.items ≡ Some object → OnOk result (self.new ≡ self.old) }
+        ensures answer { AnswersBy (rename_rules (inodes_of self.old) from old.now to new.items object) result }
+        ensures fits { Fits (inodes_of self.old) (Move from old.now to new.items object) → IsOkUnless result (denial S5) }
+        ensures err { OnErr result (self.new ≡ self.old) }
+    {
+        if let Err(deny) = self.check_rename(from, old, to, &new, object) {
+            return Err(deny);
+        }
+        let replaced = self.look(to, &new);
+        if self.leads_to(to, &new, object) {
+            return Ok(());
+        }
+        insert_entry(&mut self.slots, to, new, object)?;
+        remove_entry(&mut self.slots, from, old);
+        set_parent(&mut self.slots, object, to);
+        if let Some(other) = &replaced {
+            remove_object(&mut self.slots, *other);
+        }
+        Ok(())
     }
 
     /// Sets the whole content of a file: write(2) after open(2) with O_TRUNC. It takes no memory.
     ///
-    /// E2: a directory. E6: more than 1,048,576 bytes. A link, a whiteout and a number without a node stay as they are.
+    /// E2: a directory. E6: more than 1,048,576 bytes. A link, a whiteout and a number without an object stay as they are.
     pub fn write(&mut self, file: NodeId, bytes: Vec<u8>) -> Result<(), Deny>
-        ensures answer { result ≡ unless (
-            (is_directory_node ((tree_of self.old).node file), E2)
-            ∷ (nat_lt largest_file (length bytes.items), E6)
-            ∷ []) (Ok tt) }
-        ensures ok { OnOk result (tree_of self.new ≡ with_file_bytes nat_eq (tree_of self.old) file bytes.items) }
+        ensures ok { OnOk result (inodes_of self.new ≡ changed nat_eq (inodes_of self.old) (SetBytes file bytes.items)) }
+        ensures answer { result ≡ ruling (write_rules (inodes_of self.old) file (length bytes.items)) }
+        ensures fits { Fits (inodes_of self.old) (SetBytes file bytes.items) → result ≡ Ok tt }
         ensures err { OnErr result (self.new ≡ self.old) }
     {
         if self.is_directory(file) {
@@ -194,16 +299,67 @@ impl Tree {
         Ok(())
     }
 
-    // Makes a node under a name of a directory. The entry is the last step that can fail.
-    fn create(&mut self, directory: NodeId, name: &[u8], node: Node) -> Result<NodeId, Deny>
-        requires { IsNewIn directory node }
-        ensures ok { IfOk result (λ id. tree_of self.new ≡ with_object nat_eq (tree_of self.old) directory name.now id node) }
-        ensures number { IfOk result (λ id. id ≡ next_number self.old) }
-        ensures vacant { IfOk result (λ id. (tree_of self.old).node id ≡ None) }
-        ensures exists { IsErrOf result (denial E1) ↔ IsSome (entry_at (tree_of self.old) directory name.now) }
-        ensures no_directory { IsErrOf result (denial E3) ↔ (is_directory_node ((tree_of self.old).node directory) ≡ false) }
-        ensures errors { IfErr result (λ deny. (deny ≡ denial E1) ⊎ (deny ≡ denial E3) ⊎ (deny ≡ denial S5)) }
+    /// Writes bytes into a file from an offset on, and zeros into a gap before them: pwrite(2). Only a file that gets longer takes
+    /// memory.
+    ///
+    /// E2: a directory. E6: the bytes would end behind 1,048,576. S5: memory was refused. A link, a whiteout and a number without
+    /// an object stay as they are.
+    pub fn write_at(&mut self, file: NodeId, offset: usize, bytes: &[u8]) -> Result<(), Deny>
+        ensures ok { OnOk result (inodes_of self.new ≡ changed nat_eq (inodes_of self.old)
+            (SetBytes file (overwritten offset bytes.now (bytes_in ((tree_of self.old).node file))))) }
+        ensures answer { AnswersBy (write_rules (inodes_of self.old) file (offset + length bytes.now)) result }
+        ensures fits { Fits (inodes_of self.old) (SetBytes file (overwritten offset bytes.now (bytes_in ((tree_of self.old).node file))))
+            → IsOkUnless result (denial S5) }
         ensures err { OnErr result (self.new ≡ self.old) }
+    {
+        if self.is_directory(file) {
+            return Err(Rule::E2.denial());
+        }
+        if offset > LARGEST_FILE || bytes.len() > LARGEST_FILE - offset {
+            return Err(Rule::E6.denial());
+        }
+        write_bytes(&mut self.slots, file, offset, bytes)
+    }
+
+    /// Sets the owner, group and mode of an object: chmod(2), chown(2). It takes no memory.
+    pub fn set_attr(&mut self, object: NodeId, attr: Attr)
+        ensures { inodes_of self.new ≡ changed nat_eq (inodes_of self.old) (SetAttr object attr) }
+    {
+        set_attr(&mut self.slots, object, attr);
+    }
+
+    /// Counts one use more of an object, as open(2) does: it stays while it is in use. It takes no memory.
+    ///
+    /// S5: the object has 2^64 - 1 uses.
+    pub fn pin(&mut self, object: NodeId) -> Result<(), Deny>
+        ensures ok { OnOk result (inodes_of self.new ≡ pinned nat_eq (inodes_of self.old) object) }
+        ensures limit { IsErrOf result (denial S5) ↔ (uses_in ((inodes_of self.old).inode object) ≡ most_uses) }
+        ensures memory { IfErr result (λ deny. deny ≡ denial S5) }
+        ensures err { OnErr result (self.new ≡ self.old) }
+    {
+        self.slots.acquire(object)
+    }
+
+    /// Counts one use less of an object, as close(2) does: with its last use it goes. It takes no memory.
+    pub fn unpin(&mut self, object: NodeId)
+        ensures { inodes_of self.new ≡ unpinned nat_eq (inodes_of self.old) object }
+    {
+        release(&mut self.slots, object);
+    }
+
+    // Whether a name of a directory is this object's.
+    fn leads_to(&self, directory: NodeId, name: &[u8], object: NodeId) -> bool
+        ensures { result ≡ leads_to (tree_of self.now) directory name.now object }
+    {
+        match self.look(directory, name) {
+            Some(found) => object == found,
+            None => false,
+        }
+    }
+
+    // Whether the rules let a name be made.
+    fn check_name(&self, directory: NodeId, name: &[u8]) -> Result<(), Deny>
+        ensures { result ≡ ruling (make_rules (inodes_of self.now) directory name.now) }
     {
         if !self.is_directory(directory) {
             return Err(Rule::E3.denial());
@@ -211,36 +367,41 @@ impl Tree {
         if self.look(directory, name).is_some() {
             return Err(Rule::E1.denial());
         }
-        let copy = copied_bytes(self.alloc, name)?;
-        self.slots.reserve(1)?;
-        let id = self.slots.next();
-        insert_entry(&mut self.slots, directory, copy, id)?;
-        Ok(self.slots.insert_reserved(node))
+        Ok(())
     }
-}
 
-// Puts an entry into a directory.
-fn insert_entry(slots: &mut Slots, directory: NodeId, name: Vec<u8>, id: NodeId) -> Result<(), Deny>
-    ensures ok { OnOk result (node_at slots.new ≡ put_at (node_at slots.old) directory (node_with_entry name.items id (node_at slots.old directory))) }
-    ensures next { slots.new.next ≡ slots.old.next }
-    ensures room { slots.new.room ≡ slots.old.room }
-    ensures memory { IfErr result (λ deny. deny ≡ denial S5) }
-    ensures err { OnErr result (slots.new ≡ slots.old) }
-{
-    match slots.get_mut(directory) {
-        Some(node) => node
-            .insert_entry(name, id)
-            .map_err(|_error| Rule::S5.denial()),
-        None => Ok(()),
-    }
-}
-
-// Sets the whole content of a file.
-fn set_bytes(slots: &mut Slots, file: NodeId, bytes: Vec<u8>)
-    ensures set { node_at slots.new ≡ put_at (node_at slots.old) file (node_with_bytes bytes.items (node_at slots.old file)) }
-    ensures next { slots.new.next ≡ slots.old.next }
-{
-    if let Some(node) = slots.get_mut(file) {
-        node.set_bytes(bytes);
+    // Whether the rules let an object go to another name.
+    fn check_rename(
+        &self,
+        from: NodeId,
+        old: &[u8],
+        to: NodeId,
+        new: &[u8],
+        object: NodeId,
+    ) -> Result<(), Deny>
+        ensures { result ≡ ruling (rename_rules (inodes_of self.now) from old.now to new.now object) }
+    {
+        if !self.leads_to(from, old, object) {
+            return Err(Rule::W6.denial());
+        }
+        if !self.is_directory(to) {
+            return Err(Rule::E3.denial());
+        }
+        let moves_directory = self.is_directory(object);
+        if let Some(other) = self.look(to, new) {
+            if self.is_directory(other) && !moves_directory {
+                return Err(Rule::E2.denial());
+            }
+            if !self.is_directory(other) && moves_directory {
+                return Err(Rule::E3.denial());
+            }
+            if self.is_filled(other) && moves_directory {
+                return Err(Rule::E4.denial());
+            }
+        }
+        if moves_directory && self.is_under(object, to) {
+            return Err(Rule::E5.denial());
+        }
+        Ok(())
     }
 }

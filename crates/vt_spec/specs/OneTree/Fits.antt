@@ -1,5 +1,5 @@
 -- What a change or a permit needs of the tree, and what the rules of its call have seen to.
-use Rattle.std.specs.Prelude.{List, None, Option, Some, false, is_some, length, nat_eq, true, ℕ, ⊤, ◌≡◌, ◌≢◌, ◌≤◌}
+use Rattle.std.specs.Prelude.{List, None, Option, Some, false, length, nat_eq, true, ℕ, ⊤, ◌≡◌, ◌≢◌, ◌≤◌}
 use Rattle.vt_spec.specs.Laws.Trees.{IsNewIn}
 use Rattle.vt_spec.specs.Machine.Changes.{Change}
 use Rattle.vt_spec.specs.Machine.Changes.Change.{AddName, CopyUp, Make, Move, Remove, SetAttr, SetBytes, SetMark}
@@ -10,9 +10,6 @@ use Rattle.vt_spec.specs.OneTree.Permits.Permit.{Allowed, ToChange, ToClose, ToE
 use Rattle.vt_spec.specs.OneTree.Rules.{is_filled}
 use Rattle.vt_spec.specs.OneTree.Walk.{is_directory_at}
 use Rattle.vt_spec.specs.TreeLaws.{entry_at}
-
-abbrev pub IsThere : Inodes ℕ → ℕ → Type 0
-IsThere inodes number = is_some (inodes.inode number) ≡ true
 
 abbrev pub IsDirectoryThere : Inodes ℕ → ℕ → Type 0
 IsDirectoryThere inodes number = is_directory_at (tree_of inodes) number ≡ true
@@ -42,13 +39,13 @@ abbrev pub Fits : Inodes ℕ → Change ℕ → Type 0
 Fits inodes (Make directory name number node) =
     IsDirectoryThere inodes directory × LeadsTo inodes directory name None × (inodes.inode number ≡ None) × IsNewIn directory node
 Fits inodes (AddName directory name object) =
-    IsDirectoryThere inodes directory × LeadsTo inodes directory name None × IsThere inodes object × IsNoDirectory inodes object
+    IsDirectoryThere inodes directory × LeadsTo inodes directory name None × IsNoDirectory inodes object
 Fits inodes (Remove directory name object) = LeadsTo inodes directory name (Some object) × MayGo inodes object
 Fits inodes (Move from old to new object) =
     LeadsTo inodes from old (Some object) × IsDirectoryThere inodes to
     × MayReplace inodes object (entry_at (tree_of inodes) to new) × StaysOutside inodes object to
 Fits inodes (SetBytes file bytes) = IsNoDirectory inodes file × (length bytes ≤ largest_file)
-Fits inodes (SetAttr object attr) = IsThere inodes object
+Fits inodes (SetAttr object attr) = ⊤
 Fits inodes (SetMark directory opaque) = IsDirectoryThere inodes directory
 Fits inodes (CopyUp object) = ⊤
 
@@ -60,7 +57,7 @@ FitsPermit inodes (ToTell object) = ⊤
 FitsPermit inodes (ToRead file) = IsNoDirectory inodes file
 FitsPermit inodes (ToReadPart file offset size) = ⊤
 FitsPermit inodes (ToChange change) = Fits inodes change
-FitsPermit inodes (ToOpen file access) = IsThere inodes file × IsNoDirectory inodes file
+FitsPermit inodes (ToOpen file access) = IsNoDirectory inodes file
 FitsPermit inodes (ToOpenNew directory name number node access) = Fits inodes (Make directory name number node)
 FitsPermit inodes (ToClose descriptor) = ⊤
 FitsPermit inodes (ToSetUmask umask) = ⊤

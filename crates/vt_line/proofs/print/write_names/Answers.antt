@@ -1,9 +1,9 @@
 use Rattle.std.proofs.Common.{◌∷◌, ap, ◌∙◌, ℕ, rules}
 use Rattle.std.specs.Global.{Vec}
-use Rattle.vt_spec.specs.Printed.{printed_text}
+use Rattle.vt_spec.specs.Machine.Printed.{printed_text}
 use Rattle.vt_io.specs.Sink.{WroteFront}
 use Rattle.vt_io.proofs.Printing.{WroteFront-append, WroteFront-longer, WroteFront-item}
-use Rattle.vt_line.specs.Answers.{printed_names}
+use Rattle.vt_line.specs.Printing.{printed_names}
 use Rattle.vt_line.proofs.print.write_names.Goals as goal
 
 pub returns-in_err-write_all : goal.returns-in_err-write_all

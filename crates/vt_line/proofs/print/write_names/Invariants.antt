@@ -1,6 +1,6 @@
 use Rattle.std.proofs.Common.{take}
 use Rattle.vt_io.specs.Sink.{Wrote}
-use Rattle.vt_line.specs.Answers.{printed_names}
+use Rattle.vt_line.specs.Printing.{printed_names}
 use Rattle.vt_line.proofs.print.write_names.Given as goal
 
 abbrev pub invariant-loop-name : goal.invariant-loop-name

@@ -3,7 +3,7 @@ use Rattle.std.proofs.lemmas.List.{append-nil, length_push, map_push}
 use Rattle.std.proofs.lemmas.Iterator.Splits.{YieldsList-from_slice_split}
 use Rattle.std.proofs.lemmas.Iterator.Consumers.{YieldsList-from_filter, YieldsList-turn, YieldsList-end}
 use Rattle.std.specs.Global.{Vec}
-use Rattle.vt_spec.specs.Script.{each_of, with_first, token_text, raw_tokens}
+use Rattle.vt_spec.specs.Machine.Script.{each_of, with_first, token_text, raw_tokens}
 use Rattle.vt_line.specs.Tokens.{texts_of}
 use Rattle.vt_line.proofs.TokenLemmas.{YieldsList-tokens, read_before, read_before-first}
 use Rattle.vt_line.proofs.Splits.{each_of-more, each_of-end}

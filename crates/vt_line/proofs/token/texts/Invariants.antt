@@ -1,5 +1,5 @@
 use Rattle.std.proofs.Common.{◌≡◌, length, drop}
-use Rattle.vt_spec.specs.Script.{each_of, token_text, raw_tokens}
+use Rattle.vt_spec.specs.Machine.Script.{each_of, token_text, raw_tokens}
 use Rattle.vt_line.specs.Tokens.{texts_of}
 use Rattle.vt_line.proofs.TokenLemmas.{read_before}
 use Rattle.vt_line.proofs.token.texts.Given as goal

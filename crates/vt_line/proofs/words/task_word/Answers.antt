@@ -5,7 +5,7 @@ use Rattle.std.proofs.lemmas.List.Elements.{All-push}
 use Rattle.std.proofs.lemmas.Iterator.Splits.{YieldsList-from_slice_split}
 use Rattle.std.proofs.lemmas.Iterator.Consumers.{YieldsList-at, YieldsList-turn, YieldsList-end}
 use Rattle.vt_spec.specs.PathText.{parts}
-use Rattle.vt_spec.specs.Script.{each_of, with_first, child_number}
+use Rattle.vt_spec.specs.Machine.Script.{each_of, with_first, child_number}
 use Rattle.vt_line.proofs.Splits.{YieldsList-parts, YieldsList-others, each_of-more, each_of-end}
 use Rattle.vt_line.proofs.TokenLemmas.{read_before, read_before-first}
 use Rattle.vt_line.proofs.WordLemmas.{task_word-other, task_word-children}

@@ -1,8 +1,8 @@
 use Rattle.std.proofs.Common.{◌≡◌, ◌⊎◌, ◌<◌, length, None, ap, sym, subst, ◌∙◌, Ok, Err}
 use Rattle.vt_spec.specs.Script.{longest_line, request_of}
-use Rattle.vt_tree.specs.TreeValue.{tree_of}
+use Rattle.vt_first_tree.specs.TreeValue.{tree_of}
 use Rattle.vt_script.specs.WorldValue.{fresh_number}
-use Rattle.vt_line.specs.Lines.{IsSilent, IsSpoken, IsReadingOf}
+use Rattle.vt_first_line.specs.Lines.{IsSilent, IsSpoken, IsReadingOf}
 use Rattle.vt_script.proofs.ReplyLemmas.{kept_whole, replied_silent, replies_call, replies_unread}
 use Rattle.vt_script.proofs.session.answer.Goals as goal
 

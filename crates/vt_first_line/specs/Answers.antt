@@ -5,8 +5,8 @@ use Rattle.std.specs.Global.{Vec}
 use Rattle.vt_spec.specs.World as spec
 use Rattle.vt_spec.specs.Printed.{printed_text}
 use Rattle.vt_spec.specs.declared.errors.Deny.{Deny}
-use Rattle.vt_line.specs.declared.answer.Answer.{Answer}
-use Rattle.vt_line.specs.declared.answer.Answer.TheVariants.{Done, Bytes, Names}
+use Rattle.vt_first_line.specs.declared.answer.Answer.{Answer}
+use Rattle.vt_first_line.specs.declared.answer.Answer.TheVariants.{Done, Bytes, Names}
 
 -- an answer, in the policy's words
 abbrev pub answer_of : Answer → spec.Answer

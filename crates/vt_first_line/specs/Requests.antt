@@ -6,11 +6,11 @@ use Rattle.std.specs.declared.vec.IntoIter.{IntoIter}
 use Rattle.vt_spec.specs.Calls as spec
 use Rattle.vt_spec.specs.Script.{Request}
 use Rattle.vt_cred.specs.Caps.{capability_bits}
-use Rattle.vt_line.specs.declared.request.CapsWord.{CapsWord}
-use Rattle.vt_line.specs.declared.request.CapsWord.TheVariants.{Held, Named}
-use Rattle.vt_line.specs.declared.request.TaskName.{TaskName}
-use Rattle.vt_line.specs.declared.request.Call.{Call}
-use Rattle.vt_line.specs.declared.request.Call.TheVariants as call
+use Rattle.vt_first_line.specs.declared.request.CapsWord.{CapsWord}
+use Rattle.vt_first_line.specs.declared.request.CapsWord.TheVariants.{Held, Named}
+use Rattle.vt_first_line.specs.declared.request.TaskName.{TaskName}
+use Rattle.vt_first_line.specs.declared.request.Call.{Call}
+use Rattle.vt_first_line.specs.declared.request.Call.TheVariants as call
 
 -- the capabilities that a word names
 abbrev pub capabilities_of : CapsWord → spec.CapabilityWord

@@ -1,0 +1,5 @@
+pub mod NumberLemmas
+pub mod TokenLemmas
+pub mod Splits
+pub mod WordLemmas
+pub mod PrintLemmas

@@ -1,0 +1,65 @@
+-- Texts printed in runs of plain bytes, with an escape after each.
+use Rattle.std.proofs.Common.{◌≡◌, ℕ, suc, ◌<◌, ◌/◌, ◌%◌, cond, false, List, [], ◌∷◌, ◌++◌, length, map, All, IsTrue, slice_index, refl, sym, ap, ◌∙◌, arith, append_assoc}
+use Rattle.std.proofs.lemmas.List.{append-nil}
+use Rattle.std.proofs.lemmas.List.Concat.{flat_map-append}
+use Rattle.std.specs.List.{flat_map}
+use Rattle.vt_spec.specs.Script.{is_plain}
+use Rattle.std.specs.Global.{Vec}
+use Rattle.vt_spec.specs.World.Answer.{Names}
+use Rattle.vt_spec.specs.Printed.{hex_digit, printed_byte, printed_text, printed_value}
+use Rattle.vt_first_line.specs.Answers.{printed_names}
+
+abbrev pub escape : ℕ → List ℕ
+escape byte = 92 ∷ 120 ∷ hex_digit (byte / 16) ∷ hex_digit (byte % 16) ∷ []
+
+pub printed_text-some : (text : List ℕ) → 0 < length text → printed_text text ≡ flat_map printed_byte text
+printed_text-some [] some = absurd (omega arith)
+printed_text-some (byte ∷ bytes) some = refl
+
+printed_byte-plain : (byte : ℕ) → IsTrue (is_plain byte) → printed_byte byte ≡ byte ∷ []
+printed_byte-plain byte plain = ap (λ test. cond test (byte ∷ []) (escape byte)) plain
+
+printed_byte-other : (byte : ℕ) → is_plain byte ≡ false → printed_byte byte ≡ escape byte
+printed_byte-other byte other = ap (λ test. cond test (byte ∷ []) (escape byte)) other
+
+-- plain bytes are printed as they are
+printed-plain : (plain : List ℕ) → All (λ byte. IsTrue (is_plain byte)) plain → flat_map printed_byte plain ≡ plain
+printed-plain [] all = refl
+printed-plain (byte ∷ bytes) all =
+    ap (λ first. first ++ flat_map printed_byte bytes) (printed_byte-plain byte (all 0 0 (omega arith)))
+    ∙ ap (λ rest. byte ∷ rest) (printed-plain bytes (λ k d lt. all (suc k) d (omega arith)))
+
+printed-run : (plain others rest : List ℕ) → plain ++ others ≡ rest → All (λ byte. IsTrue (is_plain byte)) plain → flat_map printed_byte rest ≡ plain ++ flat_map printed_byte others
+printed-run plain others rest whole all =
+    ap (flat_map printed_byte) (sym whole) ∙ flat_map-append printed_byte plain others
+    ∙ ap (λ first. first ++ flat_map printed_byte others) (printed-plain plain all)
+
+-- what is printed so far, a run, and what comes after it
+pub printed-front : (done plain others rest text : List ℕ) → done ++ flat_map printed_byte rest ≡ flat_map printed_byte text → plain ++ others ≡ rest
+    → All (λ byte. IsTrue (is_plain byte)) plain → 0 < length text → done ++ (plain ++ flat_map printed_byte others) ≡ printed_text text
+printed-front done plain others rest text so_far whole all some =
+    ap (λ now. done ++ now) (sym (printed-run plain others rest whole all)) ∙ so_far ∙ sym (printed_text-some text some)
+
+-- the same where nothing comes after it
+pub printed-last : (done plain others rest text : List ℕ) → done ++ flat_map printed_byte rest ≡ flat_map printed_byte text → plain ++ others ≡ rest
+    → All (λ byte. IsTrue (is_plain byte)) plain → 0 < length text → length others ≡ 0 → done ++ plain ≡ printed_text text
+printed-last done plain [] rest text so_far whole all some none =
+    ap (λ now. done ++ now) (sym (append-nil plain)) ∙ printed-front done plain [] rest text so_far whole all some
+printed-last done plain (byte ∷ bytes) rest text so_far whole all some none = absurd (omega arith)
+
+-- the same where an escape comes after it
+pub printed-escape : (done plain others rest text after : List ℕ) (byte : ℕ) → done ++ flat_map printed_byte rest ≡ flat_map printed_byte text → plain ++ others ≡ rest
+    → All (λ byte. IsTrue (is_plain byte)) plain → 0 < length text → others ≡ byte ∷ after → is_plain (slice_index others 0) ≡ false
+    → (done ++ plain) ++ (escape byte ++ flat_map printed_byte after) ≡ printed_text text
+printed-escape done plain others rest text after byte so_far whole all some first other =
+    let stop : is_plain byte ≡ false = ap (λ now. is_plain (slice_index now 0)) (sym first) ∙ other in
+    let next : flat_map printed_byte others ≡ escape byte ++ flat_map printed_byte after =
+    ap (flat_map printed_byte) first ∙ ap (λ now. now ++ flat_map printed_byte after) (printed_byte-other byte stop) in
+    append_assoc done plain (escape byte ++ flat_map printed_byte after)
+    ∙ ap (λ now. done ++ (plain ++ now)) (sym next)
+    ∙ printed-front done plain others rest text so_far whole all some
+
+-- the names of an answer
+pub printed_names-value : (names : List (Vec ℕ)) → printed_names names ≡ printed_value (Names (map (λ name. name.items) names))
+printed_names-value [] = refl
+printed_names-value (name ∷ names) = ap (λ rest. (32 ∷ printed_text name.items) ++ rest) (printed_names-value names)

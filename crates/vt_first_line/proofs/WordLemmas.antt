@@ -1,0 +1,115 @@
+-- Task names and capabilities.
+use Rattle.std.proofs.Common.{◌≡◌, ℕ, zero, suc, Bool, true, false, cond, List, [], ◌∷◌, codes, length, Option, Some, None, option_map, refl, sym, ap, ◌∙◌, arith, nat_eq, eqb, ltb, ◌&&◌, subst, lit<}
+use Rattle.std.proofs.lemmas.Bool.{ltb-true}
+use Rattle.std.specs.List.{list_all}
+use Rattle.std.specs.Str.{bytes_eq, IsUtf8, IsAscii}
+use Rattle.std.specs.Cmp.Lexicographic.{pointwise}
+use Rattle.std.specs.Int.Bits.{bit_or, or_zero_l}
+use Rattle.std.proofs.lemmas.Bool.Decides.{nat_tests}
+use Rattle.std.proofs.lemmas.Nat.Bits.{bit_at_or, same_from_bits}
+use Rattle.std.proofs.lemmas.Str.{IsUtf8-from_ascii}
+use Rattle.std.proofs.lemmas.Slice.Eq.{bytes_eq-Decides}
+use Rattle.bitflags.specs.Sets.{find_row, find_name}
+use Rattle.vt_cred.specs.Caps.{capability_table}
+use Rattle.vt_spec.specs.Calls.CapabilityWord.{These}
+use Rattle.vt_spec.specs.PathText.{parts}
+use Rattle.vt_spec.specs.Script.{task_word, name_of_parts, each_of, with_first, child_number, capability_named, capabilities_word, union}
+
+-- a task's name by its first part
+pub task_word-other : (text first : List ℕ) (rest : List (List ℕ)) → parts 46 text ≡ first ∷ rest → bytes_eq first (codes "t") ≡ false → task_word text ≡ None
+task_word-other text first rest e other = ap name_of_parts e ∙ ap (λ same. cond same (each_of child_number rest) None) other
+
+pub task_word-children : (text first : List ℕ) (rest : List (List ℕ)) → parts 46 text ≡ first ∷ rest → bytes_eq first (codes "t") ≡ true → task_word text ≡ each_of child_number rest
+task_word-children text first rest e same = ap name_of_parts e ∙ ap (λ same. cond same (each_of child_number rest) None) same
+
+-- the sets of bits that a list unites, one after another
+or_assoc : (a b c : ℕ) → bit_or (bit_or a b) c ≡ bit_or a (bit_or b c)
+or_assoc a b c = same_from_bits (bit_or (bit_or a b) c) (bit_or a (bit_or b c)) (λ place.
+    let outer = bit_at_or (bit_or a b) c place in
+    let inner = bit_at_or a b place in
+    let outer' = bit_at_or a (bit_or b c) place in
+    let inner' = bit_at_or b c place in
+    omega arith)
+
+-- the sets so far and those of the rest, if they can be read
+abbrev pub united : ℕ → Option (List ℕ) → Option ℕ
+united caps None = None
+united caps (Some sets) = Some (bit_or caps (union sets))
+
+pub united-more : (caps set : ℕ) (rest : Option (List ℕ)) → united (bit_or caps set) rest ≡ united caps (with_first (Some set) rest)
+united-more caps set None = refl
+united-more caps set (Some sets) = ap Some (or_assoc caps set (union sets))
+
+these-united : (sets : Option (List ℕ)) → option_map (λ sets. These (union sets)) sets ≡ option_map These (united 0 sets)
+these-united None = refl
+these-united (Some sets) = ap (λ bits. Some (These bits)) (sym (or_zero_l (union sets)))
+
+pub capabilities_word-names : (text : List ℕ) → bytes_eq text (codes "-") ≡ false → bytes_eq text (codes "*") ≡ false
+    → capabilities_word text ≡ option_map These (united 0 (each_of capability_named (parts 44 text)))
+capabilities_word-names text none held =
+    rw none (rw held (these-united (each_of capability_named (parts 44 text))))
+
+-- The names of capabilities are those of the table.
+eqb_comm : (a b : ℕ) → eqb a b ≡ eqb b a
+eqb_comm a b = grind (arith, nat_tests)
+
+pointwise-flip : (xs ys : List ℕ) → pointwise nat_eq xs ys ≡ pointwise nat_eq ys xs
+pointwise-flip [] [] = refl
+pointwise-flip [] (y ∷ ys) = refl
+pointwise-flip (x ∷ xs) [] = refl
+pointwise-flip (x ∷ xs) (y ∷ ys) =
+    ap (λ first. first && pointwise nat_eq xs ys) (eqb_comm x y) ∙ ap (λ rest. eqb y x && rest) (pointwise-flip xs ys)
+
+named_or : (a b : Bool) (set : ℕ) (rest rest' : Option ℕ) → a ≡ b → rest ≡ rest' → cond a (Some set) rest ≡ cond b (Some set) rest'
+named_or a b set rest rest' e f = cc
+
+some_bytes : (n : ℕ) → eqb (suc n) 0 ≡ false
+some_bytes n = grind (arith, nat_tests)
+
+pub find_name-capability : (name : List ℕ) → find_name capability_table name ≡ capability_named name
+unfolding find_row
+find_name-capability [] = refl
+find_name-capability (byte ∷ bytes) =
+    let name = byte ∷ bytes in
+    ap (λ empty. cond empty None (find_row capability_table name)) (some_bytes (length bytes))
+    ∙ named_or _ _ 1 _ _ (pointwise-flip (codes "CAP_CHOWN") name)
+    (named_or _ _ 2 _ _ (pointwise-flip (codes "CAP_DAC_OVERRIDE") name)
+    (named_or _ _ 4 _ _ (pointwise-flip (codes "CAP_DAC_READ_SEARCH") name)
+    (named_or _ _ 8 _ _ (pointwise-flip (codes "CAP_FOWNER") name)
+    (named_or _ _ 16 _ _ (pointwise-flip (codes "CAP_SETGID") name)
+    (named_or _ _ 32 _ _ (pointwise-flip (codes "CAP_SETUID") name)
+    (named_or _ _ 64 _ _ (pointwise-flip (codes "CAP_SYS_CHROOT") name)
+    (named_or _ _ 128 _ _ (pointwise-flip (codes "CAP_SYS_ADMIN") name) refl)))))))
+
+both-true : (a b : Bool) → (a && b) ≡ true → (a ≡ true) × (b ≡ true)
+both-true true b e = (refl, e)
+both-true false b e = cc
+
+none_or : (a : Bool) (set : ℕ) (rest : Option ℕ) → a ≡ false → rest ≡ None → cond a (Some set) rest ≡ None
+none_or true set rest e f = cc
+none_or false set rest e f = f
+
+not_the_name : (name other : List ℕ) → (IsUtf8 name → ⊥) → IsUtf8 other → bytes_eq name other ≡ false
+not_the_name name other not_text is_text = by_test (bytes_eq name other) refl where
+  by_test : (same : Bool) → bytes_eq name other ≡ same → same ≡ false
+  by_test false e = refl
+  by_test true e = absurd (not_text (subst IsUtf8 (sym ((bytes_eq-Decides name other).0 e)) is_text))
+
+ascii-all : (text : List ℕ) → list_all (λ byte. ltb byte 128) text ≡ true → IsAscii text
+ascii-all [] e i = lit< tt
+ascii-all (byte ∷ bytes) e zero = ltb-true _ _ (both-true (ltb byte 128) _ e).0
+ascii-all (byte ∷ bytes) e (suc i) = ascii-all bytes (both-true (ltb byte 128) _ e).1 i
+
+ascii_text : (text : List ℕ) → list_all (λ byte. ltb byte 128) text ≡ true → IsUtf8 text
+ascii_text text e = IsUtf8-from_ascii text (ascii-all text e)
+
+pub capability_named-no_text : (name : List ℕ) → (IsUtf8 name → ⊥) → capability_named name ≡ None
+capability_named-no_text name not_text =
+    none_or _ 1 _ (not_the_name name (codes "CAP_CHOWN") not_text (ascii_text (codes "CAP_CHOWN") refl))
+    (none_or _ 2 _ (not_the_name name (codes "CAP_DAC_OVERRIDE") not_text (ascii_text (codes "CAP_DAC_OVERRIDE") refl))
+    (none_or _ 4 _ (not_the_name name (codes "CAP_DAC_READ_SEARCH") not_text (ascii_text (codes "CAP_DAC_READ_SEARCH") refl))
+    (none_or _ 8 _ (not_the_name name (codes "CAP_FOWNER") not_text (ascii_text (codes "CAP_FOWNER") refl))
+    (none_or _ 16 _ (not_the_name name (codes "CAP_SETGID") not_text (ascii_text (codes "CAP_SETGID") refl))
+    (none_or _ 32 _ (not_the_name name (codes "CAP_SETUID") not_text (ascii_text (codes "CAP_SETUID") refl))
+    (none_or _ 64 _ (not_the_name name (codes "CAP_SYS_CHROOT") not_text (ascii_text (codes "CAP_SYS_CHROOT") refl))
+    (none_or _ 128 _ (not_the_name name (codes "CAP_SYS_ADMIN") not_text (ascii_text (codes "CAP_SYS_ADMIN") refl)) refl)))))))

@@ -1,0 +1,4 @@
+pub mod Tokens
+pub mod Requests
+pub mod Lines
+pub mod Answers

@@ -1,0 +1,19 @@
+-- What a line of a script says.
+use Rattle.std.specs.Prelude.{◌≡◌, ◌≤◌, ℕ, true, false, List, length, Some}
+use Rattle.vt_spec.specs.Script.{longest_line, is_silent, request_of}
+use Rattle.vt_first_line.specs.declared.line.Line.{Line}
+use Rattle.vt_first_line.specs.declared.line.Line.TheVariants.{Silent, Call}
+use Rattle.vt_first_line.specs.Requests.{call_of}
+
+-- a line that has no answer
+abbrev pub IsSilent : List ℕ → Type 0
+IsSilent text = (length text ≤ longest_line) × (is_silent text ≡ true)
+
+-- a line of a length that may be read, and that has an answer
+abbrev pub IsSpoken : List ℕ → Type 0
+IsSpoken text = (length text ≤ longest_line) × (is_silent text ≡ false)
+
+-- the line is what the text says
+abbrev pub IsReadingOf : List ℕ → Line → Type 0
+IsReadingOf text Silent = IsSilent text
+IsReadingOf text (Call task call) = IsSpoken text × (request_of text ≡ Some (record { task = task; call = call_of call }))

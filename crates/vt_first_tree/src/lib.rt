@@ -1,0 +1,10 @@
+//! A tree of inodes, as a finite map from their numbers that its calls change.
+#![tactic(auto)]
+
+mod copies;
+mod trees;
+
+pub use trees::Tree;
+
+#[cfg(test)]
+mod tests;

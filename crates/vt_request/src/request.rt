@@ -1,0 +1,153 @@
+//! What a line of a script asks for.
+ghost use Rattle.std.specs.Prelude.{◌≤◌, vec_len};
+ghost use Rattle.vt_cred.specs.declared.credentials.TheConstants.{MAX_GROUPS};
+
+use vt_cred::Caps;
+use vt_spec::attributes::Mode;
+
+/// The capabilities that a call names.
+#[derive(Clone, Copy, Debug, PartialEq, Eq)]
+pub enum CapsWord {
+    /// All that the caller holds.
+    Held,
+    Named(Caps),
+}
+
+/// What a file is opened for: `O_RDONLY`, `O_WRONLY` or `O_RDWR` of open(2).
+#[derive(Clone, Copy, Debug, PartialEq, Eq)]
+pub struct Access {
+    pub reads: bool,
+    pub writes: bool,
+}
+
+/// What open(2) does where the name is missing.
+#[derive(Clone, Copy, Debug, PartialEq, Eq)]
+pub enum Creation {
+    /// Neither flag: the file has to be there.
+    Never,
+    /// `O_CREAT`: a missing file is made, and asks for this mode.
+    OrCreate(Mode),
+    /// `O_CREAT` and `O_EXCL`: the file is made, and must not be there yet.
+    Exclusive(Mode),
+}
+
+/// The credentials that fork(2) is given for the child.
+#[derive(Debug, Drop, PartialEq, Eq)]
+pub struct ForkWords {
+    pub uid: u32,
+    pub gid: u32,
+    /// The groups beside the child's own, at most 32 of them.
+    pub groups: Vec<u32>,
+    pub caps: CapsWord,
+    ghost few_groups: { vec_len groups ≤ MAX_GROUPS },
+}
+
+/// A call of a task.
+#[derive(Debug, Drop, PartialEq, Eq)]
+pub enum Call {
+    /// The names in a directory: open(2) with `O_DIRECTORY`, then getdents(2).
+    Ls {
+        path: Vec<u8>,
+    },
+    /// stat(2)
+    Stat {
+        path: Vec<u8>,
+    },
+    /// lstat(2)
+    Lstat {
+        path: Vec<u8>,
+    },
+    /// readlink(2)
+    Readlink {
+        path: Vec<u8>,
+    },
+    /// The whole content of a file: open(2) with `O_RDONLY`, then read(2) to the end.
+    Read {
+        path: Vec<u8>,
+    },
+    /// Sets the whole content of a file, and makes a missing one: open(2) with `O_WRONLY`,
+    /// `O_CREAT` and `O_TRUNC`, then write(2).
+    Write {
+        path: Vec<u8>,
+        bytes: Vec<u8>,
+    },
+    /// execve(2), as far as it asks for rights.
+    Exec {
+        path: Vec<u8>,
+    },
+    /// mkdir(2)
+    Mkdir {
+        path: Vec<u8>,
+        mode: Option<Mode>,
+    },
+    /// symlink(2): a link with this text at this path.
+    Symlink {
+        text: Vec<u8>,
+        path: Vec<u8>,
+    },
+    /// link(2)
+    Link {
+        old: Vec<u8>,
+        new: Vec<u8>,
+    },
+    /// unlink(2)
+    Unlink {
+        path: Vec<u8>,
+    },
+    /// rmdir(2)
+    Rmdir {
+        path: Vec<u8>,
+    },
+    /// rename(2)
+    Rename {
+        old: Vec<u8>,
+        new: Vec<u8>,
+    },
+    /// chmod(2)
+    Chmod {
+        path: Vec<u8>,
+        mode: Mode,
+    },
+    /// chown(2): `None` keeps the user, or the group.
+    Chown {
+        path: Vec<u8>,
+        uid: Option<u32>,
+        gid: Option<u32>,
+    },
+    /// open(2)
+    OpenFile {
+        path: Vec<u8>,
+        access: Access,
+        creation: Creation,
+    },
+    /// pread(2)
+    Pread {
+        descriptor: u8,
+        offset: u32,
+        size: u32,
+    },
+    /// pwrite(2)
+    Pwrite {
+        descriptor: u8,
+        offset: u32,
+        bytes: Vec<u8>,
+    },
+    /// close(2)
+    Close {
+        descriptor: u8,
+    },
+    /// umask(2)
+    Umask {
+        mode: Mode,
+    },
+    /// Gives capabilities up: capset(2).
+    Drop {
+        caps: CapsWord,
+    },
+    /// fork(2): with the caller's credentials, or with these.
+    Fork {
+        words: Option<ForkWords>,
+    },
+    /// _exit(2)
+    Exit,
+}

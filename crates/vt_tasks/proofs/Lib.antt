@@ -1,0 +1,3 @@
+pub mod GivenOnce
+pub mod OpenLemmas
+pub mod TasksLemmas

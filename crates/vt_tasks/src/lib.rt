@@ -1,0 +1,13 @@
+//! Tasks and their open files: credentials(7), fork(2), open(2).
+#![tactic(auto)]
+
+mod descriptors;
+mod task;
+mod tasks;
+
+pub use descriptors::{Descriptors, MAX_DESCRIPTORS, OpenFile};
+pub use task::{MAX_DEPTH, MAX_FORKS, Task};
+pub use tasks::Tasks;
+
+#[cfg(test)]
+mod tests;

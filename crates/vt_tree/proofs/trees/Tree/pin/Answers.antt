@@ -1,0 +1,13 @@
+use Rattle.std.proofs.Common.{nat_eq, ap, ◌∙◌}
+use Rattle.std.proofs.lemmas.Result.{on_ok_weaker}
+use Rattle.vt_spec.specs.OneTree.Inodes.{pinned}
+use Rattle.vt_tree.specs.TreeValue.{inodes_of}
+use Rattle.vt_tree.proofs.InodeLemmas.{inodes-acquired}
+use Rattle.vt_tree.proofs.trees.Tree.pin.Goals as goal
+
+pub returns-clause-ok : goal.returns-clause-ok
+returns-clause-ok c =
+    on_ok_weaker c.acquire.result
+    (λ acquired. inodes-acquired c.self.inside.root c.self.inside.slots c.acquire.new.self c.args.object acquired c.acquire.ensures.len
+    ∙ ap (λ value. pinned nat_eq (inodes_of value) c.args.object) c.self.view_is)
+    c.acquire.ensures.acquired

@@ -1,0 +1,15 @@
+use Rattle.std.proofs.Common.{nat_eq, ap, ◌∙◌}
+use Rattle.std.proofs.lemmas.Result.{on_ok_weaker}
+use Rattle.vt_spec.specs.Machine.Outcome.Descriptors.{overwritten}
+use Rattle.vt_spec.specs.OneTree.Inodes.{with_changed}
+use Rattle.vt_spec.specs.Tree.{bytes_in, node_with_bytes}
+use Rattle.vt_tree.specs.TreeValue.{inodes_of, tree_of}
+use Rattle.vt_tree.proofs.trees.Tree.write_at.Goals as goal
+
+pub returns-clause-ok : goal.returns-clause-ok
+returns-clause-ok c =
+    on_ok_weaker c.write_bytes.result
+    (λ written. written
+    ∙ ap (λ value. with_changed nat_eq (inodes_of value) c.args.file
+    (node_with_bytes (overwritten c.args.offset c.args.bytes.now (bytes_in ((tree_of value).node c.args.file))))) c.self.view_is)
+    (c.write_bytes.ensures.ok c.self.inside.root)

@@ -1,0 +1,110 @@
+//! Changes of one inode, as the calls of a tree are made of.
+ghost use Rattle.std.specs.Prelude.{◌≡◌, ℕ, true, ◌+◌, ◌<◌, ◌^◌, Some, length, nat_eq, IsSome, IsOk, IfErr, OnOk, OnErr};
+ghost use Rattle.std.specs.FinMap.Entries.{is_sorted};
+ghost use Rattle.vt_spec.specs.Errors.{denial};
+ghost use Rattle.vt_spec.specs.declared.errors.Rule.TheVariants.{S5};
+ghost use Rattle.vt_spec.specs.Machine.Changes.{node_with_attr, node_with_parent, node_without_entry};
+ghost use Rattle.vt_spec.specs.Machine.Outcome.Descriptors.{overwritten};
+ghost use Rattle.vt_spec.specs.OneTree.Inodes.{with_changed, unpinned, without_replaced};
+ghost use Rattle.vt_spec.specs.Tree.{name_cmp, bytes_in, entries_in, entry_named, node_with_bytes, node_with_entry};
+ghost use Rattle.vt_slots.specs.Slots.{inodes_in, node_at};
+
+use vt_node::{Attr, NodeId};
+use vt_slots::Slots;
+use vt_spec::errors::{Deny, Rule};
+
+// Puts an entry into a directory. S5: memory was refused, which a name that is there does not need.
+pub(crate) fn insert_entry(
+    slots: &mut Slots,
+    directory: NodeId,
+    name: Vec<u8>,
+    id: NodeId,
+) -> Result<(), Deny>
+    ensures ok { (root : ℕ) → OnOk result (inodes_in root slots.new ≡ with_changed nat_eq (inodes_in root slots.old) directory (node_with_entry name.items id)) }
+    ensures present { IsSome (entry_named name.items (entries_in (node_at slots.old directory))) → IsOk result }
+    ensures in_order { is_sorted name_cmp (entries_in (node_at slots.old directory)) ≡ true }
+    ensures next { slots.new.next ≡ slots.old.next }
+    ensures room { slots.new.room ≡ slots.old.room }
+    ensures memory { IfErr result (λ deny. deny ≡ denial S5) }
+    ensures err { OnErr result (slots.new ≡ slots.old) }
+{
+    match slots.get_mut(directory) {
+        Some(node) => node
+            .insert_entry(name, id)
+            .map_err(|_error| Rule::S5.denial()),
+        None => Ok(()),
+    }
+}
+
+// Takes an entry out of a directory.
+pub(crate) fn remove_entry(slots: &mut Slots, directory: NodeId, name: &[u8])
+    ensures removed { (root : ℕ) → inodes_in root slots.new ≡ with_changed nat_eq (inodes_in root slots.old) directory (node_without_entry name.now) }
+{
+    if let Some(node) = slots.get_mut(directory) {
+        node.remove_entry(name);
+    }
+}
+
+// Sets the parent of a directory.
+pub(crate) fn set_parent(slots: &mut Slots, directory: NodeId, parent: NodeId)
+    ensures set { (root : ℕ) → inodes_in root slots.new ≡ with_changed nat_eq (inodes_in root slots.old) directory (node_with_parent parent) }
+{
+    if let Some(node) = slots.get_mut(directory) {
+        node.set_parent(parent);
+    }
+}
+
+// Sets the owner, group and mode of an object.
+pub(crate) fn set_attr(slots: &mut Slots, object: NodeId, attr: Attr)
+    ensures set { (root : ℕ) → inodes_in root slots.new ≡ with_changed nat_eq (inodes_in root slots.old) object (node_with_attr attr) }
+{
+    if let Some(node) = slots.get_mut(object) {
+        node.set_attr(attr);
+    }
+}
+
+// Sets the whole content of a file.
+pub(crate) fn set_bytes(slots: &mut Slots, file: NodeId, bytes: Vec<u8>)
+    ensures set { (root : ℕ) → inodes_in root slots.new ≡ with_changed nat_eq (inodes_in root slots.old) file (node_with_bytes bytes.items) }
+{
+    if let Some(node) = slots.get_mut(file) {
+        node.set_bytes(bytes);
+    }
+}
+
+// Writes bytes into a file from an offset on. S5: memory was refused.
+pub(crate) fn write_bytes(
+    slots: &mut Slots,
+    file: NodeId,
+    offset: usize,
+    bytes: &[u8],
+) -> Result<(), Deny>
+    requires { offset + length bytes.now < 2 ^ 64 }
+    ensures ok { (root : ℕ) → OnOk result (inodes_in root slots.new ≡ with_changed nat_eq (inodes_in root slots.old) file
+        (node_with_bytes (overwritten offset bytes.now (bytes_in (node_at slots.old file))))) }
+    ensures memory { IfErr result (λ deny. deny ≡ denial S5) }
+    ensures err { OnErr result (slots.new ≡ slots.old) }
+{
+    match slots.get_mut(file) {
+        Some(node) => match node.write_at(offset, bytes) {
+            Ok(()) => Ok(()),
+            Err(_error) => Err(Rule::S5.denial()),
+        },
+        None => Ok(()),
+    }
+}
+
+// Takes back a use that an entry was: a directory without a name is its own parent, and with its last use an object goes.
+pub(crate) fn remove_object(slots: &mut Slots, object: NodeId)
+    ensures removed { (root : ℕ) → inodes_in root slots.new ≡ without_replaced nat_eq (inodes_in root slots.old) (Some object) }
+{
+    set_parent(slots, object, object);
+    release(slots, object);
+}
+
+// Takes back a use: with its last use an object goes.
+pub(crate) fn release(slots: &mut Slots, object: NodeId)
+    ensures released { (root : ℕ) → inodes_in root slots.new ≡ unpinned nat_eq (inodes_in root slots.old) object }
+{
+    slots.release(object);
+}

@@ -1,0 +1,6 @@
+pub mod LeftToRight
+pub mod LinksWalked
+pub mod RefusalLemmas
+pub mod WhatIsThere
+pub mod WalksOfPaths
+pub mod FilesWalked

@@ -1,0 +1,64 @@
+-- A link followed, or refused.
+use Rattle.std.proofs.Common.{◌≡◌, ◌≢◌, ◌-◌, ℕ, zero, suc, List, reverse, Result, Ok, Err, refl, sym, ap, ◌∙◌, arith}
+use Rattle.vt_spec.specs.declared.errors.Deny.{Deny}
+use Rattle.vt_spec.specs.Errors.{and_then, unless}
+use Rattle.vt_spec.specs.OneTree.Walk.{Follow, Here, follow_rules, link_start, link_walked, slash_rules, words_walked}
+use Rattle.vt_spec.specs.PathText.{words}
+use Rattle.vt_spec.specs.Rights.{Credentials}
+use Rattle.vt_spec.specs.Tree.{Tree}
+use Rattle.vt_walk.proofs.RefusalLemmas.{unless-answer, unless-passed, unless-refused}
+
+-- how links are followed, in one another's texts no deeper than this
+abbrev pub links_within : ℕ → Tree ℕ → Credentials → Follow ℕ
+links_within depth tree who inside next inner = link_walked depth tree who inside next inner
+
+module _ (tree : Tree ℕ) (who : Credentials) where
+  -- the words of a text, with links inside no deeper than this
+  abbrev pub inside_walked : ℕ → Here ℕ → List (List ℕ) → Result (Here ℕ) Deny
+  inside_walked depth start ws =
+      words_walked tree who (links_within depth tree who) start (reverse ws)
+
+  abbrev pub slash_checked : List ℕ → Here ℕ → Result (Here ℕ) Deny
+  slash_checked text reached = unless (slash_rules tree text reached.node) (Ok reached)
+
+  abbrev pub link_followed : ℕ → ℕ → Here ℕ → List ℕ → Result (Here ℕ) Deny
+  link_followed depth directory link text =
+      unless (follow_rules link text)
+      (and_then (inside_walked depth (link_start tree directory link text) (words text)) (slash_checked text))
+
+  pub link_walked-deep : (depth directory : ℕ) (link : Here ℕ) (text : List ℕ) → depth ≢ 0 →
+      link_walked depth tree who directory link text ≡ link_followed (depth - 1) directory link text
+  link_walked-deep zero directory link text deep = absurd (deep refl)
+  link_walked-deep (suc depth) directory link text deep =
+      ap (λ d. link_followed d directory link text) (omega arith)
+
+  module _ (depth directory : ℕ) (link : Here ℕ) (text : List ℕ) (deep : depth ≢ 0) where
+    pub follow-refused : (deny : Deny) →
+        Err deny ≡ unless (follow_rules link text) (Ok (link_start tree directory link text))
+        → Err deny ≡ link_walked depth tree who directory link text
+    follow-refused deny refused =
+        sym (unless-refused (follow_rules link text) (link_start tree directory link text) _ deny (sym refused))
+        ∙ sym (link_walked-deep depth directory link text deep)
+
+    pub follow-begun : (start : Here ℕ) →
+        Ok start ≡ unless (follow_rules link text) (Ok (link_start tree directory link text))
+        → and_then (inside_walked (depth - 1) start (words text)) (slash_checked text) ≡ link_walked depth tree who directory link text
+    follow-begun start begun =
+        ap (λ s. and_then (inside_walked (depth - 1) s (words text)) (slash_checked text))
+        (sym (unless-answer (follow_rules link text) (link_start tree directory link text) start (sym begun)))
+        ∙ sym (unless-passed (follow_rules link text) (link_start tree directory link text) start _ (sym begun))
+        ∙ sym (link_walked-deep depth directory link text deep)
+
+    pub inside-refused : (start : Here ℕ) (ws : List (List ℕ)) (deny : Deny) → ws ≡ words text
+        → Ok start ≡ unless (follow_rules link text) (Ok (link_start tree directory link text))
+        → Err deny ≡ inside_walked (depth - 1) start ws → Err deny ≡ link_walked depth tree who directory link text
+    inside-refused start ws deny same begun refused =
+        ap (λ r. and_then r (slash_checked text)) (refused ∙ ap (inside_walked (depth - 1) start) same) ∙ follow-begun start begun
+
+    pub slash-refused : (start reached : Here ℕ) (ws : List (List ℕ)) (deny : Deny) → ws ≡ words text
+        → Ok start ≡ unless (follow_rules link text) (Ok (link_start tree directory link text))
+        → Ok reached ≡ inside_walked (depth - 1) start ws
+        → Err deny ≡ unless {A = Unit {0}} (slash_rules tree text reached.node) (Ok tt) → Err deny ≡ link_walked depth tree who directory link text
+    slash-refused start reached ws deny same begun walked refused =
+        sym (unless-refused (slash_rules tree text reached.node) tt (Ok reached) deny (sym refused))
+        ∙ ap (λ r. and_then r (slash_checked text)) (walked ∙ ap (inside_walked (depth - 1) start) same) ∙ follow-begun start begun

@@ -1,0 +1,122 @@
+//! Where paths lead in a tree of a directory `d` with a file `f` in it, and a directory `s` that only its owner may search.
+use super::*;
+use std::alloc::Global;
+use std::test::Fail;
+use vt_cred::{Caps, Cred};
+use vt_node::{Attr, Mode, NodeId};
+use vt_spec::errors::{Deny, Rule};
+use vt_text::path::PathText;
+use vt_tree::Tree;
+
+#[derive(Drop)]
+struct World {
+    tree: Tree,
+    who: Cred,
+    directory: NodeId,
+    file: NodeId,
+}
+
+fn attr(bits: u16) -> Result<Attr, Fail> {
+    let mode = Mode::new(bits).ok_or("a mode")?;
+    Ok(Attr {
+        uid: 0,
+        gid: 0,
+        mode,
+    })
+}
+
+fn made(alloc: Global) -> Result<World, Fail> {
+    let mut tree = Tree::new(alloc, attr(0o755)?)?;
+    let root = tree.root();
+    let directory = tree.create_directory(root, b"d", attr(0o755)?)?;
+    let file = tree.create_file(directory, b"f", attr(0o644)?, Vec::new(alloc))?;
+    tree.create_directory(root, b"s", attr(0o700)?)?;
+    let who = Cred::new(7, 7, Vec::new(alloc), Caps::empty());
+    Ok(World {
+        tree,
+        who,
+        directory,
+        file,
+    })
+}
+
+// The parent, the object and the slash of a place whose last word has this name.
+type Seen = (NodeId, Option<NodeId>, bool);
+
+fn seen(walked: &Result<Place, Deny>, name: &[u8]) -> Result<Seen, Option<Deny>> {
+    match walked {
+        Ok(place) if place.last.name() == name => Ok((place.parent, place.object, place.slash)),
+        Ok(_) => Err(None),
+        Err(deny) => Err(Some(*deny)),
+    }
+}
+
+#[test]
+fn walks_to_objects(rt: HostRuntime) -> Result<(), Fail> {
+    let World {
+        tree,
+        who,
+        directory,
+        file,
+    } = &made(rt.alloc())?;
+    for (path, wanted) in [
+        (b"/".as_slice(), Ok(tree.root())),
+        (b"/d/./../d", Ok(*directory)),
+        (b"d/f", Ok(*file)),
+        (b"d/", Ok(*directory)),
+        (b"d/f/", Err(Rule::W3.denial())),
+        (b"d/f/.", Err(Rule::W3.denial())),
+        (b"d/g", Err(Rule::W6.denial())),
+        (b"s/x", Err(Rule::W4.denial())),
+    ] {
+        let path = PathText::parse(path)?;
+        assert_eq!(rt; object_walk(tree, who, &path), wanted);
+        assert_eq!(rt; link_walk(tree, who, &path), wanted);
+    }
+    let path = PathText::parse(b"d/f")?;
+    assert_eq!(rt; directory_walk(tree, who, &path), Err(Rule::W3.denial()));
+    let path = PathText::parse(b"s")?;
+    assert!(rt; directory_walk(tree, who, &path).is_ok());
+    Ok(())
+}
+
+#[test]
+fn walks_to_places(rt: HostRuntime) -> Result<(), Fail> {
+    let World {
+        tree,
+        who,
+        directory,
+        file,
+    } = &made(rt.alloc())?;
+    let path = PathText::parse(b"/d/f")?;
+    let there = Ok((*directory, Some(*file), false));
+    assert_eq!(rt; seen(&new_walk(tree, who, &path), b"f"), there);
+    assert_eq!(rt; seen(&old_leaf_walk(tree, who, &path), b"f"), there);
+    assert_eq!(rt; seen(&file_walk(tree, who, &path), b"f"), there);
+    Ok(())
+}
+
+#[test]
+fn walks_to_missing_names(rt: HostRuntime) -> Result<(), Fail> {
+    let World {
+        tree,
+        who,
+        directory,
+        ..
+    } = &made(rt.alloc())?;
+    let path = PathText::parse(b"d/g/")?;
+    let missing = Ok((*directory, None, true));
+    assert_eq!(rt; seen(&new_walk(tree, who, &path), b"g"), missing);
+    assert_eq!(rt;
+        seen(&rename_new_walk(tree, who, &path, true), b"g"),
+        missing
+    );
+    assert_eq!(rt;
+        seen(&rename_new_walk(tree, who, &path, false), b"g"),
+        Err(Some(Rule::W3.denial()))
+    );
+    let refused = Err(Some(Rule::W6.denial()));
+    assert_eq!(rt; seen(&new_leaf_walk(tree, who, &path), b"g"), refused);
+    assert_eq!(rt; seen(&old_walk(tree, who, &path), b"g"), refused);
+    Ok(())
+}
