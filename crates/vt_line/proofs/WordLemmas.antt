@@ -119,7 +119,8 @@ pub groups_word-parts : (text : List ℕ) → bytes_eq text (codes "-") ≡ fals
     → groups_word text ≡ cond (leb (length (parts 44 text)) 32) (each_of identity_word (parts 44 text)) None
 groups_word-parts text some = rw some refl
 
-pub groups_word-few : (text : List ℕ) → bytes_eq text (codes "-") ≡ false → length (parts 44 text) ≤ 32 → groups_word text ≡ each_of identity_word (parts 44 text)
+pub groups_word-few : (text : List ℕ) → bytes_eq text (codes "-") ≡ false
+    → length (parts 44 text) ≤ 32 → groups_word text ≡ each_of identity_word (parts 44 text)
 groups_word-few text some few =
     let test : leb (length (parts 44 text)) 32 ≡ true = grind (arith, nat_tests) in
     groups_word-parts text some ∙ ap (λ test. cond test (each_of identity_word (parts 44 text)) None) test
@@ -134,4 +135,6 @@ none-either true read e = e
 none-either false read e = refl
 
 pub groups_word-wrong : (text : List ℕ) → bytes_eq text (codes "-") ≡ false → each_of identity_word (parts 44 text) ≡ None → groups_word text ≡ None
-groups_word-wrong text some wrong = groups_word-parts text some ∙ none-either (leb (length (parts 44 text)) 32) (each_of identity_word (parts 44 text)) wrong
+groups_word-wrong text some wrong =
+    groups_word-parts text some
+    ∙ none-either (leb (length (parts 44 text)) 32) (each_of identity_word (parts 44 text)) wrong

@@ -83,7 +83,7 @@ module _ {A : Type 0} where
     where
       by : (b : Bool) → cond b (Some e.1) (lookup (is_key name) es) ≡ None → (lookup (is_key name) es ≡ None → without_called name (named es) ≡ named es)
           → cond (not b) ((e.0.items, task_of e.1) ∷ without_called name (named es)) (without_called name (named es)) ≡ named (e ∷ es)
-      by true absent rest = absurd cc
+      by true found rest = absurd cc
       by false absent rest = ap (λ l. (e.0.items, task_of e.1) ∷ l) (rest absent)
 
   removed : (name : List ℕ) (es : List (Vec ℕ A × Held)) → lookup (is_key name) (remove_entry (is_key name) es) ≡ None

@@ -79,7 +79,8 @@ impl Tasks {
     /// Drops capabilities of a task for good: capset(2). It takes no memory.
     pub fn drop_caps(&mut self, name: &TaskName, dropped: Caps)
         ensures { self.new
-            ≡ changed_called name.now (λ task. record task { credentials = with_dropped task.credentials (capability_bits dropped) }) self.old }
+            ≡ changed_called name.now
+            (λ task. record task { credentials = with_dropped task.credentials (capability_bits dropped) }) self.old }
     {
         if let Some(task) = self.by_name.get_mut(name.numbers()) {
             task.cred.drop_caps(dropped);

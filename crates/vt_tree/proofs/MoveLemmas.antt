@@ -1,5 +1,5 @@
 -- A new entry before the old one goes, or after: the tree is the same.
-use Rattle.std.proofs.Common.{◌≡◌, ◌≢◌, ℕ, Bool, true, false, cond, not, List, Option, Some, None, Ok, Err, [], ◌∷◌, ◌++◌, nat_eq, eq-eqb, eqb-true, ne_eqb, refl, sym, ap, subst, ◌∙◌, ⊎_elim, true≢false}
+use Rattle.std.proofs.Common.{◌≡◌, ◌≢◌, ℕ, Bool, true, false, cond, not, List, Option, Some, None, Ok, Err, [], ◌∷◌, ◌++◌, nat_eq, eq-eqb, eqb-true, ne_eqb, refl, sym, ap, subst, ◌∙◌, ⊎_elim, true≢false, is_some}
 use Rattle.std.proofs.lemmas.Bool.Decides.{eqb_tells}
 use Rattle.std.proofs.lemmas.Float.{T_from_true}
 use Rattle.std.specs.Str.{bytes_eq}
@@ -8,6 +8,7 @@ use Rattle.std.specs.FinMap.Entries.{find-where_key, is_sorted, is_sorted-put, i
 use Rattle.std.specs.Ordering.{eq_by_cmp, is_eq}
 use Rattle.vt_spec.specs.Machine.Changes.{node_with_parent, node_without_entry, without_entry}
 use Rattle.vt_spec.specs.Machine.Lists.{holds_of}
+use Rattle.vt_spec.specs.OneTree.Fits.{MayReplace}
 use Rattle.vt_spec.specs.OneTree.Inodes.{Inode, Inodes, inode_with_node, node_in, tree_of, with_changed}
 use Rattle.vt_spec.specs.TreeLaws.{entry_at}
 use Rattle.vt_spec.specs.Tree.{Content, Entries, Node, entries_in, entries_of, entry_named, name_cmp, node_with_entry, with_entries, with_entry}
@@ -121,6 +122,11 @@ module _ (inodes : Inodes ℕ) (f g : Option (Node ℕ) → Option (Node ℕ)) w
 pub leads : (object : ℕ) (found : Option ℕ) → holds_of (nat_eq object) found ≡ true → found ≡ Some object
 leads object None e = absurd (true≢false (sym e))
 leads object (Some other) e = ap Some (sym (eqb-true object other e))
+
+-- what may be replaced is another object
+pub replaced_other : (inodes : Inodes ℕ) (object : ℕ) (found : Option ℕ) → MayReplace inodes object found → found ≢ Some object
+replaced_other inodes object None may e = absurd (true≢false (sym (ap is_some e)))
+replaced_other inodes object (Some other) may e = may.0 cc
 
 -- a rule that refuses does so with more behind it
 pub refused_before : (rules more : Rules) (deny : Deny) → ruling rules ≡ Err deny → ruling (rules ++ more) ≡ Err deny

@@ -76,7 +76,7 @@ fn a_tree_has_what_was_made_in_it(rt: HostRuntime) -> Result<(), Fail> {
 }
 
 #[test]
-fn calls_are_refused_by_their_rules(rt: HostRuntime) -> Result<(), Fail> {
+fn a_name_is_made_once_and_in_a_directory(rt: HostRuntime) -> Result<(), Fail> {
     let mut tree = Tree::new(rt.alloc(), plain()?)?;
     let root = tree.root();
     let file = make_file(&mut tree, rt.alloc(), root, b"f", plain()?, b"")?;
@@ -84,26 +84,36 @@ fn calls_are_refused_by_their_rules(rt: HostRuntime) -> Result<(), Fail> {
     assert_eq!(rt; again, Err(Rule::E1.denial()));
     let below = make_directory(&mut tree, rt.alloc(), file, b"f", plain()?);
     assert_eq!(rt; below, Err(Rule::E3.denial()));
-    assert_eq!(rt; tree.read(root).err(), Some(Rule::E2.denial()));
-    assert_eq!(rt;
-        tree.write(root, Vec::new(rt.alloc())),
-        Err(Rule::E2.denial())
-    );
+    Ok(())
+}
+
+#[test]
+fn a_file_has_a_largest_size(rt: HostRuntime) -> Result<(), Fail> {
+    let mut tree = Tree::new(rt.alloc(), plain()?)?;
+    let root = tree.root();
+    let file = make_file(&mut tree, rt.alloc(), root, b"f", plain()?, b"")?;
     let most = vec![in rt.alloc(); 0u8; 1_048_576]?;
     assert_eq!(rt; tree.write(file, most), Ok(()));
     let more = vec![in rt.alloc(); 0u8; 1_048_577]?;
     assert_eq!(rt; tree.write(file, more), Err(Rule::E6.denial()));
-    assert_eq!(rt; tree.read(file)?.len(), 1_048_576);
     assert_eq!(rt; tree.write_at(file, 1_048_575, b"z"), Ok(()));
-    assert_eq!(rt;
-        tree.write_at(file, 1_048_575, b"zz"),
-        Err(Rule::E6.denial())
-    );
-    assert_eq!(rt;
-        tree.write_at(file, usize::MAX, b"z"),
-        Err(Rule::E6.denial())
-    );
+    let past = tree.write_at(file, 1_048_575, b"zz");
+    assert_eq!(rt; past, Err(Rule::E6.denial()));
+    let far = tree.write_at(file, usize::MAX, b"z");
+    assert_eq!(rt; far, Err(Rule::E6.denial()));
+    assert_eq!(rt; tree.read(file)?.len(), 1_048_576);
+    Ok(())
+}
+
+#[test]
+fn a_directory_has_no_bytes(rt: HostRuntime) -> Result<(), Fail> {
+    let mut tree = Tree::new(rt.alloc(), plain()?)?;
+    let root = tree.root();
+    assert_eq!(rt; tree.read(root).err(), Some(Rule::E2.denial()));
+    let written = tree.write(root, Vec::new(rt.alloc()));
+    assert_eq!(rt; written, Err(Rule::E2.denial()));
     assert_eq!(rt; tree.write_at(root, 0, b"z"), Err(Rule::E2.denial()));
+    assert_eq!(rt; tree.read_part(root, 0, 9)?.len(), 0);
     Ok(())
 }
 
@@ -126,18 +136,6 @@ fn a_file_goes_with_its_last_name(rt: HostRuntime) -> Result<(), Fail> {
     let root = tree.root();
     let file = make_file(&mut tree, rt.alloc(), root, b"a", plain()?, b"hi")?;
     tree.link(root, owned(rt.alloc(), b"b")?, file)?;
-    assert_eq!(rt;
-        tree.link(root, owned(rt.alloc(), b"b")?, file),
-        Err(Rule::E1.denial())
-    );
-    assert_eq!(rt;
-        tree.link(root, owned(rt.alloc(), b"c")?, root),
-        Err(Rule::E7.denial())
-    );
-    assert_eq!(rt;
-        tree.link(root, owned(rt.alloc(), b"c")?, tree.next_number()),
-        Err(Rule::W6.denial())
-    );
     assert_eq!(rt; tree.unlink(root, b"c", file), Err(Rule::W6.denial()));
     tree.unlink(root, b"a", file)?;
     assert_eq!(rt; tree.read(file)?.as_slice(), b"hi".as_slice());
@@ -145,6 +143,21 @@ fn a_file_goes_with_its_last_name(rt: HostRuntime) -> Result<(), Fail> {
     assert!(rt; tree.node(file).is_none());
     assert_eq!(rt; tree.len(), 1);
     assert_eq!(rt; tree.next_number(), file);
+    Ok(())
+}
+
+#[test]
+fn a_link_is_refused_by_its_rules(rt: HostRuntime) -> Result<(), Fail> {
+    let mut tree = Tree::new(rt.alloc(), plain()?)?;
+    let root = tree.root();
+    let file = make_file(&mut tree, rt.alloc(), root, b"a", plain()?, b"")?;
+    let there = tree.link(root, owned(rt.alloc(), b"a")?, file);
+    assert_eq!(rt; there, Err(Rule::E1.denial()));
+    let directory = tree.link(root, owned(rt.alloc(), b"c")?, root);
+    assert_eq!(rt; directory, Err(Rule::E7.denial()));
+    let nothing = tree.next_number();
+    let missing = tree.link(root, owned(rt.alloc(), b"c")?, nothing);
+    assert_eq!(rt; missing, Err(Rule::W6.denial()));
     Ok(())
 }
 
@@ -175,46 +188,112 @@ fn a_filled_directory_stays(rt: HostRuntime) -> Result<(), Fail> {
     Ok(())
 }
 
-#[test]
-fn an_object_gets_another_name(rt: HostRuntime) -> Result<(), Fail> {
-    let mut tree = Tree::new(rt.alloc(), plain()?)?;
+// The directories /t and /t/b, and the file /f.
+struct Sample {
+    tree: Tree,
+    root: NodeId,
+    top: NodeId,
+    below: NodeId,
+    file: NodeId,
+}
+
+fn sample(alloc: Global) -> Result<Sample, Fail> {
+    let mut tree = Tree::new(alloc, plain()?)?;
     let root = tree.root();
-    let top = make_directory(&mut tree, rt.alloc(), root, b"t", plain()?)?;
-    let below = make_directory(&mut tree, rt.alloc(), top, b"b", plain()?)?;
-    let file = make_file(&mut tree, rt.alloc(), root, b"f", plain()?, b"new")?;
-    let other = make_file(&mut tree, rt.alloc(), below, b"g", plain()?, b"old")?;
-    assert!(rt; tree.is_under(root, below));
-    assert!(rt; tree.is_under(below, below));
-    assert!(rt; !tree.is_under(below, top));
+    let top = make_directory(&mut tree, alloc, root, b"t", plain()?)?;
+    let below = make_directory(&mut tree, alloc, top, b"b", plain()?)?;
+    let file = make_file(&mut tree, alloc, root, b"f", plain()?, b"new")?;
+    Ok(Sample {
+        tree,
+        root,
+        top,
+        below,
+        file,
+    })
+}
 
-    tree.rename(root, b"f", below, owned(rt.alloc(), b"g")?, file)?;
-    assert!(rt; tree.look(root, b"f").is_none());
-    assert_eq!(rt; tree.look(below, b"g"), Some(file));
-    assert!(rt; tree.node(other).is_none());
+#[test]
+fn directories_are_under_those_above_them(rt: HostRuntime) -> Result<(), Fail> {
+    let s = sample(rt.alloc())?;
+    assert!(rt; s.tree.is_under(s.root, s.below));
+    assert!(rt; s.tree.is_under(s.below, s.below));
+    assert!(rt; !s.tree.is_under(s.below, s.top));
+    Ok(())
+}
 
-    tree.rename(below, b"g", below, owned(rt.alloc(), b"a")?, file)?;
-    assert!(rt; tree.look(below, b"g").is_none());
-    assert_eq!(rt; tree.look(below, b"a"), Some(file));
+#[test]
+fn a_file_takes_the_place_of_another(rt: HostRuntime) -> Result<(), Fail> {
+    let mut s = sample(rt.alloc())?;
+    let other = make_file(&mut s.tree, rt.alloc(), s.below, b"g", plain()?, b"old")?;
+    let new = owned(rt.alloc(), b"g")?;
+    s.tree.rename(s.root, b"f", s.below, new, s.file)?;
+    assert!(rt; s.tree.look(s.root, b"f").is_none());
+    assert_eq!(rt; s.tree.look(s.below, b"g"), Some(s.file));
+    assert!(rt; s.tree.node(other).is_none());
+    Ok(())
+}
 
-    let own = tree.rename(root, b"t", below, owned(rt.alloc(), b"x")?, top);
+#[test]
+fn a_name_changes_in_its_directory(rt: HostRuntime) -> Result<(), Fail> {
+    let mut s = sample(rt.alloc())?;
+    let new = owned(rt.alloc(), b"a")?;
+    s.tree.rename(s.root, b"f", s.root, new, s.file)?;
+    assert!(rt; s.tree.look(s.root, b"f").is_none());
+    assert_eq!(rt; s.tree.look(s.root, b"a"), Some(s.file));
+    Ok(())
+}
+
+#[test]
+fn two_names_of_one_object_stay(rt: HostRuntime) -> Result<(), Fail> {
+    let mut s = sample(rt.alloc())?;
+    s.tree.link(s.top, owned(rt.alloc(), b"h")?, s.file)?;
+    let new = owned(rt.alloc(), b"h")?;
+    s.tree.rename(s.root, b"f", s.top, new, s.file)?;
+    assert_eq!(rt; s.tree.look(s.root, b"f"), Some(s.file));
+    assert_eq!(rt; s.tree.look(s.top, b"h"), Some(s.file));
+    Ok(())
+}
+
+#[test]
+fn a_directory_does_not_go_under_itself(rt: HostRuntime) -> Result<(), Fail> {
+    let mut s = sample(rt.alloc())?;
+    let new = owned(rt.alloc(), b"x")?;
+    let own = s.tree.rename(s.root, b"t", s.below, new, s.top);
     assert_eq!(rt; own, Err(Rule::E5.denial()));
-    let over_file = tree.rename(root, b"t", below, owned(rt.alloc(), b"a")?, top);
-    assert_eq!(rt; over_file, Err(Rule::E3.denial()));
-    let over_directory = tree.rename(below, b"a", root, owned(rt.alloc(), b"t")?, file);
-    assert_eq!(rt; over_directory, Err(Rule::E2.denial()));
-    let empty = make_directory(&mut tree, rt.alloc(), root, b"e", plain()?)?;
-    let over_filled = tree.rename(root, b"e", root, owned(rt.alloc(), b"t")?, empty);
-    assert_eq!(rt; over_filled, Err(Rule::E4.denial()));
-    let missing = tree.rename(root, b"q", root, owned(rt.alloc(), b"r")?, file);
-    assert_eq!(rt; missing, Err(Rule::W6.denial()));
+    assert_eq!(rt; s.tree.parent(s.top), s.root);
+    Ok(())
+}
 
-    tree.rename(top, b"b", root, owned(rt.alloc(), b"e")?, below)?;
-    assert_eq!(rt; tree.parent(below), root);
-    assert!(rt; tree.node(empty).is_none());
-    tree.link(root, owned(rt.alloc(), b"h")?, file)?;
-    tree.rename(root, b"h", below, owned(rt.alloc(), b"a")?, file)?;
-    assert_eq!(rt; tree.look(root, b"h"), Some(file));
-    assert_eq!(rt; tree.look(below, b"a"), Some(file));
+#[test]
+fn a_rename_is_refused_by_its_rules(rt: HostRuntime) -> Result<(), Fail> {
+    let mut s = sample(rt.alloc())?;
+    let over_file = s
+        .tree
+        .rename(s.root, b"t", s.root, owned(rt.alloc(), b"f")?, s.top);
+    assert_eq!(rt; over_file, Err(Rule::E3.denial()));
+    let over_directory = s
+        .tree
+        .rename(s.root, b"f", s.root, owned(rt.alloc(), b"t")?, s.file);
+    assert_eq!(rt; over_directory, Err(Rule::E2.denial()));
+    let missing = s
+        .tree
+        .rename(s.root, b"q", s.root, owned(rt.alloc(), b"r")?, s.file);
+    assert_eq!(rt; missing, Err(Rule::W6.denial()));
+    Ok(())
+}
+
+#[test]
+fn a_directory_takes_the_place_of_an_empty_one(rt: HostRuntime) -> Result<(), Fail> {
+    let mut s = sample(rt.alloc())?;
+    let empty = make_directory(&mut s.tree, rt.alloc(), s.root, b"e", plain()?)?;
+    let over_filled = s
+        .tree
+        .rename(s.root, b"e", s.root, owned(rt.alloc(), b"t")?, empty);
+    assert_eq!(rt; over_filled, Err(Rule::E4.denial()));
+    let new = owned(rt.alloc(), b"e")?;
+    s.tree.rename(s.top, b"b", s.root, new, s.below)?;
+    assert_eq!(rt; s.tree.parent(s.below), s.root);
+    assert!(rt; s.tree.node(empty).is_none());
     Ok(())
 }
 
@@ -259,20 +338,26 @@ fn surely_owned(alloc: Global, bytes: &[u8]) -> Result<Vec<u8>, Deny> {
 }
 
 // What a second attempt must find as the first did, where that was refused memory.
-#[test]
-fn a_refused_rename_or_write_changes_nothing(rt: HostRuntime) -> Result<(), Fail> {
-    let mut tree = match Tree::new(rt.alloc(), plain()?) {
+fn surely_made(alloc: Global) -> Result<(Tree, NodeId), Fail> {
+    let mut tree = match Tree::new(alloc, plain()?) {
         Ok(tree) => tree,
-        Err(_deny) => Tree::new(rt.alloc(), plain()?)?,
+        Err(_deny) => Tree::new(alloc, plain()?)?,
     };
+    let root = tree.root();
+    let file = match make_file(&mut tree, alloc, root, b"f", plain()?, b"abc") {
+        Ok(file) => file,
+        Err(_deny) => make_file(&mut tree, alloc, root, b"f", plain()?, b"abc")?,
+    };
+    Ok((tree, file))
+}
+
+#[test]
+fn a_refused_rename_changes_nothing(rt: HostRuntime) -> Result<(), Fail> {
+    let (mut tree, file) = surely_made(rt.alloc())?;
     let root = tree.root();
     let directory = match make_directory(&mut tree, rt.alloc(), root, b"d", plain()?) {
         Ok(directory) => directory,
         Err(_deny) => make_directory(&mut tree, rt.alloc(), root, b"d", plain()?)?,
-    };
-    let file = match make_file(&mut tree, rt.alloc(), root, b"f", plain()?, b"abc") {
-        Ok(file) => file,
-        Err(_deny) => make_file(&mut tree, rt.alloc(), root, b"f", plain()?, b"abc")?,
     };
     let new = surely_owned(rt.alloc(), b"g")?;
     if let Err(deny) = tree.rename(root, b"f", directory, new, file) {
@@ -283,6 +368,12 @@ fn a_refused_rename_or_write_changes_nothing(rt: HostRuntime) -> Result<(), Fail
     }
     assert!(rt; tree.look(root, b"f").is_none());
     assert_eq!(rt; tree.look(directory, b"g"), Some(file));
+    Ok(())
+}
+
+#[test]
+fn a_refused_write_changes_nothing(rt: HostRuntime) -> Result<(), Fail> {
+    let (mut tree, file) = surely_made(rt.alloc())?;
     if let Err(deny) = tree.write_at(file, 100, b"z") {
         assert_eq!(rt; deny, Rule::S5.denial());
         let kept = tree.node(file).ok_or("the file")?;
@@ -290,14 +381,21 @@ fn a_refused_rename_or_write_changes_nothing(rt: HostRuntime) -> Result<(), Fail
         tree.write_at(file, 100, b"z")?;
     }
     assert_eq!(rt; tree.node(file).ok_or("the file")?.bytes().len(), 101);
+    Ok(())
+}
+
+#[test]
+fn a_refused_link_changes_nothing(rt: HostRuntime) -> Result<(), Fail> {
+    let (mut tree, file) = surely_made(rt.alloc())?;
+    let root = tree.root();
     let name = surely_owned(rt.alloc(), b"h")?;
-    if let Err(deny) = tree.link(directory, name, file) {
+    if let Err(deny) = tree.link(root, name, file) {
         assert_eq!(rt; deny, Rule::S5.denial());
-        assert!(rt; tree.look(directory, b"h").is_none());
-        tree.link(directory, owned(rt.alloc(), b"h")?, file)?;
+        assert!(rt; tree.look(root, b"h").is_none());
+        tree.link(root, owned(rt.alloc(), b"h")?, file)?;
     }
-    tree.unlink(directory, b"g", file)?;
-    assert_eq!(rt; tree.look(directory, b"h"), Some(file));
+    tree.unlink(root, b"f", file)?;
+    assert_eq!(rt; tree.look(root, b"h"), Some(file));
     assert!(rt; tree.node(file).is_some());
     Ok(())
 }

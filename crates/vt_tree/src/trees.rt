@@ -262,6 +262,8 @@ impl Tree {
         ensures one_object { entry_at (tree_of self.old) to new.items ≡ Some object → OnOk result (self.new ≡ self.old) }
         ensures answer { AnswersBy (rename_rules (inodes_of self.old) from old.now to new.items object) result }
         ensures fits { Fits (inodes_of self.old) (Move from old.now to new.items object) → IsOkUnless result (denial S5) }
+        ensures fits_ok { Fits (inodes_of self.old) (Move from old.now to new.items object)
+            → OnOk result (inodes_of self.new ≡ changed nat_eq (inodes_of self.old) (Move from old.now to new.items object)) }
         ensures err { OnErr result (self.new ≡ self.old) }
     {
         if let Err(deny) = self.check_rename(from, old, to, &new, object) {

@@ -7,7 +7,7 @@ use Rattle.vt_spec.specs.TreeLaws.{entry_at}
 use Rattle.vt_slots.specs.Slots.{inodes_in}
 use Rattle.vt_tree.specs.TreeRules.{rename_rules, ruling}
 use Rattle.vt_tree.specs.TreeValue.{inodes_of, tree_of}
-use Rattle.vt_tree.proofs.MoveLemmas.{moved, named_if_allowed}
+use Rattle.vt_tree.proofs.MoveLemmas.{moved, named_if_allowed, replaced_other}
 use Rattle.vt_tree.proofs.trees.Tree.rename.Goals as goal
 use Rattle.vt_tree.proofs.trees.Tree.rename.Goals.{After-set_parent}
 
@@ -51,3 +51,12 @@ pub returns-in_default-replaced-clause-ok : goal.returns-in_default-replaced-cla
 returns-in_default-replaced-clause-ok c = λ other.
     let path = (goal.at.returns-in_default-replaced-clause-ok c).After-set_parent in
     placed path other ∙ ap (without_replaced nat_eq (with_entries_moved path)) (sym c.in_default-replaced.is ∙ replaced path)
+
+-- and where the move fits, what it replaces is another object
+pub returns-in-Some-clause-fits_ok : goal.returns-in-Some-clause-fits_ok
+returns-in-Some-clause-fits_ok c = λ fits.
+    returns-in-Some-clause-ok c (replaced_other (inodes_of c.args.self.now) c.args.object (entry_at (tree_of c.args.self.now) c.args.to c.args.new.items) fits.2)
+
+pub returns-in_default-replaced-clause-fits_ok : goal.returns-in_default-replaced-clause-fits_ok
+returns-in_default-replaced-clause-fits_ok c = λ fits.
+    returns-in_default-replaced-clause-ok c (replaced_other (inodes_of c.args.self.now) c.args.object (entry_at (tree_of c.args.self.now) c.args.to c.args.new.items) fits.2)
