@@ -33,12 +33,11 @@ make_rules inodes directory name =
     ∷ (is_some (entry_at (tree_of inodes) directory name), E1)
     ∷ []
 
--- a name more: ENOTDIR, EEXIST, ENOENT and EPERM of link(2)
+-- a name more: ENOTDIR, EEXIST and EPERM of link(2)
 abbrev pub link_rules : Inodes ℕ → ℕ → List ℕ → ℕ → Rules
 link_rules inodes directory name object =
     make_rules inodes directory name
-    ++ (not (is_some (inodes.inode object)), W6)
-    ∷ (is_directory_at (tree_of inodes) object, E7)
+    ++ (is_directory_at (tree_of inodes) object, E7)
     ∷ []
 
 -- a name less: ENOENT of unlink(2), ENOTEMPTY of rmdir(2)

@@ -198,10 +198,10 @@ impl Tree {
         Ok(self.slots.insert_reserved(node))
     }
 
-    /// Gives an object a name more: link(2).
+    /// Gives an object a name more: link(2). The caller names an object that is there: the name is made all the same.
     ///
-    /// E3: no directory. E1: the name is there. W6: no such object. E7: the object is a directory. S5: memory was refused, or the
-    /// object has 2^64 - 1 uses.
+    /// E3: no directory. E1: the name is there. E7: the object is a directory. S5: memory was refused, or the object has 2^64 - 1
+    /// uses.
     pub fn link(&mut self, directory: NodeId, name: Vec<u8>, object: NodeId) -> Result<(), Deny>
         ensures ok { OnOk result (inodes_of self.new ≡ changed nat_eq (inodes_of self.old) (AddName directory name.items object)) }
         ensures answer { AnswersBy (link_rules (inodes_of self.old) directory name.items object) result }
@@ -210,9 +210,6 @@ impl Tree {
     {
         if let Err(deny) = self.check_name(directory, &name) {
             return Err(deny);
-        }
-        if self.slots.get(object).is_none() {
-            return Err(Rule::W6.denial());
         }
         if self.is_directory(object) {
             return Err(Rule::E7.denial());
