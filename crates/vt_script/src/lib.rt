@@ -8,10 +8,10 @@ mod walk;
 mod world;
 
 pub use script::run;
-pub use vt_io::adapters::{ReadSource, WriteSink};
-pub use vt_io::input::{Source, SourceFailed};
-pub use vt_io::output::{Sink, SinkFailed};
 pub use vt_first_line::answer::{Answer, RunFault};
 pub use vt_first_line::line::Line;
 pub use vt_first_line::print::write_reply;
 pub use vt_first_line::request::{Call, CapsWord, TaskName};
+pub use vt_io::adapters::{ReadSource, WriteSink};
+pub use vt_io::input::{Source, SourceFailed};
+pub use vt_io::output::{Sink, SinkFailed};

@@ -8,11 +8,11 @@ ghost use Rattle.vt_script.specs.SessionValue.{state_of};
 
 use crate::world::World;
 use std::alloc::Global;
-use vt_io::line::LineBuffer;
-use vt_io::output::Sink;
 use vt_first_line::answer::RunFault;
 use vt_first_line::line::Line;
 use vt_first_line::print::write_reply;
+use vt_io::line::LineBuffer;
+use vt_io::output::Sink;
 use vt_spec::errors::Rule;
 
 /// The world, how many lines are answered, and the line that is being read.

@@ -10,9 +10,9 @@ ghost use Rattle.vt_script.specs.WorldValue.{world_of};
 
 use std::alloc::Global;
 use vt_cred::{Attr, Cred, Mode, Rights, allows, masked};
+use vt_first_tree::Tree;
 use vt_node::NodeId;
 use vt_spec::errors::Deny;
-use vt_first_tree::Tree;
 
 /// The mode of the root directory, 0755.
 const ROOT_MODE: u16 = 0o755;
