@@ -189,6 +189,7 @@ fn a_filled_directory_stays(rt: HostRuntime) -> Result<(), Fail> {
 }
 
 // The directories /t and /t/b, and the file /f.
+#[derive(Drop)]
 struct Sample {
     tree: Tree,
     root: NodeId,
@@ -197,7 +198,7 @@ struct Sample {
     file: NodeId,
 }
 
-fn sample(alloc: Global) -> Result<Sample, Fail> {
+fn made_sample(alloc: Global) -> Result<Sample, Fail> {
     let mut tree = Tree::new(alloc, plain()?)?;
     let root = tree.root();
     let top = make_directory(&mut tree, alloc, root, b"t", plain()?)?;
@@ -214,7 +215,7 @@ fn sample(alloc: Global) -> Result<Sample, Fail> {
 
 #[test]
 fn directories_are_under_those_above_them(rt: HostRuntime) -> Result<(), Fail> {
-    let s = sample(rt.alloc())?;
+    let s = made_sample(rt.alloc())?;
     assert!(rt; s.tree.is_under(s.root, s.below));
     assert!(rt; s.tree.is_under(s.below, s.below));
     assert!(rt; !s.tree.is_under(s.below, s.top));
@@ -223,7 +224,7 @@ fn directories_are_under_those_above_them(rt: HostRuntime) -> Result<(), Fail> {
 
 #[test]
 fn a_file_takes_the_place_of_another(rt: HostRuntime) -> Result<(), Fail> {
-    let mut s = sample(rt.alloc())?;
+    let mut s = made_sample(rt.alloc())?;
     let other = make_file(&mut s.tree, rt.alloc(), s.below, b"g", plain()?, b"old")?;
     let new = owned(rt.alloc(), b"g")?;
     s.tree.rename(s.root, b"f", s.below, new, s.file)?;
@@ -235,7 +236,7 @@ fn a_file_takes_the_place_of_another(rt: HostRuntime) -> Result<(), Fail> {
 
 #[test]
 fn a_name_changes_in_its_directory(rt: HostRuntime) -> Result<(), Fail> {
-    let mut s = sample(rt.alloc())?;
+    let mut s = made_sample(rt.alloc())?;
     let new = owned(rt.alloc(), b"a")?;
     s.tree.rename(s.root, b"f", s.root, new, s.file)?;
     assert!(rt; s.tree.look(s.root, b"f").is_none());
@@ -245,7 +246,7 @@ fn a_name_changes_in_its_directory(rt: HostRuntime) -> Result<(), Fail> {
 
 #[test]
 fn two_names_of_one_object_stay(rt: HostRuntime) -> Result<(), Fail> {
-    let mut s = sample(rt.alloc())?;
+    let mut s = made_sample(rt.alloc())?;
     s.tree.link(s.top, owned(rt.alloc(), b"h")?, s.file)?;
     let new = owned(rt.alloc(), b"h")?;
     s.tree.rename(s.root, b"f", s.top, new, s.file)?;
@@ -256,7 +257,7 @@ fn two_names_of_one_object_stay(rt: HostRuntime) -> Result<(), Fail> {
 
 #[test]
 fn a_directory_does_not_go_under_itself(rt: HostRuntime) -> Result<(), Fail> {
-    let mut s = sample(rt.alloc())?;
+    let mut s = made_sample(rt.alloc())?;
     let new = owned(rt.alloc(), b"x")?;
     let own = s.tree.rename(s.root, b"t", s.below, new, s.top);
     assert_eq!(rt; own, Err(Rule::E5.denial()));
@@ -266,7 +267,7 @@ fn a_directory_does_not_go_under_itself(rt: HostRuntime) -> Result<(), Fail> {
 
 #[test]
 fn a_rename_is_refused_by_its_rules(rt: HostRuntime) -> Result<(), Fail> {
-    let mut s = sample(rt.alloc())?;
+    let mut s = made_sample(rt.alloc())?;
     let over_file = s
         .tree
         .rename(s.root, b"t", s.root, owned(rt.alloc(), b"f")?, s.top);
@@ -284,7 +285,7 @@ fn a_rename_is_refused_by_its_rules(rt: HostRuntime) -> Result<(), Fail> {
 
 #[test]
 fn a_directory_takes_the_place_of_an_empty_one(rt: HostRuntime) -> Result<(), Fail> {
-    let mut s = sample(rt.alloc())?;
+    let mut s = made_sample(rt.alloc())?;
     let empty = make_directory(&mut s.tree, rt.alloc(), s.root, b"e", plain()?)?;
     let over_filled = s
         .tree

@@ -125,14 +125,15 @@ pub(crate) fn link_text(tree: &Tree, id: NodeId) -> Option<&[u8]>
     }
 }
 
-// A link's text may be walked, from the directory that the link stands in or the root: W7 before W2.
+// Where the walk of a link's text begins, if it may be walked, with one link less to follow: W7 before W2.
 pub(crate) fn link_begun(
     tree: &Tree,
     directory: NodeId,
     link: Here,
     text: &[u8],
 ) -> Result<Here, Deny>
-    ensures value { here_result result ≡ unless (follow_rules (here_of link) text.now) (Ok (link_start (tree_of tree.now) directory (here_of link) text.now)) }
+    ensures value { here_result result ≡ unless (follow_rules (here_of link) text.now)
+        (Ok (link_start (tree_of tree.now) directory (here_of link) text.now)) }
 {
     if link.left == 0 {
         return Err(Rule::W7.denial());
@@ -160,7 +161,9 @@ fn words_walked_to(
     start: Here,
     words: Words,
 ) -> Result<Here, Deny>
-    ensures { here_result result ≡ words_walked (tree_of tree.now) who.now (λ inside next inner. link_walked depth (tree_of tree.now) who.now inside next inner) (here_of start) (reverse words.entry) }
+    ensures { here_result result ≡ words_walked (tree_of tree.now) who.now
+        (λ inside next inner. link_walked depth (tree_of tree.now) who.now inside next inner)
+        (here_of start) (reverse words.entry) }
 {
     let mut here = start;
     for word in words {
@@ -173,6 +176,7 @@ fn words_walked_to(
     Ok(here)
 }
 
+// The place that a link's text leads to, from the directory that the link stands in or the root.
 #[cycle(links)]
 fn link_walked(
     tree: &Tree,
@@ -205,8 +209,10 @@ pub(crate) fn asked_by_slash(tree: &Tree, text: &[u8], here: NodeId) -> Result<(
 
 // The place that the words lead to, every link followed, the last one too.
 pub(crate) fn words_walked(tree: &Tree, who: &Cred, start: Here, words: Words) -> Result<Here, Deny>
-    ensures value { here_result result ≡ words_walked (tree_of tree.now) who.now (followed (tree_of tree.now) who.now) (here_of start) (reverse words.entry) }
-    ensures there { IsTree (tree_of tree.now) → IsThere (tree_of tree.now) start.node → IfOk result (λ here. IsThere (tree_of tree.now) here.node) }
+    ensures value { here_result result ≡ words_walked (tree_of tree.now) who.now
+        (followed (tree_of tree.now) who.now) (here_of start) (reverse words.entry) }
+    ensures there { IsTree (tree_of tree.now) → IsThere (tree_of tree.now) start.node
+        → IfOk result (λ here. IsThere (tree_of tree.now) here.node) }
 {
     words_walked_to(tree, who, MOST_LINKS + 1, start, words)
 }

@@ -1,9 +1,9 @@
-//! Where paths lead in a tree of a directory `d` with a file `f` in it, and a directory `s` that only its owner may search.
+//! Where paths lead in a tree of a directory `d` with a file `f` in it, a directory `s` that only its owner may search, and links.
 use super::*;
 use std::alloc::Global;
 use std::test::Fail;
 use vt_cred::{Caps, Cred};
-use vt_node::{Attr, Mode, NodeId};
+use vt_node::{Attr, Mode, Node, NodeId};
 use vt_spec::errors::{Deny, Rule};
 use vt_text::path::PathText;
 use vt_tree::Tree;
@@ -28,9 +28,12 @@ fn attr(bits: u16) -> Result<Attr, Fail> {
 fn made(alloc: Global) -> Result<World, Fail> {
     let mut tree = Tree::new(alloc, attr(0o755)?)?;
     let root = tree.root();
-    let directory = tree.create_directory(root, b"d", attr(0o755)?)?;
-    let file = tree.create_file(directory, b"f", attr(0o644)?, Vec::new(alloc))?;
-    tree.create_directory(root, b"s", attr(0o700)?)?;
+    let plain = Node::new_directory(alloc, attr(0o755)?, root);
+    let directory = tree.create(root, Vec::from_slice(alloc, b"d")?, plain)?;
+    let empty = Node::new_file(attr(0o644)?, Vec::new(alloc));
+    let file = tree.create(directory, Vec::from_slice(alloc, b"f")?, empty)?;
+    let secret = Node::new_directory(alloc, attr(0o700)?, root);
+    tree.create(root, Vec::from_slice(alloc, b"s")?, secret)?;
     let who = Cred::new(7, 7, Vec::new(alloc), Caps::empty());
     Ok(World {
         tree,
@@ -38,6 +41,13 @@ fn made(alloc: Global) -> Result<World, Fail> {
         directory,
         file,
     })
+}
+
+// symlink(2) in the root
+fn linked(tree: &mut Tree, alloc: Global, name: &[u8], text: &[u8]) -> Result<NodeId, Fail> {
+    let root = tree.root();
+    let link = Node::new_link(attr(0o777)?, Vec::from_slice(alloc, text)?);
+    Ok(tree.create(root, Vec::from_slice(alloc, name)?, link)?)
 }
 
 // The parent, the object and the slash of a place whose last word has this name.
@@ -118,5 +128,62 @@ fn walks_to_missing_names(rt: HostRuntime) -> Result<(), Fail> {
     let refused = Err(Some(Rule::W6.denial()));
     assert_eq!(rt; seen(&new_leaf_walk(tree, who, &path), b"g"), refused);
     assert_eq!(rt; seen(&old_walk(tree, who, &path), b"g"), refused);
+    Ok(())
+}
+
+#[test]
+fn follows_links_to_objects(rt: HostRuntime) -> Result<(), Fail> {
+    let mut world = made(rt.alloc())?;
+    let link = linked(&mut world.tree, rt.alloc(), b"l", b"/d")?;
+    linked(&mut world.tree, rt.alloc(), b"slash", b"d/f/")?;
+    linked(&mut world.tree, rt.alloc(), b"self", b"self")?;
+    let tree = &world.tree;
+    for (path, object, unfollowed) in [
+        (b"l".as_slice(), Ok(world.directory), Ok(link)),
+        (b"l/", Ok(world.directory), Ok(world.directory)),
+        (b"d/../l/f", Ok(world.file), Ok(world.file)),
+        (b"slash/.", Err(Rule::W3.denial()), Err(Rule::W3.denial())),
+        (b"self/", Err(Rule::W7.denial()), Err(Rule::W7.denial())),
+    ] {
+        let path = PathText::parse(path)?;
+        assert_eq!(rt; object_walk(tree, &world.who, &path), object);
+        assert_eq!(rt; link_walk(tree, &world.who, &path), unfollowed);
+    }
+    Ok(())
+}
+
+#[test]
+fn follows_links_to_missing_names(rt: HostRuntime) -> Result<(), Fail> {
+    let mut world = made(rt.alloc())?;
+    let root = world.tree.root();
+    let link = linked(&mut world.tree, rt.alloc(), b"l", b"d/g/")?;
+    let tree = &world.tree;
+    let path = PathText::parse(b"l")?;
+    let itself = Ok((root, Some(link), false));
+    assert_eq!(rt; seen(&new_walk(tree, &world.who, &path), b"l"), itself);
+    let missing = Ok((world.directory, None, true));
+    assert_eq!(rt; seen(&file_walk(tree, &world.who, &path), b"g"), missing);
+    Ok(())
+}
+
+#[test]
+fn follows_40_links(rt: HostRuntime) -> Result<(), Fail> {
+    let mut world = made(rt.alloc())?;
+    linked(&mut world.tree, rt.alloc(), &[1], b"d")?;
+    for name in 2..42u8 {
+        linked(&mut world.tree, rt.alloc(), &[name], &[name - 1])?;
+    }
+    let tree = &world.tree;
+    let path = PathText::parse(&[40])?;
+    assert_eq!(rt; object_walk(tree, &world.who, &path), Ok(world.directory));
+    let there = Ok((tree.root(), Some(world.directory), false));
+    assert_eq!(rt; seen(&file_walk(tree, &world.who, &path), b"d"), there);
+    let path = PathText::parse(&[41])?;
+    assert_eq!(rt;
+        object_walk(tree, &world.who, &path),
+        Err(Rule::W7.denial())
+    );
+    let refused = Err(Some(Rule::W7.denial()));
+    assert_eq!(rt; seen(&file_walk(tree, &world.who, &path), b"d"), refused);
     Ok(())
 }
