@@ -155,9 +155,6 @@ fn a_link_is_refused_by_its_rules(rt: HostRuntime) -> Result<(), Fail> {
     assert_eq!(rt; there, Err(Rule::E1.denial()));
     let directory = tree.link(root, owned(rt.alloc(), b"c")?, root);
     assert_eq!(rt; directory, Err(Rule::E7.denial()));
-    let nothing = tree.next_number();
-    let missing = tree.link(root, owned(rt.alloc(), b"c")?, nothing);
-    assert_eq!(rt; missing, Err(Rule::W6.denial()));
     Ok(())
 }
 
