@@ -5,5 +5,6 @@ pub mod denials;
 pub mod layers;
 pub mod mounts;
 pub mod numbers;
+pub mod one_tree;
 pub mod rules;
 pub mod trees;

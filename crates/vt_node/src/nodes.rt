@@ -3,6 +3,7 @@ ghost use Rattle.std.specs.FinMap.Entries.{is_sorted};
 ghost use Rattle.std.specs.Prelude.{◌≡◌, true, ◌+◌, ◌<◌, ◌^◌, map, length, not, take, drop, IsSome, IsOk, OnOk, OnErr};
 ghost use Rattle.vt_spec.specs.Rights.{is_directory};
 ghost use Rattle.vt_spec.specs.Machine.Changes.{content_with_parent, without_entry};
+ghost use Rattle.vt_spec.specs.Machine.FileTree.{opaque_of};
 ghost use Rattle.vt_spec.specs.Machine.Lists.{is_empty_list};
 ghost use Rattle.vt_spec.specs.Machine.Outcome.Descriptors.{overwritten};
 ghost use Rattle.vt_spec.specs.Tree.{name_cmp, kind_of, entries_of, bytes_of, parent_of, entry_named, new_directory, with_entries, with_entry, with_bytes};
@@ -97,6 +98,16 @@ impl Node {
         ensures { result ≡ self.now.attr }
     {
         self.attr
+    }
+
+    /// Whether it is a directory with the mark that hides what lies below it in an overlay: overlayfs, "Opaque directories".
+    pub fn is_opaque(&self) -> bool
+        ensures { result ≡ opaque_of self.now.content }
+    {
+        match &self.content {
+            Content::Directory { opaque, .. } => *opaque,
+            _ => false,
+        }
     }
 
     /// Its kind.

@@ -144,7 +144,44 @@ module _ {A S : Type 0} (name : List ℕ) (m n : IndexMap (Vec ℕ A) Held S) wh
   pub changed-absent : (change : Task ℕ → Task ℕ) → get_by (is_key name) m ≡ None → changed_called name change (named m.entries) ≡ named m.entries
   changed-absent change absent = ap (changed_by name change (named m.entries)) (called-absent absent)
 
+-- A task that is changed and changed back
+
+with_called-twice : (name : List ℕ) (first second : Task ℕ) (tasks : Tasks) → with_called name second (with_called name first tasks) ≡ with_called name second tasks
+with_called-twice name first second [] = refl
+with_called-twice name first second (entry ∷ tasks) = λ i. by (is_called name entry) refl i ∷ with_called-twice name first second tasks i
+  where
+    by : (b : Bool) → is_called name entry ≡ b → changed_if_called name second (cond b (entry.0, first) entry) ≡ cond b (entry.0, second) entry
+    by true is = ap (λ b. cond b (entry.0, second) (entry.0, first)) is
+    by false is = ap (λ b. cond b (entry.0, second) entry) is
+
+called-with_called : (name : List ℕ) (old new : Task ℕ) (tasks : Tasks) → called name tasks ≡ Some old → called name (with_called name new tasks) ≡ Some new
+called-with_called name old new [] found = absurd cc
+called-with_called name old new (entry ∷ tasks) found = by (is_called name entry) refl found (called-with_called name old new tasks)
+  where
+    by : (b : Bool) → is_called name entry ≡ b → option_map (λ e. e.1) (cond b (Some entry) (find (is_called name) tasks)) ≡ Some old
+        → (called name tasks ≡ Some old → called name (with_called name new tasks) ≡ Some new)
+        → called name (cond b (entry.0, new) entry ∷ with_called name new tasks) ≡ Some new
+    by true is here rest = ap (λ b. option_map (λ e. e.1) (cond b (Some (entry.0, new)) (find (is_called name) (with_called name new tasks)))) is
+    by false is here rest = ap (λ b. option_map (λ e. e.1) (cond b (Some entry) (find (is_called name) (with_called name new tasks)))) is ∙ rest here
+
+module _ {A S : Type 0} (name : List ℕ) (m n : IndexMap (Vec ℕ A) Held S) where
+  pub written-back : (asked : List ℕ) (back : Task ℕ → Task ℕ) (x w : Held) → name ≡ asked → get_by (is_key name) m ≡ Some x → IsUnique key_eq m
+      → WritesThrough key_eq (is_key name) m w n → back (task_of w) ≡ task_of x → changed_called asked back (named n.entries) ≡ named m.entries
+  written-back asked back x w same found unique writes is =
+      (λ i. changed_called (sym same i) back (named n.entries))
+      ∙ ap (changed_called name back) (written name m n w unique writes)
+      ∙ ap (changed_by name back (with_called name (task_of w) (named m.entries)))
+      (called-with_called name (task_of x) (task_of w) (named m.entries) (called-found name m m x found))
+      ∙ with_called-twice name (task_of w) (back (task_of w)) (named m.entries)
+      ∙ ap (λ task. with_called name task (named m.entries)) is
+      ∙ sym (named-set_value name x m.entries unique)
+      ∙ ap named (set_value-same (is_key name) x m.entries found)
+
 -- What a call ended as
+
+pub if-ok : {T E : Type 0} (P Q : T → Type 0) (r : Result T E) → ((t : T) → P t → Q t) → IfOk r P → IfOk r Q
+if-ok P Q (Ok t) so e = so t e
+if-ok P Q (Err e) so _ = tt
 
 module _ {T E P Q : Type 0} where
   pub on-ok : (r : Result T E) → (P → Q) → OnOk r P → OnOk r Q

@@ -86,6 +86,8 @@ impl Descriptors {
         requires few { length self.old < MAX_DESCRIPTORS }
         ensures number { IfOk result (λ number. number ≡ free_from 0 self.old) }
         ensures ok { IfOk result (λ number. self.new ≡ inserted (numbered number opened) self.old) }
+        // closed again, the others are as they were
+        ensures undone { IfOk result (λ number. filter (λ descriptor. not (number == descriptor.number)) self.new ≡ self.old) }
         ensures memory { IfErr result (λ deny. deny ≡ denial S5) }
         ensures err { OnErr result (self.new ≡ self.old) }
     {

@@ -93,6 +93,8 @@ impl Tasks {
     pub fn open(&mut self, name: &TaskName, opened: OpenFile) -> Result<u8, Deny>
         ensures number { IfOk result (λ number. Some number ≡ option_map free_number (called name.now self.old)) }
         ensures ok { OnOk result (self.new ≡ changed_called name.now (with_open opened) self.old) }
+        // closed again, the tasks are as they were
+        ensures undone { IfOk result (λ number. changed_called name.now (λ task. without_descriptor task number) self.new ≡ self.old) }
         ensures refused { IfErr result (λ deny. deny ≡ open_refusal (called name.now self.old)) }
         ensures err { OnErr result (self.new ≡ self.old) }
     {

@@ -124,6 +124,13 @@ impl Tree {
         self.slots.get(directory)?.entry(name)
     }
 
+    /// How often the object is in use: the names that lead to it, and what is pinned. A number without an object has no use.
+    pub fn uses(&self, object: NodeId) -> u64
+        ensures { result ≡ uses_in ((inodes_of self.now).inode object) }
+    {
+        self.slots.uses(object)
+    }
+
     /// The names of a directory, in the order of their bytes: readdir(3). What is no directory has none. S5: memory was refused.
     pub fn list(&self, directory: NodeId) -> Result<Vec<Vec<u8>>, Deny>
         ensures ok { IfOk result (λ names. map (λ name. name.items) names.items ≡ names_in ((tree_of self.now).node directory)) }

@@ -1,8 +1,8 @@
 use Rattle.std.proofs.Common.{arith, ap, sym, refl, ◌∙◌, option_map}
 use Rattle.std.specs.Option.{option_copied_mut}
-use Rattle.vt_spec.specs.OneTree.World.{free_number}
+use Rattle.vt_spec.specs.OneTree.World.{free_number, without_descriptor}
 use Rattle.vt_tasks.specs.TasksValue.{called, changed_called, named, open_refusal, task_of, with_open}
-use Rattle.vt_tasks.proofs.TasksLemmas.{called-absent, called-found, err-equal, ok-equal, on-err, on-ok, opened-under, refused-full, refused-room, written-change, written-given, written-same}
+use Rattle.vt_tasks.proofs.TasksLemmas.{called-absent, called-found, err-equal, if-ok, ok-equal, on-err, on-ok, opened-under, refused-full, refused-room, written-back, written-change, written-given, written-same}
 use Rattle.vt_tasks.proofs.tasks.Tasks.open.Goals as goal
 
 pub returns-in_default-clause-refused : goal.returns-in_default-clause-refused
@@ -71,3 +71,13 @@ returns-clause-err c =
     (sym c.get_mut.ensures.value ∙ ap option_copied_mut c.in-Some.is) (c.get_mut.follows.holds _))
     ∙ c.self.view_is)
     c.insert.ensures.err
+
+pub returns-clause-undone : goal.returns-clause-undone
+returns-clause-undone c =
+    if-ok _ _ c.insert.result
+    (λ number undone.
+    written-back c.numbers.result.now c.self.inside.by_name _ _ (λ task. without_descriptor task number) c.in-Some.task.now _ c.numbers.ensures.value
+    (sym c.get_mut.ensures.value ∙ ap option_copied_mut c.in-Some.is) c.get_mut.ensures.unique (c.get_mut.follows.holds _)
+    (λ i. record (task_of c.in-Some.task.now) { descriptors = undone i })
+    ∙ c.self.view_is)
+    c.insert.ensures.undone

@@ -1,0 +1,3 @@
+pub mod FileLemmas
+pub mod MemoryLemmas
+pub mod Permitted

@@ -1,0 +1,29 @@
+//! The calls of tasks: judged, and then done.
+ghost use Rattle.std.specs.Prelude.{◌≡◌, nat_eq};
+ghost use Rattle.vt_spec.specs.OneTree.Policy.{policy};
+ghost use Rattle.vt_calls.specs.Meets.{Meets};
+ghost use Rattle.vt_ns.specs.WorldValue.{fresh_number, world_of};
+ghost use Rattle.vt_permit.specs.Memory.{TakesMemory};
+ghost use Rattle.vt_request.specs.Answers.{result_of};
+ghost use Rattle.vt_request.specs.Requests.{call_of};
+
+use crate::spending::spend;
+use vt_ns::World;
+use vt_policy::judge;
+use vt_request::{Answer, Call, TaskName};
+use vt_spec::errors::{Deny, Rule};
+
+/// Does a call of a task, or refuses it by the first rule that fails and changes nothing.
+///
+/// S2 (ESRCH): there is no such task. S5 (ENOMEM): memory was refused. The other rules are those of the call, in its order.
+pub fn call(world: &mut World, name: &TaskName, call: Call) -> Result<Answer, Deny>
+    ensures outcome { Meets (policy nat_eq (world_of world.old) name.now (call_of call) (fresh_number world.old)) result world.old world.new }
+    // a call that takes no memory is answered as the policy says
+    ensures memory { ¬ TakesMemory (call_of call) → result_of result ≡ (policy nat_eq (world_of world.old) name.now (call_of call) (fresh_number world.old)).answer }
+{
+    let Some(task) = world.tasks.get(name) else {
+        return Err(Rule::S2.denial());
+    };
+    let permit = judge(world.alloc, &world.tree, name, task, call)?;
+    spend(world, name, permit)
+}

@@ -1,0 +1,12 @@
+//! The calls of tasks: judged, and then done.
+#![tactic(auto)]
+
+mod calls;
+mod changes;
+mod descriptors;
+mod spending;
+
+pub use calls::call;
+
+#[cfg(test)]
+mod tests;

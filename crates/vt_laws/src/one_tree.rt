@@ -1,0 +1,44 @@
+//! The machine of one tree is the whole machine where there is one mount of one plain filesystem.
+ghost use Rattle.vt_laws.specs.OneTree.{LinksAgree, RenamesAgree, RmdirsAgree, UnlinksAgree, AttributesAgree, ClosesAgree, DropsAgree, ExitsAgree, ForksAgree, LooksAgree, MkdirsAgree, OpeningIsFit, OpensAgree, PartialReadsAgree, PartialWritesAgree, SymlinksAgree, UmasksAgree, WritesAgree, DirectoryWalksAgree, FileWalksAgree, LinkWalksAgree, NewLeafWalksAgree, NewWalksAgree, ObjectWalksAgree, OldLeafWalksAgree, OldWalksAgree, RenameNewWalksAgree};
+
+/// Each walk of the tree ends as that of the whole machine does, by a task at the root of the one mount: at the same place,
+/// with as many links left to follow, or by the same refusal.
+///
+/// Links are followed. No mount is in the way, nobody else is asked, and no directory is lost, so that the rules W5, W8 and
+/// W9 refuse nothing.
+pub fn one_tree_is_walked_alike()
+    ensures objects { ObjectWalksAgree }
+    ensures directories { DirectoryWalksAgree }
+    ensures links { LinkWalksAgree }
+    ensures new_names { NewWalksAgree }
+    ensures new_leaves { NewLeafWalksAgree }
+    ensures old_names { OldWalksAgree }
+    ensures old_leaves { OldLeafWalksAgree }
+    ensures renamed { RenameNewWalksAgree }
+    ensures files { FileWalksAgree }
+{}
+
+/// Each call is answered as the whole machine answers it, and the worlds stay those of one tree and of the whole machine with
+/// one mount of it: what nothing uses any more goes in the one as in the other.
+///
+/// With its last task the namespace ends in the whole machine, and its mount and filesystem go; nobody is left to call then.
+pub fn one_tree_is_answered_alike()
+    ensures opening { OpeningIsFit }
+    ensures looks { LooksAgree }
+    ensures partial_reads { PartialReadsAgree }
+    ensures mkdirs { MkdirsAgree }
+    ensures symlinks { SymlinksAgree }
+    ensures writes { WritesAgree }
+    ensures opens { OpensAgree }
+    ensures partial_writes { PartialWritesAgree }
+    ensures closes { ClosesAgree }
+    ensures attributes { AttributesAgree }
+    ensures links { LinksAgree }
+    ensures unlinks { UnlinksAgree }
+    ensures rmdirs { RmdirsAgree }
+    ensures renames { RenamesAgree }
+    ensures umasks { UmasksAgree }
+    ensures drops { DropsAgree }
+    ensures forks { ForksAgree }
+    ensures exits { ExitsAgree }
+{}

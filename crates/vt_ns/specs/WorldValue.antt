@@ -1,0 +1,12 @@
+-- What the definitions see of the code's world.
+use Rattle.std.specs.Prelude.{ℕ}
+use Rattle.vt_spec.specs.OneTree.World.{World}
+use Rattle.vt_tree.specs.TreeValue.{inodes_of, next_number}
+use Rattle.vt_ns.specs.declared.world.World.{World as Held}
+
+abbrev pub world_of : Held → World ℕ
+world_of held = record { inodes = inodes_of held.tree; tasks = held.tasks }
+
+-- the number that an object made next is handed
+abbrev pub fresh_number : Held → ℕ
+fresh_number held = next_number held.tree

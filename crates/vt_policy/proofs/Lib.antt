@@ -1,0 +1,2 @@
+pub mod WalkEnds
+pub mod RenameLemmas
