@@ -98,7 +98,10 @@ fn a_file_stays_while_it_is_open(rt: HostRuntime) -> Result<(), Fail> {
     machine.unlink(b"a")?;
     assert_eq!(rt; machine.first(part()), Ok(machine.holds(b"text")?));
     assert_eq!(rt; machine.world.tree.len(), 2);
-    assert_eq!(rt; machine.first(Call::Close { descriptor: 0 }), Ok(Answer::Done));
+    assert_eq!(rt;
+        machine.first(Call::Close { descriptor: 0 }),
+        Ok(Answer::Done)
+    );
     assert_eq!(rt; machine.world.tree.len(), 1);
     assert_eq!(rt; machine.first(part()), Err(Rule::S4.denial()));
     Ok(())

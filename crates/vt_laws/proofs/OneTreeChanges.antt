@@ -1,23 +1,21 @@
 -- What the whole machine has after a change of one tree settles to the world of one tree, which is fit again.
-use Rattle.std.proofs.Common.{◌≡◌, ◌≢◌, refl, sym, ap, subst, ◌∙◌, ⊎_elim, inl, inr, ◌⊎◌, ℕ, zero, suc, ◌+◌, ◌≤◌, nat_eq, eq-eqb, ne_eqb, Bool, true, false, true≢false, cond, not, ◌||◌, List, [], ◌∷◌, ◌++◌, length, map, flat_map, Option, Some, None, is_some, arith}
+use Rattle.std.proofs.Common.{◌≡◌, ◌≢◌, refl, sym, ap, subst, ◌∙◌, ⊎_elim, ℕ, zero, suc, ◌+◌, ◌≤◌, nat_eq, eq-eqb, Bool, true, false, true≢false, cond, ◌||◌, List, [], ◌∷◌, ◌++◌, length, map, Option, Some, None, is_some, arith}
 use Rattle.std.specs.FinMap.Entries.{is_sorted}
 use Rattle.std.specs.List.{list_any}
 use Rattle.std.proofs.lemmas.Bool.Decides.{eqb_tells}
 use Rattle.vt_spec.specs.Machine.FileTree.{has_entry_to, targets_in}
-use Rattle.vt_spec.specs.Machine.Lists.{is_among}
 use Rattle.vt_spec.specs.Machine.Settled.{settled}
-use Rattle.vt_spec.specs.Machine.World as MachineWorld
 use Rattle.vt_spec.specs.Machine.World.{TaskName}
-use Rattle.vt_spec.specs.OneTree.Inodes.{Inode, Inodes, inode_with_node, node_in, tree_of, uses_in, with_changed, with_inode}
+use Rattle.vt_spec.specs.OneTree.Inodes.{Inode, Inodes, inode_with_node, node_in, tree_of, uses_in, with_changed}
 use Rattle.vt_spec.specs.OneTree.World.{Task, World, task_called}
-use Rattle.vt_spec.specs.Tree.{Entries, Node, Tree, entries_in, is_directory_node, name_cmp, parent_in}
+use Rattle.vt_spec.specs.Tree.{Node, Tree, entries_in, is_directory_node, name_cmp, parent_in}
 use Rattle.vt_spec.specs.TreeLaws.{IsDirectory}
 use Rattle.vt_laws.specs.OneTree.{AreApart, AreInOrder, Beside, IsFit, IsWhole, embedded, opened_in, task_there, times_in, upwards, used_in}
-use Rattle.vt_laws.proofs.OneTreeCounts.{IsCounted, counted_changed, some_inode}
+use Rattle.vt_laws.proofs.OneTreeCounts.{IsCounted, counted_changed}
 use Rattle.vt_laws.proofs.OneTreeEntries.{changed_at, named_by, named_of, one_if}
 use Rattle.vt_laws.proofs.OneTreeJudged.{}
 use Rattle.vt_laws.proofs.OneTreeSettled.{IsBefore, fit_after, numbers_after, once_after, raw, settled_is}
-use Rattle.vt_laws.proofs.OneTreeTrees.{among_times, as_long, has_entry_directory, times_among, times_append}
+use Rattle.vt_laws.proofs.OneTreeTrees.{among_times, as_long, has_entry_directory, times_append}
 
 -- a world that is fit counts its uses
 pub counted_start : (numbers : List ℕ) (world : World ℕ) → IsFit numbers world → IsCounted (λ number. times_in number (used_in numbers world)) (tree_of world.inodes).node world.inodes
@@ -292,9 +290,10 @@ module _ (numbers : List ℕ) (world : World ℕ) (fit : IsFit numbers world) (p
       lies directory is other =
           let entry : has_entry_to nat_eq (tree_of world.inodes) (parent_in directory ((tree_of world.inodes).node directory)) directory ≡ true = fit.whole.in_parent directory is other in
           subst (λ p. (has_entry_to nat_eq (bare world.inodes.root node_now) p directory ≡ true) × (is_some ((with_changed nat_eq world.inodes place change).inode p) ≡ true))
-          (sym (part_kept (parent_in directory) (kept.parent directory) directory))
-          (ap (list_any (nat_eq directory)) (part_kept targets_in targets_kept (parent_in directory ((tree_of world.inodes).node directory))) ∙ entry,
-          kept_there (parent_in directory ((tree_of world.inodes).node directory)) (has_entry_directory (tree_of world.inodes) (parent_in directory ((tree_of world.inodes).node directory)) directory entry))
+          (sym (part_kept (parent_in directory) (kept.parent directory) directory)) (
+            ap (list_any (nat_eq directory)) (part_kept targets_in targets_kept (parent_in directory ((tree_of world.inodes).node directory))) ∙ entry,
+            kept_there (parent_in directory ((tree_of world.inodes).node directory)) (has_entry_directory (tree_of world.inodes) (parent_in directory ((tree_of world.inodes).node directory)) directory entry),
+          )
 
   named_kept : (list : List ℕ) → named_by node_now list ≡ named_by (tree_of world.inodes).node list
   named_kept [] = refl

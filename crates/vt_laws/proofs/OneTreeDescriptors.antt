@@ -1,21 +1,19 @@
 -- Open, close and exit are answered alike.
-use Rattle.std.proofs.Common.{◌≡◌, ◌≢◌, refl, sym, ap, subst, ◌∙◌, ⊎_elim, inl, inr, ◌⊎◌, ℕ, zero, suc, ◌+◌, ◌≤◌, ◌<◌, ◌==◌, nat_eq, nat_lt, eqb-true, eq-eqb, ne_eqb, Bool, true, false, true≢false, cond, not, ◌&&◌, List, [], ◌∷◌, ◌++◌, length, map, filter, find, flat_map, Option, Some, None, option_map, is_some, is_ok, Result, Ok, Err, arith}
-use Rattle.std.proofs.lemmas.Bool.Decides.{eqb_tells, leb_tells}
-use Rattle.vt_spec.specs.Machine.Calls.{Access}
+use Rattle.std.proofs.Common.{◌≡◌, ◌≢◌, refl, sym, ap, subst, ◌∙◌, ⊎_elim, ℕ, zero, suc, ◌+◌, ◌≤◌, ◌<◌, nat_eq, nat_lt, eq-eqb, ne_eqb, Bool, true, false, true≢false, cond, not, List, [], ◌∷◌, ◌++◌, map, filter, find, flat_map, Option, Some, None, is_some, arith}
+use Rattle.std.proofs.lemmas.Bool.Decides.{eqb_tells}
 use Rattle.vt_spec.specs.Machine.FileTree.{targets_in}
 use Rattle.vt_spec.specs.Machine.Outcome.Descriptors as Descriptors
-use Rattle.vt_spec.specs.Machine.World as MachineWorld
 use Rattle.vt_spec.specs.Machine.World.{TaskName}
-use Rattle.vt_spec.specs.OneTree.Inodes.{Inode, Inodes, node_in, pinned, tree_of, unpinned, uses_in}
-use Rattle.vt_spec.specs.OneTree.Policy.{descriptor_on, without_uses}
-use Rattle.vt_spec.specs.OneTree.World.{Descriptor, Task, World, free_from, inserted, is_called, task_called, with_descriptor, without_descriptor}
+use Rattle.vt_spec.specs.OneTree.Inodes.{Inode, Inodes, tree_of, unpinned, uses_in}
+use Rattle.vt_spec.specs.OneTree.Policy.{without_uses}
+use Rattle.vt_spec.specs.OneTree.World.{Descriptor, Task, World, free_from, inserted, is_called}
 use Rattle.vt_spec.specs.Tree.{Node, Tree, is_directory_node}
 use Rattle.vt_spec.specs.TreeLaws.{IsDirectory}
 use Rattle.vt_laws.specs.OneTree.{AreApart, AreInOrder, Beside, IsFit, IsWhole, descriptor_there, files_of, location_there, opened_in, task_there, times_in, used_in}
 use Rattle.vt_laws.proofs.OneTreeChanges.{StaysWhole, stays_whole, whole_counted}
 use Rattle.vt_laws.proofs.OneTreeCounts.{IsCounted, counted_unpinned, some_inode}
 use Rattle.vt_laws.proofs.OneTreeEntries.{one_if}
-use Rattle.vt_laws.proofs.OneTreeTasks.{Entry, found_name, same_is}
+use Rattle.vt_laws.proofs.OneTreeTasks.{Entry, same_is}
 use Rattle.vt_laws.proofs.OneTreeTrees.{has_entry_directory, times_append}
 
 -- Lists of descriptors
@@ -137,8 +135,8 @@ without_times z number start (first ∷ rest) descriptor order e =
         let same_one : first ≡ descriptor = cc in
         let file : one_if z descriptor.file ≡ one_if z first.file = ap (λ d. one_if z d.file) (sym same_one) in
         let all : times_in z (map (λ descriptor. descriptor.file) (filter (λ descriptor. not (nat_eq number descriptor.number)) (first ∷ rest))) ≡ times_in z (map (λ descriptor. descriptor.file) rest)
-            = ap (λ b. times_in z (map (λ descriptor. descriptor.file) (cond (not b) (first ∷ filter (λ descriptor. not (nat_eq number descriptor.number)) rest) (filter (λ descriptor. not (nat_eq number descriptor.number)) rest)))) t
-            ∙ ap (λ l. times_in z (map (λ descriptor. descriptor.file) l)) (none_below number (first.number + 1) rest (omega arith) order.1) in
+        = ap (λ b. times_in z (map (λ descriptor. descriptor.file) (cond (not b) (first ∷ filter (λ descriptor. not (nat_eq number descriptor.number)) rest) (filter (λ descriptor. not (nat_eq number descriptor.number)) rest)))) t
+        ∙ ap (λ l. times_in z (map (λ descriptor. descriptor.file) l)) (none_below number (first.number + 1) rest (omega arith) order.1) in
         omega arith
 
     later : nat_eq number first.number ≡ false
@@ -148,7 +146,7 @@ without_times z number start (first ∷ rest) descriptor order e =
         let found : find (λ descriptor. nat_eq number descriptor.number) rest ≡ Some descriptor = ap (λ b. cond b (Some first) (find (λ descriptor. nat_eq number descriptor.number) rest)) (sym t) ∙ e in
         let h = rec found in
         let all : times_in z (map (λ descriptor. descriptor.file) (filter (λ descriptor. not (nat_eq number descriptor.number)) (first ∷ rest))) ≡ one_if z first.file + times_in z (map (λ descriptor. descriptor.file) (filter (λ descriptor. not (nat_eq number descriptor.number)) rest))
-            = ap (λ b. times_in z (map (λ descriptor. descriptor.file) (cond (not b) (first ∷ filter (λ descriptor. not (nat_eq number descriptor.number)) rest) (filter (λ descriptor. not (nat_eq number descriptor.number)) rest)))) t in
+        = ap (λ b. times_in z (map (λ descriptor. descriptor.file) (cond (not b) (first ∷ filter (λ descriptor. not (nat_eq number descriptor.number)) rest) (filter (λ descriptor. not (nat_eq number descriptor.number)) rest)))) t in
         omega arith
 
 pub found_number : (number : ℕ) (descriptors : List (Descriptor ℕ)) (descriptor : Descriptor ℕ) → find (λ descriptor. nat_eq number descriptor.number) descriptors ≡ Some descriptor → number ≡ descriptor.number
@@ -221,7 +219,7 @@ uses_stay number name task (first ∷ rest) apart e = by (is_called name first) 
         let h = later e in
         let one : times_in number (files_of first ++ flat_map files_of rest) ≡ times_in number (files_of first) + times_in number (flat_map files_of rest) = times_append number (files_of first) (flat_map files_of rest) in
         let two : times_in number (files_of first ++ flat_map files_of (filter (λ entry. not (is_called name entry)) rest)) ≡ times_in number (files_of first) + times_in number (flat_map files_of (filter (λ entry. not (is_called name entry)) rest))
-            = times_append number (files_of first) (flat_map files_of (filter (λ entry. not (is_called name entry)) rest)) in
+        = times_append number (files_of first) (flat_map files_of (filter (λ entry. not (is_called name entry)) rest)) in
         omega arith
 
 -- Uses

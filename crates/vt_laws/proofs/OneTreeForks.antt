@@ -1,5 +1,5 @@
 -- Calls that change a task alone are answered alike: umask, drop and fork.
-use Rattle.std.proofs.Common.{◌≡◌, ◌≢◌, refl, sym, ap, subst, ◌∙◌, ⊎_elim, inl, inr, ◌⊎◌, ℕ, zero, suc, ◌+◌, ◌≤◌, nat_eq, Bool, true, false, true≢false, cond, not, List, [], ◌∷◌, ◌++◌, map, filter, find, flat_map, Option, Some, None, option_map, is_some, is_ok, length, nat_le, bytes_eq, ◌==◌, ◌&&◌, ◌||◌, Result, Ok, Err, arith}
+use Rattle.std.proofs.Common.{◌≡◌, ◌≢◌, refl, sym, ap, subst, ◌∙◌, ⊎_elim, inl, inr, ◌⊎◌, ℕ, ◌+◌, ◌≤◌, nat_eq, Bool, true, false, cond, not, List, [], ◌∷◌, ◌++◌, map, find, flat_map, Option, Some, None, option_map, is_ok, length, nat_le, bytes_eq, ◌==◌, ◌&&◌, ◌||◌, Result, Ok, arith}
 use Rattle.vt_spec.specs.declared.errors.Deny.{Deny}
 use Rattle.vt_spec.specs.declared.errors.Rule.TheVariants.{K1, S6}
 use Rattle.vt_spec.specs.Machine.Calls.{CapabilityWord, ForkWords}
@@ -10,7 +10,7 @@ use Rattle.vt_spec.specs.Machine.Outcomes as Outcomes
 use Rattle.vt_spec.specs.Machine.Outcomes.Answer.{Child, Done}
 use Rattle.vt_spec.specs.Machine.World as MachineWorld
 use Rattle.vt_spec.specs.Machine.World.{TaskName, same_name}
-use Rattle.vt_spec.specs.OneTree.Inodes.{Inodes, tree_of}
+use Rattle.vt_spec.specs.OneTree.Inodes.{tree_of}
 use Rattle.vt_spec.specs.OneTree.Permits.{Permit}
 use Rattle.vt_spec.specs.OneTree.Permits.Permit.{ToFork, ToSetCredentials, ToSetUmask}
 use Rattle.vt_spec.specs.OneTree.Policy.{child_name, child_of, fork_permit, with_child}
@@ -90,7 +90,7 @@ module _ (numbers : List ℕ) (world : World ℕ) (name : TaskName) (was : Task 
       as_often : (number : ℕ) → times_in number (flat_map files_of (map (changed_if_called name task) world.tasks)) ≡ times_in number (opened_in world)
       as_often number =
           let e : times_in number (flat_map files_of (map (changed_if_called name task) world.tasks)) + times_in number (files_of (name, was)) ≡ times_in number (flat_map files_of world.tasks) + times_in number (files_of (name, task))
-              = uses_changed name task number was world.tasks fit.apart is in
+          = uses_changed name task number was world.tasks fit.apart is in
           let f : times_in number (files_of (name, task)) ≡ times_in number (files_of (name, was)) = ap (λ l. times_in number (map (λ descriptor. descriptor.file) l)) same in
           omega arith
 

@@ -1,5 +1,5 @@
 -- How a call that is judged alike in one tree and in the whole machine is answered alike.
-use Rattle.std.proofs.Common.{◌≡◌, ◌≢◌, refl, sym, ap, subst, ◌∙◌, ⊎_elim, inl, inr, ◌⊎◌, ℕ, nat_eq, Bool, true, false, cond, not, List, [], ◌∷◌, ◌++◌, map, find, Option, Some, None, option_map, ok_or, is_some, is_ok, Result, Ok, Err}
+use Rattle.std.proofs.Common.{◌≡◌, refl, sym, ap, subst, ◌∙◌, inl, inr, ◌⊎◌, ℕ, nat_eq, Bool, true, false, cond, not, List, [], ◌∷◌, ◌++◌, map, find, Option, Some, None, option_map, ok_or, is_some, is_ok, Result, Ok, Err}
 use Rattle.vt_spec.specs.declared.errors.Deny.{Deny}
 use Rattle.vt_spec.specs.declared.errors.Rule.{Rule}
 use Rattle.vt_spec.specs.declared.errors.Rule.TheVariants.{S2}

@@ -1,5 +1,5 @@
 -- link, unlink and rmdir are answered alike.
-use Rattle.std.proofs.Common.{◌≡◌, ◌≢◌, refl, sym, ap, subst, ◌∙◌, ⊎_elim, inl, inr, ◌⊎◌, ℕ, zero, suc, ◌+◌, ◌≤◌, nat_eq, eq-eqb, Bool, true, false, true≢false, cond, not, ◌&&◌, ◌||◌, List, [], ◌∷◌, ◌++◌, length, map, find, reverse, Option, Some, None, option_map, unwrap_or, is_some, is_ok, ok_or, IfOk, Result, Ok, Err, arith}
+use Rattle.std.proofs.Common.{◌≡◌, refl, sym, ap, subst, ◌∙◌, inl, inr, ℕ, zero, suc, ◌≤◌, nat_eq, eq-eqb, Bool, true, false, cond, not, ◌&&◌, List, [], ◌∷◌, reverse, Option, Some, None, option_map, unwrap_or, is_some, ok_or, IfOk, Result, Ok, Err, arith}
 use Rattle.vt_spec.specs.declared.errors.Deny.{Deny}
 use Rattle.vt_spec.specs.declared.errors.Rule.TheVariants.{B1, C1, C3, E1, E2, E3, E4, E5, E7, F1, F2, L1, P1, P2, W3, W4, W6}
 use Rattle.vt_spec.specs.Errors.{Rules, and_then, denial, unless}
@@ -12,25 +12,25 @@ use Rattle.vt_spec.specs.Machine.Outcome.Making as Making
 use Rattle.vt_spec.specs.Machine.Outcome.Removing as Removing
 use Rattle.vt_spec.specs.Machine.Outcomes as Outcomes
 use Rattle.vt_spec.specs.Machine.Outcomes.Answer.{Done}
-use Rattle.vt_spec.specs.Machine.Walk.{LastWord, final_word, is_dot, is_dot_dot, is_no_word, is_special, last_word, name_of}
+use Rattle.vt_spec.specs.Machine.Walk.{LastWord, final_word, is_special, last_word, name_of}
 use Rattle.vt_spec.specs.Machine.Walk.LastWord.{Dot, DotDot, Named, NoWord}
 use Rattle.vt_spec.specs.Machine.World as MachineWorld
 use Rattle.vt_spec.specs.Machine.World.{TaskName}
-use Rattle.vt_spec.specs.OneTree.Inodes.{Inode, node_in, tree_of, uses_in}
+use Rattle.vt_spec.specs.OneTree.Inodes.{tree_of}
 use Rattle.vt_spec.specs.OneTree.Permits.{Permit}
 use Rattle.vt_spec.specs.OneTree.Permits.Permit.{ToChange}
 use Rattle.vt_spec.specs.OneTree.Policy.{link_permit, rmdir_permit, unlink_permit}
 use Rattle.vt_spec.specs.OneTree.Rules.{is_filled, is_kept, link_rules, may_not, rmdir_rules, unlink_rules}
-use Rattle.vt_spec.specs.OneTree.Walk.{Follow, Here, Place, follow_rules, followed, front_walked, if_link, is_directory_at, is_directory_there, last_walked, link_start, link_walk, link_walked, may, new_leaf_walk, new_walk, object_named, object_walk, old_leaf_walk, old_walk, path_walked, search_rules, slash_rules, stepped, unfollowed_walk, walk_start, word_walked, words_walked}
-use Rattle.vt_spec.specs.OneTree.World.{Task, World, is_called}
+use Rattle.vt_spec.specs.OneTree.Walk.{Follow, Here, Place, follow_rules, followed, front_walked, if_link, is_directory_at, is_directory_there, last_walked, link_start, link_walk, link_walked, may, new_leaf_walk, new_walk, object_walk, old_leaf_walk, old_walk, path_walked, slash_rules, stepped, unfollowed_walk, walk_start, word_walked, words_walked}
+use Rattle.vt_spec.specs.OneTree.World.{Task, World}
 use Rattle.vt_spec.specs.PathText.{ends_in_slash, is_absolute, parsed_path, words}
 use Rattle.vt_spec.specs.Rights.{Credentials, execute_right, write_right}
-use Rattle.vt_spec.specs.Tree.{Entries, Node, Tree, entries_in, entry_named, is_directory_node, parent_in}
+use Rattle.vt_spec.specs.Tree.{Entries, Tree, entries_in, entry_named, parent_in}
 use Rattle.vt_spec.specs.TreeLaws.{IsDirectory, entry_at}
-use Rattle.vt_laws.specs.OneTree.{Beside, IsFit, LinksAgree, RmdirsAgree, Steps, UnlinksAgree, embedded, here_there, location_there, place_there, task_there, times_in, used_in}
+use Rattle.vt_laws.specs.OneTree.{Beside, IsFit, LinksAgree, RmdirsAgree, Steps, UnlinksAgree, embedded, here_there, location_there, place_there, task_there, times_in}
 use Rattle.vt_laws.proofs.OneTreeChanges.{directory_there, no_entries, uses_parts, used_is_there}
 use Rattle.vt_laws.proofs.OneTreeEntries.{found_target, named_by, named_of, one_if, one_if_some, targets}
-use Rattle.vt_laws.proofs.OneTreeJudged.{IsJudged, after_alike, judged_alike, judged_both, judged_finished, judged_when, policy_alike, refused}
+use Rattle.vt_laws.proofs.OneTreeJudged.{IsJudged, after_alike, judged_both, judged_finished, judged_when, policy_alike, refused}
 use Rattle.vt_laws.proofs.OneTreeNames.{linked_alike, removed_alike}
 use Rattle.vt_laws.proofs.OneTreeTrees.{parent_is}
 use Rattle.vt_laws.proofs.OneTreeWalks.{IsPlace, IsPlaceOf, ifok_then, ifok_unless, link_walk_alike, new_leaf_walk_alike, new_walk_is, old_leaf_walk_alike, old_walk_alike}

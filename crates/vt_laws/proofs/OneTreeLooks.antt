@@ -1,5 +1,5 @@
 -- Calls that look are answered alike.
-use Rattle.std.proofs.Common.{◌≡◌, refl, sym, ap, subst, ◌∙◌, inl, inr, ℕ, nat_eq, Bool, true, false, cond, not, List, [], ◌∷◌, ◌++◌, map, find, Option, Some, None, option_map, ok_or, option_to_list, Result, Ok, Err}
+use Rattle.std.proofs.Common.{◌≡◌, refl, sym, subst, inl, inr, ℕ, nat_eq, Bool, true, false, cond, not, List, [], ◌∷◌, map, find, Option, Some, None, option_map, ok_or, option_to_list, Result, Err}
 use Rattle.vt_spec.specs.declared.attributes.Kind.TheVariants.{File, Link, White}
 use Rattle.vt_spec.specs.declared.errors.Deny.{Deny}
 use Rattle.vt_spec.specs.declared.errors.Rule.TheVariants.{B1, C1, E2, E5, E8, E9, F3, S4}
@@ -16,7 +16,7 @@ use Rattle.vt_spec.specs.OneTree.Inodes.{tree_of}
 use Rattle.vt_spec.specs.OneTree.Permits.{Permit}
 use Rattle.vt_spec.specs.OneTree.Policy.{exec_permit, list_permit, lstat_permit, pread_permit, read_permit, readlink_permit, stat_permit}
 use Rattle.vt_spec.specs.OneTree.Rules.{is_kind_at, may_not, descriptor_at}
-use Rattle.vt_spec.specs.OneTree.Walk.{Here, directory_walk, is_directory_at, link_walk, object_walk}
+use Rattle.vt_spec.specs.OneTree.Walk.{directory_walk, is_directory_at, link_walk, object_walk}
 use Rattle.vt_spec.specs.OneTree.World.{Descriptor, Task, World}
 use Rattle.vt_laws.specs.OneTree.{Beside, IsAnsweredAlike, IsFit, LooksAgree, PartialReadsAgree, descriptor_there, embedded, here_there, task_there}
 use Rattle.vt_laws.proofs.OneTreeJudged.{IsSeen, after_alike, judged_alike, policy_alike, seen_finished, seen_refused}

@@ -1,7 +1,6 @@
 -- An object is made alike in one tree and in the whole machine.
-use Rattle.std.proofs.Common.{◌≡◌, ◌≢◌, refl, sym, ap, subst, ◌∙◌, ⊎_elim, inl, inr, ◌⊎◌, ℕ, zero, suc, ◌+◌, ◌≤◌, nat_eq, eq-eqb, ne_eqb, Bool, true, false, true≢false, cond, not, ◌&&◌, ◌||◌, List, [], ◌∷◌, ◌++◌, length, map, find, flat_map, Option, Some, None, is_some, is_ok, Result, Ok, Err, arith}
+use Rattle.std.proofs.Common.{◌≡◌, ◌≢◌, refl, sym, ap, subst, ◌∙◌, ⊎_elim, inl, inr, ◌⊎◌, ℕ, zero, suc, ◌+◌, ◌≤◌, nat_eq, eq-eqb, ne_eqb, Bool, true, false, true≢false, cond, List, [], ◌∷◌, ◌++◌, find, Option, Some, None, is_some, Ok, arith}
 use Rattle.std.specs.FinMap.Entries.{is_sorted}
-use Rattle.std.specs.List.{list_any}
 use Rattle.std.proofs.lemmas.Bool.Decides.{eqb_tells}
 use Rattle.vt_spec.specs.Laws.Trees.{IsNewIn}
 use Rattle.vt_spec.specs.Machine.Calls.{Access}
@@ -12,7 +11,6 @@ use Rattle.vt_spec.specs.Machine.Lists.{Fresh}
 use Rattle.vt_spec.specs.Machine.Outcome.Descriptors as Descriptors
 use Rattle.vt_spec.specs.Machine.Outcomes as Outcomes
 use Rattle.vt_spec.specs.Machine.Outcomes.Answer.{Done}
-use Rattle.vt_spec.specs.Machine.World as MachineWorld
 use Rattle.vt_spec.specs.Machine.World.{TaskName}
 use Rattle.vt_spec.specs.OneTree.Inodes.{Inode, Inodes, inode_with_node, node_in, tree_of, uses_in, with_changed, with_new}
 use Rattle.vt_spec.specs.OneTree.Permits.Permit.{ToChange, ToOpenNew}
@@ -21,9 +19,9 @@ use Rattle.vt_spec.specs.Rights.{is_directory}
 use Rattle.vt_spec.specs.Tree.{Content, Node, Tree, entries_in, entries_of, entry_named, is_directory_node, kind_of, name_cmp, new_directory, node_with_entry, parent_in, parent_of, with_entries, with_entry}
 use Rattle.vt_spec.specs.Tree.Content.{Directory, Regular, Symlink, Whiteout}
 use Rattle.vt_spec.specs.TreeLaws.{IsDirectory}
-use Rattle.vt_laws.specs.OneTree.{Beside, IsFit, IsWhole, embedded, location_there, named_in, opened_in, task_there, times_in, upwards, used_in}
+use Rattle.vt_laws.specs.OneTree.{Beside, IsFit, IsWhole, embedded, location_there, opened_in, task_there, times_in, upwards, used_in}
 use Rattle.vt_laws.proofs.OneTreeChanges.{bare, counted_start, directory_there, uses_parts, whole_counted}
-use Rattle.vt_laws.proofs.OneTreeCounts.{IsCounted, counted_changed, counted_new, other_if, some_inode}
+use Rattle.vt_laws.proofs.OneTreeCounts.{IsCounted, counted_changed, counted_new, some_inode}
 use Rattle.vt_laws.proofs.OneTreeDescriptors.{counted_some}
 use Rattle.vt_laws.proofs.OneTreeEntries.{changed_at, named_apart, named_by, named_changed, one_if, one_if_some, sorted_put, targets, times_put}
 use Rattle.vt_laws.proofs.OneTreeForks.{changed_to}
@@ -135,7 +133,7 @@ module _ (numbers : List ℕ) (world : World ℕ) (fit : IsFit numbers world) (d
   targets_there : (n : ℕ) → times_in n (targets_in (node_with_entry name number (tree.node directory))) ≡ times_in n (targets_in (tree.node directory)) + one_if n number
   targets_there n =
       let put : times_in n (targets (with_entry name number (entries_in (tree.node directory)))) + one_if_some n (entry_named name (entries_in (tree.node directory))) ≡ times_in n (targets (entries_in (tree.node directory))) + one_if n number
-          = times_put n name number (entries_in (tree.node directory)) (fit.whole.in_order directory) in
+      = times_put n name number (entries_in (tree.node directory)) (fit.whole.in_order directory) in
       let none : one_if_some n (entry_named name (entries_in (tree.node directory))) ≡ 0 = ap (one_if_some n) free in
       let same : times_in n (targets_in (node_with_entry name number (tree.node directory))) ≡ times_in n (targets (with_entry name number (entries_in (tree.node directory)))) = ap (λ e. times_in n (targets e)) entries_there in
       omega arith
@@ -160,7 +158,7 @@ module _ (numbers : List ℕ) (world : World ℕ) (fit : IsFit numbers world) (d
       (let own : one_if number number ≡ 1 = ap (λ b. cond b 1 0) (eq-eqb number number refl) in
       let all = targets_there number in
       let same : times_in number (targets_in (node_made directory)) ≡ times_in number (targets_in (node_with_entry name number (tree.node directory)))
-          = ap (λ o. times_in number (targets_in o)) (made_other directory apart ∙ ap (λ b. cond b (node_with_entry name number (tree.node directory)) (tree.node directory)) (eq-eqb directory directory refl)) in
+      = ap (λ o. times_in number (targets_in o)) (made_other directory apart ∙ ap (λ b. cond b (node_with_entry name number (tree.node directory)) (tree.node directory)) (eq-eqb directory directory refl)) in
       omega arith)
 
   made_some : (n : ℕ) → 1 ≤ uses_made n → is_some (inodes_made.inode n) ≡ true
@@ -216,10 +214,11 @@ module _ (numbers : List ℕ) (world : World ℕ) (fit : IsFit numbers world) (d
       under : (d : ℕ) → is_directory_node (node_made d) ≡ true → ((nat_eq d number ≡ true) × (d ≡ number)) ⊎ ((nat_eq d number ≡ false) × (d ≢ number))
           → (steps : ℕ) × (upwards (bare world.inodes.root node_made) steps d ≡ world.inodes.root)
       under d is_d (inl t) =
-          let above = fit.whole.under_root directory is in
-          (suc above.0,
-          ap (upwards (bare world.inodes.root node_made) above.0) (ap (λ n. parent_in n (node_made n)) t.1 ∙ new_is (subst (λ n. is_directory_node (node_made n) ≡ true) t.1 is_d))
-          ∙ up_made above.0 directory is ∙ above.1)
+          let above = fit.whole.under_root directory is in (
+            suc above.0,
+            ap (upwards (bare world.inodes.root node_made) above.0) (ap (λ n. parent_in n (node_made n)) t.1 ∙ new_is (subst (λ n. is_directory_node (node_made n) ≡ true) t.1 is_d))
+                ∙ up_made above.0 directory is ∙ above.1,
+          )
       under d is_d (inr t) =
           let was : IsDirectory tree d = directory_before d t.1 is_d in
           let above = fit.whole.under_root d was in

@@ -1,10 +1,10 @@
 -- mkdir, symlink, write and open are answered alike.
-use Rattle.std.proofs.Common.{◌≡◌, ◌≢◌, refl, sym, ap, subst, ◌∙◌, inl, inr, ◌⊎◌, ℕ, nat_eq, nat_lt, Bool, true, false, true≢false, cond, not, ◌&&◌, ◌||◌, List, [], ◌∷◌, ◌++◌, length, map, find, Option, Some, None, option_map, unwrap_or, is_some, is_ok, IfOk, Result, Ok, Err}
+use Rattle.std.proofs.Common.{◌≡◌, refl, sym, ap, subst, inl, inr, ℕ, nat_eq, nat_lt, Bool, true, false, true≢false, not, ◌&&◌, ◌||◌, List, [], ◌∷◌, length, map, find, Option, Some, None, option_map, unwrap_or, is_some, IfOk, Result, Ok, Err}
 use Rattle.vt_spec.specs.declared.attributes.Kind.TheVariants.{White}
 use Rattle.vt_spec.specs.declared.errors.Deny.{Deny}
 use Rattle.vt_spec.specs.declared.errors.Rule.{Rule}
 use Rattle.vt_spec.specs.declared.errors.Rule.TheVariants.{B1, C1, E1, E2, E6, E9, F1, F2, L1, S3, W1, W2}
-use Rattle.vt_spec.specs.Errors.{Rules, and_then, denial, unless}
+use Rattle.vt_spec.specs.Errors.{unless}
 use Rattle.vt_spec.specs.Laws.Trees.{IsNewIn}
 use Rattle.vt_spec.specs.Machine.Calls.{Access, Creation}
 use Rattle.vt_spec.specs.Machine.Calls.Call.{Mkdir, OpenFile, SymlinkAt, Write}
@@ -31,10 +31,10 @@ use Rattle.vt_spec.specs.OneTree.World.{Task, World, is_called}
 use Rattle.vt_spec.specs.PathText.{is_empty, longest_path}
 use Rattle.vt_spec.specs.Rights.{Credentials, write_right}
 use Rattle.vt_spec.specs.Tree.{Node, Tree, is_directory_node, new_directory}
-use Rattle.vt_spec.specs.Tree.Content.{Regular, Symlink}
+use Rattle.vt_spec.specs.Tree.Content.{Symlink}
 use Rattle.vt_spec.specs.TreeLaws.{IsDirectory, entry_at}
 use Rattle.vt_laws.specs.OneTree.{Beside, IsFit, MkdirsAgree, OpensAgree, Steps, SymlinksAgree, WritesAgree, embedded, here_there, location_there, place_there, task_there}
-use Rattle.vt_laws.proofs.OneTreeJudged.{IsChanged, IsJudged, Row, after_alike, all_rules, common_rules, judged_alike, judged_both, judged_finished, judged_when, policy_alike, refused}
+use Rattle.vt_laws.proofs.OneTreeJudged.{IsChanged, IsJudged, after_alike, judged_alike, judged_both, judged_finished, judged_when, policy_alike, refused}
 use Rattle.vt_laws.proofs.OneTreeMakes.{made_alike, made_opened}
 use Rattle.vt_laws.proofs.OneTreeOpens.{open_file_alike}
 use Rattle.vt_laws.proofs.OneTreeRewrites.{bytes_set}

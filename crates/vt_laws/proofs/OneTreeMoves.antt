@@ -1,33 +1,27 @@
 -- A name is moved alike: rename.
-use Rattle.std.proofs.Common.{◌≡◌, ◌≢◌, refl, sym, ap, subst, ◌∙◌, ⊎_elim, inl, inr, ◌⊎◌, ℕ, zero, suc, ◌+◌, ◌≤◌, nat_eq, eq-eqb, ne_eqb, Bool, true, false, true≢false, cond, not, List, [], ◌∷◌, ◌++◌, length, map, Option, Some, None, is_some, Result, Ok, Err, arith}
-use Rattle.std.specs.Cmp.Lexicographic.{bytes_decides, nat_list_cmp_total, texts_ties}
+use Rattle.std.proofs.Common.{◌≡◌, ◌≢◌, refl, sym, ap, subst, ◌∙◌, ⊎_elim, inl, inr, ◌⊎◌, ℕ, zero, suc, ◌+◌, ◌≤◌, nat_eq, eq-eqb, Bool, true, false, cond, not, List, [], ◌∷◌, ◌++◌, map, Option, Some, None, is_some, arith}
+use Rattle.std.specs.Cmp.Lexicographic.{bytes_decides, texts_ties}
 use Rattle.std.specs.FinMap.Entries.{find-where_key, is_sorted}
 use Rattle.std.specs.Str.{bytes_eq}
 use Rattle.std.proofs.lemmas.Bool.Decides.{eqb_tells}
 use Rattle.vt_spec.specs.Machine.Changes.{node_with_parent, node_without_entry, without_entry}
-use Rattle.vt_spec.specs.Machine.Changes.Change.{Move}
 use Rattle.vt_spec.specs.Machine.FileTree.{has_entry_to, targets_in}
-use Rattle.vt_spec.specs.Machine.Filesystems.{raised, with_change}
-use Rattle.vt_spec.specs.Machine.Lists.{Fresh}
-use Rattle.vt_spec.specs.Machine.Outcomes as Outcomes
-use Rattle.vt_spec.specs.Machine.Outcomes.Answer.{Done}
+use Rattle.vt_spec.specs.Machine.Filesystems.{raised}
 use Rattle.vt_spec.specs.Machine.Settled.{settled}
 use Rattle.vt_spec.specs.Machine.World.{TaskName}
-use Rattle.vt_spec.specs.OneTree.Inodes.{Inodes, tree_of, unpinned, uses_in, with_changed, with_moved, without_replaced}
-use Rattle.vt_spec.specs.OneTree.Permits.Permit.{ToChange}
+use Rattle.vt_spec.specs.OneTree.Inodes.{Inodes, tree_of, uses_in, with_changed, without_replaced}
 use Rattle.vt_spec.specs.OneTree.World.{Task, World, with_inodes}
 use Rattle.vt_spec.specs.Tree.{Entries, Node, Tree, entries_in, entry_named, is_directory_node, name_cmp, node_with_entry, parent_in, with_entry}
 use Rattle.vt_spec.specs.TreeLaws.{IsDirectory}
-use Rattle.vt_laws.specs.OneTree.{Beside, IsFit, embedded, location_there, opened_in, task_there, times_in, upwards, used_in}
+use Rattle.vt_laws.specs.OneTree.{Beside, IsFit, embedded, opened_in, task_there, times_in, upwards, used_in}
 use Rattle.vt_laws.proofs.OneTreeChanges.{bare, counted_start, directory_there, directory_uses, uses_parts}
 use Rattle.vt_laws.proofs.OneTreeCounts.{IsCounted, counted_unpinned, other_if, some_inode}
 use Rattle.vt_laws.proofs.OneTreeDescriptors.{counted_some}
-use Rattle.vt_laws.proofs.OneTreeEntries.{changed_at, found_target, named_by, named_changed, named_of, one_if, one_if_some, sorted_put, sorted_without, targets, times_put, times_without}
-use Rattle.vt_laws.proofs.OneTreeJudged.{IsChanged}
+use Rattle.vt_laws.proofs.OneTreeEntries.{found_target, named_by, named_changed, named_of, one_if, one_if_some, sorted_put, sorted_without, targets, times_put, times_without}
 use Rattle.vt_laws.proofs.OneTreeMakes.{directory_with_entry, entries_with_entry, parent_with_entry}
 use Rattle.vt_laws.proofs.OneTreeNames.{IsRearranged, at_here, at_other, at_place, counted_at, directory_with_parent, directory_without, entries_with_parent, entries_without, parent_with_parent, parent_without, part_at, rearranged, some_with, some_with_parent, some_without, sorted_at}
 use Rattle.vt_laws.proofs.OneTreeSettled.{raw}
-use Rattle.vt_laws.proofs.OneTreeTrees.{IsAway, among_times, away, has_entry_directory, parent_is, times_among, way_up}
+use Rattle.vt_laws.proofs.OneTreeTrees.{IsAway, among_times, away, parent_is, times_among, way_up}
 
 -- changes at two places may change places
 commute : (node : ℕ → Option (Node ℕ)) (a b : ℕ) (f g : Option (Node ℕ) → Option (Node ℕ)) → a ≢ b → (n : ℕ) → at_place (at_place node a f) b g n ≡ at_place (at_place node b g) a f n
@@ -146,7 +140,7 @@ module _ (beside : Beside) (world : World ℕ) (task_name : TaskName) (task : Ta
   off_targets : (n : ℕ) → times_in n (targets_in (node_without_entry old (tree.node from))) + one_if n object ≡ times_in n (targets_in (tree.node from))
   off_targets n =
       let less : times_in n (targets (without_entry old (entries_in (tree.node from)))) + one_if_some n (entry_named old (entries_in (tree.node from))) ≡ times_in n (targets (entries_in (tree.node from)))
-          = times_without n old (entries_in (tree.node from)) (fit.whole.in_order from) in
+      = times_without n old (entries_in (tree.node from)) (fit.whole.in_order from) in
       let it : one_if_some n (entry_named old (entries_in (tree.node from))) ≡ one_if n object = ap (one_if_some n) leads in
       let same : times_in n (targets_in (node_without_entry old (tree.node from))) ≡ times_in n (targets (without_entry old (entries_in (tree.node from)))) = ap (λ e. times_in n (targets e)) (entries_without old (tree.node from)) in
       omega arith
@@ -181,7 +175,7 @@ module _ (beside : Beside) (world : World ℕ) (task_name : TaskName) (task : Ta
   on_targets : (n : ℕ) → times_in n (targets_in (node_with_entry new object (node_off to))) + one_if_some n replaced ≡ times_in n (targets_in (node_off to)) + one_if n object
   on_targets n =
       let put : times_in n (targets (with_entry new object (entries_in (node_off to)))) + one_if_some n (entry_named new (entries_in (node_off to))) ≡ times_in n (targets (entries_in (node_off to))) + one_if n object
-          = times_put n new object (entries_in (node_off to)) (off_order to) in
+      = times_put n new object (entries_in (node_off to)) (off_order to) in
       let it : one_if_some n (entry_named new (entries_in (node_off to))) ≡ one_if_some n replaced = ap (one_if_some n) finds_off in
       let same : times_in n (targets_in (node_with_entry new object (node_off to))) ≡ times_in n (targets (with_entry new object (entries_in (node_off to)))) = ap (λ e. times_in n (targets e)) (entries_with_entry new object (node_off to) to_off) in
       omega arith
@@ -339,8 +333,11 @@ module _ (beside : Beside) (world : World ℕ) (task_name : TaskName) (task : Ta
   up_moved zero d is far none = (0, far)
   up_moved (suc steps) d is far none =
       ⊎_elim
-      (λ t. (suc above.0, ap (upwards (bare world.inodes.root (node_moved replaced)) above.0) (ap (λ n. parent_in n (node_moved replaced n)) t.1 ∙ parent_object (subst (IsDirectory tree) t.1 is))
-      ∙ up_kept above.0 to to_is above.1 (outside (subst (IsDirectory tree) t.1 is) above.0 above.1) to_stays))
+      (λ t. (
+        suc above.0,
+        ap (upwards (bare world.inodes.root (node_moved replaced)) above.0) (ap (λ n. parent_in n (node_moved replaced n)) t.1 ∙ parent_object (subst (IsDirectory tree) t.1 is))
+            ∙ up_kept above.0 to to_is above.1 (outside (subst (IsDirectory tree) t.1 is) above.0 above.1) to_stays,
+      ))
       (λ t. let later = up_moved steps (parent_in d (tree.node d)) (parent_is tree fit.whole d is) far.1 (parent_stays d is far.0) in
       (suc later.0, ap (upwards (bare world.inodes.root (node_moved replaced)) later.0) (parent_moved d t.1 none) ∙ later.1))
       (eqb_tells d object)
@@ -387,9 +384,10 @@ module _ (beside : Beside) (world : World ℕ) (task_name : TaskName) (task : Ta
           (λ t. subst (λ n. (has_entry_to nat_eq (bare inodes_moved.root (node_moved replaced)) (parent_in n (node_moved replaced n)) n ≡ true) × (is_some (inodes_moved.inode (parent_in n (node_moved replaced n))) ≡ true)) (sym t.1)
           (subst (λ p. (has_entry_to nat_eq (bare inodes_moved.root (node_moved replaced)) p object ≡ true) × (is_some (inodes_moved.inode p) ≡ true)) (sym (parent_object (subst (IsDirectory tree) t.1 is)))
           (new_entry, kept_some to to_is to_stays)))
-          (λ t. subst (λ p. (has_entry_to nat_eq (bare inodes_moved.root (node_moved replaced)) p d ≡ true) × (is_some (inodes_moved.inode p) ≡ true)) (sym (parent_moved d t.1 (stays_apart d there is)))
-          (entry_kept (parent_in d (tree.node d)) d t.1 (stays_apart d there is) (fit.whole.in_parent d is root),
-          kept_some (parent_in d (tree.node d)) (parent_is tree fit.whole d is) (parent_stays d is root)))
+          (λ t. subst (λ p. (has_entry_to nat_eq (bare inodes_moved.root (node_moved replaced)) p d ≡ true) × (is_some (inodes_moved.inode p) ≡ true)) (sym (parent_moved d t.1 (stays_apart d there is))) (
+            entry_kept (parent_in d (tree.node d)) d t.1 (stays_apart d there is) (fit.whole.in_parent d is root),
+            kept_some (parent_in d (tree.node d)) (parent_is tree fit.whole d is) (parent_stays d is root),
+          ))
           (eqb_tells d object)
 
   -- what the whole machine does first, of one tree is done last
@@ -407,6 +405,8 @@ module _ (beside : Beside) (world : World ℕ) (task_name : TaskName) (task : Ta
   pub moved_settled : (now : Beside) × IsFit now.numbers (with_inodes world inodes_moved)
       × (settled nat_eq (raw world.inodes.root (node_there replaced) beside.numbers (raised beside.filesystem_change) (map (task_there beside world.inodes.root) world.tasks) beside.change) ≡ embedded now (with_inodes world inodes_moved))
   moved_settled =
-      let settles = rearranged beside world task_name task fit (raised beside.filesystem_change) uses_moved (node_moved replaced) inodes_moved moved_is in
-      (settles.0, settles.1,
-      (λ i. settled nat_eq (raw world.inodes.root (same_there replaced from_stays to_stays other i) beside.numbers (raised beside.filesystem_change) (map (task_there beside world.inodes.root) world.tasks) beside.change)) ∙ settles.2)
+      let settles = rearranged beside world task_name task fit (raised beside.filesystem_change) uses_moved (node_moved replaced) inodes_moved moved_is in (
+        settles.0,
+        settles.1,
+        (λ i. settled nat_eq (raw world.inodes.root (same_there replaced from_stays to_stays other i) beside.numbers (raised beside.filesystem_change) (map (task_there beside world.inodes.root) world.tasks) beside.change)) ∙ settles.2,
+      )

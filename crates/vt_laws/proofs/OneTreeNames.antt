@@ -1,5 +1,5 @@
 -- Names come and go alike: link, unlink and rmdir.
-use Rattle.std.proofs.Common.{◌≡◌, ◌≢◌, refl, sym, ap, subst, ◌∙◌, ⊎_elim, inl, inr, ◌⊎◌, ℕ, zero, suc, ◌+◌, ◌≤◌, nat_eq, eq-eqb, ne_eqb, Bool, true, false, true≢false, cond, not, ◌&&◌, ◌||◌, List, [], ◌∷◌, ◌++◌, length, map, find, Option, Some, None, is_some, is_ok, Result, Ok, Err, arith}
+use Rattle.std.proofs.Common.{◌≡◌, ◌≢◌, refl, sym, ap, subst, ◌∙◌, ⊎_elim, ℕ, zero, suc, ◌+◌, ◌≤◌, nat_eq, eq-eqb, ne_eqb, true, false, true≢false, cond, List, [], ◌∷◌, ◌++◌, map, Option, Some, None, is_some, Ok, arith}
 use Rattle.std.specs.FinMap.Entries.{is_sorted}
 use Rattle.std.proofs.lemmas.Bool.Decides.{eqb_tells}
 use Rattle.vt_spec.specs.Machine.Changes.{content_with_parent, node_with_parent, node_without_entry, without_entry}
@@ -10,9 +10,8 @@ use Rattle.vt_spec.specs.Machine.Lists.{Fresh}
 use Rattle.vt_spec.specs.Machine.Outcomes as Outcomes
 use Rattle.vt_spec.specs.Machine.Outcomes.Answer.{Done}
 use Rattle.vt_spec.specs.Machine.Settled.{settled}
-use Rattle.vt_spec.specs.Machine.World as MachineWorld
 use Rattle.vt_spec.specs.Machine.World.{TaskName}
-use Rattle.vt_spec.specs.OneTree.Inodes.{Inode, Inodes, changed, inode_with_node, node_in, pinned, tree_of, unpinned, uses_in, with_changed, with_name, without_name}
+use Rattle.vt_spec.specs.OneTree.Inodes.{Inode, Inodes, node_in, tree_of, uses_in, with_changed, with_name, without_name}
 use Rattle.vt_spec.specs.OneTree.Permits.Permit.{ToChange}
 use Rattle.vt_spec.specs.OneTree.World.{Task, World, with_inodes}
 use Rattle.vt_spec.specs.Rights.{is_directory}
@@ -206,7 +205,7 @@ module _ (beside : Beside) (world : World ℕ) (task_name : TaskName) (task : Ta
   linked_targets : (n : ℕ) → times_in n (targets_in (node_with_entry name object (tree.node directory))) ≡ times_in n (targets_in (tree.node directory)) + one_if n object
   linked_targets n =
       let put : times_in n (targets (with_entry name object (entries_in (tree.node directory)))) + one_if_some n (entry_named name (entries_in (tree.node directory))) ≡ times_in n (targets (entries_in (tree.node directory))) + one_if n object
-          = times_put n name object (entries_in (tree.node directory)) (fit.whole.in_order directory) in
+      = times_put n name object (entries_in (tree.node directory)) (fit.whole.in_order directory) in
       let none : one_if_some n (entry_named name (entries_in (tree.node directory))) ≡ 0 = ap (one_if_some n) free in
       let same : times_in n (targets_in (node_with_entry name object (tree.node directory))) ≡ times_in n (targets (with_entry name object (entries_in (tree.node directory)))) = ap (λ e. times_in n (targets e)) (entries_with_entry name object (tree.node directory) is) in
       omega arith
@@ -309,7 +308,7 @@ module _ (beside : Beside) (world : World ℕ) (task_name : TaskName) (task : Ta
   off_targets : (n : ℕ) → times_in n (targets_in (node_without_entry name (tree_r.node directory))) + one_if n object ≡ times_in n (targets_in (tree_r.node directory))
   off_targets n =
       let less : times_in n (targets (without_entry name (entries_in (tree_r.node directory)))) + one_if_some n (entry_named name (entries_in (tree_r.node directory))) ≡ times_in n (targets (entries_in (tree_r.node directory)))
-          = times_without n name (entries_in (tree_r.node directory)) (fit.whole.in_order directory) in
+      = times_without n name (entries_in (tree_r.node directory)) (fit.whole.in_order directory) in
       let own : one_if_some n (entry_named name (entries_in (tree_r.node directory))) ≡ one_if n object = ap (one_if_some n) leads in
       let same : times_in n (targets_in (node_without_entry name (tree_r.node directory))) ≡ times_in n (targets (without_entry name (entries_in (tree_r.node directory)))) = ap (λ e. times_in n (targets e)) (entries_without name (tree_r.node directory)) in
       omega arith

@@ -1,13 +1,12 @@
 -- The opening world of one tree is fit.
-use Rattle.std.proofs.Common.{◌≡◌, ◌≢◌, refl, sym, ap, subst, ◌∙◌, ⊎_elim, ◌⊎◌, ℕ, zero, suc, ◌+◌, ◌≤◌, nat_eq, eq-eqb, ne_eqb, Bool, true, false, true≢false, cond, List, [], ◌∷◌, ◌++◌, length, Option, Some, None, option_map, is_some, arith}
+use Rattle.std.proofs.Common.{◌≡◌, ◌≢◌, refl, sym, ap, subst, ◌∙◌, ⊎_elim, ◌⊎◌, ℕ, ◌+◌, ◌≤◌, nat_eq, eq-eqb, Bool, true, false, true≢false, cond, [], ◌∷◌, ◌++◌, Option, Some, None, is_some, arith}
 use Rattle.std.specs.FinMap.Entries.{is_sorted}
 use Rattle.std.proofs.lemmas.Bool.Decides.{eqb_tells}
 use Rattle.vt_spec.specs.Machine.World.{TaskName, root_attr}
-use Rattle.vt_spec.specs.OneTree.Inodes.{Inode, node_in, tree_of, uses_in}
-use Rattle.vt_spec.specs.OneTree.World.{Task, first_task, is_called, opening, task_called}
+use Rattle.vt_spec.specs.OneTree.Inodes.{Inode, node_in, uses_in}
+use Rattle.vt_spec.specs.OneTree.World.{Task, first_task, opening, task_called}
 use Rattle.vt_spec.specs.Tree.{entries_in, is_directory_node, name_cmp, new_directory, parent_in}
-use Rattle.vt_spec.specs.TreeLaws.{IsDirectory}
-use Rattle.vt_laws.specs.OneTree.{AreInOrder, OpeningIsFit, times_in, used_in}
+use Rattle.vt_laws.specs.OneTree.{AreInOrder, OpeningIsFit, times_in}
 
 pub opening_is_fit : OpeningIsFit
 opening_is_fit root = record {

@@ -1,10 +1,7 @@
 -- Descriptors on files that are there come and go alike, and so do tasks.
-use Rattle.std.proofs.Common.{◌≡◌, ◌≢◌, refl, sym, ap, subst, ◌∙◌, ⊎_elim, inl, inr, ◌⊎◌, ℕ, zero, suc, ◌+◌, ◌≤◌, nat_eq, eq-eqb, ne_eqb, Bool, true, false, true≢false, cond, not, ◌&&◌, List, [], ◌∷◌, ◌++◌, length, map, filter, find, flat_map, Option, Some, None, option_map, is_some, is_ok, Result, Ok, Err, arith}
-use Rattle.std.proofs.lemmas.Bool.Decides.{eqb_tells}
+use Rattle.std.proofs.Common.{◌≡◌, ◌≢◌, refl, sym, ap, subst, ◌∙◌, inl, inr, ℕ, ◌+◌, ◌≤◌, nat_eq, eq-eqb, Bool, true, false, true≢false, cond, not, ◌&&◌, List, [], ◌∷◌, ◌++◌, map, filter, find, flat_map, Option, Some, None, option_map, is_some, is_ok, Ok, arith}
 use Rattle.vt_spec.specs.declared.attributes.Kind.TheVariants.{White}
-use Rattle.vt_spec.specs.declared.errors.Deny.{Deny}
 use Rattle.vt_spec.specs.declared.errors.Rule.TheVariants.{B1, C1, E2, E9, F1, F2, L1}
-use Rattle.vt_spec.specs.Errors.{and_then, unless}
 use Rattle.vt_spec.specs.Machine.Calls.{Access}
 use Rattle.vt_spec.specs.Machine.Calls.Call.{Close, Exit}
 use Rattle.vt_spec.specs.Machine.FileTree.{targets_in}
@@ -21,22 +18,20 @@ use Rattle.vt_spec.specs.Machine.Settled.{settled}
 use Rattle.vt_spec.specs.Machine.World as MachineWorld
 use Rattle.vt_spec.specs.Machine.World.{TaskName}
 use Rattle.vt_spec.specs.OneTree.Inodes.{Inode, Inodes, node_in, pinned, tree_of, unpinned, uses_in}
-use Rattle.vt_spec.specs.OneTree.Permits.{Permit}
-use Rattle.vt_spec.specs.OneTree.Permits.Permit.{ToClose, ToExit, ToOpen}
-use Rattle.vt_spec.specs.OneTree.Policy.{close_permit, closed, descriptor_on, open_file, spent, without_uses, with_opened}
+use Rattle.vt_spec.specs.OneTree.Permits.Permit.{ToClose, ToOpen}
+use Rattle.vt_spec.specs.OneTree.Policy.{close_permit, closed, descriptor_on, open_file, without_uses, with_opened}
 use Rattle.vt_spec.specs.OneTree.Rules.{is_kind_at, may_not}
 use Rattle.vt_spec.specs.OneTree.Walk.{is_directory_at}
-use Rattle.vt_spec.specs.OneTree.World.{Descriptor, Outcome, Task, World, changed_if_called, descriptor_numbered, free_number, granted, is_called, task_called, with_descriptor, with_inodes, with_task, without_descriptor, without_task}
-use Rattle.vt_spec.specs.Rights.{Credentials}
+use Rattle.vt_spec.specs.OneTree.World.{Descriptor, Task, World, descriptor_numbered, granted, is_called, task_called, with_descriptor, with_inodes, with_task, without_descriptor, without_task}
 use Rattle.vt_spec.specs.Tree.{Node, Tree, is_directory_node}
 use Rattle.vt_spec.specs.TreeLaws.{IsDirectory}
-use Rattle.vt_laws.specs.OneTree.{AreApart, AreInOrder, Beside, ClosesAgree, ExitsAgree, IsAnsweredAlike, IsFit, IsSameOutcome, descriptor_there, embedded, files_of, location_there, opened_in, task_there, times_in, used_in}
+use Rattle.vt_laws.specs.OneTree.{Beside, ClosesAgree, ExitsAgree, IsFit, IsSameOutcome, descriptor_there, embedded, files_of, location_there, opened_in, task_there, times_in, used_in}
 use Rattle.vt_laws.proofs.OneTreeChanges.{counted_start, directory_there, directory_uses, no_entries, settled_fit, there_once, uses_parts, used_is_there}
 use Rattle.vt_laws.proofs.OneTreeCounts.{IsCounted, counted_pinned, counted_unpinned, other_if, some_inode}
-use Rattle.vt_laws.proofs.OneTreeDescriptors.{apart_stays, counted_some, counted_without, find_stays, found_number, free_there, inserted_order, inserted_there, inserted_times, root_without, uses_stay, whole_uses, without_descriptor_there, without_order, without_times}
+use Rattle.vt_laws.proofs.OneTreeDescriptors.{apart_stays, counted_without, find_stays, found_number, free_there, inserted_order, inserted_there, inserted_times, root_without, uses_stay, whole_uses, without_descriptor_there, without_order, without_times}
 use Rattle.vt_laws.proofs.OneTreeEntries.{named_by, one_if}
 use Rattle.vt_laws.proofs.OneTreeForks.{descriptors_changed, forked_changed, task_is}
-use Rattle.vt_laws.proofs.OneTreeJudged.{IsChanged, IsJudged, done, judged_finished, judged_when, policy_alike, refused}
+use Rattle.vt_laws.proofs.OneTreeJudged.{IsChanged, IsJudged, judged_finished, judged_when, policy_alike, refused}
 use Rattle.vt_laws.proofs.OneTreeLooks.{descriptor_alike}
 use Rattle.vt_laws.proofs.OneTreeSettled.{beside_raised, raised_is, raw}
 use Rattle.vt_laws.proofs.OneTreeTasks.{Entry, apart_changed, changed_there, uses_changed, without_there}
@@ -202,9 +197,13 @@ module _ (beside : Beside) (world : World ℕ) (name : TaskName) (task : Task �
         (descriptors_changed beside.numbers world name task fit is left (without_order number 0 task.descriptors (fit.descriptors name task (task_is beside.numbers world name task fit is)))) in
         subst (λ w. (is_ok (Outcomes.granted Done there).answer ≡ true) × ((Outcomes.granted Done there).answer ≡ (granted Done w).answer)
         × (now : Beside) × IsFit now.numbers w × (settled nat_eq (MachineWorld.with_task there (Descriptors.without_descriptor there_task number)) ≡ embedded now w))
-        world_is
-        (refl, refl, settles.0, settles.1,
-        ap (settled nat_eq) ((λ i. MachineWorld.with_task there (record there_task { descriptors = without_descriptor_there number task.descriptors i })) ∙ (λ i. record there { tasks = changed_there beside world.inodes.root name left world.tasks i })) ∙ settles.2)
+        world_is (
+          refl,
+          refl,
+          settles.0,
+          settles.1,
+          ap (settled nat_eq) ((λ i. MachineWorld.with_task there (record there_task { descriptors = without_descriptor_there number task.descriptors i })) ∙ (λ i. record there { tasks = changed_there beside world.inodes.root name left world.tasks i })) ∙ settles.2,
+        )
       where
         world_is : world_left ≡ closed nat_eq world name task (descriptor_numbered task number)
         world_is =

@@ -1,10 +1,9 @@
 -- rename is answered alike.
-use Rattle.std.proofs.Common.{◌≡◌, ◌≢◌, refl, sym, ap, subst, ◌∙◌, ⊎_elim, inl, inr, ◌⊎◌, ℕ, zero, suc, ◌+◌, ◌≤◌, nat_eq, eq-eqb, ne_eqb, Bool, true, false, true≢false, cond, not, ◌&&◌, ◌||◌, List, [], ◌∷◌, ◌++◌, length, map, find, Option, Some, None, option_map, unwrap_or, is_some, is_ok, IfOk, Result, Ok, Err, arith}
-use Rattle.std.specs.List.{list_any}
+use Rattle.std.proofs.Common.{◌≡◌, ◌≢◌, refl, sym, ap, subst, ◌∙◌, ⊎_elim, inl, inr, ℕ, zero, suc, ◌≤◌, nat_eq, eq-eqb, ne_eqb, Bool, true, false, cond, not, ◌&&◌, ◌||◌, List, [], ◌∷◌, length, Option, Some, None, option_map, unwrap_or, is_some, IfOk, Result, Ok, Err, arith}
 use Rattle.std.proofs.lemmas.Bool.Decides.{eqb_tells}
 use Rattle.vt_spec.specs.declared.errors.Deny.{Deny}
 use Rattle.vt_spec.specs.declared.errors.Rule.TheVariants.{B1, C1, C3, E2, E3, E4, E5, F1, F2, L1, O1, P1, P2, W3}
-use Rattle.vt_spec.specs.Errors.{Rules, and_then, denial, unless}
+use Rattle.vt_spec.specs.Errors.{and_then, denial, unless}
 use Rattle.vt_spec.specs.Machine.Calls.Call.{Rename}
 use Rattle.vt_spec.specs.Machine.Changes.Change.{Move}
 use Rattle.vt_spec.specs.Machine.FileTree as FileTree
@@ -23,18 +22,18 @@ use Rattle.vt_spec.specs.OneTree.Inodes.{Inodes, is_directory_under, parent_abov
 use Rattle.vt_spec.specs.OneTree.Permits.{Permit}
 use Rattle.vt_spec.specs.OneTree.Permits.Permit.{ToChange}
 use Rattle.vt_spec.specs.OneTree.Policy.{rename_permit, renamed_by}
-use Rattle.vt_spec.specs.OneTree.Rules.{changes_parent, is_filled, is_kept, is_one_object, may_not}
-use Rattle.vt_spec.specs.OneTree.Walk.{Place, is_directory_at, is_directory_there, new_walk, old_leaf_walk, rename_new_walk}
-use Rattle.vt_spec.specs.OneTree.World.{Task, World, is_called, with_inodes}
+use Rattle.vt_spec.specs.OneTree.Rules.{is_filled, is_kept, is_one_object, may_not}
+use Rattle.vt_spec.specs.OneTree.Walk.{Place, is_directory_at, new_walk, old_leaf_walk, rename_new_walk}
+use Rattle.vt_spec.specs.OneTree.World.{Task, World, with_inodes}
 use Rattle.vt_spec.specs.Rights.{Credentials, write_right}
 use Rattle.vt_spec.specs.Tree.{Entries, Tree, entries_in, entry_named, parent_in}
-use Rattle.vt_spec.specs.TreeLaws.{IsDirectory, entry_at}
+use Rattle.vt_spec.specs.TreeLaws.{IsDirectory}
 use Rattle.vt_laws.specs.OneTree.{Beside, IsFit, RenamesAgree, Steps, embedded, location_there, place_there, task_there, times_in}
 use Rattle.vt_laws.proofs.OneTreeChanges.{no_entries}
 use Rattle.vt_laws.proofs.OneTreeEntries.{one_if, one_if_some, targets}
-use Rattle.vt_laws.proofs.OneTreeJudged.{IsChanged, IsJudged, Row, after_alike, all_rules, judged_alike, judged_finished, judged_when, policy_alike, refused}
+use Rattle.vt_laws.proofs.OneTreeJudged.{IsJudged, after_alike, judged_finished, judged_when, policy_alike, refused}
 use Rattle.vt_laws.proofs.OneTreeLinks.{IsOld, old_leaf_is}
-use Rattle.vt_laws.proofs.OneTreeMoves.{inodes_moved, moved_settled, node_there}
+use Rattle.vt_laws.proofs.OneTreeMoves.{moved_settled, node_there}
 use Rattle.vt_laws.proofs.OneTreeTrees.{IsAway, near, parent_is, parent_named, way_up}
 use Rattle.vt_laws.proofs.OneTreeWalks.{IsPlace, IsPlaceOf, ifok_then, ifok_unless, new_walk_is, old_leaf_walk_alike, rename_new_walk_alike}
 
@@ -135,10 +134,14 @@ module _ (beside : Beside) (world : World ℕ) (name : TaskName) (task : Task �
       → Judged (Ok (ToChange (Move from old to new object))) (Outcomes.granted Done (with_change nat_eq fresh there (location_there from) (Move from old to new object)))
   moved_alike from old to new object replaced from_is leads to_is finds other empty outside =
       let settles = moved_settled beside world name task fit from old to new object replaced from_is leads to_is finds other empty (λ is steps far. way_free beside.numbers world fit object to to_is (outside is) steps far) in
-      inr (refl, refl, settles.0,
-      subst (λ o. IsFit settles.0.numbers (with_inodes world (without_replaced nat_eq under o))) (sym finds) settles.1,
-      ap (λ f. settled nat_eq (record there { filesystems = record { number = 2; files = f; overlay = None; change = raised beside.filesystem_change } ∷ [] })) machine_is
-      ∙ settles.2 ∙ ap (λ o. embedded settles.0 (with_inodes world (without_replaced nat_eq under o))) (sym finds))
+      inr (
+        refl,
+        refl,
+        settles.0,
+        subst (λ o. IsFit settles.0.numbers (with_inodes world (without_replaced nat_eq under o))) (sym finds) settles.1,
+        ap (λ f. settled nat_eq (record there { filesystems = record { number = 2; files = f; overlay = None; change = raised beside.filesystem_change } ∷ [] })) machine_is
+            ∙ settles.2 ∙ ap (λ o. embedded settles.0 (with_inodes world (without_replaced nat_eq under o))) (sym finds),
+      )
     where
       under : Inodes ℕ
       under = Rattle.vt_spec.specs.OneTree.Inodes.with_changed nat_eq (Rattle.vt_spec.specs.OneTree.Inodes.with_changed nat_eq (Rattle.vt_spec.specs.OneTree.Inodes.with_changed nat_eq world.inodes from (Rattle.vt_spec.specs.Machine.Changes.node_without_entry old)) to (Rattle.vt_spec.specs.Tree.node_with_entry new object)) object (Rattle.vt_spec.specs.Machine.Changes.node_with_parent to)

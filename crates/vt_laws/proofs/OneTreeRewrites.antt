@@ -1,10 +1,8 @@
 -- Calls that set attributes and bytes of what is there are answered alike.
-use Rattle.std.proofs.Common.{◌≡◌, ◌≢◌, refl, sym, ap, subst, ◌∙◌, ⊎_elim, inl, inr, ◌⊎◌, ℕ, zero, suc, ◌+◌, ◌≤◌, nat_eq, nat_lt, Bool, true, false, true≢false, cond, not, ◌&&◌, ◌||◌, List, [], ◌∷◌, ◌++◌, length, map, find, Option, Some, None, is_some, is_ok, Result, Ok, Err, arith}
+use Rattle.std.proofs.Common.{◌≡◌, refl, inl, inr, ℕ, ◌+◌, nat_eq, nat_lt, not, ◌&&◌, List, [], ◌∷◌, length, Option, Some, None, Result, Ok, Err}
 use Rattle.vt_spec.specs.declared.attributes.Attr.{Attr}
-use Rattle.vt_spec.specs.declared.attributes.Kind.TheVariants.{White}
 use Rattle.vt_spec.specs.declared.errors.Deny.{Deny}
-use Rattle.vt_spec.specs.declared.errors.Rule.TheVariants.{B1, C1, C2, E2, E6, E9, F1, F2, L1}
-use Rattle.vt_spec.specs.Errors.{unless, and_then}
+use Rattle.vt_spec.specs.declared.errors.Rule.TheVariants.{C2, E6, F1, F2, L1}
 use Rattle.vt_spec.specs.Machine.Calls.Call.{Chmod, Chown, Pwrite}
 use Rattle.vt_spec.specs.Machine.Changes.{node_with_attr}
 use Rattle.vt_spec.specs.Machine.Changes.Change.{SetAttr, SetBytes}
@@ -23,9 +21,9 @@ use Rattle.vt_spec.specs.OneTree.Inodes.{tree_of}
 use Rattle.vt_spec.specs.OneTree.Permits.{Permit}
 use Rattle.vt_spec.specs.OneTree.Permits.Permit.{ToChange}
 use Rattle.vt_spec.specs.OneTree.Policy.{chmod_permit, chown_permit, pwrite_permit, pwriting}
-use Rattle.vt_spec.specs.OneTree.Rules.{attr_at, may_not}
+use Rattle.vt_spec.specs.OneTree.Rules.{attr_at}
 use Rattle.vt_spec.specs.OneTree.Walk.{object_walk}
-use Rattle.vt_spec.specs.OneTree.World.{Descriptor, Task, World, is_called}
+use Rattle.vt_spec.specs.OneTree.World.{Task, World}
 use Rattle.vt_spec.specs.PathText.{is_empty}
 use Rattle.vt_spec.specs.Rights.{is_directory, owns}
 use Rattle.vt_spec.specs.Tree.{Content, Node, Tree, bytes_in, entries_of, kind_of, node_with_bytes, parent_of, with_bytes}

@@ -1,21 +1,21 @@
 -- What the whole machine keeps after a call on one tree is what has a use there.
-use Rattle.std.proofs.Common.{◌≡◌, ◌≢◌, refl, sym, ap, subst, ◌∙◌, ⊎_elim, inl, inr, ◌⊎◌, ℕ, zero, suc, ◌+◌, ◌≤◌, nat_eq, eqb-true, eq-eqb, ne_eqb, Bool, true, false, true≢false, cond, not, ◌&&◌, ◌||◌, List, [], ◌∷◌, ◌++◌, length, map, filter, flat_map, Option, Some, None, is_some, arith}
-use Rattle.std.specs.List.{list_any, list_all}
+use Rattle.std.proofs.Common.{◌≡◌, refl, sym, ap, subst, ◌∙◌, ⊎_elim, ℕ, ◌+◌, ◌≤◌, nat_eq, Bool, true, false, cond, ◌&&◌, ◌||◌, List, [], ◌∷◌, ◌++◌, length, map, filter, flat_map, Option, Some, None, is_some, arith}
+use Rattle.std.specs.List.{list_all}
 use Rattle.std.proofs.lemmas.Bool.Decides.{eqb_tells}
 use Rattle.std.proofs.lemmas.List.Folds.{list_any-append}
-use Rattle.vt_spec.specs.Tree.{Node, is_directory_node}
+use Rattle.vt_spec.specs.Tree.{Node}
 use Rattle.vt_spec.specs.TreeLaws.{IsDirectory}
 use Rattle.vt_spec.specs.Machine.FileTree.{targets_in}
 use Rattle.vt_spec.specs.Machine.Lists.{is_among}
-use Rattle.vt_spec.specs.Machine.Mounts.{Location, root_of}
+use Rattle.vt_spec.specs.Machine.Mounts.{Location}
 use Rattle.vt_spec.specs.Machine.Policy as Machine
 use Rattle.vt_spec.specs.Machine.Settled as Settled
 use Rattle.vt_spec.specs.Machine.World as MachineWorld
 use Rattle.vt_spec.specs.Machine.World.{TaskName, same_name}
 use Rattle.vt_spec.specs.OneTree.Inodes.{Inode, node_in, tree_of, uses_in}
 use Rattle.vt_spec.specs.OneTree.World.{Descriptor, Task, World, task_called}
-use Rattle.vt_laws.specs.OneTree.{AreApart, AreInOrder, Beside, IsFit, IsWhole, descriptor_there, embedded, files_of, location_there, mount_there, named_in, opened_in, task_there, times_in, used_in}
-use Rattle.vt_laws.proofs.OneTreeTrees.{among_times, times_among, times_append}
+use Rattle.vt_laws.specs.OneTree.{AreApart, AreInOrder, Beside, IsFit, IsWhole, descriptor_there, embedded, files_of, location_there, mount_there, opened_in, task_there, times_in}
+use Rattle.vt_laws.proofs.OneTreeTrees.{among_times, times_among}
 
 -- a world of the whole machine with one mount of one plain filesystem
 abbrev pub raw : ℕ → (ℕ → Option (Node ℕ)) → List ℕ → ℕ → List (MachineWorld.Task ℕ) → ℕ → MachineWorld.World ℕ

@@ -1,10 +1,10 @@
 -- Tasks of one tree, and of the whole machine where it has one tree.
-use Rattle.std.proofs.Common.{◌≡◌, ◌≢◌, refl, sym, ap, subst, ◌∙◌, ⊎_elim, inl, inr, ◌⊎◌, ℕ, zero, suc, ◌+◌, ◌≤◌, nat_eq, Bool, true, false, true≢false, cond, not, List, [], ◌∷◌, ◌++◌, map, filter, find, flat_map, Option, Some, None, option_map, is_some, arith}
+use Rattle.std.proofs.Common.{◌≡◌, refl, sym, ap, ◌∙◌, inl, inr, ◌⊎◌, ℕ, ◌+◌, Bool, true, false, cond, not, List, [], ◌∷◌, ◌++◌, map, filter, find, flat_map, Option, Some, None, option_map, arith}
 use Rattle.std.specs.Cmp.Lexicographic.{bytes_decides}
 use Rattle.vt_spec.specs.Machine.World as MachineWorld
 use Rattle.vt_spec.specs.Machine.World.{TaskName, same_name}
-use Rattle.vt_spec.specs.OneTree.World.{Task, World, changed_if_called, is_called, task_called}
-use Rattle.vt_laws.specs.OneTree.{AreApart, AreInOrder, Beside, files_of, task_there, times_in}
+use Rattle.vt_spec.specs.OneTree.World.{Task, changed_if_called, is_called}
+use Rattle.vt_laws.specs.OneTree.{AreApart, Beside, files_of, task_there, times_in}
 use Rattle.vt_laws.proofs.OneTreeTrees.{times_append}
 
 abbrev pub Entry : Type 0
@@ -140,15 +140,15 @@ module _ (name : TaskName) (task : Task ℕ) where
           let none : find (is_called name) rest ≡ None = ap (λ n. find (is_called n) rest) (same_is name entry.0 is) ∙ apart.0 in
           let rest_same : map (changed_if_called name task) rest ≡ rest = none_changed rest none in
           let left : times_in number (files_of (name, task) ++ flat_map files_of (map (changed_if_called name task) rest)) ≡ times_in number (files_of (name, task)) + times_in number (flat_map files_of rest)
-              = ap (λ l. times_in number (files_of (name, task) ++ flat_map files_of l)) rest_same ∙ times_append number (files_of (name, task)) (flat_map files_of rest) in
+          = ap (λ l. times_in number (files_of (name, task) ++ flat_map files_of l)) rest_same ∙ times_append number (files_of (name, task)) (flat_map files_of rest) in
           let right : times_in number (files_of entry ++ flat_map files_of rest) ≡ times_in number (files_of (name, was)) + times_in number (flat_map files_of rest)
-              = ap (λ x. times_in number (files_of x ++ flat_map files_of rest)) same ∙ times_append number (files_of (name, was)) (flat_map files_of rest) in
+          = ap (λ x. times_in number (files_of x ++ flat_map files_of rest)) same ∙ times_append number (files_of (name, was)) (flat_map files_of rest) in
           (λ i. left i + times_in number (files_of (name, was)))
           ∙ (let aside : (times_in number (files_of (name, task)) + times_in number (flat_map files_of rest)) + times_in number (files_of (name, was)) ≡ (times_in number (files_of (name, was)) + times_in number (flat_map files_of rest)) + times_in number (files_of (name, task)) = omega arith in aside)
           ∙ (λ i. sym right i + times_in number (files_of (name, task)))
       by false is e later =
           let h : times_in number (flat_map files_of (map (changed_if_called name task) rest)) + times_in number (files_of (name, was)) ≡ times_in number (flat_map files_of rest) + times_in number (files_of (name, task)) = later e in
           let left : times_in number (files_of entry ++ flat_map files_of (map (changed_if_called name task) rest)) ≡ times_in number (files_of entry) + times_in number (flat_map files_of (map (changed_if_called name task) rest))
-              = times_append number (files_of entry) (flat_map files_of (map (changed_if_called name task) rest)) in
+          = times_append number (files_of entry) (flat_map files_of (map (changed_if_called name task) rest)) in
           let right : times_in number (files_of entry ++ flat_map files_of rest) ≡ times_in number (files_of entry) + times_in number (flat_map files_of rest) = times_append number (files_of entry) (flat_map files_of rest) in
           omega arith

@@ -1,11 +1,10 @@
 -- Walks of the whole machine, where it has one mount of one plain filesystem, end as those of one tree do.
-use Rattle.std.proofs.Common.{◌≡◌, ◌≢◌, refl, sym, ap, subst, ◌∙◌, ⊎_elim, ℕ, zero, suc, ◌==◌, ◌-◌, ◌+◌, nat_eq, nat_lt, Bool, true, false, cond, not, ◌&&◌, ◌||◌, List, [], ◌∷◌, length, reverse, Option, Some, None, option_map, is_some, ok_or, Result, Ok, Err, IfOk}
-use Rattle.std.specs.List.{list_any}
+use Rattle.std.proofs.Common.{◌≡◌, refl, sym, ap, subst, ◌∙◌, ⊎_elim, ℕ, zero, suc, ◌-◌, nat_eq, Bool, true, false, cond, not, ◌&&◌, ◌||◌, List, [], ◌∷◌, reverse, Option, Some, None, option_map, is_some, ok_or, Result, Ok, Err, IfOk}
 use Rattle.std.proofs.lemmas.Bool.Decides.{eqb_tells}
 use Rattle.vt_spec.specs.declared.errors.Deny.{Deny}
 use Rattle.vt_spec.specs.declared.errors.Rule.TheVariants.{W2, W3, W4, W5, W6, W7, W8, W9}
 use Rattle.vt_spec.specs.Errors.{denial, Rules, unless, and_then}
-use Rattle.vt_spec.specs.PathText.{parsed_path, words, ends_in_slash, is_absolute, longest_name}
+use Rattle.vt_spec.specs.PathText.{parsed_path, words, ends_in_slash, is_absolute}
 use Rattle.vt_spec.specs.Rights.{execute_right}
 use Rattle.vt_spec.specs.Tree.{Tree, entry_named, entries_in, parent_in}
 use Rattle.vt_spec.specs.TreeLaws.{entry_at, IsDirectory}

@@ -1,6 +1,6 @@
 -- The machine of one tree is the whole machine where there is one mount of one plain filesystem: each call, and so each
 -- script of the calls on files and tasks, is answered alike.
-use Rattle.std.specs.Prelude.{Err, List, None, Ok, Option, Result, Some, [], filter, find, flat_map, if◌then◌else◌, is_some, length, map, nat_eq, option_map, suc, true, zero, ℕ, ⊤, ◌+◌, ◌++◌, ◌∷◌, ◌≡◌, ◌≢◌, ◌≤◌, Bool, ◌⊎◌}
+use Rattle.std.specs.Prelude.{Err, List, None, Ok, Option, Result, Some, [], find, flat_map, if◌then◌else◌, is_some, length, map, nat_eq, option_map, suc, true, zero, ℕ, ⊤, ◌+◌, ◌++◌, ◌∷◌, ◌≡◌, ◌≢◌, ◌≤◌, Bool, ◌⊎◌}
 use Rattle.std.specs.FinMap.Entries.{is_sorted}
 use Rattle.vt_spec.specs.declared.errors.Deny.{Deny}
 use Rattle.vt_spec.specs.Machine.FileTree.{has_entry_to, targets_in}

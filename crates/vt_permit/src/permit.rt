@@ -35,7 +35,10 @@ pub enum Change {
         object: NodeId,
     },
     /// The whole content of a file: write(2) after open(2) with `O_TRUNC`.
-    SetBytes { file: NodeId, bytes: Vec<u8> },
+    SetBytes {
+        file: NodeId,
+        bytes: Vec<u8>,
+    },
     /// pwrite(2) of some bytes
     WriteAt {
         file: NodeId,
@@ -43,7 +46,10 @@ pub enum Change {
         bytes: Vec<u8>,
     },
     /// chmod(2), chown(2)
-    SetAttr { object: NodeId, attr: Attr },
+    SetAttr {
+        object: NodeId,
+        attr: Attr,
+    },
 }
 
 /// What a call is permitted. It is good for the world that it was judged in.
@@ -51,16 +57,25 @@ pub enum Change {
 pub enum Permit {
     /// Nothing but to say that it is allowed.
     Allowed,
-    ToList { directory: NodeId },
-    ToTell { object: NodeId },
-    ToRead { file: NodeId },
+    ToList {
+        directory: NodeId,
+    },
+    ToTell {
+        object: NodeId,
+    },
+    ToRead {
+        file: NodeId,
+    },
     ToReadPart {
         file: NodeId,
         offset: usize,
         size: usize,
     },
     ToChange(Change),
-    ToOpen { file: NodeId, access: Access },
+    ToOpen {
+        file: NodeId,
+        access: Access,
+    },
     /// A new file that is opened without rights on itself.
     ToOpenNew {
         directory: NodeId,
@@ -68,9 +83,17 @@ pub enum Permit {
         node: Node,
         access: Access,
     },
-    ToClose { descriptor: u8 },
-    ToSetUmask { umask: Mode },
-    ToDrop { caps: Caps },
-    ToFork { cred: Cred },
+    ToClose {
+        descriptor: u8,
+    },
+    ToSetUmask {
+        umask: Mode,
+    },
+    ToDrop {
+        caps: Caps,
+    },
+    ToFork {
+        cred: Cred,
+    },
     ToExit,
 }

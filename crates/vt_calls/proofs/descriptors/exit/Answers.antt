@@ -11,8 +11,8 @@ returns-in-Some c = λ task found.
     let same : c.in-Some.descriptors ≡ task.descriptors = some-equal _ _ (c.in-Some.ensures.value ∙ ap (option_map (λ task. task.descriptors)) found) in
     λ i. record {
       inodes = (c.unpin_all.ensures
-      ∙ ap (fold (unpinned nat_eq) inodes) c.files.ensures
-      ∙ uses-of-files inodes c.in-Some.descriptors
-      ∙ ap (without_uses nat_eq inodes) same) i;
+          ∙ ap (fold (unpinned nat_eq) inodes) c.files.ensures
+          ∙ uses-of-files inodes c.in-Some.descriptors
+          ∙ ap (without_uses nat_eq inodes) same) i;
       tasks = c.exit.ensures.rest i;
     }

@@ -18,13 +18,15 @@ returns-in_err-pin c = λ task found.
 pub returns : goal.returns
 returns c = λ task found.
     let world = c.args.world.now in
-    let number : Some c.in_ok-number.number ≡ Some (free_number task) = c.in_ok-number.ensures.number ∙ ap (option_map free_number) found in
-    (cc, λ i. record {
-      inodes = (c.in_ok-pin.ensures.ok
-      ∙ (λ j. pinned nat_eq (c.in_default.ensures.ok j) c.next_number-file.result)
-      ∙ (λ j. pinned nat_eq (with_new nat_eq (inodes_of world.tree) c.args.directory c.args.entry.items (c.in_default.ensures.number j) c.args.node)
-      (c.next_number-file.ensures.value j))) i;
-      tasks = (c.in_ok-number.ensures.ok
-      ∙ ap (changed_by c.args.name.now (with_open (record { file = c.next_number-file.result; access = c.args.access })) world.tasks) found
-      ∙ (λ j. with_called c.args.name.now (with_open (record { file = c.next_number-file.ensures.value j; access = c.args.access }) task) world.tasks)) i;
-    })
+    let number : Some c.in_ok-number.number ≡ Some (free_number task) = c.in_ok-number.ensures.number ∙ ap (option_map free_number) found in (
+      cc,
+      λ i. record {
+        inodes = (c.in_ok-pin.ensures.ok
+            ∙ (λ j. pinned nat_eq (c.in_default.ensures.ok j) c.next_number-file.result)
+            ∙ (λ j. pinned nat_eq (with_new nat_eq (inodes_of world.tree) c.args.directory c.args.entry.items (c.in_default.ensures.number j) c.args.node)
+            (c.next_number-file.ensures.value j))) i;
+        tasks = (c.in_ok-number.ensures.ok
+            ∙ ap (changed_by c.args.name.now (with_open (record { file = c.next_number-file.result; access = c.args.access })) world.tasks) found
+            ∙ (λ j. with_called c.args.name.now (with_open (record { file = c.next_number-file.ensures.value j; access = c.args.access }) task) world.tasks)) i;
+      },
+    )
