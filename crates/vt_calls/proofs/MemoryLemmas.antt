@@ -1,11 +1,10 @@
 -- Calls that take no memory.
-use Rattle.std.proofs.Common.{◌≡◌, ◌⊎◌, inl, inr, Some, Result, Ok, Err, ℕ, IsErrOf, nat_eq, ap, sym, ◌∙◌}
+use Rattle.std.proofs.Common.{◌≡◌, ◌⊎◌, inl, inr, Option, Some, Result, Ok, Err, ℕ, IsErrOf, nat_eq, ap, sym, ◌∙◌}
 use Rattle.std.specs.Prelude.{ok_or}
 use Rattle.vt_spec.specs.declared.errors.Deny.{Deny}
 use Rattle.vt_spec.specs.declared.errors.Rule.TheVariants.{S2, S5}
 use Rattle.vt_spec.specs.Errors.{denial}
 use Rattle.vt_spec.specs.Machine.Calls.{Call}
-use Rattle.vt_spec.specs.Machine.Calls.Call.{Fork, LinkTo, Mkdir, OpenFile, Rename, Rmdir, SymlinkAt, Unlink, Write}
 use Rattle.vt_spec.specs.Machine.World.{TaskName}
 use Rattle.vt_spec.specs.OneTree.Permits.{Permit}
 use Rattle.vt_spec.specs.OneTree.Policy.{judge, policy, spent}
@@ -13,22 +12,7 @@ use Rattle.vt_spec.specs.OneTree.World.{Outcome, Task, World, after, task_called
 use Rattle.vt_request.specs.declared.answer.Answer.{Answer}
 use Rattle.vt_request.specs.Answers.{result_of}
 use Rattle.vt_ns.specs.declared.world.World.{World as Held}
-use Rattle.vt_permit.specs.Memory.{TakesMemory}
-use Rattle.vt_permit.specs.PermitValue.{JudgingTakesMemory}
 use Rattle.vt_calls.specs.Meets.{Meets}
-
--- what takes memory when it is judged takes memory
-pub judging-takes : (call : Call) → JudgingTakesMemory call → TakesMemory call
-judging-takes (Write path bytes) takes = tt
-judging-takes (Mkdir path mode) takes = tt
-judging-takes (SymlinkAt text path) takes = tt
-judging-takes (LinkTo old new) takes = tt
-judging-takes (Unlink path) takes = tt
-judging-takes (Rmdir path) takes = tt
-judging-takes (Rename old new) takes = tt
-judging-takes (OpenFile path access creation) takes = tt
-judging-takes (Fork words) takes = tt
-judging-takes call takes = absurd takes
 
 -- what ends as an outcome says, and was not refused memory, is answered as that says
 pub answered : (outcome : Outcome ℕ) (result : Result Answer Deny) (old new : Held) → Meets outcome result old new

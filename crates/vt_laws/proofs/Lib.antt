@@ -54,6 +54,7 @@ pub mod OneTreeDescriptors
 pub mod OneTreeEntries
 pub mod OneTreeForks
 pub mod OneTreeJudged
+pub mod OneTreeLanguage
 pub mod OneTreeLinks
 pub mod OneTreeLooks
 pub mod OneTreeMakes
@@ -64,6 +65,7 @@ pub mod OneTreeOpening
 pub mod OneTreeOpens
 pub mod OneTreeRenames
 pub mod OneTreeRewrites
+pub mod OneTreeRuns
 pub mod OneTreeSettled
 pub mod OneTreeTasks
 pub mod OneTreeTrees

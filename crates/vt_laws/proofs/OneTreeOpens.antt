@@ -268,7 +268,7 @@ module _ (beside : Beside) (world : World ℕ) (name : TaskName) (task : Task �
 
   -- the whole machine keeps the namespace, if anybody is left in it
   ended : (entries : List Entry) → stay ≡ entries → IsSameOutcome (granted Done world_gone) (Machine.finished_by nat_eq false there name (Outcomes.granted Done (namespaces_ended nat_eq (record there { tasks = map (task_there beside world.inodes.root) stay }))))
-  ended [] none = (refl, inr (none, tasks_none))
+  ended [] none = (refl, inr (none, tasks_none, gone_settled.0.numbers, gone_settled.1))
     where
       kept : (b : Bool) (w : MachineWorld.World ℕ) → (Receives.regrouped_by nat_eq b w).tasks ≡ w.tasks
       kept true w = refl

@@ -2,6 +2,7 @@
 -- script of the calls on files and tasks, is answered alike.
 use Rattle.std.specs.Prelude.{Err, List, None, Ok, Option, Result, Some, [], find, flat_map, if◌then◌else◌, is_some, length, map, nat_eq, option_map, suc, true, zero, ℕ, ⊤, ◌+◌, ◌++◌, ◌∷◌, ◌≡◌, ◌≢◌, ◌≤◌, Bool, ◌⊎◌}
 use Rattle.std.specs.FinMap.Entries.{is_sorted}
+use Rattle.std.specs.List.{All}
 use Rattle.vt_spec.specs.declared.errors.Deny.{Deny}
 use Rattle.vt_spec.specs.Machine.FileTree.{has_entry_to, targets_in}
 use Rattle.vt_spec.specs.Machine.Mounts.{Location, Mount, plain_flags}
@@ -19,9 +20,13 @@ use Rattle.vt_spec.specs.Machine.Calls.Call.{Chmod, Chown, Close, Drop, Exec, Ex
 use Rattle.vt_spec.specs.Machine.Lists.{Fresh}
 use Rattle.vt_spec.specs.Machine.Outcomes as whole_outcomes
 use Rattle.vt_spec.specs.Machine.Policy as whole_policy
+use Rattle.vt_spec.specs.Machine.Run as whole_run
+use Rattle.vt_spec.specs.Machine.Script.{Request, Version, files, lines_of, request_of, whole}
+use Rattle.vt_spec.specs.OneTree.Run as tree_run
 use Rattle.vt_spec.specs.Rights.{Credentials}
 use Rattle.vt_spec.specs.Tree.{Tree, entries_in, name_cmp, parent_in}
 use Rattle.vt_spec.specs.TreeLaws.{IsDirectory}
+use Rattle.vt_laws.specs.Numbers.{completed_text}
 
 -- what the whole machine has beside: the numbers of the inodes that are there, and change numbers
 pub record Beside : Type 0 where
@@ -222,7 +227,7 @@ FileWalksAgree = WalksAgree place_there file_walk (whole_walk.file_walk nat_eq)
 abbrev pub IsImage : World ℕ → whole_world.World ℕ → Type 0
 IsImage world there =
     ((beside : Beside) × IsFit beside.numbers world × (there ≡ embedded beside world))
-    ⊎ ((world.tasks ≡ []) × (there.tasks ≡ []))
+    ⊎ ((world.tasks ≡ []) × (there.tasks ≡ []) × (numbers : List ℕ) × IsFit numbers world)
 
 -- the same answer, and the same world
 abbrev pub IsSameOutcome : Outcome ℕ → whole_outcomes.Outcome ℕ → Type 0
@@ -239,58 +244,105 @@ IsAnsweredAlike call =
 abbrev pub OpeningIsFit : Type 0
 OpeningIsFit = (root : ℕ) → IsFit (root ∷ []) (opening nat_eq root)
 
+-- getdents(2), stat(2), lstat(2), readlink(2), read(2) and execve(2)
 abbrev pub LooksAgree : Type 0
 LooksAgree =
     (path : List ℕ)
     → IsAnsweredAlike (Ls path) × IsAnsweredAlike (Stat path) × IsAnsweredAlike (Lstat path) × IsAnsweredAlike (Readlink path)
     × IsAnsweredAlike (Read path) × IsAnsweredAlike (Exec path)
 
+-- pread(2)
 abbrev pub PartialReadsAgree : Type 0
 PartialReadsAgree = (descriptor offset size : ℕ) → IsAnsweredAlike (Pread descriptor offset size)
 
+-- umask(2)
 abbrev pub UmasksAgree : Type 0
 UmasksAgree = (mode : ℕ) → IsAnsweredAlike (Umask mode)
 
+-- capset(2), by which capabilities only go
 abbrev pub DropsAgree : Type 0
 DropsAgree = (which : CapabilityWord) → IsAnsweredAlike (Drop which)
 
+-- fork(2), with credentials for the child or without
 abbrev pub ForksAgree : Type 0
 ForksAgree = (words : Option ForkWords) → IsAnsweredAlike (Fork words)
 
+-- chmod(2) and chown(2)
 abbrev pub AttributesAgree : Type 0
 AttributesAgree =
     (path : List ℕ)
     → ((mode : ℕ) → IsAnsweredAlike (Chmod path mode)) × ((uid gid : Option ℕ) → IsAnsweredAlike (Chown path uid gid))
 
+-- pwrite(2)
 abbrev pub PartialWritesAgree : Type 0
 PartialWritesAgree = (descriptor offset : ℕ) (bytes : List ℕ) → IsAnsweredAlike (Pwrite descriptor offset bytes)
 
+-- close(2): with its last use an inode goes, in both
 abbrev pub ClosesAgree : Type 0
 ClosesAgree = (descriptor : ℕ) → IsAnsweredAlike (Close descriptor)
 
+-- _exit(2): so do those that only the task's descriptors are on
 abbrev pub ExitsAgree : Type 0
 ExitsAgree = IsAnsweredAlike Exit
 
+-- mkdir(2)
 abbrev pub MkdirsAgree : Type 0
 MkdirsAgree = (path : List ℕ) (mode : Option ℕ) → IsAnsweredAlike (Mkdir path mode)
 
+-- symlink(2)
 abbrev pub SymlinksAgree : Type 0
 SymlinksAgree = (text path : List ℕ) → IsAnsweredAlike (SymlinkAt text path)
 
+-- write(2) after open(2) with O_CREAT and O_TRUNC
 abbrev pub WritesAgree : Type 0
 WritesAgree = (path bytes : List ℕ) → IsAnsweredAlike (Write path bytes)
 
+-- open(2), without O_CREAT, with it, and with O_EXCL
 abbrev pub OpensAgree : Type 0
 OpensAgree = (path : List ℕ) (access : Access) (creation : Creation) → IsAnsweredAlike (OpenFile path access creation)
 
+-- link(2)
 abbrev pub LinksAgree : Type 0
 LinksAgree = (old new : List ℕ) → IsAnsweredAlike (LinkTo old new)
 
+-- unlink(2)
 abbrev pub UnlinksAgree : Type 0
 UnlinksAgree = (path : List ℕ) → IsAnsweredAlike (Unlink path)
 
+-- rmdir(2)
 abbrev pub RmdirsAgree : Type 0
 RmdirsAgree = (path : List ℕ) → IsAnsweredAlike (Rmdir path)
 
+-- rename(2), also of directories and in the place of another object
 abbrev pub RenamesAgree : Type 0
 RenamesAgree = (old new : List ℕ) → IsAnsweredAlike (Rename old new)
+
+-- Scripts
+
+-- Each text that the whole machine may write for a script of the calls on files and tasks is one that the machine of one tree may
+-- write, from the same root on.
+abbrev pub FilesAreTold : Type 0
+FilesAreTold =
+    (script : List ℕ) (refused : List Bool) (text : List ℕ)
+    → whole_run.Tells nat_eq files whole_run.first_world 1 (lines_of script) refused text
+    → tree_run.Tells nat_eq (opening nat_eq 3) 1 (lines_of script) refused text
+
+-- So is the one text that it has for such a script, whatever unused numbers are handed in.
+abbrev pub FilesTextIsTold : Type 0
+FilesTextIsTold =
+    (script : List ℕ) (refused : List Bool) → length refused ≡ length (lines_of script)
+    → tree_run.Tells nat_eq (opening nat_eq 3) 1 (lines_of script) refused (completed_text files refused script)
+
+-- And so is each text that it may write in the whole language, for a script that has no more there than among these calls.
+abbrev pub LanguageIsTold : Type 0
+LanguageIsTold =
+    (version : Version) (script : List ℕ) (refused : List Bool) (text : List ℕ)
+    → All (λ line. request_of (whole version) line ≡ request_of files line) (lines_of script)
+    → whole_run.Tells nat_eq (whole version) whole_run.first_world 1 (lines_of script) refused text
+    → tree_run.Tells nat_eq (opening nat_eq 3) 1 (lines_of script) refused text
+
+-- What the grammar of these calls takes a line for, the whole language takes it for, in each of its versions.
+abbrev pub FilesAreInLanguage : Type 0
+FilesAreInLanguage =
+    (version : Version) (line : List ℕ) (request : Request)
+    → request_of files line ≡ Some request → request_of (whole version) line ≡ Some request

@@ -1,5 +1,5 @@
 //! The machine of one tree is the whole machine where there is one mount of one plain filesystem.
-ghost use Rattle.vt_laws.specs.OneTree.{LinksAgree, RenamesAgree, RmdirsAgree, UnlinksAgree, AttributesAgree, ClosesAgree, DropsAgree, ExitsAgree, ForksAgree, LooksAgree, MkdirsAgree, OpeningIsFit, OpensAgree, PartialReadsAgree, PartialWritesAgree, SymlinksAgree, UmasksAgree, WritesAgree, DirectoryWalksAgree, FileWalksAgree, LinkWalksAgree, NewLeafWalksAgree, NewWalksAgree, ObjectWalksAgree, OldLeafWalksAgree, OldWalksAgree, RenameNewWalksAgree};
+ghost use Rattle.vt_laws.specs.OneTree.{FilesAreInLanguage, FilesAreTold, FilesTextIsTold, LanguageIsTold, LinksAgree, RenamesAgree, RmdirsAgree, UnlinksAgree, AttributesAgree, ClosesAgree, DropsAgree, ExitsAgree, ForksAgree, LooksAgree, MkdirsAgree, OpeningIsFit, OpensAgree, PartialReadsAgree, PartialWritesAgree, SymlinksAgree, UmasksAgree, WritesAgree, DirectoryWalksAgree, FileWalksAgree, LinkWalksAgree, NewLeafWalksAgree, NewWalksAgree, ObjectWalksAgree, OldLeafWalksAgree, OldWalksAgree, RenameNewWalksAgree};
 
 /// Each walk of the tree ends as that of the whole machine does, by a task at the root of the one mount: at the same place,
 /// with as many links left to follow, or by the same refusal.
@@ -41,4 +41,21 @@ pub fn one_tree_is_answered_alike()
     ensures drops { DropsAgree }
     ensures forks { ForksAgree }
     ensures exits { ExitsAgree }
+{}
+
+/// Scripts of the calls on files and tasks are answered as the whole machine answers them: whatever text that may write for
+/// such a script, the machine of one tree may write too, and so the one text that it has.
+///
+/// A line is handed some number that is not in use, in the one as in the other.
+pub fn one_tree_is_a_part()
+    ensures all { FilesAreTold }
+    ensures one { FilesTextIsTold }
+{}
+
+/// A line of the calls on files and tasks asks for the same in the whole language, in each of its versions.
+///
+/// So a script that has no more there is answered by the machine of one tree as in the whole language.
+pub fn one_tree_is_in_the_language()
+    ensures lines { FilesAreInLanguage }
+    ensures scripts { LanguageIsTold }
 {}

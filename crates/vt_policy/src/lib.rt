@@ -12,3 +12,6 @@ mod rights;
 mod tasks;
 
 pub use judging::judge;
+
+#[cfg(test)]
+mod tests;
