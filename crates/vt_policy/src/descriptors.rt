@@ -14,11 +14,11 @@ ghost use Rattle.vt_tree.specs.TreeValue.{TreeValue, next_number, tree_of};
 ghost use Rattle.vt_walk.specs.WalkValue.{IsPlace, last_of, place_of};
 
 use crate::paths::{file_place, new_place, object_at};
-use vt_permit::{Change, Permit};
 use crate::rights::{is_kind, may, name_at, new_attr};
 use std::alloc::Global;
 use vt_cred::{Flags, Mode, Rights};
 use vt_node::{Kind, Node, NodeId};
+use vt_permit::{Change, Permit};
 use vt_request::{Access, Creation};
 use vt_spec::errors::{Deny, Rule};
 use vt_tasks::{MAX_DESCRIPTORS, Task};

@@ -12,11 +12,11 @@ ghost use Rattle.vt_tree.specs.TreeValue.{next_number, tree_of};
 ghost use Rattle.vt_walk.specs.WalkValue.{IsPlace, last_of, place_of};
 
 use crate::paths::{file_place, link_at, new_leaf_place, new_place};
-use vt_permit::{Change, Permit};
 use crate::rights::{is_kind, link_attr, may, name_at, new_attr};
 use std::alloc::Global;
 use vt_cred::{Mode, Rights};
 use vt_node::{Kind, Node, NodeId};
+use vt_permit::{Change, Permit};
 use vt_spec::errors::{Deny, Rule};
 use vt_tasks::Task;
 use vt_tree::Tree;

@@ -10,11 +10,11 @@ ghost use Rattle.vt_tree.specs.TreeValue.{inodes_of, tree_of};
 ghost use Rattle.vt_walk.specs.WalkValue.{place_of};
 
 use crate::paths::{old_leaf_place, old_place, rename_place};
-use vt_permit::{Change, Permit};
 use crate::rights::{is_kept, may, name_at};
 use std::alloc::Global;
 use vt_cred::Rights;
 use vt_node::NodeId;
+use vt_permit::{Change, Permit};
 use vt_spec::errors::{Deny, Rule};
 use vt_tasks::Task;
 use vt_tree::Tree;
