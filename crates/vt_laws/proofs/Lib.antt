@@ -61,6 +61,7 @@ pub mod OneTreeMakes
 pub mod OneTreeMaking
 pub mod OneTreeMoves
 pub mod OneTreeNames
+pub mod OneTreeNumbers
 pub mod OneTreeOpening
 pub mod OneTreeOpens
 pub mod OneTreeRenames

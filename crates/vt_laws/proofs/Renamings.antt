@@ -39,7 +39,7 @@ module _ {N : Type 0} where
   content_itself (Symlink text) = refl
   content_itself Whiteout = refl
 
-  node_itself : (node : Node N) → renamed_node (λ n. n) (λ n. n) node ≡ node
+  pub node_itself : (node : Node N) → renamed_node (λ n. n) (λ n. n) node ≡ node
   node_itself node = λ i. record { attr = node.attr; content = content_itself node.content i }
 
   files_itself : (files : FileTree N) → renamed_files (λ n. n) (λ n. n) files ≡ files

@@ -4,5 +4,6 @@ pub mod Layers
 pub mod Mounts
 pub mod Numbers
 pub mod OneTree
+pub mod OneTreeNumbers
 pub mod RuleOrder
 pub mod Trees

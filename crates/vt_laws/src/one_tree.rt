@@ -1,4 +1,5 @@
 //! The machine of one tree is the whole machine where there is one mount of one plain filesystem.
+ghost use Rattle.vt_laws.specs.OneTreeNumbers.{OneTreeDoesNotSeeNumbers};
 ghost use Rattle.vt_laws.specs.OneTree.{FilesAreInLanguage, FilesAreTold, FilesTextIsTold, LanguageIsTold, LinksAgree, RenamesAgree, RmdirsAgree, UnlinksAgree, AttributesAgree, ClosesAgree, DropsAgree, ExitsAgree, ForksAgree, LooksAgree, MkdirsAgree, OpeningIsFit, OpensAgree, PartialReadsAgree, PartialWritesAgree, SymlinksAgree, UmasksAgree, WritesAgree, DirectoryWalksAgree, FileWalksAgree, LinkWalksAgree, NewLeafWalksAgree, NewWalksAgree, ObjectWalksAgree, OldLeafWalksAgree, OldWalksAgree, RenameNewWalksAgree};
 
 /// Each walk of the tree ends as that of the whole machine does, by a task at the root of the one mount: at the same place,
@@ -58,4 +59,10 @@ pub fn one_tree_is_a_part()
 pub fn one_tree_is_in_the_language()
     ensures lines { FilesAreInLanguage }
     ensures scripts { LanguageIsTold }
+{}
+
+/// Numbers of inodes do not matter to one tree: in a world whose numbers are renamed one-to-one each call is answered alike,
+/// and leaves the world that it left before, renamed.
+pub fn one_tree_does_not_see_numbers()
+    ensures { OneTreeDoesNotSeeNumbers }
 {}

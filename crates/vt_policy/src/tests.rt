@@ -1,5 +1,7 @@
 //! What a user may do in a tree of directories `d` with a file `f`, `e`, `s` that only its owner may read, and a sticky `t` with a
 //! file `g` and a directory `k`; of a link `l`, a whiteout `w`, and a file `p` that only its owner may read.
+ghost use Rattle.vt_spec.specs.Laws.Trees.{IsNewIn};
+
 use super::*;
 use std::alloc::Global;
 use std::test::Fail;
@@ -29,7 +31,9 @@ struct Grown {
 }
 
 impl Grown {
-    fn put(&mut self, parent: NodeId, name: &[u8], node: Node) -> Result<NodeId, Fail> {
+    fn put(&mut self, parent: NodeId, name: &[u8], node: Node) -> Result<NodeId, Fail>
+        requires { IsNewIn parent node }
+    {
         let name = Vec::from_slice(self.alloc, name)?;
         Ok(self.tree.create(parent, name, node)?)
     }
