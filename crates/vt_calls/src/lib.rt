@@ -6,7 +6,7 @@ mod changes;
 mod descriptors;
 mod spending;
 
-pub use calls::call;
+pub use calls::Calls;
 
 #[cfg(test)]
 mod tests;

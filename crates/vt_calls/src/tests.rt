@@ -37,7 +37,7 @@ impl Machine {
 
     // The first task's call.
     fn first(&mut self, asked: Call) -> Result<Answer, Deny> {
-        call(&mut self.world, &TaskName::new(Vec::new(self.alloc)), asked)
+        self.world.call(&TaskName::new(Vec::new(self.alloc)), asked)
     }
 
     fn write(&mut self, path: &[u8], bytes: &[u8]) -> Result<Answer, Fail> {
@@ -72,7 +72,7 @@ impl Machine {
 
     fn child_asks(&mut self, asked: Call) -> Result<Result<Answer, Deny>, Fail> {
         let child = self.child()?;
-        Ok(call(&mut self.world, &child, asked))
+        Ok(self.world.call(&child, asked))
     }
 
     fn holds(&self, text: &[u8]) -> Result<Answer, Fail> {

@@ -2,4 +2,3 @@ pub mod ReplyLemmas
 pub mod RunLemmas
 pub mod SessionLemmas
 pub mod ToldLemmas
-pub mod WalkLemmas

@@ -1,27 +1,31 @@
 -- One line is answered by its step.
-use Rattle.std.proofs.Common.{◌≡◌, ◌⊎◌, ℕ, ◌≤◌, ◌<◌, true, false, List, length, Option, Some, None, Result, Ok, Err, sym, ap, ◌∙◌, subst, nat_eq, nat_lt, inl, inr, arith}
+use Rattle.std.proofs.Common.{◌≡◌, ◌⊎◌, ℕ, ◌≤◌, ◌<◌, true, false, List, length, Option, Some, None, Result, Ok, Err, sym, ap, ◌∙◌, refl, subst, nat_eq, nat_lt, inl, inr, arith}
 use Rattle.std.proofs.lemmas.Bool.Decides.{nat_tests}
 use Rattle.std.proofs.lemmas.List.{take_all}
 use Rattle.vt_spec.specs.declared.errors.Deny.{Deny}
 use Rattle.vt_spec.specs.declared.errors.Rule.TheVariants.{S1, S5}
 use Rattle.vt_spec.specs.Errors.{denial}
-use Rattle.vt_spec.specs.World.{World, TaskName, denied}
-use Rattle.vt_spec.specs.Calls.{Call}
-use Rattle.vt_spec.specs.Policy.{policy}
-use Rattle.vt_spec.specs.Script.{longest_line, is_silent, request_of, Request}
-use Rattle.vt_spec.specs.Printed.{reply_line}
-use Rattle.vt_spec.specs.Run.{line_step, line_step_by, requested, step_text, step_world}
-use Rattle.vt_spec.specs.Run.Step.{Silent, Answered}
-use Rattle.vt_spec.proofs.Unchanged.{denial_changes_nothing}
+use Rattle.vt_spec.specs.Machine.Calls.{Call}
+use Rattle.vt_spec.specs.Machine.Printed.{reply_line}
+use Rattle.vt_spec.specs.Machine.Script.{Request, files, longest_line, is_silent, request_of}
+use Rattle.vt_spec.specs.Machine.Script.Request.{Calling}
+use Rattle.vt_spec.specs.Machine.World.{TaskName}
+use Rattle.vt_spec.specs.OneTree.Inodes.{Inode, node_in}
+use Rattle.vt_spec.specs.OneTree.World.{World, denied}
+use Rattle.vt_spec.specs.OneTree.Policy.{policy}
+use Rattle.vt_spec.specs.OneTree.Run.{line_step, line_step_by, requested, step_text, step_world}
+use Rattle.vt_spec.specs.OneTree.Run.Step.{Silent, Answered}
+use Rattle.vt_laws.proofs.OneTreeRefusals.{one_tree_denial_changes_nothing}
 use Rattle.vt_io.specs.declared.output.Sink.{Ghosts}
 use Rattle.vt_io.specs.Sink.{Wrote, WroteFront, Prints}
 use Rattle.vt_io.specs.LineBuffer.{LineSoFar, Holds}
 use Rattle.vt_io.proofs.Printing.{Wrote-nothing}
-use Rattle.vt_first_line.specs.declared.answer.Answer.{Answer}
-use Rattle.vt_first_line.specs.Answers.{result_of}
-use Rattle.vt_first_line.specs.Lines.{IsSilent, IsSpoken}
-use Rattle.vt_script.specs.declared.world.World.{World as Held}
-use Rattle.vt_script.specs.WorldValue.{world_of, Meets}
+use Rattle.vt_request.specs.declared.answer.Answer.{Answer}
+use Rattle.vt_request.specs.Answers.{result_of}
+use Rattle.vt_line.specs.Lines.{IsSilent, IsSpoken}
+use Rattle.vt_ns.specs.declared.world.World.{World as Held}
+use Rattle.vt_ns.specs.WorldValue.{world_of}
+use Rattle.vt_calls.specs.Meets.{Meets}
 use Rattle.vt_script.specs.Session.{IsHanded, Replied, Replies}
 
 -- a line that is not too long is kept whole
@@ -29,6 +33,11 @@ pub kept_whole : (line : List ℕ) (kept : LineSoFar) → Holds line kept → ke
 kept_whole line kept held short =
     let fits : nat_lt 8192 (length line) ≡ false = sym held.overlong ∙ short in
     held.bytes ∙ take_all 8192 line (grind (arith, nat_tests, fits))
+
+-- a number without a node has no inode
+pub not_there : (inode : Option (Inode ℕ)) → node_in inode ≡ None → inode ≡ None
+not_there None none = refl
+not_there (Some inode) none = cc
 
 not_long : (line : List ℕ) → length line ≤ longest_line → nat_lt longest_line (length line) ≡ false
 not_long line fits = grind (arith, nat_tests)
@@ -47,7 +56,7 @@ step_refused world line spoken =
     ap (λ b. line_step_by nat_eq b (is_silent line) world line None) (not_long line spoken.0)
     ∙ ap (λ b. line_step_by nat_eq false b world line None) spoken.1
 
-step_spoken : (world : World ℕ) (line : List ℕ) (fresh : ℕ) (request : Option Request) → IsSpoken line → request_of line ≡ request → line_step nat_eq world line (Some fresh) ≡ Answered (requested nat_eq world request fresh)
+step_spoken : (world : World ℕ) (line : List ℕ) (fresh : ℕ) (request : Option Request) → IsSpoken line → request_of files line ≡ request → line_step nat_eq world line (Some fresh) ≡ Answered (requested nat_eq world request fresh)
 step_spoken world line fresh request spoken asks =
     ap (λ b. line_step_by nat_eq b (is_silent line) world line (Some fresh)) (not_long line spoken.0)
     ∙ ap (λ b. line_step_by nat_eq false b world line (Some fresh)) spoken.1
@@ -86,9 +95,9 @@ module _ {W : Type 0} (sink : Ghosts W) where
       replies_denied r world line number None (denial S1) x y tt (step_too_long world line None (sym held.overlong ∙ long)) wrote
 
   -- the reply to a line that is no request, or was refused memory
-  pub replies_unread : {T E : Type 0} (r : Result T E) (world : World ℕ) (line : List ℕ) (number fresh : ℕ) (deny : Deny) (x y : W) → world.tree.node fresh ≡ None →
+  pub replies_unread : {T E : Type 0} (r : Result T E) (world : World ℕ) (line : List ℕ) (number fresh : ℕ) (deny : Deny) (x y : W) → world.inodes.inode fresh ≡ None →
       (deny ≡ denial S1) ⊎ (deny ≡ denial S5) →
-      (deny ≡ denial S1 → (longest_line < length line) ⊎ (IsSpoken line × (request_of line ≡ None))) → (deny ≡ denial S5 → IsSpoken line) →
+      (deny ≡ denial S1 → (longest_line < length line) ⊎ (IsSpoken line × (request_of files line ≡ None))) → (deny ≡ denial S5 → IsSpoken line) →
       Prints sink (reply_line number (Err deny)) r x y → Replies sink world line number r world x y
   replies_unread r world line number fresh deny x y unused refused bad memory wrote =
       elim refused [
@@ -100,8 +109,8 @@ module _ {W : Type 0} (sink : Ghosts W) where
       ]
 
   -- the reply to a call
-  pub replies_call : {T E : Type 0} (r : Result T E) (old new : Held) (line : List ℕ) (number fresh : ℕ) (task : TaskName) (call : Call) (answer : Result Answer Deny) (x y : W) → (world_of old).tree.node fresh ≡ None →
-      IsSpoken line → request_of line ≡ Some (record { task = task; call = call }) → Meets (policy nat_eq (world_of old) task call fresh) answer old new →
+  pub replies_call : {T E : Type 0} (r : Result T E) (old new : Held) (line : List ℕ) (number fresh : ℕ) (task : TaskName) (call : Call) (answer : Result Answer Deny) (x y : W) → (world_of old).inodes.inode fresh ≡ None →
+      IsSpoken line → request_of files line ≡ Some (Calling task call) → Meets (policy nat_eq (world_of old) task call fresh) answer old new →
       Prints sink (reply_line number (result_of answer)) r x y → Replies sink (world_of old) line number r (world_of new) x y
   replies_call r old new line number fresh task call (Ok answer) x y unused spoken asks meets wrote =
       let step = step_spoken (world_of old) line fresh _ spoken asks in
@@ -115,7 +124,7 @@ module _ {W : Type 0} (sink : Ghosts W) where
             (ap (λ d. reply_line number (Err d)) memory ∙ ap (step_text number) (sym step)) (ap world_of meets.1 ∙ ap (step_world (world_of old)) (sym step)) wrote
         | inr is ↦
             let step = step_spoken (world_of old) line fresh _ spoken asks in
-            let left = denial_changes_nothing (world_of old) task call fresh deny is in
+            let left = one_tree_denial_changes_nothing (world_of old) task call fresh deny is in
             replies_step r (world_of old) (world_of new) line _ number (Some fresh) x y unused
             (ap (reply_line number) (sym is) ∙ ap (step_text number) (sym step)) (ap world_of meets.1 ∙ sym left ∙ ap (step_world (world_of old)) (sym step)) wrote
       ]

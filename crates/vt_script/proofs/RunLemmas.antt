@@ -1,9 +1,9 @@
 -- Moments of a run, one after another.
 use Rattle.std.proofs.Common.{◌≡◌, ◌≢◌, ℕ, ◌+◌, ◌==◌, Bool, true, false, List, [], ◌∷◌, ◌++◌, Some, None, refl, sym, ap, ◌∙◌, subst, append_assoc, nat_eq}
 use Rattle.std.proofs.lemmas.List.{append-nil}
-use Rattle.vt_spec.specs.World.{World}
-use Rattle.vt_spec.specs.Script.{lines_of, with_line_byte}
-use Rattle.vt_spec.specs.Run.{Tells, line_step, step_text, step_world, text_from, handed, later}
+use Rattle.vt_spec.specs.OneTree.World.{World}
+use Rattle.vt_spec.specs.Machine.Script.{lines_of, with_line_byte}
+use Rattle.vt_spec.specs.OneTree.Run.{Tells, line_step, step_text, step_world, text_from, handed, later}
 use Rattle.vt_script.specs.Progress.{Moment, Runs, HasNoNewline, after_line, whole_lines, whole_with}
 
 -- a line ends at its newline
@@ -95,7 +95,7 @@ runs_refused moment none = record {
 }
 
 -- a newline answers the line, to which a number was handed that is not in use
-pub runs_spoken : (moment : Moment) (fresh : ℕ) → moment.world.tree.node fresh ≡ None → HasNoNewline moment.line →
+pub runs_spoken : (moment : Moment) (fresh : ℕ) → moment.world.inodes.inode fresh ≡ None → HasNoNewline moment.line →
     let step = line_step nat_eq moment.world moment.line (Some fresh) in
     Runs moment (10 ∷ []) (step_text (moment.answered + 1) step) (after_line moment step)
 runs_spoken moment fresh unused none = record {

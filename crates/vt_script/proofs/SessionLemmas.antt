@@ -4,9 +4,9 @@ use Rattle.std.proofs.lemmas.List.{append-nil, take-append-drop, take_more}
 use Rattle.vt_io.specs.declared.output.Sink.{Ghosts}
 use Rattle.vt_io.specs.LineBuffer.{Holds}
 use Rattle.vt_io.proofs.Printing.{Wrote-nothing, Wrote-append, WroteFront-append}
-use Rattle.vt_spec.specs.World.{World}
-use Rattle.vt_spec.specs.Run.{Tells, line_step, step_text}
-use Rattle.vt_spec.specs.Script.{lines_of}
+use Rattle.vt_spec.specs.OneTree.World.{World}
+use Rattle.vt_spec.specs.OneTree.Run.{Tells, line_step, step_text}
+use Rattle.vt_spec.specs.Machine.Script.{lines_of}
 use Rattle.vt_script.specs.Progress.{Moment, Runs, HasNoNewline, after_line}
 use Rattle.vt_script.specs.Session.{State, moment, IsReading, IsHanded, Fed, Broke, IsLast, Closed, BrokeLast, Closes, Replied, BrokeReply, Replies}
 use Rattle.vt_script.proofs.RunLemmas.{stays, runs_then, runs_byte, runs_refused, runs_spoken, lines_of-last, HasNoNewline-push}

@@ -1,8 +1,8 @@
 -- How far a run has come: what was read and written between two moments of it.
 use Rattle.std.specs.Prelude.{◌≡◌, ℕ, ◌+◌, ◌==◌, nat_eq, Bool, true, false, List, [], ◌∷◌, ◌++◌}
-use Rattle.vt_spec.specs.World.{World, opening}
-use Rattle.vt_spec.specs.Script.{lines_of}
-use Rattle.vt_spec.specs.Run.{Tells, Step, step_world}
+use Rattle.vt_spec.specs.OneTree.World.{World, opening}
+use Rattle.vt_spec.specs.Machine.Script.{lines_of}
+use Rattle.vt_spec.specs.OneTree.Run.{Tells, Step, step_world}
 
 -- a text up to its last newline
 abbrev pub whole_with : Bool → ℕ → List ℕ → List ℕ

@@ -3,9 +3,9 @@ use Rattle.std.specs.Prelude.{◌≡◌, ℕ, ◌+◌, nat_eq, Bool, List, [], �
 use Rattle.vt_io.specs.declared.output.Sink.{Ghosts}
 use Rattle.vt_io.specs.Sink.{Wrote, WroteFront}
 use Rattle.vt_io.specs.LineBuffer.{LineSoFar, Holds}
-use Rattle.vt_spec.specs.World.{World}
-use Rattle.vt_spec.specs.Script.{lines_of}
-use Rattle.vt_spec.specs.Run.{Tells, line_step, step_text, step_world, script_text}
+use Rattle.vt_spec.specs.OneTree.World.{World}
+use Rattle.vt_spec.specs.Machine.Script.{lines_of}
+use Rattle.vt_spec.specs.OneTree.Run.{Tells, line_step, step_text, step_world, script_text}
 use Rattle.vt_script.specs.Progress.{Moment, Runs, HasNoNewline, whole_lines}
 
 -- a session: the world, how many lines are answered, and what is kept of the next line
@@ -35,7 +35,7 @@ lines_begun state = state.answered + begun state.kept.bytes
 -- a number that is not in use, or none where memory was refused
 abbrev pub IsHanded : World ℕ → Option ℕ → Type 0
 IsHanded world None = Unit {0}
-IsHanded world (Some fresh) = world.tree.node fresh ≡ None
+IsHanded world (Some fresh) = world.inodes.inode fresh ≡ None
 
 -- what may be told of the last line
 pub record IsLast (old : Moment) (text : List ℕ) : Type 0 where

@@ -4,9 +4,9 @@ ghost use Rattle.vt_script.specs.Session.{AnswersScript, AnswersWholeLines, Begi
 
 use crate::session::Session;
 use std::alloc::Global;
-use vt_first_line::answer::RunFault;
 use vt_io::input::Source;
 use vt_io::output::Sink;
+use vt_line::fault::RunFault;
 
 /// How many bytes are asked for at a time.
 const CHUNK: usize = 8192;

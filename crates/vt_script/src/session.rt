@@ -1,18 +1,19 @@
 //! What is kept from one byte of a script to the next.
 ghost use Rattle.std.specs.Prelude.{◌≡◌, ◌+◌, ◌<◌, ◌≤◌, ◌^◌, ◌∷◌, [], List, ℕ, length, IfOk, IfErr, OnOk, OnErr};
 ghost use Rattle.vt_io.specs.LineBuffer.{Holds};
-ghost use Rattle.vt_script.specs.WorldValue.{world_of};
+ghost use Rattle.vt_ns.specs.WorldValue.{world_of};
 ghost use Rattle.vt_script.specs.Progress.{opening_moment};
 ghost use Rattle.vt_script.specs.Session.{moment, lines_begun, IsReading, Feeds, Closes, Replies};
 ghost use Rattle.vt_script.specs.SessionValue.{state_of};
 
-use crate::world::World;
 use std::alloc::Global;
-use vt_first_line::answer::RunFault;
-use vt_first_line::line::Line;
-use vt_first_line::print::write_reply;
+use vt_calls::Calls;
 use vt_io::line::LineBuffer;
 use vt_io::output::Sink;
+use vt_line::fault::RunFault;
+use vt_line::line::Line;
+use vt_line::print::write_reply;
+use vt_ns::World;
 use vt_spec::errors::Rule;
 
 /// The world, how many lines are answered, and the line that is being read.

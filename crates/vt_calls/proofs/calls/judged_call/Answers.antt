@@ -10,7 +10,7 @@ use Rattle.vt_calls.specs.Suits.{SuitsTask}
 use Rattle.vt_calls.proofs.FileLemmas.{some-equal}
 use Rattle.vt_calls.proofs.MemoryLemmas.{answered, policy-permitted}
 use Rattle.vt_calls.proofs.Permitted.{permitted-suits}
-use Rattle.vt_calls.proofs.calls.call.Goals as goal
+use Rattle.vt_calls.proofs.calls.judged_call.Goals as goal
 
 pub spend-requires-clause-suits : goal.spend-requires-clause-suits
 spend-requires-clause-suits c = λ task found.

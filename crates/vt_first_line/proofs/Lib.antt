@@ -1,5 +1,0 @@
-pub mod NumberLemmas
-pub mod TokenLemmas
-pub mod Splits
-pub mod WordLemmas
-pub mod PrintLemmas

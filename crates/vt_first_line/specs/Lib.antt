@@ -1,4 +1,0 @@
-pub mod Tokens
-pub mod Requests
-pub mod Lines
-pub mod Answers
