@@ -6,7 +6,7 @@ use Rattle.vt_laws.proofs.LeastRule.{before_least, denied_as, front_in_order, le
 use Rattle.vt_laws.proofs.TableOrder.{first_in_order, last_in_order}
 use Rattle.vt_laws.specs.Asked.{IsLeastOf, asked_first, asked_last, failing}
 use Rattle.vt_laws.specs.RuleOrder.{FirstRulesAnswer, LastRulesAnswer, NoTaskIsRefused, WalksAnswerNext}
-use Rattle.vt_spec.specs.Laws.RuleOrder.{IsInOrderAfterWalk, rank}
+use Rattle.vt_laws.specs.RuleRanks.{IsInOrderAfterWalk, rank}
 use Rattle.vt_spec.specs.declared.errors.Deny.{Deny}
 use Rattle.vt_spec.specs.declared.errors.Rule.TheVariants.{S2, W1, W9}
 use Rattle.vt_spec.specs.Errors.{Rules, denial, unless}

@@ -6,7 +6,7 @@ use Rattle.std.specs.Str.{bytes_eq}
 use Rattle.std.proofs.lemmas.Bool.{leb-true}
 use Rattle.std.proofs.lemmas.Slice.Eq.{bytes_eq-Decides}
 use Rattle.vt_laws.specs.Asked.{IsAnsweredByLeast, IsLeastOf, failing}
-use Rattle.vt_spec.specs.Laws.RuleOrder.{is_among, is_in_order_from, letters, place_of_letter, rank}
+use Rattle.vt_laws.specs.RuleRanks.{is_among, is_in_order_from, letters, place_of_letter, rank}
 use Rattle.vt_spec.specs.declared.errors.Deny.{Deny}
 use Rattle.vt_spec.specs.declared.errors.Rule.{Rule}
 use Rattle.vt_spec.specs.Errors.{Rules, rule_name, unless}

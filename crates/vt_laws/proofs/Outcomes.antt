@@ -1,7 +1,7 @@
 -- What an outcome that is put together of steps that may be refused keeps of them.
 use Rattle.std.proofs.Common.{◌≡◌, refl, subst, Bool, true, false, not, List, [], ◌∷◌, ◌++◌, ◌&&◌, ◌||◌, Result, Ok, Err, IfErr, is_ok, cond}
 use Rattle.std.specs.Str.{bytes_eq}
-use Rattle.vt_spec.specs.Laws.RuleOrder.{is_among}
+use Rattle.vt_laws.specs.RuleRanks.{is_among}
 use Rattle.vt_spec.specs.declared.errors.Deny.{Deny}
 use Rattle.vt_spec.specs.declared.errors.Rule.{Rule}
 use Rattle.vt_spec.specs.Errors.{Rules, and_then, denial, rule_name, unless}

@@ -4,7 +4,7 @@ use Rattle.vt_laws.proofs.Outcomes.{DeniesOwn, IsOwn, RefusesOwn, after_own, amo
 use Rattle.vt_laws.proofs.WalkRules.{RefusesAsWalk, StopsAsWalk, destination_walks, directory_walks, file_walks, layer_walks, leaf_walks, new_leaf_walks, new_walks, object_walks, old_leaf_walks, old_walks, rename_new_walks, source_walks}
 use Rattle.vt_laws.specs.Denials.{DenialChangesNothing}
 use Rattle.vt_laws.specs.RuleOrder.{DenialHasErrorOfRule, DenialIsOwn, has_path, own_rules, rules_of, walk_rules}
-use Rattle.vt_spec.specs.Laws.RuleOrder.{is_among}
+use Rattle.vt_laws.specs.RuleRanks.{is_among}
 use Rattle.vt_spec.specs.declared.errors.Deny.{Deny}
 use Rattle.vt_spec.specs.declared.errors.Rule.{Rule}
 use Rattle.vt_spec.specs.declared.errors.Rule.TheVariants.{B1, B2, E1, E2, E6, K1, S2, S4}

@@ -5,7 +5,7 @@ use Rattle.vt_laws.proofs.Outcomes.{IsOwn, RefusesOwn, among_front, error_is, un
 use Rattle.vt_laws.proofs.WalkRules.{RefusesAsWalk, StopsAsWalk, destination_walks, directory_walks, file_walks, layer_walks, leaf_walks, new_leaf_walks, new_walks, object_walks, old_leaf_walks, old_walks, rename_new_walks, source_walks}
 use Rattle.vt_laws.specs.Asked.{asked_first, asked_last, asked_of_open, asked_of_overlay, asked_of_rename, asked_of_write, exclusive_last_words, failing, last_word_rules, walked}
 use Rattle.vt_laws.specs.RuleOrder.{FirstTablesInOrder, LastTablesInOrder, WalksRefuseAsWalks, walk_rules}
-use Rattle.vt_spec.specs.Laws.RuleOrder.{IsInOrderAfterWalk, is_in_order_from, rank}
+use Rattle.vt_laws.specs.RuleRanks.{IsInOrderAfterWalk, is_in_order_from, rank}
 use Rattle.vt_spec.specs.declared.errors.Rule.{Rule}
 use Rattle.vt_spec.specs.declared.errors.Rule.TheVariants.{B1, C2, S4}
 use Rattle.vt_spec.specs.Errors.{and_then, denial, unless, Rules}

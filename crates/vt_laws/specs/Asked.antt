@@ -1,6 +1,6 @@
 -- What each call asks, in its order: the rules of the script and of capabilities, then its walks, then one table of rules.
 use Rattle.std.specs.Prelude.{Bool, IsErrAnd, IsOk, List, None, Ok, Option, Result, Some, [], false, filter, is_err, is_none, is_some, length, map, nat_eq, nat_lt, true, unwrap_or, ℕ, ◌++◌, ◌||◌, ◌∷◌, ◌≡◌, ◌≤◌}
-use Rattle.vt_spec.specs.Laws.RuleOrder.{is_among, rank}
+use Rattle.vt_laws.specs.RuleRanks.{is_among, rank}
 use Rattle.vt_spec.specs.declared.errors.Deny.{Deny}
 use Rattle.vt_spec.specs.declared.errors.Rule.{Rule}
 use Rattle.vt_spec.specs.declared.errors.Rule.TheVariants.{E1, E2, E4, E5, E6, K1, O2, P1, S2, S4}

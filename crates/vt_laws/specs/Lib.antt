@@ -6,4 +6,5 @@ pub mod Numbers
 pub mod OneTree
 pub mod OneTreeNumbers
 pub mod RuleOrder
+pub mod RuleRanks
 pub mod Trees

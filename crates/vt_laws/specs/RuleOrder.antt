@@ -1,7 +1,7 @@
 -- Which rules a call is refused by, and by which of several that fail.
 use Rattle.std.specs.Prelude.{Bool, Err, IfOk, IsErrAnd, List, None, Ok, Option, Some, [], false, if◌then◌else◌, map, nat_eq, true, ℕ, ◌++◌, ◌∷◌, ◌≡◌, ◌≢◌}
 use Rattle.vt_laws.specs.Asked.{IsAnsweredByLeast, IsLeastOf, asked_first, asked_last, exclusive_last_words, failing, last_word_rules}
-use Rattle.vt_spec.specs.Laws.RuleOrder.{IsInOrder, IsInOrderAfterWalk, is_among}
+use Rattle.vt_laws.specs.RuleRanks.{IsInOrder, IsInOrderAfterWalk, is_among}
 use Rattle.vt_spec.specs.declared.errors.Deny.{Deny}
 use Rattle.vt_spec.specs.declared.errors.Rule.{Rule}
 use Rattle.vt_spec.specs.declared.errors.Rule.TheVariants.{B1, B2, C1, C2, C3, E1, E2, E3, E4, E5, E6, E7, E8, E9, F1, F2, F3, K1, L1, M10, M11, M12, M2, M3, M4, M5, M6, M7, M8, M9, O1, O2, O3, O4, O5, P1, P2, S1, S2, S3, S4, S5, S6, W1, W2, W3, W4, W5, W6, W7, W8, W9}

@@ -4,10 +4,9 @@ use Rattle.std.proofs.lemmas.Bool.Decides.{eqb_tells}
 use Rattle.std.specs.Ordering.{eq_by_cmp}
 use Rattle.std.specs.Cmp.Lexicographic.{nat_list_cmp_total, texts_ties, bytes_decides}
 use Rattle.std.specs.FinMap.Entries.{find-put}
-use Rattle.vt_spec.specs.Rights.{Credentials, allows, is_directory}
+use Rattle.vt_spec.specs.Rights.{is_directory}
 use Rattle.vt_spec.specs.Tree.{Tree, Node, Content, Entries, name_cmp, kind_of, entry_named, with_entry, entries_of, with_entries, with_bytes, is_directory_node, entries_in, parent_of, parent_in, node_with_entry, node_with_bytes, with_node}
 use Rattle.vt_spec.specs.Tree.Content.{Directory, Regular, Symlink, Whiteout}
-use Rattle.vt_spec.specs.World.{node_allows}
 use Rattle.vt_spec.specs.TreeLaws.{IsDirectory}
 
 -- names that tie are one name
@@ -64,17 +63,6 @@ module _ (name : List ℕ) (number : ℕ) where
       by (Symlink text) = refl
       by Whiteout = refl
 
-  -- it may be done with as before
-  pub allows-node_with_entry : (who : Credentials) (wanted : ℕ) (o : Option (Node ℕ)) → node_allows who wanted (node_with_entry name number o) ≡ node_allows who wanted o
-  allows-node_with_entry who wanted None = refl
-  allows-node_with_entry who wanted (Some node) = by node.content
-    where
-      by : (content : Content ℕ) → allows who node.attr (kind_of (with_entries content (with_entry name number (entries_of content)))) wanted ≡ allows who node.attr (kind_of content) wanted
-      by (Directory parent entries opaque) = refl
-      by (Regular bytes) = refl
-      by (Symlink text) = refl
-      by Whiteout = refl
-
   -- it is still there
   pub is_some-node_with_entry : (o : Option (Node ℕ)) → is_some (node_with_entry name number o) ≡ is_some o
   is_some-node_with_entry None = refl
@@ -109,16 +97,6 @@ module _ (bytes : List ℕ) where
   parent-node_with_bytes own (Some node) = by node.content
     where
       by : (content : Content ℕ) → parent_of own (with_bytes content bytes) ≡ parent_of own content
-      by (Directory parent entries opaque) = refl
-      by (Regular old) = refl
-      by (Symlink text) = refl
-      by Whiteout = refl
-
-  pub allows-node_with_bytes : (who : Credentials) (wanted : ℕ) (o : Option (Node ℕ)) → node_allows who wanted (node_with_bytes bytes o) ≡ node_allows who wanted o
-  allows-node_with_bytes who wanted None = refl
-  allows-node_with_bytes who wanted (Some node) = by node.content
-    where
-      by : (content : Content ℕ) → allows who node.attr (kind_of (with_bytes content bytes)) wanted ≡ allows who node.attr (kind_of content) wanted
       by (Directory parent entries opaque) = refl
       by (Regular old) = refl
       by (Symlink text) = refl

@@ -1,5 +1,5 @@
 -- Each change of a tree keeps the conditions of a tree.
-use Rattle.std.proofs.Common.{eqb-true, ◌≡◌, ◌≢◌, refl, sym, ap, subst, ◌∙◌, true≢false, ℕ, nat_eq, Bool, true, false, cond, List, [], ◌∷◌, ◌++◌, ◌⊎◌, inl, inr, ⊎_elim, Option, Some, None, is_some, option_and_then, arith}
+use Rattle.std.proofs.Common.{◌≡◌, ◌≢◌, refl, sym, ap, subst, ◌∙◌, true≢false, ℕ, nat_eq, Bool, true, false, cond, List, [], ◌∷◌, ◌++◌, ◌⊎◌, inl, inr, ⊎_elim, Option, Some, None, is_some, option_and_then, arith}
 use Rattle.std.proofs.lemmas.Bool.Decides.{eqb_tells}
 use Rattle.std.proofs.lemmas.Float.{T_from_true}
 use Rattle.std.specs.FinMap.Entries.{is_sorted, is_sorted-put}
@@ -10,7 +10,7 @@ use Rattle.vt_spec.specs.declared.attributes.Attr.{Attr}
 use Rattle.vt_spec.specs.Rights.{is_directory}
 use Rattle.vt_spec.specs.Tree.{Tree, Node, Content, name_cmp, kind_of, entry_named, with_entry, entries_of, parent_of, new_directory, is_directory_node, entries_in, parent_in, node_with_entry, node_with_bytes, with_node, with_object, with_file_bytes, tree_of_root}
 use Rattle.vt_spec.specs.Tree.Content.{Directory, Regular, Symlink, Whiteout}
-use Rattle.vt_spec.specs.Laws.Trees.{IsNewIn, RootIsWhole, NewObjectKeepsWhole, FileBytesKeepWhole}
+use Rattle.vt_spec.specs.Laws.Trees.{IsNewIn}
 use Rattle.vt_spec.specs.TreeLaws.{entry_at, led, IsDirectory, HasName, IsReached, IsTree}
 use Rattle.vt_spec.proofs.Nodes.{passes, directory_used, same_name, none_is_not, entry_named-with_entry, is_directory-node_with_entry, parent-node_with_entry, is_some-node_with_entry, entries-node_with_entry, is_directory-node_with_bytes, parent-node_with_bytes, is_some-node_with_bytes, entries-node_with_bytes, node_set, node_other, part_kept}
 
@@ -283,20 +283,6 @@ module _ (tree : Tree ℕ) (directory : ℕ) (name : List ℕ) (number : ℕ) (n
     unnamed_empty = grown_unnamed_empty;
   }
 
-  -- where every directory was reached, each is reached still
-  all_reached_grown : ((m : ℕ) → IsDirectory tree m → IsReached tree m) → (m : ℕ) → IsDirectory grown m → IsReached grown m
-  all_reached_grown all m is =
-      ⊎_elim
-      (λ t. (
-        reached.0 ++ name ∷ [],
-        led-append grown tree.root reached.0 name directory m
-            (led_kept tree grown entry_kept tree.root reached.0 directory reached.1) (entry_new ∙ ap Some (sym t.1)),
-      ))
-      (λ t.
-      let way = all m (sym (directory_beside m t.1) ∙ is) in
-      (way.0, led_kept tree grown entry_kept tree.root way.0 m way.1))
-      (eqb_tells m number)
-
 -- A file with other bytes
 module _ (tree : Tree ℕ) (file : ℕ) (bytes : List ℕ) (conditions : IsTree tree) where
   abbrev rewritten : Tree ℕ
@@ -339,33 +325,3 @@ module _ (tree : Tree ℕ) (file : ℕ) (bytes : List ℕ) (conditions : IsTree 
     unnamed_empty = λ m is root unnamed. same_entries m
         ∙ conditions.unnamed_empty m (sym (same_directory m) ∙ is) root (λ named. unnamed (named.0, named.1, same_entry named.0 named.1 ∙ named.2));
   }
-
-  all_reached_rewritten : ((m : ℕ) → IsDirectory tree m → IsReached tree m) → (m : ℕ) → IsDirectory rewritten m → IsReached rewritten m
-  all_reached_rewritten all m is =
-      let way = all m (sym (same_directory m) ∙ is) in
-      (way.0, led_kept tree rewritten (λ d n k e. same_entry d n ∙ e) tree.root way.0 m way.1)
-
--- a tree of which no directory was removed, at its start and through each change
-pub whole-tree_of_root : RootIsWhole
-whole-tree_of_root root attr = record {
-  conditions = is_tree-tree_of_root root attr;
-  all_reached = λ m is. subst (IsReached (tree_of_root nat_eq root attr)) (sym (eqb-true m root (only_root (nat_eq m root) is))) (root_reached (tree_of_root nat_eq root attr));
-}
-  where
-    only_root : (b : Bool) → is_directory_node (cond b (Some (record { attr = attr; content = new_directory root })) None) ≡ true → b ≡ true
-    only_root true e = refl
-    only_root false e = e
-
-pub whole-with_object : NewObjectKeepsWhole
-whole-with_object tree directory name number node whole is free vacant fits =
-    let reached = whole.all_reached directory is in
-    record {
-      conditions = is_tree-with_object tree directory name number node whole.conditions is reached free vacant fits;
-      all_reached = all_reached_grown tree directory name number node whole.conditions is reached free vacant fits whole.all_reached;
-    }
-
-pub whole-with_file_bytes : FileBytesKeepWhole
-whole-with_file_bytes tree file bytes whole = record {
-  conditions = is_tree-with_file_bytes tree file bytes whole.conditions;
-  all_reached = all_reached_rewritten tree file bytes whole.conditions whole.all_reached;
-}

@@ -3,13 +3,6 @@ pub mod Rights
 pub mod PathText
 pub mod Tree
 pub mod TreeLaws
-pub mod World
-pub mod Walk
-pub mod Calls
-pub mod Policy
-pub mod Script
-pub mod Printed
-pub mod Run
 pub mod Machine
 pub mod OneTree
 pub mod Laws

@@ -7,4 +7,3 @@
 pub mod attributes;
 pub mod errors;
 pub mod laws;
-pub mod machine_laws;

@@ -4,9 +4,6 @@ use Rattle.vt_spec.specs.declared.attributes.Attr.{Attr}
 use Rattle.vt_spec.specs.Rights.{is_directory}
 use Rattle.vt_spec.specs.Tree.{Tree, Node, kind_of, new_directory, with_object, with_file_bytes, tree_of_root}
 use Rattle.vt_spec.specs.TreeLaws.{entry_at, IsDirectory, IsReached, IsTree}
-use Rattle.vt_spec.specs.World.{World, TaskName}
-use Rattle.vt_spec.specs.Calls.{Call}
-use Rattle.vt_spec.specs.Policy.{policy}
 
 -- an object that may be put into a directory: an empty directory below it, or no directory
 abbrev pub IsNewIn : ℕ → Node ℕ → Type 0
@@ -28,35 +25,3 @@ NewObjectKeepsTree =
 -- so do other bytes of a file
 abbrev pub FileBytesKeepTree : Type 0
 FileBytesKeepTree = (tree : Tree ℕ) (file : ℕ) (bytes : List ℕ) → IsTree tree → IsTree (with_file_bytes nat_eq tree file bytes)
-
--- and so does every call to which a vacant number is handed
-abbrev pub PolicyKeepsTree : Type 0
-PolicyKeepsTree =
-    (world : World ℕ) (task : TaskName) (call : Call) (number : ℕ)
-    → IsTree world.tree → world.tree.node number ≡ None
-    → IsTree (policy nat_eq world task call number).world.tree
-
--- A tree of which no directory was removed: names lead to each from the root. The calls remove none, so it is kept with no more
--- said of the directory that a new object is put into.
-pub record IsWholeTree (tree : Tree ℕ) : Type 0 where
-  pub conditions : IsTree tree
-  pub all_reached : (number : ℕ) → IsDirectory tree number → IsReached tree number
-
-abbrev pub RootIsWhole : Type 0
-RootIsWhole = (root : ℕ) (attr : Attr) → IsWholeTree (tree_of_root nat_eq root attr)
-
-abbrev pub NewObjectKeepsWhole : Type 0
-NewObjectKeepsWhole =
-    (tree : Tree ℕ) (directory : ℕ) (name : List ℕ) (number : ℕ) (node : Node ℕ)
-    → IsWholeTree tree → IsDirectory tree directory
-    → entry_at tree directory name ≡ None → tree.node number ≡ None → IsNewIn directory node
-    → IsWholeTree (with_object nat_eq tree directory name number node)
-
-abbrev pub FileBytesKeepWhole : Type 0
-FileBytesKeepWhole = (tree : Tree ℕ) (file : ℕ) (bytes : List ℕ) → IsWholeTree tree → IsWholeTree (with_file_bytes nat_eq tree file bytes)
-
-abbrev pub PolicyKeepsWhole : Type 0
-PolicyKeepsWhole =
-    (world : World ℕ) (task : TaskName) (call : Call) (number : ℕ)
-    → IsWholeTree world.tree → world.tree.node number ≡ None
-    → IsWholeTree (policy nat_eq world task call number).world.tree

@@ -429,15 +429,6 @@ pub record Grammar : Type 0 where
   pub takes : Call → Option Call
   pub directs : List ℕ → Bool
 
--- the calls that the product has today
-abbrev pub today : Grammar
-today = record {
-  version = One;
-  knows = λ name. list_any (bytes_eq name) (codes "mkdir" ∷ codes "write" ∷ codes "read" ∷ codes "ls" ∷ codes "drop" ∷ []);
-  takes = λ call. Some call;
-  directs = λ name. false;
-}
-
 -- the names of the calls on files and tasks, in one tree
 abbrev pub file_call_names : List (List ℕ)
 file_call_names =
@@ -446,7 +437,7 @@ file_call_names =
     ∷ codes "chmod" ∷ codes "chown" ∷ codes "open" ∷ codes "pread" ∷ codes "pwrite" ∷ codes "close"
     ∷ codes "umask" ∷ codes "drop" ∷ codes "fork" ∷ codes "exit" ∷ []
 
--- the calls on files and tasks alone
+-- the calls on files and tasks alone, which the product has today
 abbrev pub files : Grammar
 files = record {
   version = One;

@@ -1,5 +1,4 @@
 use Rattle.vt_spec.proofs.Trees.{is_tree-tree_of_root, is_tree-with_object, is_tree-with_file_bytes}
-use Rattle.vt_spec.proofs.PolicyKeeps.{is_tree-policy}
 use Rattle.vt_spec.proofs.laws.trees_stay_trees.Goals as goal
 
 pub returns-clause-root : goal.returns-clause-root
@@ -10,6 +9,3 @@ returns-clause-new_object c = is_tree-with_object
 
 pub returns-clause-file_bytes : goal.returns-clause-file_bytes
 returns-clause-file_bytes c = is_tree-with_file_bytes
-
-pub returns-clause-policy : goal.returns-clause-policy
-returns-clause-policy c = is_tree-policy
