@@ -5,5 +5,6 @@ pub mod Mounts
 pub mod Numbers
 pub mod OneTree
 pub mod OneTreeNumbers
+pub mod OneTreeTexts
 pub mod RuleOrder
 pub mod Trees
