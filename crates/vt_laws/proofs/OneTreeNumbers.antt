@@ -35,7 +35,7 @@ module _ {N : Type 0} where
     tasks = map_itself (renamed_task (λ n. n) (λ n. n)) task_itself world.tasks i;
   }
 
-  outcome_itself : (outcome : Outcome N) → renamed_outcome (λ n. n) (λ n. n) outcome ≡ outcome
+  pub outcome_itself : (outcome : Outcome N) → renamed_outcome (λ n. n) (λ n. n) outcome ≡ outcome
   outcome_itself outcome = λ i. record { answer = outcome.answer; world = world_itself outcome.world i }
 
 -- a number that is handed in, and a world
@@ -48,7 +48,7 @@ named_handed = record {
   itself = λ A handed i. (handed.0, world_itself handed.1 i);
 }
 
-abbrev named_outcome : Named Outcome
+abbrev pub named_outcome : Named Outcome
 named_outcome = record {
   rename = λ A B there back outcome. renamed_outcome there back outcome;
   itself = λ A outcome. outcome_itself outcome;
