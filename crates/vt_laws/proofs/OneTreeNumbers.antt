@@ -48,7 +48,7 @@ named_handed = record {
   itself = λ A handed i. (handed.0, world_itself handed.1 i);
 }
 
-abbrev pub named_outcome : Named Outcome
+abbrev named_outcome : Named Outcome
 named_outcome = record {
   rename = λ A B there back outcome. renamed_outcome there back outcome;
   itself = λ A outcome. outcome_itself outcome;

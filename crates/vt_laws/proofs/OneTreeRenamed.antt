@@ -1,6 +1,5 @@
 -- Renamings that agree on the inodes that are there rename a fit world alike: it has no other numbers.
-use Rattle.std.proofs.Common.{◌≡◌, refl, sym, ap, subst, ◌∙◌, ⊎_elim, ℕ, ◌+◌, ◌≤◌, nat_eq, eq-eqb, Bool, true, false, true≢false, cond, List, [], ◌∷◌, ◌++◌, map, flat_map, Option, Some, None, option_map, is_some, arith}
-use Rattle.std.proofs.lemmas.Bool.Decides.{eqb_tells}
+use Rattle.std.proofs.Common.{◌≡◌, refl, sym, ap, subst, ◌∙◌, ℕ, ◌+◌, ◌≤◌, eq-eqb, true, true≢false, cond, List, [], ◌∷◌, map, flat_map, Option, Some, None, option_map, is_some, arith}
 use Rattle.vt_spec.specs.Machine.FileTree.{targets_in}
 use Rattle.vt_spec.specs.Machine.Renaming.{renamed_content, renamed_entry}
 use Rattle.vt_spec.specs.Machine.World.{TaskName}
@@ -11,7 +10,7 @@ use Rattle.vt_spec.specs.Tree.{Content, Entries, Tree, entries_in, entries_of, i
 use Rattle.vt_spec.specs.Tree.Content.{Directory, Regular, Symlink, Whiteout}
 use Rattle.vt_spec.specs.TreeLaws.{IsDirectory}
 use Rattle.vt_laws.specs.Numbers.{Renaming}
-use Rattle.vt_laws.specs.OneTree.{IsFit, files_of, opened_in, times_in, used_in}
+use Rattle.vt_laws.specs.OneTree.{IsFit, files_of, opened_in, times_in}
 use Rattle.vt_laws.specs.OneTreeNumbers.{renamed_descriptor, renamed_inode, renamed_task, renamed_world}
 use Rattle.vt_laws.proofs.OneTreeChanges.{directory_there, used_is_there, uses_parts}
 use Rattle.vt_laws.proofs.OneTreeEntries.{named_by, named_of, one_if, targets}
@@ -89,14 +88,14 @@ module _ (numbers : List ℕ) (world : World ℕ) (fit : IsFit numbers world) wh
     content_alike place inode is (Symlink text) e = refl
     content_alike place inode is Whiteout e = refl
 
-    -- the number that one renaming leads back to, if it is there
+    -- what is there is led to from the same number
     led_back : (number : ℕ) → IsThere (first.back number) → second.back number ≡ first.back number
     led_back number is =
-        ap second.back (sym (agree (first.back number) is ∙ first.there_back number)) ∙ second.back_there (first.back number)
+        sym (ap second.back (agree (first.back number) is ∙ first.there_back number)) ∙ second.back_there (first.back number)
 
     led_back_again : (number : ℕ) → IsThere (second.back number) → first.back number ≡ second.back number
     led_back_again number is =
-        ap first.back (sym (sym (agree (second.back number) is) ∙ second.there_back number)) ∙ first.back_there (second.back number)
+        ap first.back (sym (second.there_back number) ∙ agree (second.back number) is) ∙ first.back_there (second.back number)
 
     inode_alike : (number : ℕ) → option_map (renamed_inode second.there second.back) (world.inodes.inode (second.back number))
         ≡ option_map (renamed_inode first.there first.back) (world.inodes.inode (first.back number))

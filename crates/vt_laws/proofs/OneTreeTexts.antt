@@ -1,5 +1,5 @@
 -- The answers to a script in one tree are one text, whatever unused numbers are handed in.
-use Rattle.std.proofs.Common.{◌≡◌, refl, sym, ap, subst, ◌∙◌, ⊎_elim, ℕ, zero, suc, ◌+◌, ◌<◌, ◌≤◌, nat_eq, nat_lt, lt-ltb, ltb-true, eqb-true, Bool, true, false, true≢false, cond, List, [], ◌∷◌, ◌++◌, length, Option, Some, None, option_map, is_some, arith}
+use Rattle.std.proofs.Common.{◌≡◌, refl, sym, ap, subst, ◌∙◌, ⊎_elim, ℕ, ◌+◌, ◌<◌, ◌≤◌, nat_eq, nat_lt, lt-ltb, ltb-true, eqb-true, Bool, true, false, true≢false, cond, List, [], ◌∷◌, ◌++◌, length, Option, Some, None, option_map, is_some, arith}
 use Rattle.vt_spec.specs.Machine.Calls.{Call}
 use Rattle.vt_spec.specs.Machine.Script as Script
 use Rattle.vt_spec.specs.Machine.World.{TaskName}
@@ -9,7 +9,7 @@ use Rattle.vt_spec.specs.OneTree.Run.{Step, Tells, line_step, line_step_by, requ
 use Rattle.vt_spec.specs.OneTree.Run.Step.{Answered, Silent}
 use Rattle.vt_spec.specs.OneTree.World.{World, opening}
 use Rattle.vt_laws.specs.Numbers.{Leaves, Renaming}
-use Rattle.vt_laws.specs.OneTree.{Beside, IsAnsweredAlike, IsFit, IsImage}
+use Rattle.vt_laws.specs.OneTree.{IsAnsweredAlike, IsFit, IsImage}
 use Rattle.vt_laws.specs.OneTreeNumbers.{renamed_inode, renamed_outcome, renamed_world}
 use Rattle.vt_laws.specs.OneTreeTexts.{OneTreeHasOneText, OneTreeHasSomeText}
 use Rattle.vt_laws.proofs.OneTreeNumbers.{outcome_itself, world_itself}
