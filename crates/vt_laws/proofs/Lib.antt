@@ -64,11 +64,13 @@ pub mod OneTreeNames
 pub mod OneTreeNumbers
 pub mod OneTreeOpening
 pub mod OneTreeOpens
+pub mod OneTreeRenamed
 pub mod OneTreeRenames
 pub mod OneTreeRewrites
 pub mod OneTreeRuns
 pub mod OneTreeSettled
 pub mod OneTreeTasks
+pub mod OneTreeTexts
 pub mod OneTreeTrees
 pub mod OneTreeWalks
 pub mod Outcomes

@@ -35,7 +35,7 @@ module _ {N : Type 0} where
     tasks = map_itself (renamed_task (λ n. n) (λ n. n)) task_itself world.tasks i;
   }
 
-  outcome_itself : (outcome : Outcome N) → renamed_outcome (λ n. n) (λ n. n) outcome ≡ outcome
+  pub outcome_itself : (outcome : Outcome N) → renamed_outcome (λ n. n) (λ n. n) outcome ≡ outcome
   outcome_itself outcome = λ i. record { answer = outcome.answer; world = world_itself outcome.world i }
 
 -- a number that is handed in, and a world

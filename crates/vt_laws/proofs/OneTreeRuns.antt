@@ -29,12 +29,12 @@ use Rattle.vt_laws.proofs.OneTreeOpening.{opening_is_fit}
 use Rattle.vt_laws.proofs.OneTreeTrees.{times_among}
 
 -- what a line of the grammar asks for is answered alike
-abbrev RequestAnswered : Option Script.Request → Type 0
+abbrev pub RequestAnswered : Option Script.Request → Type 0
 RequestAnswered None = ⊤
 RequestAnswered (Some (Script.Request.Calling task call)) = IsAnsweredAlike call
 RequestAnswered (Some (Script.Request.Asking directive)) = ⊥
 
-request_answered : (line : List ℕ) → RequestAnswered (Script.request_of Script.files line)
+pub request_answered : (line : List ℕ) → RequestAnswered (Script.request_of Script.files line)
 unfolding Script.request_of
 request_answered line = by (Script.each_of Script.token_text (Script.raw_tokens line))
   where
@@ -63,11 +63,11 @@ request_answered line = by (Script.each_of Script.token_text (Script.raw_tokens 
 
 -- a number that is vacant
 
-abbrev sum_of : List ℕ → ℕ
+abbrev pub sum_of : List ℕ → ℕ
 sum_of [] = 0
 sum_of (number ∷ rest) = number + sum_of rest
 
-not_above : (number : ℕ) (list : List ℕ) → sum_of list < number → times_in number list ≡ 0
+pub not_above : (number : ℕ) (list : List ℕ) → sum_of list < number → times_in number list ≡ 0
 not_above number [] above = refl
 not_above number (first ∷ rest) above =
     ⊎_elim
@@ -75,7 +75,7 @@ not_above number (first ∷ rest) above =
     (λ t. let here : one_if number first ≡ 0 = ap (λ b. cond b 1 0) t.0 in let later : times_in number rest ≡ 0 = not_above number rest (omega arith) in omega arith)
     (eqb_tells number first)
 
-vacant_if : (numbers : List ℕ) (world : World ℕ) → IsFit numbers world → (number : ℕ) → times_in number numbers ≡ 0 → world.inodes.inode number ≡ None
+pub vacant_if : (numbers : List ℕ) (world : World ℕ) → IsFit numbers world → (number : ℕ) → times_in number numbers ≡ 0 → world.inodes.inode number ≡ None
 vacant_if numbers world fit number none = by (world.inodes.inode number) (fit.each_once number)
   where
     by : (o : Option (Inode ℕ)) → times_in number numbers ≡ cond (is_some o) 1 0 → o ≡ None

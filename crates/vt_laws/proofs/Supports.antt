@@ -90,7 +90,7 @@ swapped_second a b =
 pub swapped_other : (a b k : ℕ) → k ≢ a → k ≢ b → swapped a b k ≡ k
 swapped_other a b k first second = ap (λ t. cond t b (cond (nat_eq k b) a k)) (ne_eqb k a first) ∙ ap (λ t. cond t a k) (ne_eqb k b second)
 
-swapped_twice : (a b k : ℕ) → swapped a b (swapped a b k) ≡ k
+pub swapped_twice : (a b k : ℕ) → swapped a b (swapped a b k) ≡ k
 swapped_twice a b k =
     ⊎_elim
     (λ t. ap (λ n. swapped a b (swapped a b n)) t.1 ∙ ap (swapped a b) (swapped_first a b) ∙ swapped_second a b ∙ sym t.1)
@@ -100,11 +100,11 @@ swapped_twice a b k =
     (eqb_tells k b))
     (eqb_tells k a)
 
-abbrev exchange : ℕ → ℕ → Renaming ℕ ℕ
+abbrev pub exchange : ℕ → ℕ → Renaming ℕ ℕ
 exchange a b = record { there = swapped a b; back = swapped a b; there_back = swapped_twice a b; back_there = swapped_twice a b }
 
 -- an exchange of two numbers that are left out leaves the others where they are
-exchange_leaves : (named : ℕ → Bool) (a b : ℕ) → named a ≡ false → named b ≡ false → Leaves (exchange a b) named
+pub exchange_leaves : (named : ℕ → Bool) (a b : ℕ) → named a ≡ false → named b ≡ false → Leaves (exchange a b) named
 exchange_leaves named a b no_a no_b number is =
     swapped_other a b number
     (λ e. true≢false (sym is ∙ ap named e ∙ no_a))

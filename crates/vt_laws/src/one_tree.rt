@@ -1,5 +1,6 @@
 //! The machine of one tree is the whole machine where there is one mount of one plain filesystem.
 ghost use Rattle.vt_laws.specs.OneTreeNumbers.{OneTreeDoesNotSeeNumbers};
+ghost use Rattle.vt_laws.specs.OneTreeTexts.{OneTreeHasOneText, OneTreeHasSomeText};
 ghost use Rattle.vt_laws.specs.OneTree.{FilesAreInLanguage, FilesAreTold, FilesTextIsTold, LanguageIsTold, LinksAgree, RenamesAgree, RmdirsAgree, UnlinksAgree, AttributesAgree, ClosesAgree, DropsAgree, ExitsAgree, ForksAgree, LooksAgree, MkdirsAgree, OpeningIsFit, OpensAgree, PartialReadsAgree, PartialWritesAgree, SymlinksAgree, UmasksAgree, WritesAgree, DirectoryWalksAgree, FileWalksAgree, LinkWalksAgree, NewLeafWalksAgree, NewWalksAgree, ObjectWalksAgree, OldLeafWalksAgree, OldWalksAgree, RenameNewWalksAgree};
 
 /// Each walk of the tree ends as that of the whole machine does, by a task at the root of the one mount: at the same place,
@@ -65,4 +66,11 @@ pub fn one_tree_is_in_the_language()
 /// and leaves the world that it left before, renamed.
 pub fn one_tree_does_not_see_numbers()
     ensures { OneTreeDoesNotSeeNumbers }
+{}
+
+/// The answers to a script in one tree are one text, whatever unused numbers its lines are handed: no text but `script_text`
+/// may be written, and that one may.
+pub fn one_tree_has_one_text()
+    ensures one { OneTreeHasOneText }
+    ensures some { OneTreeHasSomeText }
 {}
