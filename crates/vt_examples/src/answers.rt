@@ -1,11 +1,11 @@
 //! What calls answer: values as they are printed, files and directories that are there, and lines without memory.
 ghost use Rattle.std.specs.Prelude.{◌≡◌, ℕ, nat_eq, nat_lt, true, false, List, [], ◌∷◌, length, codes, Ok, Err};
-ghost use Rattle.vt_spec.specs.Calls.Call.{Write};
+ghost use Rattle.vt_spec.specs.Machine.Calls.Call.{Write};
 ghost use Rattle.vt_spec.specs.Errors.{denial};
-ghost use Rattle.vt_spec.specs.Policy.{policy};
-ghost use Rattle.vt_spec.specs.Run.{script_text};
-ghost use Rattle.vt_spec.specs.World.Answer.{Done};
-ghost use Rattle.vt_spec.specs.World.{opening};
+ghost use Rattle.vt_spec.specs.OneTree.Policy.{policy};
+ghost use Rattle.vt_spec.specs.OneTree.Run.{script_text};
+ghost use Rattle.vt_spec.specs.Machine.Outcomes.Answer.{Done};
+ghost use Rattle.vt_spec.specs.OneTree.World.{opening};
 ghost use Rattle.vt_spec.specs.declared.errors.Rule.TheVariants.{E6};
 
 /// Names are listed in the order of their bytes, with one space in front of each, and an empty directory gives none.

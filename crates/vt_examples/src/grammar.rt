@@ -1,6 +1,6 @@
 //! Lines, tokens and calls: what is of the grammar, and what is answered S1.
 ghost use Rattle.std.specs.Prelude.{◌≡◌, [], codes};
-ghost use Rattle.vt_spec.specs.Run.{script_text};
+ghost use Rattle.vt_spec.specs.OneTree.Run.{script_text};
 
 /// Blank lines and comments have no answer, and count.
 #[tactic(auto, unfolding(crate::specs::Opened::computed))]

@@ -1,7 +1,7 @@
 //! Paths: where they lead, their last words, and the rules of a walk.
 ghost use Rattle.std.specs.Prelude.{◌≡◌, ℕ, [], ◌++◌, replicate, codes};
 ghost use Rattle.std.specs.List.{flat_map};
-ghost use Rattle.vt_spec.specs.Run.{script_text};
+ghost use Rattle.vt_spec.specs.OneTree.Run.{script_text};
 
 /// Repeated slashes count as one, `.` stays, `..` leads to the parent and stays at the root, and a path without a
 /// slash in front starts at the working directory, which is the root.

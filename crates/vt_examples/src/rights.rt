@@ -1,6 +1,6 @@
 //! Rights and capabilities, and the rule that answers where several fail.
 ghost use Rattle.std.specs.Prelude.{◌≡◌, [], codes};
-ghost use Rattle.vt_spec.specs.Run.{script_text};
+ghost use Rattle.vt_spec.specs.OneTree.Run.{script_text};
 
 /// The owner's bits alone count for the owner, and a new object loses the umask's bits.
 #[tactic(auto, unfolding(crate::specs::Opened::computed))]

@@ -1,6 +1,6 @@
 //! Whole scripts, and the lines that they are made of.
 ghost use Rattle.std.specs.Prelude.{◌≡◌, [], ◌++◌, replicate, codes};
-ghost use Rattle.vt_spec.specs.Run.{script_text};
+ghost use Rattle.vt_spec.specs.OneTree.Run.{script_text};
 
 /// An empty script writes nothing.
 #[tactic(auto, unfolding(crate::specs::Opened::computed))]
