@@ -1,5 +1,5 @@
 -- What a call is permitted suits its task, and takes memory only where the call does: its rules have seen to it.
-use Rattle.std.proofs.Common.{◌≡◌, ◌<◌, ℕ, Bool, true, false, cond, ◌||◌, List, [], ◌∷◌, Option, Some, None, Result, Ok, Err, IsSome, length, nat_eq, refl, sym, ap, ◌∙◌, true≢false, subst, arith}
+use Rattle.std.proofs.Common.{◌≡◌, ◌<◌, ℕ, Bool, true, false, ◌||◌, List, [], ◌∷◌, Option, Some, None, Result, Ok, Err, IsSome, length, nat_eq, refl, true≢false, subst, arith}
 use Rattle.std.specs.Prelude.{nat_le, not, unwrap_or, ◌&&◌, ◌==◌}
 use Rattle.std.proofs.lemmas.Bool.{leb-false}
 use Rattle.vt_spec.specs.declared.errors.Deny.{Deny}
@@ -24,7 +24,7 @@ use Rattle.vt_spec.specs.OneTree.Policy.{link_attr, making, new_attr, new_file, 
 use Rattle.vt_spec.specs.OneTree.Rules.{attr_at, chmod_rules, descriptor_at, exclusive_rules, exec_rules, file_word_rules, is_one_object, lacks, link_rules, list_rules, new_rules, open_new_rules, open_rules, pwrite_rules, read_rules, readlink_rules, rename_rules, rewrite_rules, rmdir_rules, unlink_rules, write_new_rules}
 use Rattle.vt_spec.specs.OneTree.Walk.{Place, directory_walk, file_walk, is_directory_there, link_walk, new_leaf_walk, new_walk, object_walk, old_leaf_walk, old_walk, rename_new_walk}
 use Rattle.vt_spec.specs.OneTree.World.{Descriptor, Task, descriptor_numbered}
-use Rattle.vt_spec.specs.Tree.{Tree, new_directory}
+use Rattle.vt_spec.specs.Tree.{new_directory}
 use Rattle.vt_spec.specs.Tree.Content.{Symlink}
 use Rattle.vt_spec.specs.Rights.{Credentials, cap_setuid, cap_setgid}
 use Rattle.vt_permit.specs.Memory.{PermitTakesMemory, TakesMemory}

@@ -1,5 +1,5 @@
 -- How a call of the code ends, as the definitions see it.
-use Rattle.std.specs.Prelude.{◌≡◌, ◌⊎◌, ¬◌, ℕ, List, Result, Ok, Err, Some, nat_eq}
+use Rattle.std.specs.Prelude.{◌≡◌, ◌⊎◌, ℕ, Result, Ok, Err, Some, nat_eq}
 use Rattle.vt_spec.specs.declared.errors.Deny.{Deny}
 use Rattle.vt_spec.specs.declared.errors.Rule.TheVariants.{S5}
 use Rattle.vt_spec.specs.Errors.{denial}

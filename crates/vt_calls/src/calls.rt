@@ -6,6 +6,8 @@ ghost use Rattle.vt_calls.specs.Meets.{Ends, Meets};
 ghost use Rattle.vt_ns.specs.WorldValue.{fresh_number, world_of};
 ghost use Rattle.vt_permit.specs.Memory.{TakesMemory};
 ghost use Rattle.vt_request.specs.Answers.{result_of};
+ghost use Rattle.vt_request.specs.declared.answer.Answer.{Answer};
+ghost use Rattle.vt_spec.specs.declared.errors.Deny.{Deny};
 ghost use Rattle.vt_request.specs.Requests.{call_of};
 
 use crate::spending::spend;
