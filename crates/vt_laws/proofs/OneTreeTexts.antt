@@ -8,14 +8,14 @@ use Rattle.vt_spec.specs.OneTree.Policy.{policy}
 use Rattle.vt_spec.specs.OneTree.Run.{Step, Tells, line_step, line_step_by, requested, script_text, step_text, step_world, text_from}
 use Rattle.vt_spec.specs.OneTree.Run.Step.{Answered, Silent}
 use Rattle.vt_spec.specs.OneTree.World.{World, opening}
-use Rattle.vt_laws.specs.Numbers.{Leaves, Renaming}
+use Rattle.vt_laws.specs.Numbers.{Leaves, Renaming, completed_text}
 use Rattle.vt_laws.specs.OneTree.{IsAnsweredAlike, IsFit, IsImage}
 use Rattle.vt_laws.specs.OneTreeNumbers.{renamed_inode, renamed_outcome, renamed_world}
-use Rattle.vt_laws.specs.OneTreeTexts.{OneTreeHasOneText, OneTreeHasSomeText}
+use Rattle.vt_laws.specs.OneTreeTexts.{FilesTextIsTheText, LanguageTextIsTheText, OneTreeHasOneText, OneTreeHasSomeText}
 use Rattle.vt_laws.proofs.OneTreeNumbers.{outcome_itself, world_itself}
 use Rattle.vt_laws.proofs.OneTreeOpening.{opening_is_fit}
 use Rattle.vt_laws.proofs.OneTreeRenamed.{renamed_alike}
-use Rattle.vt_laws.proofs.OneTreeRuns.{RequestAnswered, not_above, request_answered, sum_of, vacant_if}
+use Rattle.vt_laws.proofs.OneTreeRuns.{RequestAnswered, files_text_is_told, language_is_told, not_above, request_answered, sum_of, vacant_if}
 use Rattle.vt_laws.proofs.Renamings.{Named, commutes_nat, stay_apart}
 use Rattle.vt_laws.proofs.Supports.{exchange, exchange_leaves, swapped, swapped_first, swapped_other, swapped_twice}
 
@@ -244,11 +244,24 @@ texts_alike (line ∷ lines) (false ∷ refused) number renaming world other sam
     let rest = texts_alike lines refused (number + 1) next _ _ leads (ready_step world number line ready) tells.2 tells.4 in
     tells.3 ∙ (λ i. alike i ++ rest i)
 
+-- a number alone
+abbrev named_number : Named (λ A. A)
+named_number = record { rename = λ A B there back number. there number; itself = λ A number. refl }
+
+abbrev named_world : Named World
+named_world = record { rename = λ A B there back world. renamed_world there back world; itself = λ A world. world_itself world }
+
+-- an opening world with another root is the opening world renamed
+opening_renamed : (root : ℕ) → renamed (exchange 0 root) (opening nat_eq 0) ≡ opening nat_eq root
+opening_renamed root =
+    sym (commutes_nat (λ A. A) World named_number named_world (λ A eq number. opening eq number) (exchange 0 root) 0)
+    ∙ ap (opening nat_eq) (swapped_first 0 root)
+
 -- the text of a script's answers is one
 pub one_tree_has_one_text : OneTreeHasOneText
 unfolding script_text
-one_tree_has_one_text script refused text tells =
-    texts_alike (Script.lines_of script) refused 1 nothing_renamed (opening nat_eq 0) (opening nat_eq 0) (world_itself (opening nat_eq 0)) ready_opening text tells
+one_tree_has_one_text script refused root text tells =
+    texts_alike (Script.lines_of script) refused 1 (exchange 0 root) (opening nat_eq 0) (opening nat_eq root) (opening_renamed root) ready_opening text tells
 
 -- what is written may be written
 text_told : (lines : List (List ℕ)) (refused : List Bool) (number : ℕ) (world : World ℕ) → IsReady world number → length refused ≡ length lines → Tells nat_eq world number lines refused (text_from world number lines refused)
@@ -263,3 +276,12 @@ text_told (line ∷ lines) (false ∷ refused) number world ready long =
 pub one_tree_has_some_text : OneTreeHasSomeText
 unfolding script_text
 one_tree_has_some_text script refused long = text_told (Script.lines_of script) refused 1 (opening nat_eq 0) ready_opening long
+
+-- and it is the text that the whole machine has
+pub files_text_is_the_text : FilesTextIsTheText
+files_text_is_the_text script refused long =
+    one_tree_has_one_text script refused 3 (completed_text Script.files refused script) (files_text_is_told script refused long)
+
+pub language_text_is_the_text : LanguageTextIsTheText
+language_text_is_the_text version script refused text same tells =
+    one_tree_has_one_text script refused 3 text (language_is_told version script refused text same tells)

@@ -1,14 +1,16 @@
 -- The answers to a script in one tree are one text.
-use Rattle.std.specs.Prelude.{Bool, List, length, nat_eq, ℕ, ◌≡◌}
-use Rattle.vt_spec.specs.Machine.Script.{lines_of}
+use Rattle.std.specs.Prelude.{All, Bool, List, length, nat_eq, ℕ, ◌≡◌}
+use Rattle.vt_spec.specs.Machine.Run as whole_run
+use Rattle.vt_spec.specs.Machine.Script.{Version, files, lines_of, request_of, whole}
 use Rattle.vt_spec.specs.OneTree.Run.{Tells, script_text}
 use Rattle.vt_spec.specs.OneTree.World.{opening}
+use Rattle.vt_laws.specs.Numbers.{completed_text}
 
--- whatever unused numbers are handed in, the text that may be written is the one text
+-- whatever number the root has, and whatever unused numbers are handed in, the text that may be written is the one text
 abbrev pub OneTreeHasOneText : Type 0
 OneTreeHasOneText =
-    (script : List ℕ) (refused : List Bool) (text : List ℕ)
-    → Tells nat_eq (opening nat_eq 0) 1 (lines_of script) refused text → text ≡ script_text refused script
+    (script : List ℕ) (refused : List Bool) (root : ℕ) (text : List ℕ)
+    → Tells nat_eq (opening nat_eq root) 1 (lines_of script) refused text → text ≡ script_text refused script
 
 -- and that text may be written
 abbrev pub OneTreeHasSomeText : Type 0
@@ -16,3 +18,17 @@ OneTreeHasSomeText =
     (script : List ℕ) (refused : List Bool)
     → length refused ≡ length (lines_of script)
     → Tells nat_eq (opening nat_eq 0) 1 (lines_of script) refused (script_text refused script)
+
+-- It is the one text that the whole machine has for the script, kept to the calls on files and tasks,
+abbrev pub FilesTextIsTheText : Type 0
+FilesTextIsTheText =
+    (script : List ℕ) (refused : List Bool)
+    → length refused ≡ length (lines_of script) → completed_text files refused script ≡ script_text refused script
+
+-- and whatever it may write in the whole language, for a script that has no more there than among these calls.
+abbrev pub LanguageTextIsTheText : Type 0
+LanguageTextIsTheText =
+    (version : Version) (script : List ℕ) (refused : List Bool) (text : List ℕ)
+    → All (λ line. request_of (whole version) line ≡ request_of files line) (lines_of script)
+    → whole_run.Tells nat_eq (whole version) whole_run.first_world 1 (lines_of script) refused text
+    → text ≡ script_text refused script

@@ -32,7 +32,7 @@ whole_read read text new runs none = ap whole_lines runs.split ∙ whole_lines-r
 -- the text of the lines that ended is the policy's text of the whole lines
 pub whole_told : (read text : List ℕ) (new : Moment) (runs : Runs opening_moment read text new) → HasNoNewline new.line → (refused : List Bool) × (text ≡ script_text refused (whole_lines read))
 whole_told read text new runs none =
-    (runs.refused, one_tree_has_one_text runs.ended runs.refused text (told_whole opening_moment read text new runs) ∙ ap (script_text runs.refused) (sym (whole_read read text new runs none)))
+    (runs.refused, one_tree_has_one_text runs.ended runs.refused 0 text (told_whole opening_moment read text new runs) ∙ ap (script_text runs.refused) (sym (whole_read read text new runs none)))
 
 -- the text of all lines is the policy's text
 pub all_told : (script text : List ℕ) (new : Moment) (runs : Runs opening_moment script text new) (refused : List Bool) (last : List ℕ) →
@@ -40,7 +40,7 @@ pub all_told : (script text : List ℕ) (new : Moment) (runs : Runs opening_mome
     (all : List Bool) × (text ++ last ≡ script_text all script)
 all_told script text new runs refused last told =
     let all : Tells nat_eq (opening nat_eq 0) 1 (lines_of (runs.ended ++ new.line)) (runs.refused ++ refused) (text ++ last) = runs.goes_on new.line refused last told in
-    (runs.refused ++ refused, one_tree_has_one_text (runs.ended ++ new.line) (runs.refused ++ refused) (text ++ last) all ∙ ap (script_text (runs.refused ++ refused)) (sym runs.split))
+    (runs.refused ++ refused, one_tree_has_one_text (runs.ended ++ new.line) (runs.refused ++ refused) 0 (text ++ last) all ∙ ap (script_text (runs.refused ++ refused)) (sym runs.split))
 
 -- the text of the lines that ended is a beginning of the policy's text, whatever follows what was read
 pub front_told : (read unread text : List ℕ) (new : Moment) (runs : Runs opening_moment read text new) →
@@ -54,7 +54,7 @@ front_told read unread text new runs =
       runs.refused,
       front.0,
       ap (λ xs. text_from (opening nat_eq 0) 1 xs runs.refused) lines ∙ front.1
-          ∙ ap (λ xs. xs ++ front.0) (sym (one_tree_has_one_text runs.ended runs.refused text (told_whole opening_moment read text new runs))),
+          ∙ ap (λ xs. xs ++ front.0) (sym (one_tree_has_one_text runs.ended runs.refused 0 text (told_whole opening_moment read text new runs))),
     )
 
 module _ {W : Type 0} (sink : Ghosts W) where
