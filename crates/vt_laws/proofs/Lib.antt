@@ -55,6 +55,11 @@ pub mod OneTreeEntries
 pub mod OneTreeForks
 pub mod OneTreeJudged
 pub mod OneTreeLanguage
+pub mod OneTreeLater
+pub mod OneTreeLaterCalls
+pub mod OneTreeLaterChanges
+pub mod OneTreeLaterPlaces
+pub mod OneTreeLaterWritten
 pub mod OneTreeLinks
 pub mod OneTreeLooks
 pub mod OneTreeMakes

@@ -1,0 +1,57 @@
+-- What later calls see of an earlier one in one tree. Links on the way are followed, and a final one where the call follows it.
+use Rattle.std.specs.Prelude.{Err, List, None, Ok, Option, Some, [], nat_eq, true, ℕ, ◌||◌, ◌≡◌, Bool, ◌⊎◌}
+use Rattle.vt_spec.specs.declared.errors.Rule.{Rule}
+use Rattle.vt_spec.specs.declared.errors.Rule.TheVariants.{C1}
+use Rattle.vt_spec.specs.Errors.{denial}
+use Rattle.vt_spec.specs.Machine.Calls.{Call}
+use Rattle.vt_spec.specs.Machine.Calls.Call.{Ls, Mkdir, Read, Write}
+use Rattle.vt_spec.specs.Machine.Outcomes.{Answer}
+use Rattle.vt_spec.specs.Machine.Outcomes.Answer.{Bytes, Done, Names}
+use Rattle.vt_spec.specs.Machine.World.{TaskName}
+use Rattle.vt_spec.specs.OneTree.Policy.{policy}
+use Rattle.vt_spec.specs.OneTree.World.{Task, World, task_called}
+use Rattle.vt_spec.specs.Rights.{Credentials, cap_dac_override, cap_dac_read_search, has_all}
+use Rattle.vt_laws.specs.OneTree.{IsFit}
+
+-- The world that a granted call leaves is so, where the world was fit and the call was handed a number that no inode has.
+abbrev pub AfterGranted : Call → (World ℕ → TaskName → Type 0) → Type 0
+AfterGranted call IsSo =
+    (numbers : List ℕ) (world : World ℕ) (name : TaskName) (number : ℕ)
+    → IsFit numbers world → world.inodes.inode number ≡ None
+    → (policy nat_eq world name call number).answer ≡ Ok Done
+    → IsSo (policy nat_eq world name call number).world name
+
+-- the task's call is answered so, whatever number is handed to it
+abbrev pub IsAnswered : World ℕ → TaskName → Call → Answer → Type 0
+IsAnswered world name call answer = (number : ℕ) → (policy nat_eq world name call number).answer ≡ Ok answer
+
+-- it is answered so, or refused by this rule
+abbrev pub IsAnsweredUnless : Rule → World ℕ → TaskName → Call → Answer → Type 0
+IsAnsweredUnless rule world name call answer =
+    (number : ℕ)
+    → ((policy nat_eq world name call number).answer ≡ Ok answer) ⊎ ((policy nat_eq world name call number).answer ≡ Err (denial rule))
+
+-- CAP_DAC_OVERRIDE or CAP_DAC_READ_SEARCH, by which every directory may be searched and read, and every file read: capabilities(7)
+abbrev pub reads_all : Credentials → Bool
+reads_all who = has_all who.capabilities cap_dac_override || has_all who.capabilities cap_dac_read_search
+
+-- each task that may search and read everything is answered so
+abbrev pub IsSeenByAll : World ℕ → Call → Answer → Type 0
+IsSeenByAll world call answer =
+    (name : TaskName) (task : Task ℕ)
+    → task_called world name ≡ Some task → reads_all task.credentials ≡ true → IsAnswered world name call answer
+
+-- What was written at a path is read there, unless the task may write and not read. A final link is followed, also one that led to
+-- no file yet.
+abbrev pub WriteThenRead : Type 0
+WriteThenRead =
+    (path bytes : List ℕ)
+    → AfterGranted (Write path bytes) (λ later name.
+    IsAnsweredUnless C1 later name (Read path) (Bytes bytes) × IsSeenByAll later (Read path) (Bytes bytes))
+
+-- A directory that was made is listed, and is empty, unless the task may not read it.
+abbrev pub MkdirThenList : Type 0
+MkdirThenList =
+    (path : List ℕ) (mode : Option ℕ)
+    → AfterGranted (Mkdir path mode) (λ later name.
+    IsAnsweredUnless C1 later name (Ls path) (Names []) × IsSeenByAll later (Ls path) (Names []))
