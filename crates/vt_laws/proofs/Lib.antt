@@ -58,7 +58,9 @@ pub mod OneTreeLanguage
 pub mod OneTreeLater
 pub mod OneTreeLaterCalls
 pub mod OneTreeLaterChanges
+pub mod OneTreeLaterLinked
 pub mod OneTreeLaterPlaces
+pub mod OneTreeLaterTold
 pub mod OneTreeLaterWritten
 pub mod OneTreeLinks
 pub mod OneTreeLooks

@@ -185,7 +185,7 @@ module _ (tree later : Tree ℕ) (who reader : Credentials) (Refused : Deny → 
       linked reached next end (Some text) less e = follows reached.node next text end less e
 
   -- a slash asks for a directory, as before
-  slash_too : (text : List ℕ) (here : ℕ) → AllPass (slash_rules tree text here) → AllPass (slash_rules later text here)
+  pub slash_too : (text : List ℕ) (here : ℕ) → AllPass (slash_rules tree text here) → AllPass (slash_rules later text here)
   slash_too text here pass = (by (ends_in_slash text) (is_directory_at tree here) refl pass.0, tt)
     where
       by : (slash is : Bool) → is_directory_at tree here ≡ is → (slash && not is) ≡ false → (slash && not (is_directory_at later here)) ≡ false

@@ -126,7 +126,7 @@ module _ (tree later : Tree ℕ) (who reader : Credentials) (Refused : Deny → 
   Ends = EndsToo Refused
 
   -- a walk by all words of a path is a walk of the path
-  path_too : Ends (words_walked later reader (followed_to 41 later reader) (walk_start tree) (reverse (words text))) end → Ends (path_walked later reader text) end
+  pub path_too : Ends (words_walked later reader (followed_to 41 later reader) (walk_start tree) (reverse (words text))) end → Ends (path_walked later reader text) end
   path_too ends =
       subst (λ root. Ends (words_walked later reader (followed_to 41 later reader) (record { node = root; left = 40 }) (reverse (words text))) end) (sym leads.root) ends
 

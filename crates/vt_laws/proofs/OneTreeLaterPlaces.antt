@@ -265,3 +265,11 @@ file_is_no_link tree who (suc depth) start text slash end e =
         → link_there tree end ≡ None
     by here place None same e rec = ap (λ p. link_there tree p) (sym (same_ok place end e)) ∙ same
     by here place (Some inner) same e rec = rec (link_start tree here.node (link_of here place) inner) inner (passing (follow_rules (link_of here place) inner) _ end e).1
+
+-- whether a slash follows a name
+pub slash_of_place : (tree : Tree ℕ) (who : Credentials) (here : ℕ) (last : LastWord) (slash : Bool) (place : Place ℕ) → placed tree who here last slash ≡ Ok place → is_special place.last ≡ false → slash ≡ place.slash
+slash_of_place tree who here last slash place e special = by (placed_gave tree who here last slash place e)
+  where
+    by : IsStartPlace last place ⊎ IsNamedPlace tree who here last slash place → slash ≡ place.slash
+    by (inl none) = absurd (no_start place.last none.1 special)
+    by (inr named) = named.slash_is

@@ -1,12 +1,14 @@
 -- What later calls see of an earlier one in one tree. Links on the way are followed, and a final one where the call follows it.
 use Rattle.std.specs.Prelude.{Err, List, None, Ok, Option, Some, [], nat_eq, true, ℕ, ◌||◌, ◌≡◌, Bool, ◌⊎◌}
+use Rattle.vt_spec.specs.declared.attributes.Attr.{Attr}
 use Rattle.vt_spec.specs.declared.errors.Rule.{Rule}
-use Rattle.vt_spec.specs.declared.errors.Rule.TheVariants.{C1}
+use Rattle.vt_spec.specs.declared.errors.Rule.TheVariants.{C1, W4}
 use Rattle.vt_spec.specs.Errors.{denial}
 use Rattle.vt_spec.specs.Machine.Calls.{Call}
-use Rattle.vt_spec.specs.Machine.Calls.Call.{Ls, Mkdir, Read, Write}
-use Rattle.vt_spec.specs.Machine.Outcomes.{Answer}
-use Rattle.vt_spec.specs.Machine.Outcomes.Answer.{Bytes, Done, Names}
+use Rattle.vt_spec.specs.Machine.Calls.Call.{Chmod, Chown, Ls, Mkdir, Read, Readlink, Stat, SymlinkAt, Write}
+use Rattle.vt_spec.specs.Machine.Outcome.Attributes.{attr_with_mode, attr_with_owner}
+use Rattle.vt_spec.specs.Machine.Outcomes.{Answer, StatLine}
+use Rattle.vt_spec.specs.Machine.Outcomes.Answer.{Bytes, Done, Names, Told}
 use Rattle.vt_spec.specs.Machine.World.{TaskName}
 use Rattle.vt_spec.specs.OneTree.Policy.{policy}
 use Rattle.vt_spec.specs.OneTree.World.{Task, World, task_called}
@@ -55,3 +57,27 @@ MkdirThenList =
     (path : List ℕ) (mode : Option ℕ)
     → AfterGranted (Mkdir path mode) (λ later name.
     IsAnsweredUnless C1 later name (Ls path) (Names []) × IsSeenByAll later (Ls path) (Names []))
+
+-- The text of a link that was made is told, to whoever may search the way.
+abbrev pub SymlinkThenReadlink : Type 0
+SymlinkThenReadlink =
+    (text path : List ℕ)
+    → AfterGranted (SymlinkAt text path) (λ later name.
+    IsAnswered later name (Readlink path) (Bytes text) × IsSeenByAll later (Readlink path) (Bytes text))
+
+-- After a granted call that sets attributes stat tells these in the place of those that it told before, and nothing else has
+-- changed. Where the object is a directory on the way, the task may have lost the right to search it.
+abbrev pub TellsAfter : Call → List ℕ → (Attr → Attr) → Type 0
+TellsAfter call path set =
+    (numbers : List ℕ) (world : World ℕ) (name : TaskName) (number : ℕ)
+    → IsFit numbers world
+    → (policy nat_eq world name call number).answer ≡ Ok Done
+    → (line : StatLine) × IsAnswered world name (Stat path) (Told line)
+    × IsAnsweredUnless W4 (policy nat_eq world name call number).world name (Stat path) (Told (record line { attr = set line.attr }))
+    × IsSeenByAll (policy nat_eq world name call number).world (Stat path) (Told (record line { attr = set line.attr }))
+
+abbrev pub ChmodThenStat : Type 0
+ChmodThenStat = (path : List ℕ) (mode : ℕ) → TellsAfter (Chmod path mode) path (λ attr. attr_with_mode attr mode)
+
+abbrev pub ChownThenStat : Type 0
+ChownThenStat = (path : List ℕ) (uid gid : Option ℕ) → TellsAfter (Chown path uid gid) path (λ attr. attr_with_owner attr uid gid)

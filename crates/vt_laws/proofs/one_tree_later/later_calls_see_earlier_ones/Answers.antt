@@ -1,3 +1,5 @@
+use Rattle.vt_laws.proofs.OneTreeLaterLinked.{symlink_then_readlink}
+use Rattle.vt_laws.proofs.OneTreeLaterTold.{chmod_then_stat, chown_then_stat}
 use Rattle.vt_laws.proofs.OneTreeLaterWritten.{mkdir_then_list, write_then_read}
 use Rattle.vt_laws.proofs.one_tree_later.later_calls_see_earlier_ones.Goals as goal
 
@@ -6,3 +8,12 @@ returns-clause-written c = write_then_read
 
 pub returns-clause-made : goal.returns-clause-made
 returns-clause-made c = mkdir_then_list
+
+pub returns-clause-linked : goal.returns-clause-linked
+returns-clause-linked c = symlink_then_readlink
+
+pub returns-clause-mode_set : goal.returns-clause-mode_set
+returns-clause-mode_set c = chmod_then_stat
+
+pub returns-clause-owner_set : goal.returns-clause-owner_set
+returns-clause-owner_set c = chown_then_stat
