@@ -60,6 +60,8 @@ pub mod OneTreeLaterCalls
 pub mod OneTreeLaterChanges
 pub mod OneTreeLaterLinked
 pub mod OneTreeLaterPlaces
+pub mod OneTreeLaterRemoved
+pub mod OneTreeLaterThrough
 pub mod OneTreeLaterTold
 pub mod OneTreeLaterWritten
 pub mod OneTreeLinks

@@ -1,15 +1,15 @@
 -- Where names and files of one tree are found in what a change leaves of it.
-use Rattle.std.proofs.Common.{◌≡◌, refl, sym, ap, subst, ◌∙◌, true≢false, inl, inr, ◌⊎◌, ℕ, zero, suc, ◌≤◌, Bool, true, false, cond, not, ◌&&◌, ◌||◌, List, [], ◌∷◌, reverse, Option, Some, None, Result, Ok, Err, arith}
+use Rattle.std.proofs.Common.{◌≡◌, refl, sym, ap, subst, ◌∙◌, true≢false, inl, inr, ◌⊎◌, ℕ, zero, suc, ◌≤◌, Bool, true, false, cond, not, ◌&&◌, ◌||◌, List, [], ◌∷◌, reverse, Option, Some, None, ok_or, Result, Ok, Err, arith}
 use Rattle.vt_spec.specs.declared.errors.Deny.{Deny}
-use Rattle.vt_spec.specs.declared.errors.Rule.TheVariants.{W6}
+use Rattle.vt_spec.specs.declared.errors.Rule.TheVariants.{W3, W4, W6}
 use Rattle.vt_spec.specs.Errors.{and_then, denial, unless}
 use Rattle.vt_spec.specs.Machine.FileTree.{link_text}
 use Rattle.vt_spec.specs.Machine.Lists.{then_some}
 use Rattle.vt_spec.specs.Machine.Walk.{LastWord, final_word, is_special, last_word}
 use Rattle.vt_spec.specs.Machine.Walk.LastWord.{Dot, DotDot, Named, NoWord}
-use Rattle.vt_spec.specs.OneTree.Walk.{Here, Place, file_or_link, file_walked, follow_rules, followed, front_walked, if_link, is_directory_at, last_walked, link_of, link_start, link_there, link_walked, object_named, placed, search_rules, slash_rules, word_walked, words_walked}
+use Rattle.vt_spec.specs.OneTree.Walk.{Here, Place, file_or_link, file_walked, follow_rules, followed, front_walked, if_link, is_directory_at, last_walked, link_of, link_start, link_there, link_walked, may, object_named, placed, search_rules, slash_rules, stepped, word_walked, words_walked}
 use Rattle.vt_spec.specs.PathText.{ends_in_slash, is_absolute, words}
-use Rattle.vt_spec.specs.Rights.{Credentials}
+use Rattle.vt_spec.specs.Rights.{Credentials, execute_right}
 use Rattle.vt_spec.specs.Tree.{Tree}
 use Rattle.vt_spec.specs.TreeLaws.{IsDirectory}
 use Rattle.vt_laws.proofs.OneTreeLater.{AllPass, EndsToo, LeadsToo, both_gave, link_start_same, no_link, not_fails, passed_too, passing, positive, same_ok, then_too, word_too, words_lead}
@@ -136,6 +136,57 @@ module _ (tree later : Tree ℕ) (who reader : Credentials) (Refused : Deny → 
           (subst (λ r. Ends r (record { node = object; left = here.left })) (alone (word_walked later reader here (last_word word)) ∙ sym (last (last_word word) named.last_is))
           (word_too tree later who reader Refused leads here object (last_word word) (λ next. Ok next) (record { node = object; left = here.left })
           named.searched (moved named.parent_is named.last_is found) (λ e. inl refl)))
+
+  -- a refusal of those that there may be
+  abbrev pub Stops : {A : Type 0} → Result A Deny → Type 0
+  Stops result = (deny : Deny) × Refused deny × (result ≡ Err deny)
+
+  then_stops : {A B : Type 0} (first : Result A Deny) (next : A → Result B Deny) (a : A) → Ends first a → Stops (next a) → Stops (and_then first next)
+  then_stops first next a (inl e) stops = subst (λ r. Stops (and_then r next)) (sym e) stops
+  then_stops first next a (inr stop) stops = (stop.0, stop.1, ap (λ r. and_then r next) stop.2)
+
+  -- The walk stops at a name that is missing now.
+  pub missing_too : (start here : Here ℕ) (words : List (List ℕ)) (slash : Bool) (place : Place ℕ)
+      → suc start.left ≤ 41
+      → front_walked tree who start words ≡ Ok here → placed tree who here.node (final_word words) slash ≡ Ok place → is_special place.last ≡ false
+      → object_named later place.parent place.last ≡ None → Refused (denial W6)
+      → Stops (and_then (front_walked later reader start words) (λ here. last_walked later reader here (final_word words)))
+  missing_too start here [] slash place few walked ends special missing refused =
+      absurd (no_start place.last (ap (λ p. p.last) (sym (same_ok _ place ends))) special)
+  missing_too start here (word ∷ front) slash place few walked ends special missing refused =
+      by (placed_gave tree who here.node (last_word word) slash place ends)
+    where
+      searched : AllPass (search_rules tree who here.node) → object_named later here.node (last_word word) ≡ None → Stops (word_walked later reader here (last_word word))
+      searched pass none = inside (leads.search here.node (not_fails _ pass.0) (not_fails _ pass.1.0))
+        where
+          inside : (may later reader here.node execute_right ≡ true) ⊎ ((may later reader here.node execute_right ≡ false) × Refused (denial W4)) → Stops (word_walked later reader here (last_word word))
+          inside (inl may_search) = (
+            denial W6,
+            refused,
+            λ i. unless ((not (leads.directory here.node (not_fails _ pass.0) i), W3) ∷ (not (may_search i), W4) ∷ [])
+                (and_then (ok_or (none i) (denial W6)) (λ next. Ok (record { node = next; left = here.left }))),
+          )
+          inside (inr hidden) = (
+            denial W4,
+            hidden.1,
+            λ i. unless ((not (leads.directory here.node (not_fails _ pass.0) i), W3) ∷ (not (hidden.0 i), W4) ∷ [])
+                (and_then (stepped later here.node (last_word word)) (λ next. Ok (record { node = next; left = here.left }))),
+          )
+
+      last : (last : LastWord) → last ≡ place.last → last_walked later reader here last ≡ word_walked later reader here last
+      last NoWord e = absurd (no_start place.last (sym e) special)
+      last Dot e = refl
+      last DotDot e = refl
+      last (Named name) e = refl
+
+      by : IsStartPlace (last_word word) place ⊎ IsNamedPlace tree who here.node (last_word word) slash place
+          → Stops (and_then (words_walked later reader (followed later reader) start front) (λ here. last_walked later reader here (last_word word)))
+      by (inl none) = absurd (no_start place.last none.1 special)
+      by (inr named) =
+          then_stops (words_walked later reader (followed later reader) start front) (λ here. last_walked later reader here (last_word word)) here
+          (words_lead tree later who reader Refused leads 41 41 start front here few few walked).0
+          (subst Stops (sym (last (last_word word) named.last_is))
+          (searched named.searched ((λ i. object_named later (named.parent_is i) (named.last_is i)) ∙ missing)))
 
   -- a front leaves no more links than there were
   front_left : (start here : Here ℕ) (words : List (List ℕ)) → suc start.left ≤ 41 → front_walked tree who start words ≡ Ok here → here.left ≤ start.left

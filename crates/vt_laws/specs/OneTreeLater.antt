@@ -1,17 +1,20 @@
 -- What later calls see of an earlier one in one tree. Links on the way are followed, and a final one where the call follows it.
-use Rattle.std.specs.Prelude.{Err, List, None, Ok, Option, Some, [], nat_eq, true, ℕ, ◌||◌, ◌≡◌, Bool, ◌⊎◌}
+use Rattle.std.specs.Prelude.{Err, List, None, Ok, Option, Some, [], length, nat_eq, true, ℕ, ◌||◌, ◌≡◌, Bool, ◌⊎◌}
 use Rattle.vt_spec.specs.declared.attributes.Attr.{Attr}
+use Rattle.vt_spec.specs.declared.attributes.Kind.TheVariants.{File}
 use Rattle.vt_spec.specs.declared.errors.Rule.{Rule}
-use Rattle.vt_spec.specs.declared.errors.Rule.TheVariants.{C1, W4}
+use Rattle.vt_spec.specs.declared.errors.Rule.TheVariants.{C1, W4, W6}
 use Rattle.vt_spec.specs.Errors.{denial}
 use Rattle.vt_spec.specs.Machine.Calls.{Call}
-use Rattle.vt_spec.specs.Machine.Calls.Call.{Chmod, Chown, Ls, Mkdir, Read, Readlink, Stat, SymlinkAt, Write}
+use Rattle.vt_spec.specs.Machine.Calls.Call.{Chmod, Chown, Ls, Lstat, Mkdir, Pread, Pwrite, Read, Readlink, Stat, SymlinkAt, Unlink, Write}
 use Rattle.vt_spec.specs.Machine.Outcome.Attributes.{attr_with_mode, attr_with_owner}
 use Rattle.vt_spec.specs.Machine.Outcomes.{Answer, StatLine}
 use Rattle.vt_spec.specs.Machine.Outcomes.Answer.{Bytes, Done, Names, Told}
 use Rattle.vt_spec.specs.Machine.World.{TaskName}
+use Rattle.vt_spec.specs.OneTree.Inodes.{tree_of}
 use Rattle.vt_spec.specs.OneTree.Policy.{policy}
-use Rattle.vt_spec.specs.OneTree.World.{Task, World, task_called}
+use Rattle.vt_spec.specs.OneTree.Rules.{is_kind_at}
+use Rattle.vt_spec.specs.OneTree.World.{Descriptor, Task, World, descriptor_numbered, task_called}
 use Rattle.vt_spec.specs.Rights.{Credentials, cap_dac_override, cap_dac_read_search, has_all}
 use Rattle.vt_laws.specs.OneTree.{IsFit}
 
@@ -81,3 +84,30 @@ ChmodThenStat = (path : List ℕ) (mode : ℕ) → TellsAfter (Chmod path mode) 
 
 abbrev pub ChownThenStat : Type 0
 ChownThenStat = (path : List ℕ) (uid gid : Option ℕ) → TellsAfter (Chown path uid gid) path (λ attr. attr_with_owner attr uid gid)
+
+-- the task's call is refused by this rule
+abbrev pub IsRefused : Rule → World ℕ → TaskName → Call → Type 0
+IsRefused rule world name call = (number : ℕ) → (policy nat_eq world name call number).answer ≡ Err (denial rule)
+
+-- and so is that of each task that may search everything
+abbrev pub IsRefusedToAll : Rule → World ℕ → Call → Type 0
+IsRefusedToAll rule world call =
+    (name : TaskName) (task : Task ℕ)
+    → task_called world name ≡ Some task → reads_all task.credentials ≡ true → IsRefused rule world name call
+
+-- A name that was removed is missing, whatever other names the file has, and also where the path itself led through it.
+abbrev pub UnlinkThenLstat : Type 0
+UnlinkThenLstat =
+    (path : List ℕ)
+    → AfterGranted (Unlink path) (λ later name. IsRefused W6 later name (Lstat path) × IsRefusedToAll W6 later (Lstat path))
+
+-- Bytes that were written to a regular file at an offset are read there, by whatever descriptor on it that reads.
+abbrev pub PwriteThenPread : Type 0
+PwriteThenPread =
+    (world : World ℕ) (name reader : TaskName) (task reading : Task ℕ) (written read : Descriptor ℕ) (offset number : ℕ) (bytes : List ℕ)
+    → task_called world name ≡ Some task → descriptor_numbered task written.number ≡ Some written
+    → task_called world reader ≡ Some reading → descriptor_numbered reading read.number ≡ Some read
+    → is_kind_at (tree_of world.inodes) written.file File ≡ true → read.file ≡ written.file → read.reads ≡ true
+    → (policy nat_eq world name (Pwrite written.number offset bytes) number).answer ≡ Ok Done
+    → IsAnswered (policy nat_eq world name (Pwrite written.number offset bytes) number).world reader
+    (Pread read.number offset (length bytes)) (Bytes bytes)

@@ -1,4 +1,6 @@
 use Rattle.vt_laws.proofs.OneTreeLaterLinked.{symlink_then_readlink}
+use Rattle.vt_laws.proofs.OneTreeLaterRemoved.{unlink_then_lstat}
+use Rattle.vt_laws.proofs.OneTreeLaterThrough.{pwrite_then_pread}
 use Rattle.vt_laws.proofs.OneTreeLaterTold.{chmod_then_stat, chown_then_stat}
 use Rattle.vt_laws.proofs.OneTreeLaterWritten.{mkdir_then_list, write_then_read}
 use Rattle.vt_laws.proofs.one_tree_later.later_calls_see_earlier_ones.Goals as goal
@@ -17,3 +19,9 @@ returns-clause-mode_set c = chmod_then_stat
 
 pub returns-clause-owner_set : goal.returns-clause-owner_set
 returns-clause-owner_set c = chown_then_stat
+
+pub returns-clause-unlinked : goal.returns-clause-unlinked
+returns-clause-unlinked c = unlink_then_lstat
+
+pub returns-clause-written_through : goal.returns-clause-written_through
+returns-clause-written_through c = pwrite_then_pread
