@@ -59,6 +59,7 @@ pub mod OneTreeLater
 pub mod OneTreeLaterCalls
 pub mod OneTreeLaterChanges
 pub mod OneTreeLaterLinked
+pub mod OneTreeLaterNamed
 pub mod OneTreeLaterPlaces
 pub mod OneTreeLaterRemoved
 pub mod OneTreeLaterThrough

@@ -2,7 +2,9 @@
 use Rattle.std.proofs.Common.{◌≡◌, ◌≢◌, refl, sym, ap, subst, ◌∙◌, true≢false, ⊎_elim, inl, inr, ◌⊎◌, ℕ, nat_eq, eq-eqb, ne_eqb, Bool, true, false, cond, ◌&&◌, ◌||◌, List, [], Option, Some, None, is_some}
 use Rattle.std.proofs.lemmas.Bool.Decides.{eqb_tells}
 use Rattle.std.proofs.lemmas.Option.{same_Some}
-use Rattle.std.specs.Ordering.{eq_by_cmp}
+use Rattle.std.specs.Cmp.{tied_itself}
+use Rattle.std.specs.Cmp.Lexicographic.{nat_list_cmp_total}
+use Rattle.std.specs.Ordering.{eq_by_cmp, is_eq}
 use Rattle.vt_spec.specs.declared.attributes.Attr.{Attr}
 use Rattle.vt_spec.specs.declared.errors.Deny.{Deny}
 use Rattle.vt_spec.specs.declared.errors.Rule.TheVariants.{W4, W6}
@@ -22,7 +24,6 @@ use Rattle.vt_spec.specs.TreeLaws.{IsDirectory, entry_at}
 use Rattle.vt_laws.specs.OneTree.{IsFit}
 use Rattle.vt_laws.specs.OneTreeLater.{reads_all}
 use Rattle.vt_spec.proofs.Nodes.{entry_named-with_entry, none_is_not, same_name}
-use Rattle.vt_laws.proofs.CopyingNames.{name_put}
 use Rattle.vt_laws.proofs.OneTreeChanges.{directory_there}
 use Rattle.vt_laws.proofs.OneTreeLater.{LeadsToo}
 use Rattle.vt_laws.proofs.OneTreeLinks.{target_there}
@@ -219,6 +220,65 @@ pub ways_with_attr : (inodes : Inodes ℕ) (object : ℕ) (attr : Attr) (Refused
 ways_with_attr inodes object attr Refused =
     ways_changed inodes object (node_with_attr attr) Refused (attr_kept attr).directory (attr_kept attr).entries (attr_kept attr).parent (link_with_attr attr)
 
+-- each other inode is as it was
+pub elsewhere : (inodes : Inodes ℕ) (number : ℕ) (change : Option (Node ℕ) → Option (Node ℕ)) (n : ℕ) → n ≢ number → (tree_of (with_changed nat_eq inodes number change)).node n ≡ (tree_of inodes).node n
+elsewhere inodes number change n other =
+    ap (λ b. node_in (cond b (inode_with_node (change (node_in (inodes.inode number))) (inodes.inode number)) (inodes.inode n))) (ne_eqb n number other)
+
+-- A name more in a directory, where none was
+module _ (inodes : Inodes ℕ) (directory : ℕ) (name : List ℕ) (object : ℕ) (in_directory : IsDirectory (tree_of inodes) directory) (free : entry_at (tree_of inodes) directory name ≡ None) where
+  abbrev named_tree : Tree ℕ
+  named_tree = tree_of (with_changed nat_eq inodes directory (node_with_entry name object))
+
+  named_part : {A : Type 0} (part : Option (Node ℕ) → A) → ((o : Option (Node ℕ)) → part (node_with_entry name object o) ≡ part o) → (n : ℕ) → part (named_tree.node n) ≡ part ((tree_of inodes).node n)
+  named_part part same n = changed_part part inodes directory (node_with_entry name object) same n
+
+  entries_named : entries_in (named_tree.node directory) ≡ with_entry name object (entries_in ((tree_of inodes).node directory))
+  entries_named = by ((tree_of inodes).node directory) refl in_directory
+    where
+      by : (o : Option (Node ℕ)) → (tree_of inodes).node directory ≡ o → is_directory_node o ≡ true → entries_in (named_tree.node directory) ≡ with_entry name object (entries_in ((tree_of inodes).node directory))
+      by None e is = cc
+      by (Some old) e is =
+          ap entries_in (changed_here inodes directory (node_with_entry name object) old _ e refl)
+          ∙ entries_with_entry name object (Some old) is
+          ∙ ap (λ o. with_entry name object (entries_in o)) (sym e)
+
+  entry_named_now : (other : List ℕ) → entry_at named_tree directory other ≡ cond (eq_by_cmp name_cmp other name) (Some object) (entry_at (tree_of inodes) directory other)
+  entry_named_now other = ap (entry_named other) entries_named ∙ entry_named-with_entry other name object (entries_in ((tree_of inodes).node directory))
+
+  -- the name leads to the object
+  pub name_leads : entry_at named_tree directory name ≡ Some object
+  name_leads = entry_named_now name ∙ ap (λ b. cond b (Some object) (entry_at (tree_of inodes) directory name)) (ap is_eq (tied_itself nat_list_cmp_total name))
+
+  -- and each other where it led
+  entry_stays : (here : ℕ) (other : List ℕ) (next : ℕ) → entry_at (tree_of inodes) here other ≡ Some next → entry_at named_tree here other ≡ Some next
+  entry_stays here other next e =
+      ⊎_elim
+      (λ t. ap (λ m. entry_at named_tree m other) t.1 ∙ entry_named_now other ∙ by (eq_by_cmp name_cmp other name) refl (ap (λ m. entry_at (tree_of inodes) m other) (sym t.1) ∙ e))
+      (λ t. ap (λ o. entry_named other (entries_in o)) (elsewhere inodes directory (node_with_entry name object) here t.1) ∙ e)
+      (eqb_tells here directory)
+    where
+      by : (b : Bool) → eq_by_cmp name_cmp other name ≡ b → entry_at (tree_of inodes) directory other ≡ Some next → cond b (Some object) (entry_at (tree_of inodes) directory other) ≡ Some next
+      by true tie is = none_is_not (entry_at (tree_of inodes) directory other) next (ap (entry_at (tree_of inodes) directory) (same_name other name tie) ∙ free) is
+      by false tie is = is
+
+  word_stays : (here : ℕ) (word : LastWord) (next : ℕ) → object_named (tree_of inodes) here word ≡ Some next → object_named named_tree here word ≡ Some next
+  word_stays here NoWord next e = e
+  word_stays here Dot next e = e
+  word_stays here DotDot next e = ap Some (named_part (parent_in here) (parent_with_entry name object here) here) ∙ e
+  word_stays here (Named other) next e = entry_stays here other next e
+
+  pub ways_named : (Refused : Deny → Type 0) → WaysStay (tree_of inodes) named_tree Refused
+  ways_named Refused = record {
+    root = refl;
+    directory = λ here is. named_part is_directory_node (directory_with_entry name object) here ∙ is;
+    step = λ here word next is e. inl (word_stays here word next e);
+    link = λ here word next is e f. named_part link_text (link_with_entry name object) next;
+  }
+
+  pub rights_named : (who : Credentials) (here : ℕ) → may named_tree who here execute_right ≡ may (tree_of inodes) who here execute_right
+  rights_named who here = named_part (node_allows who execute_right) (allows_with_entry name object who execute_right) here
+
 -- A world that is fit
 
 module _ (numbers : List ℕ) (world : World ℕ) (fit : IsFit numbers world) where
@@ -247,62 +307,38 @@ module _ (numbers : List ℕ) (world : World ℕ) (fit : IsFit numbers world) wh
     abbrev entered : Inodes ℕ
     entered = with_changed nat_eq world.inodes directory (node_with_entry name number)
 
-    -- what is there is not the new one
-    old_apart : (n : ℕ) → is_some (world.inodes.inode n) ≡ true → n ≢ number
-    old_apart n there same = true≢false (sym there ∙ ap (λ m. is_some (world.inodes.inode m)) same ∙ ap is_some vacant)
-
     pub made_here : made.node number ≡ Some new
     made_here = ap (λ b. node_in (cond b (Some (record { node = new; uses = 1 })) (entered.inode number))) (eq-eqb number number refl)
 
-    made_other : (n : ℕ) → n ≢ number → made.node n ≡ (tree_of entered).node n
-    made_other n other = ap (λ b. node_in (cond b (Some (record { node = new; uses = 1 })) (entered.inode n))) (ne_eqb n number other)
+    -- what was there is as it is with the name alone
+    made_other : (n : ℕ) → is_some (world.inodes.inode n) ≡ true → made.node n ≡ (tree_of entered).node n
+    made_other n there =
+        ap (λ b. node_in (cond b (Some (record { node = new; uses = 1 })) (entered.inode n)))
+        (ne_eqb n number (λ same. true≢false (sym there ∙ ap (λ m. is_some (world.inodes.inode m)) same ∙ ap is_some vacant)))
 
-    pub made_part : {A : Type 0} (part : Option (Node ℕ) → A) → ((o : Option (Node ℕ)) → part (node_with_entry name number o) ≡ part o) → (n : ℕ) → is_some (world.inodes.inode n) ≡ true → part (made.node n) ≡ part (tree.node n)
-    made_part part same n there = ap part (made_other n (old_apart n there)) ∙ changed_part part world.inodes directory (node_with_entry name number) same n
-
-    made_directory : made.node directory ≡ node_with_entry name number (tree.node directory)
-    made_directory =
-        made_other directory (old_apart directory (directory_there numbers world fit directory in_directory))
-        ∙ by (tree.node directory) refl in_directory
-      where
-        by : (o : Option (Node ℕ)) → tree.node directory ≡ o → is_directory_node o ≡ true → (tree_of entered).node directory ≡ node_with_entry name number o
-        by None e is = cc
-        by (Some old) e is = changed_here world.inodes directory (node_with_entry name number) old _ e refl
+    made_directory : (here : ℕ) → IsDirectory tree here → made.node here ≡ (tree_of entered).node here
+    made_directory here is = made_other here (directory_there numbers world fit here is)
 
     pub made_entry : entry_at made directory name ≡ Some number
-    made_entry = ap (λ o. entry_named name (entries_in o)) made_directory ∙ name_put name number (tree.node directory) in_directory
+    made_entry = ap (λ o. entry_named name (entries_in o)) (made_directory directory in_directory) ∙ name_leads world.inodes directory name number in_directory free
 
-    -- each entry stays
-    entry_stays : (here : ℕ) (other : List ℕ) (next : ℕ) → IsDirectory tree here → entry_at tree here other ≡ Some next → entry_at made here other ≡ Some next
-    entry_stays here other next is e =
-        ⊎_elim
-        (λ t. ap (λ m. entry_at made m other) t.1 ∙ ap (λ o. entry_named other (entries_in o)) made_directory
-        ∙ ap (entry_named other) (entries_with_entry name number (tree.node directory) in_directory)
-        ∙ entry_named-with_entry other name number (entries_in (tree.node directory))
-        ∙ by (eq_by_cmp name_cmp other name) refl (ap (λ m. entry_at tree m other) (sym t.1) ∙ e))
-        (λ t. ap (λ o. entry_named other (entries_in o)) (made_other here (old_apart here (directory_there numbers world fit here is)) ∙ elsewhere t.0) ∙ e)
-        (eqb_tells here directory)
-      where
-        elsewhere : nat_eq here directory ≡ false → (tree_of entered).node here ≡ tree.node here
-        elsewhere t = ap (λ b. node_in (cond b (inode_with_node (node_with_entry name number (node_in (world.inodes.inode directory))) (world.inodes.inode directory)) (world.inodes.inode here))) t
-
-        by : (b : Bool) → eq_by_cmp name_cmp other name ≡ b → entry_at tree directory other ≡ Some next → cond b (Some number) (entry_at tree directory other) ≡ Some next
-        by true tie is = none_is_not (entry_at tree directory other) next (ap (entry_at tree directory) (same_name other name tie) ∙ free) is
-        by false tie is = is
+    made_word : (here : ℕ) (word : LastWord) → IsDirectory tree here → object_named made here word ≡ object_named (tree_of entered) here word
+    made_word here NoWord is = refl
+    made_word here Dot is = refl
+    made_word here DotDot is = ap (λ o. Some (parent_in here o)) (made_directory here is)
+    made_word here (Named other) is = ap (λ o. entry_named other (entries_in o)) (made_directory here is)
 
     pub ways_made : (Refused : Deny → Type 0) → WaysStay tree made Refused
     ways_made Refused = record {
       root = refl;
-      directory = λ here is. made_part is_directory_node (directory_with_entry name number) here (directory_there numbers world fit here is) ∙ is;
-      step = λ here word next is e. inl (named here word next is e);
-      link = λ here word next is e f. made_part link_text (link_with_entry name number) next (named_there here word next is e);
+      directory = λ here is. ap is_directory_node (made_directory here is) ∙ ways.directory here is;
+      step = λ here word next is e. inl (made_word here word is ∙ word_stays world.inodes directory name number in_directory free here word next e);
+      link = λ here word next is e f.
+          ap link_text (made_other next (named_there here word next is e)) ∙ ways.link here word next is e (word_stays world.inodes directory name number in_directory free here word next e);
     }
       where
-        named : (here : ℕ) (word : LastWord) (next : ℕ) → IsDirectory tree here → object_named tree here word ≡ Some next → object_named made here word ≡ Some next
-        named here NoWord next is e = e
-        named here Dot next is e = e
-        named here DotDot next is e = ap Some (made_part (parent_in here) (parent_with_entry name number here) here (directory_there numbers world fit here is)) ∙ e
-        named here (Named other) next is e = entry_stays here other next is e
+        ways : WaysStay tree (tree_of entered) Refused
+        ways = ways_named world.inodes directory name number in_directory free Refused
 
     pub rights_made : (who : Credentials) (here : ℕ) → IsDirectory tree here → may made who here execute_right ≡ may tree who here execute_right
-    rights_made who here is = made_part (node_allows who execute_right) (allows_with_entry name number who execute_right) here (directory_there numbers world fit here is)
+    rights_made who here is = ap (node_allows who execute_right) (made_directory here is) ∙ rights_named world.inodes directory name number in_directory free who here

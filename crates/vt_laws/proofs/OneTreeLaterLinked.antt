@@ -68,31 +68,37 @@ text_told world inodes name task called path text link attr is finds = (
       ∙ readlink_of (with_inodes world inodes) reader reading path (record { node = link; left = walk.0 }) attr text walk.1 is,
 )
 
+-- a walk to a new leaf is one to a new name, behind which no slash follows
+pub new_leaf_parts : (tree : Tree ℕ) (who : Credentials) (path : List ℕ) (place : Place ℕ) → new_leaf_walk tree who path ≡ Ok place → (new_walk tree who path ≡ Ok place) × ((place.slash && not (is_some place.object)) ≡ false)
+new_leaf_parts tree who path place e =
+    let walks = both_gave (new_walk tree who path) _ place e in
+    let leaf = passing ((walks.0.slash && not (is_some walks.0.object), W6) ∷ []) (Ok walks.0) place walks.2 in
+    (walks.1 ∙ leaf.1, subst (λ p. (p.slash && not (is_some p.object)) ≡ false) (same_ok walks.0 place leaf.1) leaf.0.0)
+
+pub no_slash_there : (slash : Bool) (object : Option ℕ) → object ≡ None → (slash && not (is_some object)) ≡ false → slash ≡ false
+no_slash_there true object none e = absurd (true≢false (sym (ap (λ o. not (is_some o)) none) ∙ e))
+no_slash_there false object none e = refl
+
 -- what a granted symlink was permitted
 symlink_parts : (number : ℕ) (tree : Tree ℕ) (task : Task ℕ) (text path : List ℕ) (permit : Permit ℕ) → symlink_permit number tree task text path ≡ Ok permit
-    → (place : Place ℕ) × (new_walk tree task.credentials path ≡ Ok place) × ((place.slash && not (is_some place.object)) ≡ false) × AllPass (new_rules tree task.credentials place)
+    → (place : Place ℕ) × (new_leaf_walk tree task.credentials path ≡ Ok place) × AllPass (new_rules tree task.credentials place)
     × (permit ≡ making place number (record { attr = link_attr task; content = Symlink text }))
 unfolding symlink_permit
 symlink_parts number tree task text path permit e =
     let texts = passing (link_text_rules text) _ permit e in
     let steps = both_gave (new_leaf_walk tree task.credentials path) _ permit texts.1 in
     let parts = passing (new_rules tree task.credentials steps.0) _ permit steps.2 in
-    let walks = both_gave (new_walk tree task.credentials path) _ steps.0 steps.1 in
-    let leaf = passing ((walks.0.slash && not (is_some walks.0.object), W6) ∷ []) (Ok walks.0) steps.0 walks.2 in
-    let same = same_ok walks.0 steps.0 leaf.1 in
-    (steps.0, walks.1 ∙ leaf.1, subst (λ p. (p.slash && not (is_some p.object)) ≡ false) same leaf.0.0, parts.0, sym (same_ok _ permit parts.1))
+    (steps.0, steps.1, parts.0, sym (same_ok _ permit parts.1))
 
 module _ (numbers : List ℕ) (world : World ℕ) (name : TaskName) (number : ℕ) (fit : IsFit numbers world) (vacant : world.inodes.inode number ≡ None) (task : Task ℕ) (called : task_called world name ≡ Some task) where
   abbrev tree : Tree ℕ
   tree = tree_of world.inodes
 
-  no_slash_there : (slash : Bool) (object : Option ℕ) → object ≡ None → (slash && not (is_some object)) ≡ false → slash ≡ false
-  no_slash_there true object none e = absurd (true≢false (sym (ap (λ o. not (is_some o)) none) ∙ e))
-  no_slash_there false object none e = refl
-
-  link_told : (text path : List ℕ) (place : Place ℕ) → new_walk tree task.credentials path ≡ Ok place → (place.slash && not (is_some place.object)) ≡ false → AllPass (new_rules tree task.credentials place)
+  link_told : (text path : List ℕ) (place : Place ℕ) → new_leaf_walk tree task.credentials path ≡ Ok place → AllPass (new_rules tree task.credentials place)
       → IsTextTold path text (with_inodes world (with_new nat_eq world.inodes place.parent (name_of place.last) number (record { attr = link_attr task; content = Symlink text }))) name
-  link_told text path place walk leaf pass =
+  link_told text path place walks pass =
+      let leaf = new_leaf_parts tree task.credentials path place walks in
+      let walk = leaf.0 in
       let new : Node ℕ = record { attr = link_attr task; content = Symlink text } in
       let inodes = with_new nat_eq world.inodes place.parent (name_of place.last) number new in
       let at = name_at_place tree place.parent place.object place.last pass.0 (subst (λ r. IfOk r (IsPlace tree)) walk (new_walk_is (beside_of numbers) world (name, task) fit path)) in
@@ -101,7 +107,7 @@ module _ (numbers : List ℕ) (world : World ℕ) (name : TaskName) (number : �
       let is = made_here numbers world fit place.parent (name_of place.last) number new at.0 free vacant in
       let entry = made_entry numbers world fit place.parent (name_of place.last) number new at.0 free vacant in
       let parts = new_walk_parts tree task.credentials path place walk in
-      let no_slash = slash_of_place tree task.credentials parts.here.node (final_word (reverse (words parts.text))) (ends_in_slash parts.text) place parts.ends pass.0 ∙ no_slash_there place.slash place.object missing leaf in
+      let no_slash = slash_of_place tree task.credentials parts.here.node (final_word (reverse (words parts.text))) (ends_in_slash parts.text) place parts.ends pass.0 ∙ no_slash_there place.slash place.object missing leaf.1 in
       text_told world inodes name task called path text number (link_attr task) is (λ reader looks.
       let leads = leads_who tree (tree_of inodes) task.credentials reader (ways_made numbers world fit place.parent (name_of place.last) number new at.0 free vacant Never)
       (rights_made numbers world fit place.parent (name_of place.last) number new at.0 free vacant task.credentials) looks in (
@@ -115,5 +121,5 @@ pub symlink_then_readlink : SymlinkThenReadlink
 symlink_then_readlink text path numbers world name number fit vacant granted =
     let did = permitted world name (SymlinkAt text path) number Done granted in
     let parts = symlink_parts number (tree_of world.inodes) did.task text path did.permit did.judged in
-    subst (λ o. IsTextTold path text o.world name) (sym (did.done ∙ ap (spent nat_eq world name did.task) parts.4))
-    (link_told numbers world name number fit vacant did.task did.called text path parts.0 parts.1 parts.2 parts.3)
+    subst (λ o. IsTextTold path text o.world name) (sym (did.done ∙ ap (spent nat_eq world name did.task) parts.3))
+    (link_told numbers world name number fit vacant did.task did.called text path parts.0 parts.1 parts.2)

@@ -33,7 +33,7 @@ use Rattle.vt_laws.specs.OneTreeLater.{IsRefused, IsRefusedToAll, UnlinkThenLsta
 use Rattle.vt_laws.proofs.ChangesNames.{entry_named-without_entry}
 use Rattle.vt_laws.proofs.OneTreeLater.{AllPass, LeadsToo, both_gave, passing, same_ok}
 use Rattle.vt_laws.proofs.OneTreeLaterCalls.{answered_by, beside_of, name_at_place, object_of_name, permitted}
-use Rattle.vt_laws.proofs.OneTreeLaterChanges.{WaysStay, changed_part, leads_all, leads_itself, named_there}
+use Rattle.vt_laws.proofs.OneTreeLaterChanges.{WaysStay, changed_part, elsewhere, leads_all, leads_itself, named_there}
 use Rattle.vt_laws.proofs.OneTreeLaterLinked.{link_walk_plain}
 use Rattle.vt_laws.proofs.OneTreeLaterPlaces.{missing_too, slash_of_place}
 use Rattle.vt_laws.proofs.OneTreeLaterWritten.{MayLook, new_walk_parts}
@@ -76,11 +76,6 @@ allows_without name who wanted (Some node) = by node.content
     by (Regular bytes) = refl
     by (Symlink text) = refl
     by Whiteout = refl
-
--- each other inode is as it was
-elsewhere : (inodes : Inodes ℕ) (number : ℕ) (change : Option (Node ℕ) → Option (Node ℕ)) (n : ℕ) → n ≢ number → (tree_of (with_changed nat_eq inodes number change)).node n ≡ (tree_of inodes).node n
-elsewhere inodes number change n other =
-    ap (λ b. node_in (cond b (inode_with_node (change (node_in (inodes.inode number))) (inodes.inode number)) (inodes.inode n))) (ne_eqb n number other)
 
 module _ (inodes : Inodes ℕ) (directory : ℕ) (name : List ℕ) (object : ℕ) (no_directory : is_directory_node ((tree_of inodes).node object) ≡ false) where
   abbrev tree : Tree ℕ

@@ -66,7 +66,7 @@ IsToldSet path set world name later =
     × IsAnsweredUnless W4 later name (Stat path) (Told (record line { attr = set line.attr }))
     × IsSeenByAll later (Stat path) (Told (record line { attr = set line.attr }))
 
-some_node : (o : Option (Inode ℕ)) → is_some o ≡ true → (node : Node ℕ) × (node_in o ≡ Some node)
+pub some_node : (o : Option (Inode ℕ)) → is_some o ≡ true → (node : Node ℕ) × (node_in o ≡ Some node)
 some_node None e = cc
 some_node (Some inode) e = (inode.node, refl)
 

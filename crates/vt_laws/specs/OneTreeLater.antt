@@ -6,7 +6,7 @@ use Rattle.vt_spec.specs.declared.errors.Rule.{Rule}
 use Rattle.vt_spec.specs.declared.errors.Rule.TheVariants.{C1, W4, W6}
 use Rattle.vt_spec.specs.Errors.{denial}
 use Rattle.vt_spec.specs.Machine.Calls.{Call}
-use Rattle.vt_spec.specs.Machine.Calls.Call.{Chmod, Chown, Ls, Lstat, Mkdir, Pread, Pwrite, Read, Readlink, Stat, SymlinkAt, Unlink, Write}
+use Rattle.vt_spec.specs.Machine.Calls.Call.{Chmod, Chown, LinkTo, Ls, Lstat, Mkdir, Pread, Pwrite, Read, Readlink, Stat, SymlinkAt, Unlink, Write}
 use Rattle.vt_spec.specs.Machine.Outcome.Attributes.{attr_with_mode, attr_with_owner}
 use Rattle.vt_spec.specs.Machine.Outcomes.{Answer, StatLine}
 use Rattle.vt_spec.specs.Machine.Outcomes.Answer.{Bytes, Done, Names, Told}
@@ -84,6 +84,16 @@ ChmodThenStat = (path : List ℕ) (mode : ℕ) → TellsAfter (Chmod path mode) 
 
 abbrev pub ChownThenStat : Type 0
 ChownThenStat = (path : List ℕ) (uid gid : Option ℕ) → TellsAfter (Chown path uid gid) path (λ attr. attr_with_owner attr uid gid)
+
+-- A name more leads to the object that the old one leads to: all that lstat told of it before.
+abbrev pub LinkThenLstat : Type 0
+LinkThenLstat =
+    (old new : List ℕ) (numbers : List ℕ) (world : World ℕ) (name : TaskName) (number : ℕ)
+    → IsFit numbers world
+    → (policy nat_eq world name (LinkTo old new) number).answer ≡ Ok Done
+    → (line : StatLine) × IsAnswered world name (Lstat old) (Told line)
+    × IsAnswered (policy nat_eq world name (LinkTo old new) number).world name (Lstat new) (Told line)
+    × IsSeenByAll (policy nat_eq world name (LinkTo old new) number).world (Lstat new) (Told line)
 
 -- the task's call is refused by this rule
 abbrev pub IsRefused : Rule → World ℕ → TaskName → Call → Type 0

@@ -1,5 +1,5 @@
 //! What later calls on one tree see of earlier ones.
-ghost use Rattle.vt_laws.specs.OneTreeLater.{ChmodThenStat, ChownThenStat, MkdirThenList, PwriteThenPread, SymlinkThenReadlink, UnlinkThenLstat, WriteThenRead};
+ghost use Rattle.vt_laws.specs.OneTreeLater.{ChmodThenStat, ChownThenStat, LinkThenLstat, MkdirThenList, PwriteThenPread, SymlinkThenReadlink, UnlinkThenLstat, WriteThenRead};
 
 /// What a granted call did is seen at the same path by the calls after it: by the same task, and by each task that may search
 /// and read everything.
@@ -12,6 +12,7 @@ pub fn later_calls_see_earlier_ones()
     ensures linked { SymlinkThenReadlink }
     ensures mode_set { ChmodThenStat }
     ensures owner_set { ChownThenStat }
+    ensures named { LinkThenLstat }
     ensures unlinked { UnlinkThenLstat }
     ensures written_through { PwriteThenPread }
 {}

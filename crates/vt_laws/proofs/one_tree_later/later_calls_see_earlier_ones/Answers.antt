@@ -1,4 +1,5 @@
 use Rattle.vt_laws.proofs.OneTreeLaterLinked.{symlink_then_readlink}
+use Rattle.vt_laws.proofs.OneTreeLaterNamed.{link_then_lstat}
 use Rattle.vt_laws.proofs.OneTreeLaterRemoved.{unlink_then_lstat}
 use Rattle.vt_laws.proofs.OneTreeLaterThrough.{pwrite_then_pread}
 use Rattle.vt_laws.proofs.OneTreeLaterTold.{chmod_then_stat, chown_then_stat}
@@ -19,6 +20,9 @@ returns-clause-mode_set c = chmod_then_stat
 
 pub returns-clause-owner_set : goal.returns-clause-owner_set
 returns-clause-owner_set c = chown_then_stat
+
+pub returns-clause-named : goal.returns-clause-named
+returns-clause-named c = link_then_lstat
 
 pub returns-clause-unlinked : goal.returns-clause-unlinked
 returns-clause-unlinked c = unlink_then_lstat
