@@ -55,6 +55,16 @@ pub mod OneTreeEntries
 pub mod OneTreeForks
 pub mod OneTreeJudged
 pub mod OneTreeLanguage
+pub mod OneTreeLater
+pub mod OneTreeLaterCalls
+pub mod OneTreeLaterChanges
+pub mod OneTreeLaterLinked
+pub mod OneTreeLaterNamed
+pub mod OneTreeLaterPlaces
+pub mod OneTreeLaterRemoved
+pub mod OneTreeLaterThrough
+pub mod OneTreeLaterTold
+pub mod OneTreeLaterWritten
 pub mod OneTreeLinks
 pub mod OneTreeLooks
 pub mod OneTreeMakes

@@ -121,7 +121,7 @@ module _ (numbers : List ℕ) (world : World ℕ) (fit : IsFit numbers world) (w
       start true = root_there
       start false = from
 
-  object_there : (path : List ℕ) → IfOk (object_walk tree who path) IsThere
+  pub object_there : (path : List ℕ) → IfOk (object_walk tree who path) IsThere
   object_there path =
       ifok_then IsThere (parsed_path path) _ (λ text e.
       then_there (path_walked tree who text) _ (words_there (followed tree who) (link_there 41) (walk_start tree) root_there (reverse (words text))) (λ here here_is. ruled (slash_rules tree text here.node) (Ok here) here_is))

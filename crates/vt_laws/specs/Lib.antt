@@ -4,6 +4,7 @@ pub mod Layers
 pub mod Mounts
 pub mod Numbers
 pub mod OneTree
+pub mod OneTreeLater
 pub mod OneTreeNumbers
 pub mod OneTreeTexts
 pub mod RuleOrder
