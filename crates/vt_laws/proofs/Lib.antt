@@ -64,6 +64,8 @@ pub mod OneTreeNames
 pub mod OneTreeNumbers
 pub mod OneTreeOpening
 pub mod OneTreeOpens
+pub mod OneTreeOwnLooks
+pub mod OneTreeOwnPermits
 pub mod OneTreeRefusals
 pub mod OneTreeRenames
 pub mod OneTreeRewrites

@@ -4,6 +4,7 @@ pub mod Layers
 pub mod Mounts
 pub mod Numbers
 pub mod OneTree
+pub mod OneTreeCalls
 pub mod OneTreeNumbers
 pub mod RuleOrder
 pub mod Trees

@@ -6,5 +6,6 @@ pub mod layers;
 pub mod mounts;
 pub mod numbers;
 pub mod one_tree;
+pub mod one_tree_calls;
 pub mod rules;
 pub mod trees;
