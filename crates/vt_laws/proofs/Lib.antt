@@ -66,6 +66,7 @@ pub mod OneTreeOpening
 pub mod OneTreeOpens
 pub mod OneTreeOwnLooks
 pub mod OneTreeOwnPermits
+pub mod OneTreeOwnRights
 pub mod OneTreeRefusals
 pub mod OneTreeRenames
 pub mod OneTreeRewrites
