@@ -64,7 +64,9 @@ pub mod OneTreeNames
 pub mod OneTreeNumbers
 pub mod OneTreeOpening
 pub mod OneTreeOpens
+pub mod OneTreeOwnInodes
 pub mod OneTreeOwnLooks
+pub mod OneTreeOwnParts
 pub mod OneTreeOwnPermits
 pub mod OneTreeOwnRights
 pub mod OneTreeRefusals
