@@ -20,30 +20,31 @@ use Rattle.vt_spec.specs.TreeLaws.{entry_at}
 use Rattle.vt_laws.specs.OneTreeCalls.{KindsStay, LinkTextsStay, OnlyChmodChangesModes, OnlyChownChangesOwners, OnlyNamingChangesEntries, OnlyTheseEndInodes, OnlyWritesChangeBytes, StaysIfThere, changes_names, owner_of, sets_mode, sets_owner, takes_uses, writes_bytes}
 use Rattle.vt_laws.proofs.OneTreeOwnPermits.{HoldsOf, policy_holds}
 
-abbrev Place : Type 0
+abbrev pub Place : Type 0
 Place = Option (Inode ℕ)
 
 -- How an inode before and after a call may stand to one another, whatever changes it.
 module _ (T : Place → Place → Type 0) where
   -- kept by a change of its node
-  abbrev KeptBy : (Option (Node ℕ) → Option (Node ℕ)) → Type 0
+  abbrev pub KeptBy : (Option (Node ℕ) → Option (Node ℕ)) → Type 0
   KeptBy change = (place : Place) → T place (inode_with_node (change (node_in place)) place)
 
-  abbrev KeptByNames : Type 0
-  KeptByNames =
-      ((entry : List ℕ) (object : ℕ) → KeptBy (node_with_entry entry object)) × ((entry : List ℕ) → KeptBy (node_without_entry entry))
-      × ((parent : ℕ) → KeptBy (node_with_parent parent))
+  abbrev pub KeptByParents : Type 0
+  KeptByParents = (parent : ℕ) → KeptBy (node_with_parent parent)
 
-  abbrev KeptByBytes : Type 0
+  abbrev pub KeptByNames : Type 0
+  KeptByNames = ((entry : List ℕ) (object : ℕ) → KeptBy (node_with_entry entry object)) × ((entry : List ℕ) → KeptBy (node_without_entry entry)) × KeptByParents
+
+  abbrev pub KeptByBytes : Type 0
   KeptByBytes = (bytes : List ℕ) → KeptBy (node_with_bytes bytes)
 
-  abbrev KeptByMode : Type 0
+  abbrev pub KeptByMode : Type 0
   KeptByMode = (mode : ℕ) → KeptBy (λ node. node_with_attr (attr_with_mode (attr_in node) mode) node)
 
-  abbrev KeptByOwner : Type 0
+  abbrev pub KeptByOwner : Type 0
   KeptByOwner = (uid gid : Option ℕ) → KeptBy (λ node. node_with_attr (attr_with_owner (attr_in node) uid gid) node)
 
-  abbrev KeptByLoss : Type 0
+  abbrev pub KeptByLoss : Type 0
   KeptByLoss = (place : Place) → T place (used_once_less place)
 
   abbrev KeptByCreation : Creation → Type 0
@@ -91,74 +92,81 @@ module _ (T : Place → Place → Type 0) where
   module _ (itself : (place : Place) → T place place) (next : (a b c : Place) → T a b → T b c → T a c) (more : (place : Place) → T place (used_once_more place))
       (other number : ℕ) (made : other ≡ number → (place : Place) (inode : Inode ℕ) → T place (Some inode)) where
     -- an inode in a tree, and after a change of some inode
-    abbrev Kept : Inodes ℕ → Inodes ℕ → Type 0
+    abbrev pub Kept : Inodes ℕ → Inodes ℕ → Type 0
     Kept inodes left = T (inodes.inode other) (left.inode other)
 
-    at_place : (inodes : Inodes ℕ) (place : ℕ) (new : Place) → (other ≡ place → T (inodes.inode place) new) → Kept inodes (with_inode nat_eq inodes place new)
+    pub at_place : (inodes : Inodes ℕ) (place : ℕ) (new : Place) → (other ≡ place → T (inodes.inode place) new) → Kept inodes (with_inode nat_eq inodes place new)
     at_place inodes place new here =
         ⊎_elim
         (λ t. subst (λ b. T (inodes.inode other) (cond b new (inodes.inode other))) (sym t.0) (subst (λ n. T (inodes.inode n) new) (sym t.1) (here t.1)))
         (λ t. subst (λ b. T (inodes.inode other) (cond b new (inodes.inode other))) (sym t.0) (itself (inodes.inode other)))
         (eqb_tells other place)
 
-    changed_kept : (inodes : Inodes ℕ) (place : ℕ) (change : Option (Node ℕ) → Option (Node ℕ)) → KeptBy change → Kept inodes (with_changed nat_eq inodes place change)
+    pub changed_kept : (inodes : Inodes ℕ) (place : ℕ) (change : Option (Node ℕ) → Option (Node ℕ)) → KeptBy change → Kept inodes (with_changed nat_eq inodes place change)
     changed_kept inodes place change kept = at_place inodes place _ (λ same. kept (inodes.inode place))
 
-    pinned_kept : (inodes : Inodes ℕ) (place : ℕ) → Kept inodes (pinned nat_eq inodes place)
+    pub pinned_kept : (inodes : Inodes ℕ) (place : ℕ) → Kept inodes (pinned nat_eq inodes place)
     pinned_kept inodes place = at_place inodes place _ (λ same. more (inodes.inode place))
 
-    unpinned_kept : KeptByLoss → (inodes : Inodes ℕ) (place : ℕ) → Kept inodes (unpinned nat_eq inodes place)
+    pub unpinned_kept : KeptByLoss → (inodes : Inodes ℕ) (place : ℕ) → Kept inodes (unpinned nat_eq inodes place)
     unpinned_kept loss inodes place = at_place inodes place (used_once_less (inodes.inode place)) (λ same. loss (inodes.inode place))
 
     then_kept : (a b c : Inodes ℕ) → Kept a b → Kept b c → Kept a c
     then_kept a b c = next (a.inode other) (b.inode other) (c.inode other)
 
-    new_kept : KeptByNames → (inodes : Inodes ℕ) (directory : ℕ) (entry : List ℕ) (node : Node ℕ) → Kept inodes (with_new nat_eq inodes directory entry number node)
-    new_kept names inodes directory entry node =
+    -- a new object, where its name is so
+    pub new_kept : (inodes : Inodes ℕ) (directory : ℕ) (entry : List ℕ) (node : Node ℕ) → Kept inodes (with_changed nat_eq inodes directory (node_with_entry entry number))
+        → Kept inodes (with_new nat_eq inodes directory entry number node)
+    new_kept inodes directory entry node named =
         let entered : Inodes ℕ = with_changed nat_eq inodes directory (node_with_entry entry number) in
-        then_kept inodes entered (with_inode nat_eq entered number (Some (record { node = node; uses = 1 })))
-        (changed_kept inodes directory (node_with_entry entry number) (names.0 entry number))
+        then_kept inodes entered (with_inode nat_eq entered number (Some (record { node = node; uses = 1 }))) named
         (at_place entered number (Some (record { node = node; uses = 1 })) (λ same. made same (entered.inode number) (record { node = node; uses = 1 })))
 
-    name_kept : KeptByNames → (inodes : Inodes ℕ) (directory : ℕ) (entry : List ℕ) (object : ℕ) → Kept inodes (with_name nat_eq inodes directory entry object)
-    name_kept names inodes directory entry object =
-        let entered : Inodes ℕ = with_changed nat_eq inodes directory (node_with_entry entry object) in
-        then_kept inodes entered (pinned nat_eq entered object)
-        (changed_kept inodes directory (node_with_entry entry object) (names.0 entry object)) (pinned_kept entered object)
+    pub opened_new_kept : (inodes : Inodes ℕ) (directory : ℕ) (entry : List ℕ) (node : Node ℕ) → Kept inodes (with_changed nat_eq inodes directory (node_with_entry entry number))
+        → Kept inodes (pinned nat_eq (with_new nat_eq inodes directory entry number node) number)
+    opened_new_kept inodes directory entry node named =
+        let entered : Inodes ℕ = with_new nat_eq inodes directory entry number node in
+        then_kept inodes entered (pinned nat_eq entered number) (new_kept inodes directory entry node named) (pinned_kept entered number)
 
-    replaced_kept : KeptByNames → KeptByLoss → (inodes : Inodes ℕ) (object : Option ℕ) → Kept inodes (without_replaced nat_eq inodes object)
-    replaced_kept names loss inodes None = itself (inodes.inode other)
-    replaced_kept names loss inodes (Some object) =
+    pub name_kept : (inodes : Inodes ℕ) (directory : ℕ) (entry : List ℕ) (object : ℕ) → Kept inodes (with_changed nat_eq inodes directory (node_with_entry entry object))
+        → Kept inodes (with_name nat_eq inodes directory entry object)
+    name_kept inodes directory entry object named =
+        let entered : Inodes ℕ = with_changed nat_eq inodes directory (node_with_entry entry object) in
+        then_kept inodes entered (pinned nat_eq entered object) named (pinned_kept entered object)
+
+    replaced_kept : KeptByParents → KeptByLoss → (inodes : Inodes ℕ) (object : Option ℕ) → Kept inodes (without_replaced nat_eq inodes object)
+    replaced_kept parents loss inodes None = itself (inodes.inode other)
+    replaced_kept parents loss inodes (Some object) =
         let alone : Inodes ℕ = with_changed nat_eq inodes object (node_with_parent object) in
         then_kept inodes alone (unpinned nat_eq alone object)
-        (changed_kept inodes object (node_with_parent object) (names.2 object)) (unpinned_kept loss alone object)
+        (changed_kept inodes object (node_with_parent object) (parents object)) (unpinned_kept loss alone object)
 
-    removed_kept : KeptByNames → KeptByLoss → (inodes : Inodes ℕ) (directory : ℕ) (entry : List ℕ) (object : ℕ) → Kept inodes (without_name nat_eq inodes directory entry object)
-    removed_kept names loss inodes directory entry object =
+    pub removed_kept : KeptByParents → KeptByLoss → (inodes : Inodes ℕ) (directory : ℕ) (entry : List ℕ) (object : ℕ)
+        → Kept inodes (with_changed nat_eq inodes directory (node_without_entry entry)) → Kept inodes (without_name nat_eq inodes directory entry object)
+    removed_kept parents loss inodes directory entry object unnamed =
         let left : Inodes ℕ = with_changed nat_eq inodes directory (node_without_entry entry) in
-        then_kept inodes left (without_replaced nat_eq left (Some object))
-        (changed_kept inodes directory (node_without_entry entry) (names.1 entry)) (replaced_kept names loss left (Some object))
+        then_kept inodes left (without_replaced nat_eq left (Some object)) unnamed (replaced_kept parents loss left (Some object))
 
-    moved_kept : KeptByNames → KeptByLoss → (inodes : Inodes ℕ) (from : ℕ) (old : List ℕ) (to : ℕ) (new : List ℕ) (object : ℕ) → Kept inodes (with_moved nat_eq inodes from old to new object)
-    moved_kept names loss inodes from old to new object =
+    pub moved_kept : KeptByParents → KeptByLoss → (inodes : Inodes ℕ) (from : ℕ) (old : List ℕ) (to : ℕ) (new : List ℕ) (object : ℕ)
+        → Kept inodes (with_changed nat_eq inodes from (node_without_entry old))
+        → ((left : Inodes ℕ) → Kept left (with_changed nat_eq left to (node_with_entry new object)))
+        → Kept inodes (with_moved nat_eq inodes from old to new object)
+    moved_kept parents loss inodes from old to new object unnamed named =
         let left : Inodes ℕ = with_changed nat_eq inodes from (node_without_entry old) in
         let entered : Inodes ℕ = with_changed nat_eq left to (node_with_entry new object) in
         let below : Inodes ℕ = with_changed nat_eq entered object (node_with_parent to) in
-        then_kept inodes left (without_replaced nat_eq below (entry_at (tree_of inodes) to new))
-        (changed_kept inodes from (node_without_entry old) (names.1 old))
-        (then_kept left entered (without_replaced nat_eq below (entry_at (tree_of inodes) to new))
-        (changed_kept left to (node_with_entry new object) (names.0 new object))
-        (then_kept entered below (without_replaced nat_eq below (entry_at (tree_of inodes) to new))
-        (changed_kept entered object (node_with_parent to) (names.2 to))
-        (replaced_kept names loss below (entry_at (tree_of inodes) to new))))
+        let last : Inodes ℕ = without_replaced nat_eq below (entry_at (tree_of inodes) to new) in
+        then_kept inodes left last unnamed
+        (then_kept left entered last (named left)
+        (then_kept entered below last (changed_kept entered object (node_with_parent to) (parents to)) (replaced_kept parents loss below (entry_at (tree_of inodes) to new))))
 
-    without_kept : KeptByLoss → (inodes : Inodes ℕ) (descriptors : List (Descriptor ℕ)) → Kept inodes (without_uses nat_eq inodes descriptors)
+    pub without_kept : KeptByLoss → (inodes : Inodes ℕ) (descriptors : List (Descriptor ℕ)) → Kept inodes (without_uses nat_eq inodes descriptors)
     without_kept loss inodes [] = itself (inodes.inode other)
     without_kept loss inodes (descriptor ∷ rest) =
         then_kept inodes (unpinned nat_eq inodes descriptor.file) (without_uses nat_eq (unpinned nat_eq inodes descriptor.file) rest)
         (unpinned_kept loss inodes descriptor.file) (without_kept loss (unpinned nat_eq inodes descriptor.file) rest)
 
-    closed_kept : KeptByLoss → (world : World ℕ) (name : TaskName) (task : Task ℕ) (found : Option (Descriptor ℕ)) → Kept world.inodes (closed nat_eq world name task found).inodes
+    pub closed_kept : KeptByLoss → (world : World ℕ) (name : TaskName) (task : Task ℕ) (found : Option (Descriptor ℕ)) → Kept world.inodes (closed nat_eq world name task found).inodes
     closed_kept loss world name task None = itself (world.inodes.inode other)
     closed_kept loss world name task (Some descriptor) = unpinned_kept loss world.inodes descriptor.file
 
@@ -169,15 +177,17 @@ module _ (T : Place → Place → Type 0) where
       same : Kept world.inodes world.inodes
       same = itself (world.inodes.inode other)
 
-      made_kept : KeptByNames → (directory : ℕ) (entry : List ℕ) (node : Node ℕ) → Kept world.inodes (pinned nat_eq (with_new nat_eq world.inodes directory entry number node) number)
-      made_kept names directory entry node =
-          let entered : Inodes ℕ = with_new nat_eq world.inodes directory entry number node in
-          then_kept world.inodes entered (pinned nat_eq entered number) (new_kept names world.inodes directory entry node) (pinned_kept entered number)
+      named : KeptByNames → (directory : ℕ) (entry : List ℕ) (object : ℕ) → Kept world.inodes (with_changed nat_eq world.inodes directory (node_with_entry entry object))
+      named names directory entry object = changed_kept world.inodes directory (node_with_entry entry object) (names.0 entry object)
+
+      removed : KeptByNames → KeptByLoss → (directory : ℕ) (entry : List ℕ) (object : ℕ) → Kept world.inodes (without_name nat_eq world.inodes directory entry object)
+      removed names loss directory entry object =
+          removed_kept names.2 loss world.inodes directory entry object (changed_kept world.inodes directory (node_without_entry entry) (names.1 entry))
 
       opened : (task : Task ℕ) (path : List ℕ) (access : Access) (creation : Creation) → KeptByCreation creation → Done task (OpenFile path access creation)
       opened task path access NoCreation kept = λ file. pinned_kept world.inodes file
-      opened task path access (OrCreate mode) kept = (λ file. pinned_kept world.inodes file, λ directory entry node. made_kept kept directory entry node)
-      opened task path access (Exclusive mode) kept = λ directory entry node. made_kept kept directory entry node
+      opened task path access (OrCreate mode) kept = (λ file. pinned_kept world.inodes file, λ directory entry node. opened_new_kept world.inodes directory entry node (named kept directory entry number))
+      opened task path access (Exclusive mode) kept = λ directory entry node. opened_new_kept world.inodes directory entry node (named kept directory entry number)
 
       done : (task : Task ℕ) (call : Call) → KeptByCall call → Done task call
       done task (Ls path) kept = λ directory. same
@@ -186,14 +196,19 @@ module _ (T : Place → Place → Type 0) where
       done task (Readlink path) kept = λ file. same
       done task (Read path) kept = λ file. same
       done task (Write path bytes) kept =
-          (λ file. changed_kept world.inodes file (node_with_bytes bytes) (kept.0 bytes), λ directory entry node. new_kept kept.1 world.inodes directory entry node)
+          (λ file. changed_kept world.inodes file (node_with_bytes bytes) (kept.0 bytes), λ directory entry node. new_kept world.inodes directory entry node (named kept.1 directory entry number))
       done task (Exec path) kept = same
-      done task (Mkdir path mode) kept = λ directory entry node. new_kept kept world.inodes directory entry node
-      done task (SymlinkAt text path) kept = λ directory entry node. new_kept kept world.inodes directory entry node
-      done task (LinkTo old new) kept = λ directory entry object. name_kept kept world.inodes directory entry object
-      done task (Unlink path) kept = λ directory entry object. removed_kept kept.0 kept.1 world.inodes directory entry object
-      done task (Rmdir path) kept = λ directory entry object. removed_kept kept.0 kept.1 world.inodes directory entry object
-      done task (Rename old new) kept = (same, λ from before to after object. moved_kept kept.0 kept.1 world.inodes from before to after object)
+      done task (Mkdir path mode) kept = λ directory entry node. new_kept world.inodes directory entry node (named kept directory entry number)
+      done task (SymlinkAt text path) kept = λ directory entry node. new_kept world.inodes directory entry node (named kept directory entry number)
+      done task (LinkTo old new) kept = λ directory entry object. name_kept world.inodes directory entry object (named kept directory entry object)
+      done task (Unlink path) kept = λ directory entry object. removed kept.0 kept.1 directory entry object
+      done task (Rmdir path) kept = λ directory entry object. removed kept.0 kept.1 directory entry object
+      done task (Rename old new) kept = (
+        same,
+        λ from before to after object.
+            moved_kept kept.0.2 kept.1 world.inodes from before to after object (changed_kept world.inodes from (node_without_entry before) (kept.0.1 before))
+            (λ left. changed_kept left to (node_with_entry after object) (kept.0.0 after object)),
+      )
       done task (Chmod path mode) kept = λ object. at_place world.inodes object _ (λ here. kept mode (world.inodes.inode object))
       done task (Chown path uid gid) kept = λ object. at_place world.inodes object _ (λ here. kept uid gid (world.inodes.inode object))
       done task (OpenFile path access creation) kept = opened task path access creation kept
@@ -212,24 +227,24 @@ module _ (T : Place → Place → Type 0) where
 
 -- What is there afterwards has a part of the node as it was.
 module _ {A : Type 0} (part : Node ℕ → A) where
-  abbrev Stays : Place → Place → Type 0
+  abbrev pub Stays : Place → Place → Type 0
   Stays = StaysIfThere part
 
-  stays_itself : (place : Place) → Stays place place
+  pub stays_itself : (place : Place) → Stays place place
   stays_itself None = tt
   stays_itself (Some inode) = refl
 
-  stays_next : (a b c : Place) → Stays a b → Stays b c → Stays a c
+  pub stays_next : (a b c : Place) → Stays a b → Stays b c → Stays a c
   stays_next a b None first second = tt
   stays_next a None (Some c) first second = absurd second
   stays_next None (Some b) (Some c) first second = absurd first
   stays_next (Some a) (Some b) (Some c) first second = second ∙ first
 
-  stays_more : (place : Place) → Stays place (used_once_more place)
+  pub stays_more : (place : Place) → Stays place (used_once_more place)
   stays_more None = tt
   stays_more (Some inode) = refl
 
-  stays_less : KeptByLoss Stays
+  pub stays_less : KeptByLoss Stays
   stays_less None = tt
   stays_less (Some inode) = by (nat_le inode.uses 1)
     where
@@ -238,11 +253,11 @@ module _ {A : Type 0} (part : Node ℕ → A) where
       by false = refl
 
   -- where each node has it after the change
-  abbrev HasIt : Node ℕ → Option (Node ℕ) → Type 0
+  abbrev pub HasIt : Node ℕ → Option (Node ℕ) → Type 0
   HasIt was None = Unit {0}
   HasIt was (Some now) = part now ≡ part was
 
-  stays_changed : (change : Option (Node ℕ) → Option (Node ℕ)) → ((node : Node ℕ) → HasIt node (change (Some node))) → KeptBy Stays change
+  pub stays_changed : (change : Option (Node ℕ) → Option (Node ℕ)) → ((node : Node ℕ) → HasIt node (change (Some node))) → KeptBy Stays change
   stays_changed change has None = none (change None)
     where
       none : (node : Option (Node ℕ)) → Stays None (inode_with_node node None)
