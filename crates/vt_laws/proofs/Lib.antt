@@ -64,6 +64,7 @@ pub mod OneTreeNames
 pub mod OneTreeNumbers
 pub mod OneTreeOpening
 pub mod OneTreeOpens
+pub mod OneTreeOwnEntries
 pub mod OneTreeOwnInodes
 pub mod OneTreeOwnLooks
 pub mod OneTreeOwnParts

@@ -19,7 +19,7 @@ use Rattle.vt_laws.proofs.OneTreeEntries.{one_if}
 use Rattle.vt_laws.proofs.OneTreeRefusals.{policy_leads}
 
 -- a call that is granted does what it is permitted
-granted_is : (world : World ℕ) (name : TaskName) (call : Call) (number : ℕ) (task : Task ℕ) (permit : Permit ℕ)
+pub granted_is : (world : World ℕ) (name : TaskName) (call : Call) (number : ℕ) (task : Task ℕ) (permit : Permit ℕ)
     → task_called world name ≡ Some task → judge nat_eq number world.inodes name task call ≡ Ok permit
     → policy nat_eq world name call number ≡ spent nat_eq world name task permit
 granted_is world name call number task permit is judged =
@@ -27,7 +27,7 @@ granted_is world name call number task permit is judged =
     ∙ ap (λ result. after world result (spent nat_eq world name task)) judged
 
 -- an inode beside those that are named
-neither : (a b : Bool) → (a || b) ≡ false → (a ≡ false) × (b ≡ false)
+pub neither : (a b : Bool) → (a || b) ≡ false → (a ≡ false) × (b ≡ false)
 neither true b e = cc
 neither false b e = (refl, e)
 

@@ -181,7 +181,7 @@ module _ (number : ℕ) (inodes : Inodes ℕ) (name : TaskName) (task : Task ℕ
     judged_holds call h = refused (denial S1)
 
 -- what is known of each permit is known of the one that is given
-given_permit : (P : Permit ℕ → Type 0) (result : Result (Permit ℕ) Deny) → IfOk result P → (permit : Permit ℕ) → result ≡ Ok permit → P permit
+pub given_permit : (P : Permit ℕ → Type 0) (result : Result (Permit ℕ) Deny) → IfOk result P → (permit : Permit ℕ) → result ≡ Ok permit → P permit
 given_permit P (Ok other) h permit e = let same : other ≡ permit = cc in subst P same h
 given_permit P (Err deny) h permit e = cc
 

@@ -1,5 +1,6 @@
 -- Laws of calls on one tree: what they leave as it was, and what tasks are after them.
-use Rattle.std.specs.Prelude.{Bool, Err, List, None, Ok, Option, Some, [], false, is_some, map, nat_eq, option_to_list, true, ℕ, ⊤, ◌+◌, ◌-◌, ◌∷◌, ◌≡◌, ◌≢◌, ◌≤◌, ◌⊎◌}
+use Rattle.std.specs.Prelude.{Bool, Err, List, None, Ok, Option, Some, [], false, is_some, map, nat_eq, option_to_list, true, ℕ, ⊤, ◌&&◌, ◌+◌, ◌-◌, ◌∷◌, ◌≡◌, ◌≢◌, ◌≤◌, ◌⊎◌}
+use Rattle.std.specs.Str.{bytes_eq}
 use Rattle.vt_spec.specs.declared.errors.Deny.{Deny}
 use Rattle.vt_spec.specs.Machine.Calls.{Call, CapabilityWord, Creation, ForkWords}
 use Rattle.vt_spec.specs.Machine.Calls.Call.{Chmod, Chown, Close, Drop, Exit, Fork, LinkTo, Mkdir, OpenFile, Pwrite, Rename, Rmdir, SymlinkAt, Umask, Unlink, Write}
@@ -17,7 +18,7 @@ use Rattle.vt_spec.specs.OneTree.Permits.Permit.{ToChange, ToClose, ToExit, ToOp
 use Rattle.vt_spec.specs.OneTree.Policy.{child_name, child_of, judge, policy}
 use Rattle.vt_spec.specs.OneTree.World.{Descriptor, Task, World, descriptor_numbered, task_called}
 use Rattle.vt_spec.specs.Rights.{Credentials, cap_setgid, cap_setuid, has_all}
-use Rattle.vt_spec.specs.Tree.{Node, bytes_of, entries_of, kind_of}
+use Rattle.vt_spec.specs.Tree.{Node, bytes_of, entries_of, entry_named, kind_of}
 use Rattle.vt_spec.specs.TreeLaws.{entry_at}
 use Rattle.vt_laws.specs.OneTree.{times_in}
 
@@ -248,3 +249,26 @@ OnlyTheseEndInodes =
     (world : World ℕ) (name : TaskName) (call : Call) (number other : ℕ)
     → takes_uses call ≡ false → is_some (world.inodes.inode other) ≡ true
     → is_some ((policy nat_eq world name call number).world.inodes.inode other) ≡ true
+
+-- Entries
+
+-- the entries that a permit names, each by its directory and its name
+abbrev pub own_entries_of : Permit ℕ → List (ℕ × List ℕ)
+own_entries_of (ToChange (Make directory name number node)) = (directory, name) ∷ []
+own_entries_of (ToChange (AddName directory name object)) = (directory, name) ∷ []
+own_entries_of (ToChange (Remove directory name object)) = (directory, name) ∷ []
+own_entries_of (ToChange (Move from old to new object)) = (from, old) ∷ (to, new) ∷ []
+own_entries_of (ToOpenNew directory name number node access) = (directory, name) ∷ []
+own_entries_of permit = []
+
+abbrev pub same_entry : ℕ × List ℕ → ℕ × List ℕ → Bool
+same_entry one other = nat_eq one.0 other.0 && bytes_eq one.1 other.1
+
+-- in a directory that stays, a call changes no entry but those that its permit names
+abbrev pub OtherEntriesStay : Type 0
+OtherEntriesStay =
+    (world : World ℕ) (name : TaskName) (call : Call) (number : ℕ) (task : Task ℕ) (permit : Permit ℕ) (directory : ℕ) (entry : List ℕ)
+    → task_called world name ≡ Some task → judge nat_eq number world.inodes name task call ≡ Ok permit
+    → is_among same_entry (directory, entry) (own_entries_of permit) ≡ false → directory ≢ number
+    → StaysIfThere (λ node. entry_named entry (entries_of node.content)) (world.inodes.inode directory)
+    ((policy nat_eq world name call number).world.inodes.inode directory)

@@ -1,5 +1,5 @@
 //! What calls on one tree leave as it was, and what tasks are after them.
-ghost use Rattle.vt_laws.specs.OneTreeCalls.{CallsChangeTheirOwn, DescriptorsCountUses, KindsStay, LinkTextsStay, LookingCallChangesNothing, NewTasksAreChildren, OnlyChmodChangesModes, OnlyChownChangesOwners, OnlyDropTakesRights, OnlyExitLeaves, OnlyNamingChangesEntries, OnlyTheseEndInodes, OnlyUmaskSetsUmask, OnlyWritesChangeBytes, OtherTasksStay, RefusedCallChangesNothing, RightsOnlyShrink, RootStays};
+ghost use Rattle.vt_laws.specs.OneTreeCalls.{CallsChangeTheirOwn, DescriptorsCountUses, KindsStay, LinkTextsStay, LookingCallChangesNothing, NewTasksAreChildren, OnlyChmodChangesModes, OnlyChownChangesOwners, OnlyDropTakesRights, OnlyExitLeaves, OnlyNamingChangesEntries, OnlyTheseEndInodes, OnlyUmaskSetsUmask, OnlyWritesChangeBytes, OtherEntriesStay, OtherTasksStay, RefusedCallChangesNothing, RightsOnlyShrink, RootStays};
 
 /// A call on one tree that is refused leaves the world, and so does one that only looks, granted or refused.
 pub fn refusals_change_nothing()
@@ -27,12 +27,14 @@ pub fn rights_only_shrink()
 /// chown the object, and for open, close and exit the files of the descriptors.
 ///
 /// Of those files they change how many uses there are, and no more; with its last use a file goes. No other call than unlink,
-/// rmdir, rename, close and exit ends an inode, and the root stays the root.
+/// rmdir, rename, close and exit ends an inode, and the root stays the root. In a directory no entry is changed but those that
+/// the permit names.
 pub fn calls_change_their_own()
     ensures own { CallsChangeTheirOwn }
     ensures uses { DescriptorsCountUses }
     ensures ends { OnlyTheseEndInodes }
     ensures root { RootStays }
+    ensures entries { OtherEntriesStay }
 {}
 
 /// Each part of an inode is changed by its own calls alone: bytes by write and pwrite, the mode by chmod, owner and group by

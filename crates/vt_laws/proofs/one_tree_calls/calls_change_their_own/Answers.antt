@@ -1,3 +1,4 @@
+use Rattle.vt_laws.proofs.OneTreeOwnEntries.{other_entries_stay}
 use Rattle.vt_laws.proofs.OneTreeOwnInodes.{calls_change_their_own, descriptors_count_uses, root_stays}
 use Rattle.vt_laws.proofs.OneTreeOwnParts.{only_these_end_inodes}
 use Rattle.vt_laws.proofs.one_tree_calls.calls_change_their_own.Goals as goal
@@ -13,3 +14,6 @@ returns-clause-ends c = only_these_end_inodes
 
 pub returns-clause-root : goal.returns-clause-root
 returns-clause-root c = root_stays
+
+pub returns-clause-entries : goal.returns-clause-entries
+returns-clause-entries c = other_entries_stay
