@@ -1,12 +1,12 @@
 -- Which inodes of one tree a call changes.
-use Rattle.std.proofs.Common.{◌≡◌, refl, sym, ap, subst, ◌∙◌, inl, inr, ⊎_elim, ℕ, zero, suc, ◌+◌, ◌-◌, ◌≤◌, ◌<◌, nat_eq, nat_le, Bool, true, false, cond, ◌||◌, List, [], ◌∷◌, Option, Some, None, option_to_list, Ok, arith}
+use Rattle.std.proofs.Common.{◌≡◌, refl, sym, ap, subst, ◌∙◌, ⊎_elim, ℕ, zero, suc, ◌+◌, ◌-◌, ◌≤◌, ◌<◌, nat_eq, nat_le, Bool, true, false, cond, ◌||◌, List, [], ◌∷◌, Option, Some, None, option_to_list, Ok, arith}
 use Rattle.std.proofs.lemmas.Bool.Decides.{eqb_tells, leb_tells}
 use Rattle.vt_spec.specs.Machine.Calls.{Call}
 use Rattle.vt_spec.specs.Machine.Changes.{Change, node_with_parent, node_without_entry}
 use Rattle.vt_spec.specs.Machine.Changes.Change.{AddName, CopyUp, Make, Move, Remove, SetAttr, SetBytes, SetMark}
 use Rattle.vt_spec.specs.Machine.Lists.{is_among}
 use Rattle.vt_spec.specs.Machine.World.{TaskName}
-use Rattle.vt_spec.specs.OneTree.Inodes.{Inode, Inodes, changed, pinned, tree_of, unpinned, used_once_less, used_once_more, uses_in, with_changed, with_inode, with_new, without_replaced}
+use Rattle.vt_spec.specs.OneTree.Inodes.{Inode, Inodes, changed, pinned, tree_of, unpinned, used_once_less, used_once_more, with_changed, with_inode, with_new, without_replaced}
 use Rattle.vt_spec.specs.OneTree.Permits.{Permit}
 use Rattle.vt_spec.specs.OneTree.Permits.Permit.{Allowed, ToChange, ToClose, ToExit, ToFork, ToList, ToOpen, ToOpenNew, ToRead, ToReadPart, ToSetCredentials, ToSetUmask, ToTell}
 use Rattle.vt_spec.specs.OneTree.Policy.{closed, judge, policy, spent, without_uses}
@@ -14,7 +14,7 @@ use Rattle.vt_spec.specs.OneTree.World.{Descriptor, Task, World, after, descript
 use Rattle.vt_spec.specs.Tree.{node_with_entry}
 use Rattle.vt_spec.specs.TreeLaws.{entry_at}
 use Rattle.vt_laws.specs.OneTree.{times_in}
-use Rattle.vt_laws.specs.OneTreeCalls.{CallsChangeTheirOwn, CountsUses, DescriptorsCountUses, LosesUses, RootStays, files_on, named_by, own_of, with_more_uses}
+use Rattle.vt_laws.specs.OneTreeCalls.{CallsChangeTheirOwn, CountsUses, DescriptorsCountUses, RootStays, files_on, named_by, own_of, with_fewer_uses, with_more_uses}
 use Rattle.vt_laws.proofs.OneTreeEntries.{one_if}
 use Rattle.vt_laws.proofs.OneTreeRefusals.{policy_leads}
 
@@ -118,26 +118,48 @@ less_none : (times : ℕ) → used_less times None ≡ None
 less_none zero = refl
 less_none (suc times) = less_none times
 
-loses_uses : (times : ℕ) (was : Option (Inode ℕ)) → LosesUses times was (used_less times was)
-loses_uses zero was = inl (refl, let n : ℕ = uses_in was in let e : n ≡ n - 0 = omega arith in e)
-loses_uses (suc times) None = inr (less_none times, omega arith)
-loses_uses (suc times) (Some inode) =
-    ⊎_elim (λ t. last t.0 t.1) (λ t. kept t.0 t.1 (loses_uses times (Some (record inode { uses = inode.uses - 1 })))) (leb_tells inode.uses 1)
+-- tests of numbers
+within : (a b : ℕ) → a ≤ b → nat_le a b ≡ true
+within a b h = grind arith
+
+above : (a b : ℕ) → b < a → nat_le a b ≡ false
+above a b h = grind arith
+
+alike : (a b c d : ℕ) → (a ≤ b → c ≤ d) → (b < a → d < c) → nat_le a b ≡ nat_le c d
+alike a b c d low high =
+    ⊎_elim (λ t. t.0 ∙ sym (within c d (low t.1))) (λ t. t.0 ∙ sym (above c d (high t.1))) (leb_tells a b)
+
+-- they go all at once
+less_once_more : (times : ℕ) (inode : Inode ℕ) → 1 < inode.uses → with_fewer_uses times (Some (record inode { uses = inode.uses - 1 })) ≡ with_fewer_uses (suc times) (Some inode)
+less_once_more zero inode high =
+    let kept : nat_le inode.uses 1 ≡ false = above inode.uses 1 high in
+    sym (ap (λ b. cond b None (Some (record inode { uses = inode.uses - 1 }))) kept)
+less_once_more (suc times) inode high =
+    (λ i. cond (same i) None (Some (record inode { uses = fewer i })))
   where
-    last : nat_le inode.uses 1 ≡ true → inode.uses ≤ 1 → LosesUses (suc times) (Some inode) (used_less times (used_once_less (Some inode)))
+    same : nat_le (inode.uses - 1) (suc times) ≡ nat_le inode.uses (suc (suc times))
+    same = alike (inode.uses - 1) (suc times) inode.uses (suc (suc times)) (λ e. omega arith) (λ e. omega arith)
+
+    fewer : (inode.uses - 1) - suc times ≡ inode.uses - suc (suc times)
+    fewer = omega arith
+
+fewer_uses : (times : ℕ) (was : Option (Inode ℕ)) → used_less times was ≡ with_fewer_uses times was
+fewer_uses zero was = refl
+fewer_uses (suc times) None = less_none times
+fewer_uses (suc times) (Some inode) =
+    ⊎_elim (λ t. last t.0 t.1) (λ t. kept t.0 t.1 (fewer_uses times (Some (record inode { uses = inode.uses - 1 })))) (leb_tells inode.uses 1)
+  where
+    last : nat_le inode.uses 1 ≡ true → inode.uses ≤ 1 → used_less times (used_once_less (Some inode)) ≡ with_fewer_uses (suc times) (Some inode)
     last e low =
         let none : used_once_less (Some inode) ≡ None = ap (λ b. cond b None (Some (record inode { uses = inode.uses - 1 }))) e in
-        inr (ap (used_less times) none ∙ less_none times, omega arith)
+        ap (used_less times) none ∙ less_none times
+        ∙ sym (ap (λ b. cond b None (Some (record inode { uses = inode.uses - suc times }))) (within inode.uses (suc times) (omega arith)))
 
-    kept : nat_le inode.uses 1 ≡ false → 1 < inode.uses → LosesUses times (Some (record inode { uses = inode.uses - 1 })) (used_less times (Some (record inode { uses = inode.uses - 1 })))
-        → LosesUses (suc times) (Some inode) (used_less times (used_once_less (Some inode)))
+    kept : nat_le inode.uses 1 ≡ false → 1 < inode.uses → used_less times (Some (record inode { uses = inode.uses - 1 })) ≡ with_fewer_uses times (Some (record inode { uses = inode.uses - 1 }))
+        → used_less times (used_once_less (Some inode)) ≡ with_fewer_uses (suc times) (Some inode)
     kept e high later =
         let some : used_once_less (Some inode) ≡ Some (record inode { uses = inode.uses - 1 }) = ap (λ b. cond b None (Some (record inode { uses = inode.uses - 1 }))) e in
-        subst (λ o. LosesUses (suc times) (Some inode) (used_less times o)) (sym some)
-        (⊎_elim
-        (λ left. inl (left.0, left.1 ∙ (let e : (inode.uses - 1) - times ≡ inode.uses - suc times = omega arith in e)))
-        (λ gone. inr (gone.0, let f : inode.uses - 1 ≤ times = gone.1 in omega arith))
-        later)
+        ap (used_less times) some ∙ later ∙ less_once_more times inode high
 
 module _ (other : ℕ) where
   -- a use less of an inode, or of another
@@ -197,12 +219,9 @@ module _ (other : ℕ) where
       → CountsUses permit (times_in other (own_of world.inodes task permit)) (world.inodes.inode other) ((spent nat_eq world name task permit).world.inodes.inode other)
   counts_uses world name task (ToOpen file access) = once_more world.inodes file
   counts_uses world name task (ToClose number) =
-      subst (LosesUses (times_in other (files_on (option_to_list (descriptor_numbered task number)))) (world.inodes.inode other))
-      (sym (closed_less world name task (descriptor_numbered task number)))
-      (loses_uses (times_in other (files_on (option_to_list (descriptor_numbered task number)))) (world.inodes.inode other))
+      closed_less world name task (descriptor_numbered task number) ∙ fewer_uses (times_in other (files_on (option_to_list (descriptor_numbered task number)))) (world.inodes.inode other)
   counts_uses world name task ToExit =
-      subst (LosesUses (times_in other (files_on task.descriptors)) (world.inodes.inode other))
-      (sym (without_less world.inodes task.descriptors)) (loses_uses (times_in other (files_on task.descriptors)) (world.inodes.inode other))
+      without_less world.inodes task.descriptors ∙ fewer_uses (times_in other (files_on task.descriptors)) (world.inodes.inode other)
   counts_uses world name task permit = tt
 
 pub descriptors_count_uses : DescriptorsCountUses

@@ -1,5 +1,5 @@
 -- Laws of calls on one tree: what they leave as it was, and what tasks are after them.
-use Rattle.std.specs.Prelude.{Bool, Err, List, None, Ok, Option, Some, [], false, is_some, map, nat_eq, option_to_list, true, ℕ, ⊤, ◌&&◌, ◌+◌, ◌-◌, ◌∷◌, ◌≡◌, ◌≢◌, ◌≤◌, ◌⊎◌}
+use Rattle.std.specs.Prelude.{Bool, Err, List, None, Ok, Option, Some, [], false, if◌then◌else◌, is_some, map, nat_eq, nat_le, option_to_list, suc, true, zero, ℕ, ⊤, ◌&&◌, ◌+◌, ◌-◌, ◌∷◌, ◌≡◌, ◌≢◌, ◌⊎◌}
 use Rattle.std.specs.Str.{bytes_eq}
 use Rattle.vt_spec.specs.declared.errors.Deny.{Deny}
 use Rattle.vt_spec.specs.Machine.Calls.{Call, CapabilityWord, Creation, ForkWords}
@@ -12,7 +12,7 @@ use Rattle.vt_spec.specs.Machine.Lists.{is_among}
 use Rattle.vt_spec.specs.Machine.Outcome.Tasks.{child_credentials}
 use Rattle.vt_spec.specs.Machine.Policy.{only_looks}
 use Rattle.vt_spec.specs.Machine.World.{TaskName}
-use Rattle.vt_spec.specs.OneTree.Inodes.{Inode, Inodes, node_in, tree_of, uses_in}
+use Rattle.vt_spec.specs.OneTree.Inodes.{Inode, Inodes, tree_of}
 use Rattle.vt_spec.specs.OneTree.Permits.{Permit}
 use Rattle.vt_spec.specs.OneTree.Permits.Permit.{ToChange, ToClose, ToExit, ToOpen, ToOpenNew}
 use Rattle.vt_spec.specs.OneTree.Policy.{child_name, child_of, judge, policy}
@@ -143,14 +143,16 @@ with_more_uses times None = None
 with_more_uses times (Some inode) = Some (record inode { uses = inode.uses + times })
 
 -- the same inode with some uses less, or none, if those were its last
-abbrev pub LosesUses : ℕ → Option (Inode ℕ) → Option (Inode ℕ) → Type 0
-LosesUses times was now =
-    ((node_in now ≡ node_in was) × (uses_in now ≡ uses_in was - times)) ⊎ ((now ≡ None) × (uses_in was ≤ times))
+abbrev pub with_fewer_uses : ℕ → Option (Inode ℕ) → Option (Inode ℕ)
+with_fewer_uses zero inode = inode
+with_fewer_uses (suc times) None = None
+with_fewer_uses (suc times) (Some inode) =
+    if nat_le inode.uses (suc times) then None else Some (record inode { uses = inode.uses - suc times })
 
 abbrev pub CountsUses : Permit ℕ → ℕ → Option (Inode ℕ) → Option (Inode ℕ) → Type 0
 CountsUses (ToOpen file access) times was now = now ≡ with_more_uses times was
-CountsUses (ToClose number) times was now = LosesUses times was now
-CountsUses ToExit times was now = LosesUses times was now
+CountsUses (ToClose number) times was now = now ≡ with_fewer_uses times was
+CountsUses ToExit times was now = now ≡ with_fewer_uses times was
 CountsUses permit times was now = ⊤
 
 -- open of a file that is there, close and exit change how many uses an inode has, and no more of it: open(2), close(2), _exit(2)
