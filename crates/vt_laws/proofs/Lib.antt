@@ -68,6 +68,7 @@ pub mod OneTreeOwnEntries
 pub mod OneTreeOwnInodes
 pub mod OneTreeOwnLooks
 pub mod OneTreeOwnParts
+pub mod OneTreeOwnPaths
 pub mod OneTreeOwnPermits
 pub mod OneTreeOwnRights
 pub mod OneTreeRefusals

@@ -84,7 +84,7 @@ module _ (other : ℕ) where
   closed_elsewhere world name task None e = refl
   closed_elsewhere world name task (Some descriptor) e = elsewhere world.inodes descriptor.file _ (beside_rest descriptor.file [] e).0
 
-  spent_elsewhere : (world : World ℕ) (name : TaskName) (task : Task ℕ) (permit : Permit ℕ) → Beside (own_of world.inodes task permit)
+  pub spent_elsewhere : (world : World ℕ) (name : TaskName) (task : Task ℕ) (permit : Permit ℕ) → Beside (own_of world.inodes task permit)
       → (spent nat_eq world name task permit).world.inodes.inode other ≡ world.inodes.inode other
   spent_elsewhere world name task Allowed e = refl
   spent_elsewhere world name task (ToList directory) e = refl

@@ -31,13 +31,13 @@ NoneFails ((fails, rule) ∷ rows) = (fails ≡ false) × NoneFails rows
 
 module _ (R : Result (Permit ℕ) Deny → Type 0) (refused : (deny : Deny) → R (Err deny)) where
   -- what holds of an answer where no rule fails, and of refusals, holds of what the table answers
-  unless_then : (rows : Rules) (answer : Result (Permit ℕ) Deny) → (NoneFails rows → R answer) → R (unless rows answer)
+  pub unless_then : (rows : Rules) (answer : Result (Permit ℕ) Deny) → (NoneFails rows → R answer) → R (unless rows answer)
   unless_then [] answer h = h tt
   unless_then ((true, rule) ∷ rows) answer h = refused (denial rule)
   unless_then ((false, rule) ∷ rows) answer h = unless_then rows answer (λ pass. h (refl, pass))
 
   -- and what holds of whatever follows a step holds of both
-  next_then : {A : Type 0} (first : Result A Deny) (next : A → Result (Permit ℕ) Deny) → ((a : A) → R (next a)) → R (and_then first next)
+  pub next_then : {A : Type 0} (first : Result A Deny) (next : A → Result (Permit ℕ) Deny) → ((a : A) → R (next a)) → R (and_then first next)
   next_then (Ok a) next h = h a
   next_then (Err deny) next h = refused deny
 

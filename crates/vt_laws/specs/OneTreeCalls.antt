@@ -1,5 +1,5 @@
 -- Laws of calls on one tree: what they leave as it was, and what tasks are after them.
-use Rattle.std.specs.Prelude.{Bool, Err, List, None, Ok, Option, Some, [], false, if◌then◌else◌, is_some, map, nat_eq, nat_le, option_to_list, suc, true, zero, ℕ, ⊤, ◌&&◌, ◌+◌, ◌-◌, ◌∷◌, ◌≡◌, ◌≢◌, ◌⊎◌}
+use Rattle.std.specs.Prelude.{Bool, Err, List, None, Ok, Option, Some, [], false, if◌then◌else◌, is_some, map, nat_eq, nat_le, option_to_list, Result, suc, true, zero, ℕ, ⊤, ◌&&◌, ◌+◌, ◌++◌, ◌-◌, ◌∷◌, ◌≡◌, ◌≢◌, ◌⊎◌}
 use Rattle.std.specs.Str.{bytes_eq}
 use Rattle.vt_spec.specs.declared.errors.Deny.{Deny}
 use Rattle.vt_spec.specs.Machine.Calls.{Call, CapabilityWord, Creation, ForkWords}
@@ -16,9 +16,10 @@ use Rattle.vt_spec.specs.OneTree.Inodes.{Inode, Inodes, tree_of}
 use Rattle.vt_spec.specs.OneTree.Permits.{Permit}
 use Rattle.vt_spec.specs.OneTree.Permits.Permit.{ToChange, ToClose, ToExit, ToOpen, ToOpenNew}
 use Rattle.vt_spec.specs.OneTree.Policy.{child_name, child_of, judge, policy}
+use Rattle.vt_spec.specs.OneTree.Walk.{Here, Place, file_walk, link_walk, new_walk, object_walk}
 use Rattle.vt_spec.specs.OneTree.World.{Descriptor, Task, World, descriptor_numbered, task_called}
 use Rattle.vt_spec.specs.Rights.{Credentials, cap_setgid, cap_setuid, has_all}
-use Rattle.vt_spec.specs.Tree.{Node, bytes_of, entries_of, entry_named, kind_of}
+use Rattle.vt_spec.specs.Tree.{Node, Tree, bytes_of, entries_of, entry_named, kind_of}
 use Rattle.vt_spec.specs.TreeLaws.{entry_at}
 use Rattle.vt_laws.specs.OneTree.{times_in}
 
@@ -136,6 +137,56 @@ abbrev pub CallsChangeTheirOwn : Type 0
 CallsChangeTheirOwn =
     OfGrantedCalls (λ task permit world left other.
     is_among nat_eq other (own_of world.inodes task permit) ≡ false → left.inodes.inode other ≡ world.inodes.inode other)
+
+-- where a path leads: to an object; to a directory; to a directory and what has the name there; to a file, or to a directory
+-- where it is made
+abbrev pub object_at : Result (Here ℕ) Deny → List ℕ
+object_at (Ok here) = here.node ∷ []
+object_at (Err deny) = []
+
+abbrev pub directory_at : Result (Place ℕ) Deny → List ℕ
+directory_at (Ok place) = place.parent ∷ []
+directory_at (Err deny) = []
+
+abbrev pub directory_and_object_at : Result (Place ℕ) Deny → List ℕ
+directory_and_object_at (Ok place) = place.parent ∷ option_to_list place.object
+directory_and_object_at (Err deny) = []
+
+abbrev pub file_or_new : ℕ → ℕ → Option ℕ → List ℕ
+file_or_new number directory (Some file) = file ∷ []
+file_or_new number directory None = directory ∷ number ∷ []
+
+abbrev pub file_or_new_at : ℕ → Result (Place ℕ) Deny → List ℕ
+file_or_new_at number (Ok place) = file_or_new number place.parent place.object
+file_or_new_at number (Err deny) = []
+
+-- the inodes that a call's paths and descriptors lead it to, so far as it may change them, and the one that it may make
+abbrev pub reached_by : ℕ → Tree ℕ → Task ℕ → Call → List ℕ
+reached_by number tree task (Write path bytes) = file_or_new_at number (file_walk tree task.credentials path)
+reached_by number tree task (Mkdir path mode) = number ∷ directory_at (new_walk tree task.credentials path)
+reached_by number tree task (SymlinkAt text path) = number ∷ directory_at (new_walk tree task.credentials path)
+reached_by number tree task (LinkTo old new) =
+    object_at (link_walk tree task.credentials old) ++ directory_at (new_walk tree task.credentials new)
+reached_by number tree task (Unlink path) = directory_and_object_at (new_walk tree task.credentials path)
+reached_by number tree task (Rmdir path) = directory_and_object_at (new_walk tree task.credentials path)
+reached_by number tree task (Rename old new) =
+    directory_and_object_at (new_walk tree task.credentials old) ++ directory_and_object_at (new_walk tree task.credentials new)
+reached_by number tree task (Chmod path mode) = object_at (object_walk tree task.credentials path)
+reached_by number tree task (Chown path uid gid) = object_at (object_walk tree task.credentials path)
+reached_by number tree task (OpenFile path access NoCreation) = object_at (object_walk tree task.credentials path)
+reached_by number tree task (OpenFile path access (OrCreate mode)) = file_or_new_at number (file_walk tree task.credentials path)
+reached_by number tree task (OpenFile path access (Exclusive mode)) = number ∷ directory_at (new_walk tree task.credentials path)
+reached_by number tree task (Pwrite descriptor offset bytes) = files_on (option_to_list (descriptor_numbered task descriptor))
+reached_by number tree task (Close descriptor) = files_on (option_to_list (descriptor_numbered task descriptor))
+reached_by number tree task Exit = files_on task.descriptors
+reached_by number tree task call = []
+
+-- a call changes no inode but those
+abbrev pub CallsKeepToTheirPaths : Type 0
+CallsKeepToTheirPaths =
+    (world : World ℕ) (name : TaskName) (call : Call) (number : ℕ) (task : Task ℕ) (other : ℕ)
+    → task_called world name ≡ Some task → is_among nat_eq other (reached_by number (tree_of world.inodes) task call) ≡ false
+    → (policy nat_eq world name call number).world.inodes.inode other ≡ world.inodes.inode other
 
 -- the same inode with some uses more
 abbrev pub with_more_uses : ℕ → Option (Inode ℕ) → Option (Inode ℕ)

@@ -1,5 +1,5 @@
 //! What calls on one tree leave as it was, and what tasks are after them.
-ghost use Rattle.vt_laws.specs.OneTreeCalls.{CallsChangeTheirOwn, DescriptorsCountUses, KindsStay, LinkTextsStay, LookingCallChangesNothing, NewTasksAreChildren, OnlyChmodChangesModes, OnlyChownChangesOwners, OnlyDropTakesRights, OnlyExitLeaves, OnlyNamingChangesEntries, OnlyTheseEndInodes, OnlyUmaskSetsUmask, OnlyWritesChangeBytes, OtherEntriesStay, OtherTasksStay, RefusedCallChangesNothing, RightsOnlyShrink, RootStays};
+ghost use Rattle.vt_laws.specs.OneTreeCalls.{CallsChangeTheirOwn, CallsKeepToTheirPaths, DescriptorsCountUses, KindsStay, LinkTextsStay, LookingCallChangesNothing, NewTasksAreChildren, OnlyChmodChangesModes, OnlyChownChangesOwners, OnlyDropTakesRights, OnlyExitLeaves, OnlyNamingChangesEntries, OnlyTheseEndInodes, OnlyUmaskSetsUmask, OnlyWritesChangeBytes, OtherEntriesStay, OtherTasksStay, RefusedCallChangesNothing, RightsOnlyShrink, RootStays};
 
 /// A call on one tree that is refused leaves the world, and so does one that only looks, granted or refused.
 pub fn refusals_change_nothing()
@@ -22,14 +22,16 @@ pub fn rights_only_shrink()
     ensures children { NewTasksAreChildren }
 {}
 
-/// A call that is granted changes no inode but those that its permit names: for a new object it and its directory, for a link or
-/// a removal the object and its directory, for a rename both directories, the object and what it replaces, for a write, chmod or
-/// chown the object, and for open, close and exit the files of the descriptors.
+/// A call changes no inode but those that its paths and descriptors lead it to, and when it is granted no more than its permit
+/// names: for a new object it and its directory, for a link or a removal the object and its directory, for a rename both
+/// directories, the object and what it replaces, for a write, chmod or chown the object, and for open, close and exit the files
+/// of the descriptors.
 ///
 /// Of those files they change how many uses there are, and no more; with its last use a file goes. No other call than unlink,
 /// rmdir, rename, close and exit ends an inode, and the root stays the root. In a directory no entry is changed but those that
 /// the permit names.
 pub fn calls_change_their_own()
+    ensures paths { CallsKeepToTheirPaths }
     ensures own { CallsChangeTheirOwn }
     ensures uses { DescriptorsCountUses }
     ensures ends { OnlyTheseEndInodes }

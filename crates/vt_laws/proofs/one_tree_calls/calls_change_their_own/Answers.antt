@@ -1,3 +1,4 @@
+use Rattle.vt_laws.proofs.OneTreeOwnPaths.{calls_keep_to_their_paths}
 use Rattle.vt_laws.proofs.OneTreeOwnEntries.{other_entries_stay}
 use Rattle.vt_laws.proofs.OneTreeOwnInodes.{calls_change_their_own, descriptors_count_uses, root_stays}
 use Rattle.vt_laws.proofs.OneTreeOwnParts.{only_these_end_inodes}
@@ -17,3 +18,6 @@ returns-clause-root c = root_stays
 
 pub returns-clause-entries : goal.returns-clause-entries
 returns-clause-entries c = other_entries_stay
+
+pub returns-clause-paths : goal.returns-clause-paths
+returns-clause-paths c = calls_keep_to_their_paths
