@@ -246,7 +246,7 @@ module _ (other : ℕ) where
     judged_far (Close descriptor) far = by_permits (Close descriptor) (allowed (ToClose descriptor) far)
     judged_far (Umask mode) far = by_permits (Umask mode) (allowed _ refl)
     judged_far (Drop which) far = by_permits (Drop which) (allowed _ refl)
-    judged_far (Fork words) far = by_permits (Fork words) (λ pass. allowed _ refl)
+    judged_far (Fork given) far = by_permits (Fork given) (λ pass. allowed _ refl)
     judged_far Exit far = by_permits Exit (allowed ToExit far)
     judged_far call far = refused (denial S1)
 
