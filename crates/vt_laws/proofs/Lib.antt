@@ -74,6 +74,13 @@ pub mod OneTreeNames
 pub mod OneTreeNumbers
 pub mod OneTreeOpening
 pub mod OneTreeOpens
+pub mod OneTreeOwnEntries
+pub mod OneTreeOwnInodes
+pub mod OneTreeOwnLooks
+pub mod OneTreeOwnParts
+pub mod OneTreeOwnPaths
+pub mod OneTreeOwnPermits
+pub mod OneTreeOwnRights
 pub mod OneTreeRefusals
 pub mod OneTreeRenamed
 pub mod OneTreeRenames

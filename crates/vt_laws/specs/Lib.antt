@@ -5,6 +5,7 @@ pub mod Mounts
 pub mod Numbers
 pub mod OneTree
 pub mod OneTreeLater
+pub mod OneTreeCalls
 pub mod OneTreeNumbers
 pub mod OneTreeTexts
 pub mod RuleOrder

@@ -7,5 +7,6 @@ pub mod mounts;
 pub mod numbers;
 pub mod one_tree;
 pub mod one_tree_later;
+pub mod one_tree_calls;
 pub mod rules;
 pub mod trees;
