@@ -1,5 +1,5 @@
 -- What tasks of one tree are after a call.
-use Rattle.std.proofs.Common.{◌≡◌, refl, sym, ap, subst, ◌∙◌, inl, inr, ◌⊎◌, ⊎_elim, ℕ, ◌+◌, nat_eq, eqb-true, eq-eqb, Bool, true, false, cond, not, ◌&&◌, ◌==◌, bit_and, bytes_eq, List, [], ◌∷◌, ◌++◌, map, filter, find, Option, Some, None, option_map}
+use Rattle.std.proofs.Common.{◌≡◌, refl, sym, ap, subst, ◌∙◌, inl, inr, ◌⊎◌, ⊎_elim, ℕ, ◌+◌, Contains, nat_eq, nat_lt, eqb-true, eq-eqb, Bool, true, false, cond, not, ◌&&◌, ◌==◌, bit_and, bytes_eq, List, [], ◌∷◌, ◌++◌, map, filter, find, Option, Some, None, option_map}
 use Rattle.std.proofs.lemmas.Nat.{and_assoc}
 use Rattle.std.specs.Cmp.Lexicographic.{bytes_decides}
 use Rattle.std.specs.Int.Bits.{and_self}
@@ -10,9 +10,10 @@ use Rattle.vt_spec.specs.Machine.Outcome.Tasks.{capabilities_of, child_credentia
 use Rattle.vt_spec.specs.Machine.World.{TaskName}
 use Rattle.vt_spec.specs.OneTree.Policy.{child_name, child_of, closed, descriptor_on, policy, spent}
 use Rattle.vt_spec.specs.OneTree.Rules.{fork_rules}
-use Rattle.vt_spec.specs.OneTree.World.{Descriptor, Task, World, changed_if_called, descriptor_numbered, is_called, task_called, with_descriptor, without_descriptor}
+use Rattle.vt_spec.specs.OneTree.World.{Descriptor, Task, World, changed_if_called, descriptor_numbered, inserted, is_called, task_called, with_descriptor, without_descriptor}
 use Rattle.vt_spec.specs.Rights.{Credentials, cap_setgid, cap_setuid, has_all, without}
-use Rattle.vt_laws.specs.OneTreeCalls.{IsNoMore, MayGive, NewTasksAreChildren, OnlyDropTakesRights, OnlyExitLeaves, OnlyUmaskSetsUmask, OtherTasksStay, RightsOnlyShrink}
+use Rattle.vt_laws.specs.OneTreeCalls.{IsNoMore, MayGive, NewTasksAreChildren, OnlyDropTakesRights, OnlyExitLeaves, OnlyOpenGivesDescriptors, OnlyUmaskSetsUmask, OtherTasksStay, RightsOnlyShrink}
+use Rattle.vt_laws.proofs.Lists.{Among, among-from_filter, among_from_contains, contains_from_among}
 use Rattle.vt_laws.proofs.OneTreeOwnPermits.{HoldsOf, NoneFails, policy_holds}
 use Rattle.vt_laws.proofs.OneTreeTasks.{Entry, find_changed, found_name, same_is}
 
@@ -73,12 +74,31 @@ Found = Option (Task ℕ)
 abbrev task_in : Option Entry → Found
 task_in found = option_map (λ entry. entry.1) found
 
+-- what open gives
+abbrev Opens : Call → Descriptor ℕ → Type 0
+Opens call descriptor =
+    (path : List ℕ) × (access : Access) × (creation : Creation) × (call ≡ OpenFile path access creation)
+    × (descriptor.reads ≡ access.reads) × (descriptor.writes ≡ access.writes)
+
+abbrev HasOrOpens : Call → List (Descriptor ℕ) → List (Descriptor ℕ) → Type 0
+HasOrOpens call was now = (descriptor : Descriptor ℕ) → Among descriptor now → Among descriptor was ⊎ Opens call descriptor
+
+among_inserted : (new descriptor : Descriptor ℕ) (descriptors : List (Descriptor ℕ)) → Among descriptor (inserted new descriptors) → (descriptor ≡ new) ⊎ Among descriptor descriptors
+among_inserted new descriptor [] among = among
+among_inserted new descriptor (first ∷ rest) among = by (nat_lt new.number first.number) among (among_inserted new descriptor rest)
+  where
+    by : (b : Bool) → Among descriptor (cond b (new ∷ first ∷ rest) (first ∷ inserted new rest)) → (Among descriptor (inserted new rest) → (descriptor ≡ new) ⊎ Among descriptor rest)
+        → (descriptor ≡ new) ⊎ ((descriptor ≡ first) ⊎ Among descriptor rest)
+    by true among later = among
+    by false among later = ⊎_elim (λ same. inr (inl same)) (λ below. ⊎_elim inl (λ there. inr (inr there)) (later below)) among
+
 -- the caller afterwards
 abbrev CallerBecomes : Call → Task ℕ → Found → Type 0
 CallerBecomes call was None = call ≡ Exit
 CallerBecomes call was (Some now) =
     ((now.credentials ≡ was.credentials) ⊎ ((which : CapabilityWord) × (call ≡ Drop which) × IsNoMore was.credentials now.credentials))
     × ((now.umask ≡ was.umask) ⊎ ((mode : ℕ) × (call ≡ Umask mode)))
+    × HasOrOpens call was.descriptors now.descriptors
 
 module _ (world : World ℕ) (name : TaskName) (call : Call) (other : TaskName) where
   -- a child of the caller
@@ -193,16 +213,24 @@ module _ (world : World ℕ) (name other : TaskName) (number : ℕ) where
 
     closing : (call : Call) (found : Option (Descriptor ℕ)) → CallBecomes call (closed nat_eq world name task found)
     closing call None = still call
-    closing call (Some descriptor) = changed_becomes world name call other task is (without_descriptor task descriptor.number) (inl refl, inl refl)
+    closing call (Some descriptor) =
+        changed_becomes world name call other task is (without_descriptor task descriptor.number)
+        (inl refl, inl refl, λ held among. inl (among-from_filter (λ found. not (nat_eq descriptor.number found.number)) task.descriptors held among).0)
 
-    opening : (call : Call) (file : ℕ) (access : Access) → BecomesIn world name call other (map (changed_if_called name (with_descriptor task (descriptor_on task file access))) world.tasks)
-    opening call file access = changed_becomes world name call other task is (with_descriptor task (descriptor_on task file access)) (inl refl, inl refl)
+    opening : (path : List ℕ) (access : Access) (creation : Creation) (file : ℕ)
+        → BecomesIn world name (OpenFile path access creation) other (map (changed_if_called name (with_descriptor task (descriptor_on task file access))) world.tasks)
+    opening path access creation file =
+        changed_becomes world name (OpenFile path access creation) other task is (with_descriptor task (descriptor_on task file access))
+        (inl refl, inl refl, λ held among. by held (among_inserted (descriptor_on task file access) held task.descriptors among))
+      where
+        by : (held : Descriptor ℕ) → (held ≡ descriptor_on task file access) ⊎ Among held task.descriptors → Among held task.descriptors ⊎ Opens (OpenFile path access creation) held
+        by held (inl same) = inr (path, access, creation, refl, ap (λ d. d.reads) same, ap (λ d. d.writes) same)
+        by held (inr among) = inl among
 
     opens : (path : List ℕ) (access : Access) (creation : Creation) → Done (OpenFile path access creation)
-    opens path access NoCreation = λ file. opening (OpenFile path access NoCreation) file access
-    opens path access (OrCreate mode) =
-        (λ file. opening (OpenFile path access (OrCreate mode)) file access, λ directory entry node. opening (OpenFile path access (OrCreate mode)) number access)
-    opens path access (Exclusive mode) = λ directory entry node. opening (OpenFile path access (Exclusive mode)) number access
+    opens path access NoCreation = opening path access NoCreation
+    opens path access (OrCreate mode) = (opening path access (OrCreate mode), λ directory entry node. opening path access (OrCreate mode) number)
+    opens path access (Exclusive mode) = λ directory entry node. opening path access (Exclusive mode) number
 
     done : (call : Call) → Done call
     done (Ls path) = λ directory. still (Ls path)
@@ -224,14 +252,14 @@ module _ (world : World ℕ) (name other : TaskName) (number : ℕ) where
     done (Pread descriptor offset size) = λ file. still (Pread descriptor offset size)
     done (Pwrite descriptor offset bytes) = (still (Pwrite descriptor offset bytes), λ file all. still (Pwrite descriptor offset bytes))
     done (Close descriptor) = closing (Close descriptor) (descriptor_numbered task descriptor)
-    done (Umask mode) = changed_becomes world name (Umask mode) other task is (record task { umask = permission_bits mode }) (inl refl, inr (mode, refl))
+    done (Umask mode) = changed_becomes world name (Umask mode) other task is (record task { umask = permission_bits mode }) (inl refl, inr (mode, refl), λ held among. inl among)
     done (Drop which) =
         changed_becomes world name (Drop which) other task is (record task { credentials = with_dropped task.credentials (capabilities_of which task.credentials) })
-        (inr (which, refl, dropped_is_no_more task.credentials (capabilities_of which task.credentials)), inl refl)
+        (inr (which, refl, dropped_is_no_more task.credentials (capabilities_of which task.credentials)), inl refl, λ held among. inl among)
     done (Fork words) = λ pass.
         forked_becomes world name (Fork words) other task is words refl (forked_may_give name task (child_credentials task.credentials words) pass)
         (map (changed_if_called name (record task { forks = task.forks + 1 })) world.tasks)
-        (changed_becomes world name (Fork words) other task is (record task { forks = task.forks + 1 }) (inl refl, inl refl))
+        (changed_becomes world name (Fork words) other task is (record task { forks = task.forks + 1 }) (inl refl, inl refl, λ held among. inl among))
     done Exit = without_becomes world name Exit other refl world.tasks
     done call = tt
 
@@ -265,6 +293,19 @@ only_umask_sets_umask world name call number other was now is then_is =
     ⊎_elim (λ same. let it : now ≡ was = cc in inl (ap (λ t. t.umask) it))
     (λ changed. ⊎_elim inl (λ set. inr (changed.0, set.0, set.1)) changed.1.1)
     (stays_or_changed world name call number other was is (Some now) then_is)
+
+pub only_open_gives_descriptors : OnlyOpenGivesDescriptors
+only_open_gives_descriptors world name call number other was now is then_is descriptor contains =
+    ⊎_elim (λ same. let it : now ≡ was = cc in inl (subst (λ t. Contains t.descriptors descriptor) it contains))
+    (λ changed. by changed.0 (changed.1.2 descriptor (among_from_contains now.descriptors descriptor contains)))
+    (stays_or_changed world name call number other was is (Some now) then_is)
+  where
+    by : other ≡ name → Among descriptor was.descriptors ⊎ Opens call descriptor
+        → Contains was.descriptors descriptor
+        ⊎ ((other ≡ name) × (path : List ℕ) × (access : Access) × (creation : Creation) × (call ≡ OpenFile path access creation)
+        × (descriptor.reads ≡ access.reads) × (descriptor.writes ≡ access.writes))
+    by same (inl among) = inl (contains_from_among was.descriptors descriptor among)
+    by same (inr opens) = inr (same, opens.0, opens.1, opens.2, opens.3, opens.4, opens.5)
 
 pub other_tasks_stay : OtherTasksStay
 other_tasks_stay world name call number other was apart is =

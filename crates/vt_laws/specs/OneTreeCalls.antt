@@ -1,8 +1,8 @@
 -- Laws of calls on one tree: what they leave as it was, and what tasks are after them.
-use Rattle.std.specs.Prelude.{Bool, Err, List, None, Ok, Option, Some, [], false, if◌then◌else◌, is_some, map, nat_eq, nat_le, option_to_list, Result, suc, true, zero, ℕ, ⊤, ◌&&◌, ◌+◌, ◌++◌, ◌-◌, ◌∷◌, ◌≡◌, ◌≢◌, ◌⊎◌}
+use Rattle.std.specs.Prelude.{Bool, Contains, Err, List, None, Ok, Option, Some, [], false, if◌then◌else◌, is_some, map, nat_eq, nat_le, option_to_list, Result, suc, true, zero, ℕ, ⊤, ◌&&◌, ◌+◌, ◌++◌, ◌-◌, ◌∷◌, ◌≡◌, ◌≢◌, ◌⊎◌}
 use Rattle.std.specs.Str.{bytes_eq}
 use Rattle.vt_spec.specs.declared.errors.Deny.{Deny}
-use Rattle.vt_spec.specs.Machine.Calls.{Call, CapabilityWord, Creation, ForkWords}
+use Rattle.vt_spec.specs.Machine.Calls.{Access, Call, CapabilityWord, Creation, ForkWords}
 use Rattle.vt_spec.specs.Machine.Calls.Call.{Chmod, Chown, Close, Drop, Exit, Fork, LinkTo, Mkdir, OpenFile, Pwrite, Rename, Rmdir, SymlinkAt, Umask, Unlink, Write}
 use Rattle.vt_spec.specs.Machine.Calls.Creation.{Exclusive, NoCreation, OrCreate}
 use Rattle.vt_spec.specs.Machine.Changes.{Change}
@@ -70,6 +70,15 @@ OnlyDropTakesRights =
 abbrev pub OnlyUmaskSetsUmask : Type 0
 OnlyUmaskSetsUmask =
     OfTasksThatStay (λ name call other was now. (now.umask ≡ was.umask) ⊎ ((other ≡ name) × (mode : ℕ) × (call ≡ Umask mode)))
+
+-- a descriptor that a task has it had before, or it has now opened it, for what it asked: open(2)
+abbrev pub OnlyOpenGivesDescriptors : Type 0
+OnlyOpenGivesDescriptors =
+    OfTasksThatStay (λ name call other was now.
+    (descriptor : Descriptor ℕ) → Contains now.descriptors descriptor
+    → Contains was.descriptors descriptor
+    ⊎ ((other ≡ name) × (path : List ℕ) × (access : Access) × (creation : Creation) × (call ≡ OpenFile path access creation)
+    × (descriptor.reads ≡ access.reads) × (descriptor.writes ≡ access.writes)))
 
 -- a call changes no task but the caller
 abbrev pub OtherTasksStay : Type 0

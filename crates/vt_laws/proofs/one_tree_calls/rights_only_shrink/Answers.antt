@@ -1,4 +1,4 @@
-use Rattle.vt_laws.proofs.OneTreeOwnRights.{new_tasks_are_children, only_drop_takes_rights, only_exit_leaves, only_umask_sets_umask, other_tasks_stay, rights_only_shrink}
+use Rattle.vt_laws.proofs.OneTreeOwnRights.{new_tasks_are_children, only_drop_takes_rights, only_exit_leaves, only_open_gives_descriptors, only_umask_sets_umask, other_tasks_stay, rights_only_shrink}
 use Rattle.vt_laws.proofs.one_tree_calls.rights_only_shrink.Goals as goal
 
 pub returns-clause-rights : goal.returns-clause-rights
@@ -18,3 +18,6 @@ returns-clause-exits c = only_exit_leaves
 
 pub returns-clause-children : goal.returns-clause-children
 returns-clause-children c = new_tasks_are_children
+
+pub returns-clause-descriptors : goal.returns-clause-descriptors
+returns-clause-descriptors c = only_open_gives_descriptors
