@@ -124,7 +124,7 @@ pub(crate) fn link_begun(
 
 // A link that a walk came to: the directory that it stands in, its text, and the words that are left behind it.
 #[derive(Debug, Drop)]
-pub(crate) struct LinkMet<'a> {
+struct LinkMet<'a> {
     directory: NodeId,
     text: &'a [u8],
     behind: Words<'a>,
@@ -132,7 +132,7 @@ pub(crate) struct LinkMet<'a> {
 
 // Where words lead, as far as the first link.
 #[derive(Debug, Drop)]
-pub(crate) struct Reached<'a> {
+struct Reached<'a> {
     here: Here,
     link: Option<LinkMet<'a>>,
 }
@@ -169,7 +169,7 @@ fn walked_to_link<'a>(
 
 // A text that is not walked to its end: the words that are left of it.
 #[derive(Debug, Drop)]
-pub(crate) struct Pending<'a> {
+struct Pending<'a> {
     text: &'a [u8],
     words: Words<'a>,
 }
@@ -219,6 +219,7 @@ pub(crate) fn words_walked<'a>(
 {
     let mut here = start;
     let mut pending = ArrayVec::<Pending, MOST_TEXTS>::new();
+    // A slash behind the words themselves is the caller's to ask for.
     pending.push(Pending { text: &[], words });
     while let Some(Pending { text, words }) = pending.pop() {
         let Reached {
@@ -227,13 +228,13 @@ pub(crate) fn words_walked<'a>(
         } = walked_to_link(tree, who, here, words)?;
         here = match link {
             Some(link) => {
-                let start = link_begun(tree, link.directory, reached, link.text)?;
+                let begun = link_begun(tree, link.directory, reached, link.text)?;
                 pending.push(Pending {
                     text,
                     words: link.behind,
                 });
                 pending.push(Pending::of(link.text));
-                start
+                begun
             }
             None => {
                 asked_by_slash(tree, text, reached.node)?;

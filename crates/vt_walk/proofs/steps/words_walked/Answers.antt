@@ -16,13 +16,13 @@ returns-in_err-reached-clause-value c =
     rw (p.1, p.2) (top-refused tree who _ (here_of c.loop-text.here) c.loop-text.pending.items c.loop-text.invariant.0
     c.pop.new.self.items c.in-Some.field-0 c.in-Some.ensures.items _ (c.in_err-reached.ensures.value _))
 
-pub returns-in_err-start-in-Some-link-clause-value :
-    goal.returns-in_err-start-in-Some-link-clause-value
-returns-in_err-start-in-Some-link-clause-value c =
+pub returns-in_err-begun-in-Some-link-clause-value :
+    goal.returns-in_err-begun-in-Some-link-clause-value
+returns-in_err-begun-in-Some-link-clause-value c =
     let tree = tree_of c.args.tree.now in
     let who = c.args.who.now in
     let follow = links_within (41 - length (reverse c.pop.new.self.items)) tree who in
-    let p = err_from_is_err_and c.from_residual-in_err-start-in-Some-link.result c.from_residual-in_err-start-in-Some-link.ensures.1 in
+    let p = err_from_is_err_and c.from_residual-in_err-begun-in-Some-link.result c.from_residual-in_err-begun-in-Some-link.ensures.1 in
     let shorter = c.in-Some.ensures.len in
     let few = c.loop-text.invariant.1 in
     let room : length c.pop.new.self.items < 41 = omega arith in
@@ -30,7 +30,7 @@ returns-in_err-start-in-Some-link-clause-value c =
     c.pop.new.self.items c.in-Some.field-0 c.in-Some.ensures.items c.in-Some-link.link.directory (here_of c.in_ok-reached.field-0.here) c.in-Some-link.link.text.now c.in-Some-link.link.behind
     room
     (link_passed-as tree who follow (here_of c.in_ok-reached.field-0.here) _ _ _ c.in-Some-link.is (c.in_ok-reached.ensures.value follow)) _
-    c.in_err-start-in-Some-link.ensures.value)
+    c.in_err-begun-in-Some-link.ensures.value)
 
 pub returns-in_err-asked_by_slash-in-None-clause-value :
     goal.returns-in_err-asked_by_slash-in-None-clause-value
@@ -44,9 +44,9 @@ returns-in_err-asked_by_slash-in-None-clause-value c =
     (link_passed-as tree who follow (here_of c.in_ok-reached.field-0.here) _ _ _ c.in-None.is (c.in_ok-reached.ensures.value follow)) _
     c.in_err-asked_by_slash-in-None.ensures)
 
-pub loop-text-preserved-in_ok-start-in-Some-link :
-    goal.loop-text-preserved-in_ok-start-in-Some-link
-loop-text-preserved-in_ok-start-in-Some-link c =
+pub loop-text-preserved-in_ok-begun-in-Some-link :
+    goal.loop-text-preserved-in_ok-begun-in-Some-link
+loop-text-preserved-in_ok-begun-in-Some-link c =
     let tree = tree_of c.args.tree.now in
     let who = c.args.who.now in
     let follow = links_within (41 - length (reverse c.pop.new.self.items)) tree who in
@@ -54,15 +54,15 @@ loop-text-preserved-in_ok-start-in-Some-link c =
     let few = c.loop-text.invariant.1 in
     let room : length c.pop.new.self.items < 41 = omega arith in
     let left = c.in_ok-reached.ensures.left in
-    let taken = begun-left tree c.in-Some-link.link.directory (here_of c.in_ok-reached.field-0.here) (here_of c.in_ok-start-in-Some-link.start) c.in-Some-link.link.text.now
-    c.in_ok-start-in-Some-link.ensures.value in
+    let taken = begun-left tree c.in-Some-link.link.directory (here_of c.in_ok-reached.field-0.here) (here_of c.in_ok-begun-in-Some-link.begun) c.in-Some-link.link.text.now
+    c.in_ok-begun-in-Some-link.ensures.value in
     let longer = c.push-in-Some-link.ensures.len in
     let longest = c.push-in-Some-link-2.ensures.len in (
       link-begun tree who _ (here_of c.loop-text.here) c.loop-text.pending.items c.loop-text.invariant.0
           c.pop.new.self.items c.in-Some.field-0 c.in-Some.ensures.items c.in-Some-link.link.directory (here_of c.in_ok-reached.field-0.here) c.in-Some-link.link.text.now c.in-Some-link.link.behind
           room
           (link_passed-as tree who follow (here_of c.in_ok-reached.field-0.here) _ _ _ c.in-Some-link.is (c.in_ok-reached.ensures.value follow))
-          (here_of c.in_ok-start-in-Some-link.start) c.in_ok-start-in-Some-link.ensures.value
+          (here_of c.in_ok-begun-in-Some-link.begun) c.in_ok-begun-in-Some-link.ensures.value
           (record { text = c.in-Some.field-0.text; words = c.in-Some-link.link.behind }) c.of.result refl refl c.of.ensures.text c.of.ensures.words
           c.push-in-Some-link.new.self.items c.push-in-Some-link-2.new.self.items c.push-in-Some-link.ensures.items c.push-in-Some-link-2.ensures.items,
       omega arith,
