@@ -1,14 +1,14 @@
 -- A walk from left to right is the walk by recursion on the front of its words.
-use Rattle.std.proofs.Common.{◌≡◌, ℕ, List, Some, [], ◌∷◌, ◌++◌, reverse, Result, Ok, Err, sym, ap, ◌∙◌, append_assoc}
+use Rattle.std.proofs.Common.{◌≡◌, ℕ, List, None, Some, [], ◌∷◌, ◌++◌, reverse, Result, Ok, Err, sym, ap, ◌∙◌, append_assoc}
 use Rattle.std.proofs.lemmas.List.{append-nil, reverse-append}
 use Rattle.vt_spec.specs.declared.errors.Deny.{Deny}
 use Rattle.vt_spec.specs.Errors.{and_then}
 use Rattle.vt_spec.specs.Machine.FileTree.{link_text}
-use Rattle.vt_spec.specs.Machine.Walk.{last_word}
-use Rattle.vt_spec.specs.OneTree.Walk.{Here, Follow, if_link, word_walked, words_walked}
+use Rattle.vt_spec.specs.Machine.Walk.{LastWord, last_word}
+use Rattle.vt_spec.specs.OneTree.Walk.{Here, Follow, if_link, search_rules, stepped, word_walked, words_walked}
 use Rattle.vt_spec.specs.Rights.{Credentials}
 use Rattle.vt_spec.specs.Tree.{Tree}
-use Rattle.vt_walk.proofs.RefusalLemmas.{and_then-ok, and_then-and_then}
+use Rattle.vt_walk.proofs.RefusalLemmas.{and_then-ok, and_then-and_then, and_then-inverted, unless-inverted}
 
 -- a word walked, and then the link that it may lead to
 abbrev pub step : Tree ℕ → Credentials → Follow ℕ → Here ℕ → List ℕ → Result (Here ℕ) Deny
@@ -35,31 +35,49 @@ module _ (tree : Tree ℕ) (who : Credentials) (follow : Follow ℕ) where
   words_walked-reverse start words =
       ap (words_walked tree who follow start) (sym (append-nil (reverse words))) ∙ walked-after start words []
 
-  -- a word that is refused ends the walk
-  pub walk-stopped : (start here : Here ℕ) (words left : List (List ℕ)) (word : List ℕ) (rest : List (List ℕ)) (deny : Deny) →
-      walked_on tree who follow here left ≡ walked_on tree who follow start words → left ≡ word ∷ rest
-      → Err deny ≡ step tree who follow here word → Err deny ≡ words_walked tree who follow start (reverse words)
-  walk-stopped start here words left word rest deny so_far next refused =
-      ap (λ r. and_then r (λ there. walked_on tree who follow there rest)) refused
-      ∙ ap (walked_on tree who follow here) (sym next) ∙ so_far ∙ sym (words_walked-reverse start words)
+  -- a walk that has come so far
+  module _ (start here : Here ℕ) (words left : List (List ℕ)) (so_far : walked_on tree who follow here left ≡ walked_on tree who follow start words) where
+    -- the walk ends with its words
+    pub walk-ended : left ≡ [] → Ok here ≡ words_walked tree who follow start (reverse words)
+    walk-ended none =
+        ap (walked_on tree who follow here) (sym none) ∙ so_far ∙ sym (words_walked-reverse start words)
 
-  -- the walk ends with its words
-  pub walk-ended : (start here : Here ℕ) (words left : List (List ℕ)) →
-      walked_on tree who follow here left ≡ walked_on tree who follow start words → left ≡ []
-      → Ok here ≡ words_walked tree who follow start (reverse words)
-  walk-ended start here words left so_far none =
-      ap (walked_on tree who follow here) (sym none) ∙ so_far ∙ sym (words_walked-reverse start words)
+    module _ (word : List ℕ) (rest : List (List ℕ)) (first : left ≡ word ∷ rest) where
+      by-word : (answer : Result (Here ℕ) Deny) → answer ≡ walked_on tree who follow here (word ∷ rest) → answer ≡ walked_on tree who follow start words
+      by-word answer e = e ∙ ap (walked_on tree who follow here) (sym first) ∙ so_far
 
-  -- a word is refused by itself, or the link that it leads to is
-  pub step-refused : (here : Here ℕ) (word : List ℕ) (deny : Deny) →
-      Err deny ≡ word_walked tree who here (last_word word) → Err deny ≡ step tree who follow here word
-  step-refused here word deny refused =
-      ap (λ r. and_then r (λ next. if_link next (link_text (tree.node next.node)) (follow here.node next))) refused
+      -- a word that is refused ends the walk
+      pub word-refused : (deny : Deny) → Err deny ≡ word_walked tree who here (last_word word) → Err deny ≡ words_walked tree who follow start (reverse words)
+      word-refused deny refused =
+          by-word (Err deny) (ap (λ r. and_then (and_then r (λ next. if_link next (link_text (tree.node next.node)) (follow here.node next))) (λ there. walked_on tree who follow there rest)) refused)
+          ∙ sym (words_walked-reverse start words)
 
-  pub step-link-refused : (here next : Here ℕ) (word text : List ℕ) (deny : Deny) →
-      Ok next ≡ word_walked tree who here (last_word word) → Some text ≡ link_text (tree.node next.node)
-      → Err deny ≡ follow here.node next text → Err deny ≡ step tree who follow here word
-  step-link-refused here next word text deny reached link refused =
-      refused
-      ∙ ap (λ t. if_link next t (follow here.node next)) link
-      ∙ ap (λ r. and_then r (λ next. if_link next (link_text (tree.node next.node)) (follow here.node next))) reached
+      module _ (next : Here ℕ) (walked : Ok next ≡ word_walked tree who here (last_word word)) where
+        by-place : (answer : Result (Here ℕ) Deny)
+            → answer ≡ and_then (if_link next (link_text (tree.node next.node)) (follow here.node next)) (λ there. walked_on tree who follow there rest)
+            → answer ≡ walked_on tree who follow start words
+        by-place answer e =
+            by-word answer (e ∙ ap (λ r. and_then (and_then r (λ next. if_link next (link_text (tree.node next.node)) (follow here.node next))) (λ there. walked_on tree who follow there rest)) walked)
+
+        -- a word that leads to no link
+        pub no-link : None ≡ link_text (tree.node next.node) → walked_on tree who follow next rest ≡ walked_on tree who follow start words
+        no-link none =
+            by-place (walked_on tree who follow next rest)
+            (ap (λ t. and_then (if_link next t (follow here.node next)) (λ there. walked_on tree who follow there rest)) none)
+
+        -- a word that leads to a link
+        pub link-met : (text : List ℕ) → Some text ≡ link_text (tree.node next.node)
+            → and_then (follow here.node next text) (λ there. words_walked tree who follow there (reverse rest)) ≡ words_walked tree who follow start (reverse words)
+        link-met text link =
+            (λ i. and_then (follow here.node next text) (λ there. words_walked-reverse there rest i))
+            ∙ by-place (and_then (follow here.node next text) (λ there. walked_on tree who follow there rest))
+            (ap (λ t. and_then (if_link next t (follow here.node next)) (λ there. walked_on tree who follow there rest)) link)
+            ∙ sym (words_walked-reverse start words)
+
+-- a word takes no link
+pub word_walked-left : (tree : Tree ℕ) (who : Credentials) (here next : Here ℕ) (word : LastWord) → Ok next ≡ word_walked tree who here word → next.left ≡ here.left
+word_walked-left tree who here next word e =
+    let found = and_then-inverted (stepped tree here.node word) (λ next. Ok (record { node = next; left = here.left })) next
+    (unless-inverted (search_rules tree who here.node) _ next (sym e)) in
+    let same : record { node = found.0; left = here.left } ≡ next = cc in
+    sym (ap (λ there. there.left) same)

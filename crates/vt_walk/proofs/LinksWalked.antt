@@ -1,16 +1,27 @@
 -- A link followed, or refused.
-use Rattle.std.proofs.Common.{◌≡◌, ◌≢◌, ◌-◌, ℕ, zero, suc, List, reverse, Result, Ok, Err, refl, sym, ap, ◌∙◌, arith}
+use Rattle.std.proofs.Common.{◌≡◌, ◌≢◌, ◌+◌, ◌-◌, ◌<◌, ℕ, zero, suc, List, ◌∷◌, reverse, Result, Ok, Err, refl, sym, ap, ◌∙◌, arith}
+use Rattle.std.specs.Prelude.{◌==◌}
 use Rattle.vt_spec.specs.declared.errors.Deny.{Deny}
-use Rattle.vt_spec.specs.Errors.{and_then, unless}
-use Rattle.vt_spec.specs.OneTree.Walk.{Follow, Here, follow_rules, link_start, link_walked, slash_rules, words_walked}
+use Rattle.vt_spec.specs.declared.errors.Rule.TheVariants.{W7}
+use Rattle.vt_spec.specs.Errors.{Rules, and_then, unless}
+use Rattle.vt_spec.specs.OneTree.Walk.{Here, follow_rules, link_start, link_walked, slash_rules, words_walked}
 use Rattle.vt_spec.specs.PathText.{words}
 use Rattle.vt_spec.specs.Rights.{Credentials}
 use Rattle.vt_spec.specs.Tree.{Tree}
 use Rattle.vt_walk.proofs.RefusalLemmas.{unless-answer, unless-passed, unless-refused}
+use Rattle.vt_walk.specs.PendingTexts.{links_within}
 
--- how links are followed, in one another's texts no deeper than this
-abbrev pub links_within : ℕ → Tree ℕ → Credentials → Follow ℕ
-links_within depth tree who inside next inner = link_walked depth tree who inside next inner
+-- a link that may be followed is one of those that are left
+some-left : (left : ℕ) (rows : Rules) (start next : Here ℕ) → Ok next ≡ unless ((left == 0, W7) ∷ rows) (Ok start) → 0 < left
+some-left zero rows start next e = absurd cc
+some-left (suc left) rows start next e = omega arith
+
+pub begun-left : (tree : Tree ℕ) (directory : ℕ) (link next : Here ℕ) (text : List ℕ) → Ok next ≡ unless (follow_rules link text) (Ok (link_start tree directory link text))
+    → next.left + 1 ≡ link.left
+begun-left tree directory link next text e =
+    let some = some-left link.left _ (link_start tree directory link text) next e in
+    let less : link.left - 1 ≡ next.left = ap (λ here. here.left) (unless-answer (follow_rules link text) (link_start tree directory link text) next (sym e)) in
+    omega arith
 
 module _ (tree : Tree ℕ) (who : Credentials) where
   -- the words of a text, with links inside no deeper than this
@@ -48,17 +59,3 @@ module _ (tree : Tree ℕ) (who : Credentials) where
         (sym (unless-answer (follow_rules link text) (link_start tree directory link text) start (sym begun)))
         ∙ sym (unless-passed (follow_rules link text) (link_start tree directory link text) start _ (sym begun))
         ∙ sym (link_walked-deep depth directory link text deep)
-
-    pub inside-refused : (start : Here ℕ) (ws : List (List ℕ)) (deny : Deny) → ws ≡ words text
-        → Ok start ≡ unless (follow_rules link text) (Ok (link_start tree directory link text))
-        → Err deny ≡ inside_walked (depth - 1) start ws → Err deny ≡ link_walked depth tree who directory link text
-    inside-refused start ws deny same begun refused =
-        ap (λ r. and_then r (slash_checked text)) (refused ∙ ap (inside_walked (depth - 1) start) same) ∙ follow-begun start begun
-
-    pub slash-refused : (start reached : Here ℕ) (ws : List (List ℕ)) (deny : Deny) → ws ≡ words text
-        → Ok start ≡ unless (follow_rules link text) (Ok (link_start tree directory link text))
-        → Ok reached ≡ inside_walked (depth - 1) start ws
-        → Err deny ≡ unless {A = Unit {0}} (slash_rules tree text reached.node) (Ok tt) → Err deny ≡ link_walked depth tree who directory link text
-    slash-refused start reached ws deny same begun walked refused =
-        sym (unless-refused (slash_rules tree text reached.node) tt (Ok reached) deny (sym refused))
-        ∙ ap (λ r. and_then r (slash_checked text)) (walked ∙ ap (inside_walked (depth - 1) start) same) ∙ follow-begun start begun

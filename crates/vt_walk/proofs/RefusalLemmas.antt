@@ -23,6 +23,12 @@ pub and_then-and_then : {A B C : Type 0} (r : Result A Deny) (f : A → Result B
 and_then-and_then (Ok a) f h = refl
 and_then-and_then (Err deny) f h = refl
 
+-- what follows an answer that rules stand before is behind them too
+pub unless-and_then : {A B : Type 0} (rows : Rules) (a : A) (f : A → Result B Deny) → unless rows (f a) ≡ and_then (unless rows (Ok a)) f
+unless-and_then [] a f = refl
+unless-and_then ((true, rule) ∷ rows) a f = refl
+unless-and_then ((false, rule) ∷ rows) a f = unless-and_then rows a f
+
 -- what they let through is the answer
 pub unless-answer : {A : Type 0} (rows : Rules) (a b : A) → unless rows (Ok a) ≡ Ok b → a ≡ b
 unless-answer [] a b e = cc
@@ -35,3 +41,13 @@ unless-let_through rows other e = unless-passed rows tt tt other (sym e)
 
 pub unless-stopped : {B : Type 0} (rows : Rules) (other : Result B Deny) (deny : Deny) → Err deny ≡ unless {A = Unit {0}} rows (Ok tt) → Err deny ≡ unless rows other
 unless-stopped rows other deny e = sym (unless-refused rows tt other deny (sym e))
+
+-- an answer was one before each step
+pub and_then-inverted : {A B : Type 0} (r : Result A Deny) (f : A → Result B Deny) (b : B) → and_then r f ≡ Ok b → (a : A) × (r ≡ Ok a) × (f a ≡ Ok b)
+and_then-inverted (Ok a) f b e = (a, refl, e)
+and_then-inverted (Err deny) f b e = absurd cc
+
+pub unless-inverted : {A : Type 0} (rows : Rules) (answer : Result A Deny) (a : A) → unless rows answer ≡ Ok a → answer ≡ Ok a
+unless-inverted [] answer a e = e
+unless-inverted ((true, rule) ∷ rows) answer a e = absurd cc
+unless-inverted ((false, rule) ∷ rows) answer a e = unless-inverted rows answer a e

@@ -13,19 +13,10 @@ use Rattle.vt_spec.specs.Rights.{Credentials, execute_right}
 use Rattle.vt_spec.specs.Tree.{Content, Node, Tree, is_directory_node, parent_in, parent_of}
 use Rattle.vt_spec.specs.Tree.Content.{Directory, Regular, Symlink, Whiteout}
 use Rattle.vt_spec.specs.TreeLaws.{IsTree}
-use Rattle.vt_walk.proofs.LinksWalked.{links_within}
-use Rattle.vt_walk.proofs.RefusalLemmas.{unless-answer}
+use Rattle.vt_walk.proofs.RefusalLemmas.{and_then-inverted, unless-answer, unless-inverted}
+use Rattle.vt_walk.specs.PendingTexts.{links_within}
 use Rattle.vt_walk.specs.WalkValue.{IsThere, here_of, here_result, last_rules}
-use Rattle.vt_walk.specs.declared.steps.Here.{Here as HereSeen}
-
-and_then-inverted : {A B : Type 0} (r : Result A Deny) (f : A → Result B Deny) (b : B) → and_then r f ≡ Ok b → (a : A) × (r ≡ Ok a) × (f a ≡ Ok b)
-and_then-inverted (Ok a) f b e = (a, refl, e)
-and_then-inverted (Err deny) f b e = absurd cc
-
-unless-inverted : {A : Type 0} (rows : Rules) (answer : Result A Deny) (a : A) → unless rows answer ≡ Ok a → answer ≡ Ok a
-unless-inverted [] answer a e = e
-unless-inverted ((true, rule) ∷ rows) answer a e = absurd cc
-unless-inverted ((false, rule) ∷ rows) answer a e = unless-inverted rows answer a e
+use Rattle.vt_walk.specs.declared.here.Here.{Here as HereSeen}
 
 pub directory-there : (node : Option (Node ℕ)) → is_directory_node node ≡ true → is_some node ≡ true
 directory-there None e = absurd cc

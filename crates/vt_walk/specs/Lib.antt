@@ -1,1 +1,2 @@
+pub mod PendingTexts
 pub mod WalkValue

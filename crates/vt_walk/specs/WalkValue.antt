@@ -7,7 +7,7 @@ use Rattle.vt_spec.specs.Machine.Walk.LastWord.{NoWord as MeansNoWord, Dot as Me
 use Rattle.vt_spec.specs.OneTree.Walk.{Here as HereMeant, Place as PlaceMeant, is_directory_at, object_named, search_rules}
 use Rattle.vt_spec.specs.Rights.{Credentials}
 use Rattle.vt_spec.specs.Tree.{Tree}
-use Rattle.vt_walk.specs.declared.steps.Here.{Here}
+use Rattle.vt_walk.specs.declared.here.Here.{Here}
 use Rattle.vt_walk.specs.declared.words.LastWord.{LastWord}
 use Rattle.vt_walk.specs.declared.words.LastWord.TheVariants.{NoWord, Dot, DotDot, Named}
 use Rattle.vt_walk.specs.declared.words.Place.{Place}

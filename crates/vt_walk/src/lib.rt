@@ -1,6 +1,7 @@
 //! Where paths with symbolic links lead in one tree: path_resolution(7).
 #![tactic(auto)]
 
+mod here;
 mod places;
 mod steps;
 mod walks;

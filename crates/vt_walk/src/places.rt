@@ -6,9 +6,8 @@ ghost use Rattle.vt_spec.specs.PathText.{ends_in_slash};
 ghost use Rattle.vt_tree.specs.TreeValue.{tree_of};
 ghost use Rattle.vt_walk.specs.WalkValue.{last_of, here_of, place_of, place_result, IsPlace};
 
-use crate::steps::{
-    Here, MOST_LINKS, link_begun, link_text, object_named, searched_for, words_walked,
-};
+use crate::here::{Here, MOST_LINKS};
+use crate::steps::{link_begun, link_text, object_named, searched_for, words_walked};
 use crate::words::{LastWord, Place, front_and_last};
 use vt_cred::Cred;
 use vt_node::NodeId;

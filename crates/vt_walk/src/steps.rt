@@ -1,53 +1,23 @@
 //! Words walked one after the other, and links followed.
-ghost use Rattle.std.specs.Prelude.{◌≡◌, ◌+◌, ◌≤◌, reverse, option_copied, Ok, true, OnOk, IfOk};
-ghost use Rattle.vt_spec.specs.Errors.{unless};
+ghost use Rattle.std.specs.Prelude.{◌≡◌, ℕ, reverse, option_copied, Ok, true, OnOk, IfOk};
+ghost use Rattle.vt_spec.specs.Errors.{and_then, unless};
 ghost use Rattle.vt_spec.specs.Machine.FileTree.{link_text};
-ghost use Rattle.vt_spec.specs.Machine.Walk.{most_links};
-ghost use Rattle.vt_spec.specs.OneTree.Walk.{is_directory_at, search_rules, object_named, word_walked, last_walked, follow_rules, slash_rules, link_start, words_walked, link_walked, followed, walk_start};
+ghost use Rattle.vt_spec.specs.OneTree.Walk.{Follow, is_directory_at, search_rules, object_named, word_walked, last_walked, follow_rules, slash_rules, link_start, words_walked, followed};
+ghost use Rattle.vt_spec.specs.PathText.{words};
 ghost use Rattle.vt_spec.specs.TreeLaws.{IsTree};
 ghost use Rattle.vt_tree.specs.TreeValue.{tree_of};
+ghost use Rattle.vt_walk.specs.PendingTexts.{walked_on_from};
 ghost use Rattle.vt_walk.specs.WalkValue.{last_of, last_rules, here_of, here_result, IsThere};
 
+use crate::here::{Here, MOST_TEXTS};
 use crate::words::LastWord;
+use arrayvec::ArrayVec;
 use vt_cred::{Cred, Rights, allows};
 use vt_node::{Kind, NodeId};
 use vt_spec::errors::{Deny, Rule};
 use vt_text::link;
 use vt_text::path::Words;
 use vt_tree::Tree;
-
-// The most links that are followed for one path: MAXSYMLINKS, path_resolution(7).
-pub(crate) const MOST_LINKS: usize = 40;
-
-// Where a walk stands, and how many links it may still follow.
-#[derive(Clone, Copy, Debug)]
-pub(crate) struct Here {
-    pub(crate) node: NodeId,
-    pub(crate) left: usize,
-}
-
-impl Here {
-    // Every path begins at the root.
-    pub(crate) fn at_root(tree: &Tree) -> Here
-        ensures value { here_of result ≡ walk_start (tree_of tree.now) }
-        ensures there { IsTree (tree_of tree.now) → IsThere (tree_of tree.now) result.node }
-    {
-        Here {
-            node: tree.root(),
-            left: MOST_LINKS,
-        }
-    }
-
-    // The same links left, at another node.
-    pub(crate) fn moved(self, node: NodeId) -> Here
-        ensures { result ≡ record { node = node; left = self.left } }
-    {
-        Here {
-            node,
-            left: self.left,
-        }
-    }
-}
 
 // The place must be a directory that the caller may search: W3, W4.
 fn searched(tree: &Tree, who: &Cred, here: NodeId) -> Result<(), Deny>
@@ -152,49 +122,76 @@ pub(crate) fn link_begun(
     })
 }
 
-// The place that the words lead to, every link followed. Links stand in one another's texts no deeper than `depth`.
-#[cycle(links)]
-fn words_walked_to(
-    tree: &Tree,
+// A link that a walk came to: the directory that it stands in, its text, and the words that are left behind it.
+#[derive(Debug, Drop)]
+struct LinkMet<'a> {
+    directory: NodeId,
+    text: &'a [u8],
+    behind: Words<'a>,
+}
+
+// Where words lead, as far as the first link.
+#[derive(Debug, Drop)]
+struct Reached<'a> {
+    here: Here,
+    link: Option<LinkMet<'a>>,
+}
+
+// The words walked as far as the first that leads to a link.
+fn walked_to_link<'a>(
+    tree: &'a Tree,
     who: &Cred,
-    depth: usize,
     start: Here,
-    words: Words,
-) -> Result<Here, Deny>
-    ensures { here_result result ≡ words_walked (tree_of tree.now) who.now
-        (λ inside next inner. link_walked depth (tree_of tree.now) who.now inside next inner)
-        (here_of start) (reverse words.entry) }
+    mut words: Words<'a>,
+) -> Result<Reached<'a>, Deny>
+    ensures value { (follow : Follow ℕ) → and_then result (walked_on_from (tree_of tree.now) who.now follow)
+        ≡ words_walked (tree_of tree.now) who.now follow (here_of start) (reverse words.entry) }
+    ensures left { IfOk result (λ reached. reached.here.left ≡ start.left) }
 {
     let mut here = start;
-    for word in words {
+    while let Some(word) = words.next() {
         let directory = here.node;
         here = word_walked(tree, who, here, LastWord::of(word))?;
         if let Some(text) = link_text(tree, here.node) {
-            here = link_walked(tree, who, depth, directory, here, text)?;
+            let link = LinkMet {
+                directory,
+                text,
+                behind: words,
+            };
+            return Ok(Reached {
+                here,
+                link: Some(link),
+            });
         }
     }
-    Ok(here)
+    Ok(Reached { here, link: None })
 }
 
-// The place that a link's text leads to, from the directory that the link stands in or the root.
-#[cycle(links)]
-fn link_walked(
-    tree: &Tree,
-    who: &Cred,
-    depth: usize,
-    directory: NodeId,
-    link: Here,
-    text: &[u8],
-) -> Result<Here, Deny>
-    ensures { here_result result ≡ link_walked depth (tree_of tree.now) who.now directory (here_of link) text.now }
-{
-    if depth == 0 {
-        return Ok(link);
+// A text that is not walked to its end: the words that are left of it.
+#[derive(Debug, Drop)]
+struct Pending<'a> {
+    text: &'a [u8],
+    words: Words<'a>,
+}
+
+impl<'a> Pending<'a> {
+    // The whole text of a link.
+    fn of(text: &'a [u8]) -> Pending<'a>
+        ensures text { result.text.now ≡ text.now }
+        ensures words { result.words ≡ words text.now }
+    {
+        Pending {
+            text,
+            words: link::words(text),
+        }
     }
-    let start = link_begun(tree, directory, link, text)?;
-    let reached = words_walked_to(tree, who, depth - 1, start, link::words(text))?;
-    asked_by_slash(tree, text, reached.node)?;
-    Ok(reached)
+}
+
+// What an unused place of a stack holds.
+impl<'a> Default for Pending<'a> {
+    fn default() -> Self {
+        Pending::of(&[])
+    }
 }
 
 // A trailing slash asks for a directory: W3.
@@ -207,12 +204,43 @@ pub(crate) fn asked_by_slash(tree: &Tree, text: &[u8], here: NodeId) -> Result<(
     Ok(())
 }
 
-// The place that the words lead to, every link followed, the last one too.
-pub(crate) fn words_walked(tree: &Tree, who: &Cred, start: Here, words: Words) -> Result<Here, Deny>
+// The place that the words lead to, every link followed, the last one too. What is left behind a link waits on a stack while
+// the link's text is walked.
+pub(crate) fn words_walked<'a>(
+    tree: &'a Tree,
+    who: &Cred,
+    start: Here,
+    words: Words<'a>,
+) -> Result<Here, Deny>
     ensures value { here_result result ≡ words_walked (tree_of tree.now) who.now
         (followed (tree_of tree.now) who.now) (here_of start) (reverse words.entry) }
     ensures there { IsTree (tree_of tree.now) → IsThere (tree_of tree.now) start.node
         → IfOk result (λ here. IsThere (tree_of tree.now) here.node) }
 {
-    words_walked_to(tree, who, MOST_LINKS + 1, start, words)
+    let mut here = start;
+    let mut pending = ArrayVec::<Pending, MOST_TEXTS>::new();
+    // A slash behind the words themselves is the caller's to ask for.
+    pending.push(Pending { text: &[], words });
+    while let Some(Pending { text, words }) = pending.pop() {
+        let Reached {
+            here: reached,
+            link,
+        } = walked_to_link(tree, who, here, words)?;
+        here = match link {
+            Some(link) => {
+                let begun = link_begun(tree, link.directory, reached, link.text)?;
+                pending.push(Pending {
+                    text,
+                    words: link.behind,
+                });
+                pending.push(Pending::of(link.text));
+                begun
+            }
+            None => {
+                asked_by_slash(tree, text, reached.node)?;
+                reached
+            }
+        };
+    }
+    Ok(here)
 }

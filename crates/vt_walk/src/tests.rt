@@ -167,6 +167,31 @@ fn follows_links_to_missing_names(rt: HostRuntime) -> Result<(), Fail> {
 }
 
 #[test]
+fn walks_on_behind_40_links(rt: HostRuntime) -> Result<(), Fail> {
+    let mut world = made(rt.alloc())?;
+    linked(&mut world.tree, rt.alloc(), &[1], b"d")?;
+    for name in 2..42u8 {
+        linked(
+            &mut world.tree,
+            rt.alloc(),
+            &[name],
+            &[name - 1, b'/', b'.'],
+        )?;
+    }
+    let tree = &world.tree;
+    let path = PathText::parse(&[40, b'/', b'f'])?;
+    assert_eq!(rt; object_walk(tree, &world.who, &path), Ok(world.file));
+    let path = PathText::parse(&[3, b'/', b'.', b'.', b'/', 4])?;
+    assert_eq!(rt; object_walk(tree, &world.who, &path), Ok(world.directory));
+    let path = PathText::parse(&[41, b'/', b'f'])?;
+    assert_eq!(rt;
+        object_walk(tree, &world.who, &path),
+        Err(Rule::W7.denial())
+    );
+    Ok(())
+}
+
+#[test]
 fn follows_40_links(rt: HostRuntime) -> Result<(), Fail> {
     let mut world = made(rt.alloc())?;
     linked(&mut world.tree, rt.alloc(), &[1], b"d")?;

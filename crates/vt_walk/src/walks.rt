@@ -5,7 +5,8 @@ ghost use Rattle.vt_tree.specs.TreeValue.{tree_of};
 ghost use Rattle.vt_spec.specs.TreeLaws.{IsTree};
 ghost use Rattle.vt_walk.specs.WalkValue.{node_result, IsThere};
 
-use crate::steps::{Here, asked_by_slash, last_walked, words_walked};
+use crate::here::Here;
+use crate::steps::{asked_by_slash, last_walked, words_walked};
 use crate::words::front_and_last;
 use vt_cred::Cred;
 use vt_node::NodeId;

@@ -1,0 +1,94 @@
+-- A walk with texts pending: its top is walked as far as a link, whose text then stands above what is left.
+use Rattle.std.proofs.Common.{◌≡◌, ◌≢◌, ℕ, ◌-◌, ◌<◌, List, [], ◌∷◌, ◌++◌, Option, Result, Ok, Err, refl, sym, ap, ◌∙◌, arith, length, reverse}
+use Rattle.std.proofs.lemmas.List.{length-reverse, reverse-append}
+use Rattle.vt_spec.specs.declared.errors.Deny.{Deny}
+use Rattle.vt_spec.specs.Errors.{and_then, unless}
+use Rattle.vt_spec.specs.OneTree.Walk.{Follow, Here, follow_rules, link_start, link_walked, slash_rules, words_walked}
+use Rattle.vt_spec.specs.PathText.{words}
+use Rattle.vt_spec.specs.Rights.{Credentials}
+use Rattle.vt_spec.specs.Tree.{Tree}
+use Rattle.vt_walk.proofs.LinksWalked.{follow-begun, follow-refused, inside_walked, slash_checked}
+use Rattle.vt_walk.proofs.RefusalLemmas.{and_then-and_then, unless-and_then, unless-let_through, unless-stopped}
+use Rattle.vt_walk.specs.declared.steps.LinkMet.{LinkMet}
+use Rattle.vt_walk.specs.declared.steps.Pending.{Pending}
+use Rattle.vt_walk.specs.PendingTexts.{link_passed, links_within, texts_walked}
+
+reverse-push : {X : Type 0} (texts others : List X) (top : X) → texts ≡ others ++ top ∷ [] → reverse texts ≡ top ∷ reverse others
+reverse-push texts others top pushed = ap reverse pushed ∙ reverse-append others (top ∷ [])
+
+-- a walk behind a link, or behind none, as it was met
+pub link_passed-as : (tree : Tree ℕ) (who : Credentials) (follow : Follow ℕ) (here : Here ℕ) (link as_met : Option LinkMet) (walked : Result (Here ℕ) Deny) → link ≡ as_met
+    → link_passed tree who follow here link ≡ walked → link_passed tree who follow here as_met ≡ walked
+link_passed-as tree who follow here link as_met walked same e = ap (link_passed tree who follow here) (sym same) ∙ e
+
+module _ (tree : Tree ℕ) (who : Credentials) (whole : Result (Here ℕ) Deny) (here : Here ℕ) (texts : List Pending) (so_far : texts_walked tree who here (reverse texts) ≡ whole) where
+  pub all-walked : (0 < length texts → ⊥) → Ok here ≡ whole
+  all-walked none = ap (λ ts. texts_walked tree who here (reverse ts)) (sym (no_texts texts none)) ∙ so_far
+    where
+      no_texts : (ts : List Pending) → (0 < length ts → ⊥) → ts ≡ []
+      no_texts [] none = refl
+      no_texts (t ∷ ts) none = absurd (none (omega arith))
+
+  module _ (others : List Pending) (top : Pending) (popped : texts ≡ others ++ top ∷ []) where
+    -- how the top is walked, and what is done behind it
+    abbrev pub top_walked : Result (Here ℕ) Deny
+    top_walked = words_walked tree who (links_within (41 - length (reverse others)) tree who) here (reverse top.words)
+
+    abbrev pub others_walked : Here ℕ → Result (Here ℕ) Deny
+    others_walked reached = unless (slash_rules tree top.text.now reached.node) (texts_walked tree who reached (reverse others))
+
+    by-top : and_then top_walked others_walked ≡ whole
+    by-top = ap (texts_walked tree who here) (sym (reverse-push texts others top popped)) ∙ so_far
+
+    pub top-refused : (deny : Deny) → Err deny ≡ top_walked → Err deny ≡ whole
+    top-refused deny refused = ap (λ r. and_then r others_walked) refused ∙ by-top
+
+    module _ (reached : Here ℕ) (walked : Ok reached ≡ top_walked) where
+      pub slash-denied : (deny : Deny) → Err deny ≡ unless {A = Unit {0}} (slash_rules tree top.text.now reached.node) (Ok tt) → Err deny ≡ whole
+      slash-denied deny refused =
+          unless-stopped (slash_rules tree top.text.now reached.node) (texts_walked tree who reached (reverse others)) deny refused
+          ∙ ap (λ r. and_then r others_walked) walked ∙ by-top
+
+      pub top-ended : Ok tt ≡ unless {A = Unit {0}} (slash_rules tree top.text.now reached.node) (Ok tt) → texts_walked tree who reached (reverse others) ≡ whole
+      top-ended passed =
+          sym (unless-let_through (slash_rules tree top.text.now reached.node) (texts_walked tree who reached (reverse others)) passed)
+          ∙ ap (λ r. and_then r others_walked) walked ∙ by-top
+
+    -- a link in the top
+    module _ (directory : ℕ) (link : Here ℕ) (inner : List ℕ) (behind : List (List ℕ)) (room : length others < 41) where
+      abbrev pub behind_walked : Here ℕ → Result (Here ℕ) Deny
+      behind_walked next = words_walked tree who (links_within (41 - length (reverse others)) tree who) next (reverse behind)
+
+      module _ (met : and_then (link_walked (41 - length (reverse others)) tree who directory link inner) behind_walked ≡ top_walked) where
+        deep : 41 - length (reverse others) ≢ 0
+        deep = let same = length-reverse others in omega arith
+
+        by-link : (answer : Result (Here ℕ) Deny)
+            → answer ≡ and_then (link_walked (41 - length (reverse others)) tree who directory link inner) (λ next. and_then (behind_walked next) others_walked)
+            → answer ≡ whole
+        by-link answer e =
+            e ∙ sym (and_then-and_then (link_walked (41 - length (reverse others)) tree who directory link inner) behind_walked others_walked)
+            ∙ ap (λ r. and_then r others_walked) met ∙ by-top
+
+        pub link-denied : (deny : Deny) → Err deny ≡ unless (follow_rules link inner) (Ok (link_start tree directory link inner)) → Err deny ≡ whole
+        link-denied deny refused =
+            by-link (Err deny) (ap (λ r. and_then r (λ next. and_then (behind_walked next) others_walked))
+            (follow-refused tree who (41 - length (reverse others)) directory link inner deep deny refused))
+
+        pub link-begun : (next : Here ℕ) → Ok next ≡ unless (follow_rules link inner) (Ok (link_start tree directory link inner))
+            → (left above : Pending) → left.text.now ≡ top.text.now → left.words ≡ behind → above.text.now ≡ inner → above.words ≡ words inner
+            → (once twice : List Pending) → once ≡ others ++ left ∷ [] → twice ≡ once ++ above ∷ []
+            → texts_walked tree who next (reverse twice) ≡ whole
+        link-begun next begun left above text rest inside all once twice first second =
+            ap (texts_walked tree who next) (reverse-push twice once above second ∙ ap (λ ts. above ∷ ts) (reverse-push once others left first))
+            ∙ (λ i. and_then (words_walked tree who (links_within (less i) tree who) next (reverse (all i)))
+            (λ reached. unless (slash_rules tree (inside i) reached.node)
+            (and_then (words_walked tree who (links_within (41 - length (reverse others)) tree who) reached (reverse (rest i)))
+            (λ there. unless (slash_rules tree (text i) there.node) (texts_walked tree who there (reverse others))))))
+            ∙ (λ i. and_then (inside_walked tree who (41 - length (reverse others) - 1) next (words inner))
+            (λ reached. unless-and_then (slash_rules tree inner reached.node) reached (λ there. and_then (behind_walked there) others_walked) i))
+            ∙ by-link _ (sym (and_then-and_then (inside_walked tree who (41 - length (reverse others) - 1) next (words inner)) (slash_checked tree who inner) (λ there. and_then (behind_walked there) others_walked))
+            ∙ ap (λ r. and_then r (λ there. and_then (behind_walked there) others_walked)) (follow-begun tree who (41 - length (reverse others)) directory link inner deep next begun))
+          where
+            less : 41 - length (left ∷ reverse others) ≡ 41 - length (reverse others) - 1
+            less = omega arith
