@@ -7,6 +7,9 @@ files   directories, and in each a file that is written and read, in turn
 listed  like files, with every 50th line an `ls` of one of the directories
 deep    files at the end of a path of 40 directories, written and read
 one     names in one directory that grows with the script
+users   files of eight users, made, linked, renamed, written and read by descriptor, and removed, in directories that
+        have one user as owner and another one in their group; some of the calls are refused
+links   files that are made, linked, renamed, read by descriptor and removed through chains of up to 40 links
 
 The number of directories is 1,000, or fewer for a short script. The same words give the same script.
 """
@@ -46,7 +49,88 @@ def one(lines):
         yield f't write /names/{(i * 7919) % 1000003} {i}'
 
 
-KINDS = {'files': files, 'listed': listed, 'deep': deep, 'one': one}
+USERS = 8
+
+
+def rounds(left, count, work):
+    """So many lines of work, one round after the other."""
+    i = 0
+    while left > 0:
+        for line in work(i, count):
+            if left > 0:
+                yield line
+            left -= 1
+        i += 1
+
+
+def users(lines):
+    count = min(DIRECTORIES, max(USERS, lines // 100)) // USERS * USERS
+    for user in range(USERS):
+        yield f't fork {1000 + user} {1000 + user} {1000 + (user + 1) % USERS},100 -'
+    for i in range(count):
+        yield f't mkdir /d{i}'
+        yield f't chown /d{i} {1000 + i % USERS} {1000 + i % USERS}'
+        yield f't chmod /d{i} {"1777" if i % 5 == 0 else "775"}'
+    yield from rounds(lines - USERS - 3 * count, count, users_round)
+
+
+def users_round(i, count):
+    """One user's files in his own directory and in one of the next user's, and what a third makes of them."""
+    user, first = i % USERS, i // USERS * USERS % count
+    task, third = f't.{user + 1}', f't.{(user + 2) % USERS + 1}'
+    own, theirs = f'/d{first + user}', f'/d{first + (user + 1) % USERS}'
+    yield f'{task} open {own}/f rw create 640'
+    yield f'{task} pwrite 0 0 value-{i}'
+    yield f'{task} pread 0 0 100'
+    yield f'{task} link {own}/f {own}/g'
+    yield f'{task} chown {own}/f - 100'
+    yield f'{task} rename {own}/f {theirs}/h{user}'
+    yield f'{third} read {theirs}/h{user}'
+    yield f'{third} write {own}/x no'
+    yield f'{task} stat {theirs}/h{user}'
+    yield f'{third} unlink {own}/g'
+    yield f'{task} chmod {own}/g 600'
+    yield f'{third} read {own}/g'
+    yield f'{task} unlink {own}/g'
+    yield f'{task} unlink {theirs}/h{user}'
+    yield f'{task} pread 0 0 100'
+    yield f'{task} close 0'
+    yield f'{task} mkdir {own}/sub 700'
+    yield f'{third} ls {own}/sub'
+    yield f'{task} rmdir {own}/sub'
+    yield f'{task} lstat {own}'
+
+
+CHAIN = 20
+
+
+def links(lines):
+    count = min(DIRECTORIES // 10, max(1, lines // 1000))
+    for i in range(count):
+        yield f't mkdir /d{i}'
+        yield f't symlink /d{i} /l{i}-1'
+        for k in range(2, CHAIN + 1):
+            yield f't symlink l{i}-{k - 1} /l{i}-{k}'
+    yield from rounds(lines - count * (CHAIN + 1), count, links_round)
+
+
+def links_round(i, count):
+    """Files through one chain or a part of it, or through two, which with the file's own link are 40."""
+    short = f'/l{i % count}-{i % CHAIN + 1}'
+    long = f'/l{(i + 1) % count}-{CHAIN}/../l{i % count}-{CHAIN - 1}'
+    yield f't write {long}/f value-{i}'
+    yield f't link {short}/f {long}/g'
+    yield f't symlink g {short}/s'
+    yield f't open {long}/s r'
+    yield f't rename {long}/g {short}/h'
+    yield 't pread 0 0 100'
+    yield 't close 0'
+    yield f't unlink {short}/f'
+    yield f't unlink {long}/h'
+    yield f't unlink {short}/s'
+
+
+KINDS = {'files': files, 'listed': listed, 'deep': deep, 'one': one, 'users': users, 'links': links}
 
 
 def main():

@@ -2,4 +2,12 @@
 #![tactic(auto)]
 
 #[cfg(test)]
+mod answers;
+#[cfg(test)]
+mod examples;
+#[cfg(test)]
 mod first_path;
+#[cfg(test)]
+mod limits;
+#[cfg(test)]
+mod running;
