@@ -1,6 +1,7 @@
 //! Nodes: their attributes, and what they hold by their kind.
 ghost use Rattle.std.specs.FinMap.Entries.{is_sorted};
 ghost use Rattle.std.specs.Prelude.{◌≡◌, true, ◌+◌, ◌<◌, ◌^◌, map, length, not, take, drop, IsSome, IsOk, OnOk, OnErr};
+ghost use Rattle.vt_spec.specs.declared.attributes.Kind.TheVariants.{File};
 ghost use Rattle.vt_spec.specs.Rights.{is_directory};
 ghost use Rattle.vt_spec.specs.Machine.Changes.{content_with_parent, without_entry};
 ghost use Rattle.vt_spec.specs.Machine.FileTree.{opaque_of};
@@ -243,6 +244,8 @@ impl Node {
           attr = self.old.attr;
           content = with_bytes self.old.content (overwritten offset bytes.now (bytes_of self.old.content));
         }) }
+        ensures file { OnErr result (kind_of self.old.content ≡ File) }
+        ensures longer { OnErr result (length (bytes_of self.old.content) < offset + length bytes.now) }
         ensures err { OnErr result (self.new ≡ self.old) }
     {
         match &mut self.content {
@@ -265,6 +268,7 @@ impl Node {
 fn overwrite(old: &mut Vec<u8>, offset: usize, bytes: &[u8]) -> Result<(), AllocError>
     requires { offset + length bytes.now < 2 ^ 64 }
     ensures ok { OnOk result (old.new.items ≡ overwritten offset bytes.now old.old.items) }
+    ensures longer { OnErr result (length old.old.items < offset + length bytes.now) }
     ensures err { OnErr result (old.new.items ≡ old.old.items) }
 {
     let end = offset + bytes.len();

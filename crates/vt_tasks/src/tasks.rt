@@ -1,7 +1,7 @@
 //! The tasks that there are, by their names.
-ghost use Rattle.std.specs.Prelude.{◌≡◌, [], ◌∷◌, length, Some, IfOk, IfErr, OnOk, OnErr, option_map, option_copied};
+ghost use Rattle.std.specs.Prelude.{◌≡◌, ◌<◌, [], ◌∷◌, length, Some, IfOk, IfErr, OnOk, OnErr, option_map, option_copied};
 ghost use Rattle.std.specs.Option.{option_and_then};
-ghost use Rattle.vt_spec.specs.Machine.Outcome.Tasks.{with_dropped};
+ghost use Rattle.vt_spec.specs.Machine.Outcome.Tasks.{deepest_name, with_dropped};
 ghost use Rattle.vt_spec.specs.OneTree.Policy.{child_name};
 ghost use Rattle.vt_spec.specs.OneTree.World.{first_task, descriptor_numbered, free_number, without_descriptor};
 ghost use Rattle.vt_spec.specs.declared.errors.Rule.TheVariants.{S5};
@@ -125,6 +125,7 @@ impl Tasks {
     /// was refused.
     pub fn fork(&mut self, name: &TaskName, cred: Cred) -> Result<TaskName, Deny>
         ensures name { IfOk result (λ child. Some child ≡ option_map (child_name name.now) (called name.now self.old)) }
+        ensures depth { OnOk result (length name.now < deepest_name) }
         ensures ok { OnOk result (self.new ≡ forked name.now cred self.old) }
         ensures refused { IfErr result (λ deny. deny ≡ fork_refusal name.now (called name.now self.old)) }
         ensures err { OnErr result (self.new ≡ self.old) }

@@ -82,6 +82,7 @@ pub(crate) fn write_bytes(
     requires { offset + length bytes.now < 2 ^ 64 }
     ensures ok { (root : ℕ) → OnOk result (inodes_in root slots.new ≡ with_changed nat_eq (inodes_in root slots.old) file
         (node_with_bytes (overwritten offset bytes.now (bytes_in (node_at slots.old file))))) }
+    ensures longer { OnErr result (length (bytes_in (node_at slots.old file)) < offset + length bytes.now) }
     ensures memory { IfErr result (λ deny. deny ≡ denial S5) }
     ensures err { OnErr result (slots.new ≡ slots.old) }
 {

@@ -1,5 +1,5 @@
 //! `Tree`, and what its calls change.
-ghost use Rattle.std.specs.Prelude.{◌≡◌, ◌≢◌, ◌+◌, nat_eq, [], ◌∷◌, map, length, drop, take, Ok, None, Some, IfOk, IfErr, OnOk, OnErr, IsErrOf, IsOkUnless, IsTrue, ◌↔◌, ◌⊎◌, option_copied};
+ghost use Rattle.std.specs.Prelude.{◌≡◌, ◌≢◌, ◌+◌, ◌<◌, nat_eq, [], ◌∷◌, map, length, drop, take, Ok, None, Some, IfOk, IfErr, OnOk, OnErr, IsErrOf, IsOkUnless, IsTrue, ◌↔◌, ◌⊎◌, option_copied};
 ghost use Rattle.vt_spec.specs.Errors.{denial};
 ghost use Rattle.vt_spec.specs.declared.errors.Rule.TheVariants.{S5, E2};
 ghost use Rattle.vt_spec.specs.Laws.Trees.{IsNewIn};
@@ -314,6 +314,7 @@ impl Tree {
         ensures ok { OnOk result (inodes_of self.new ≡ changed nat_eq (inodes_of self.old)
             (SetBytes file (overwritten offset bytes.now (bytes_in ((tree_of self.old).node file))))) }
         ensures answer { AnswersBy (write_rules (inodes_of self.old) file (offset + length bytes.now)) result }
+        ensures longer { IsErrOf result (denial S5) → length (bytes_in ((tree_of self.old).node file)) < offset + length bytes.now }
         ensures fits { Fits (inodes_of self.old) (SetBytes file (overwritten offset bytes.now (bytes_in ((tree_of self.old).node file))))
             → IsOkUnless result (denial S5) }
         ensures err { OnErr result (self.new ≡ self.old) }

@@ -89,6 +89,9 @@ returns-clause-name c =
     let found = the_parent _ _ _ c.self.inside.by_name parent c.numbers-numbers.ensures.value c.self.view_is (sym c.get.ensures.value ∙ ap option_copied c.in-Some.is) in
     ap Some c.in-Ok.ensures ∙ sym (ap (option_map (child_name c.args.name.now)) found)
 
+pub returns-clause-depth : goal.returns-clause-depth
+returns-clause-depth c = omega (arith, c.if-numbers-ge-MAX_DEPTH.false, ap length c.numbers-numbers.ensures.value)
+
 pub returns-clause-ok : goal.returns-clause-ok
 returns-clause-ok c =
     let map = c.self.inside.by_name in
