@@ -1,2 +1,3 @@
 pub mod WalkEnds
 pub mod RenameLemmas
+pub mod MemoryLemmas

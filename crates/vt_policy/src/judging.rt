@@ -1,5 +1,7 @@
 //! What a call is permitted, or the first rule that refuses it.
-ghost use Rattle.std.specs.Prelude.{◌⊎◌, nat_eq};
+ghost use Rattle.std.specs.Prelude.{◌⊎◌, nat_eq, IsErrOf};
+ghost use Rattle.vt_spec.specs.declared.errors.Rule.TheVariants.{S5};
+ghost use Rattle.vt_spec.specs.Errors.{denial};
 ghost use Rattle.vt_spec.specs.OneTree.Policy.{judge};
 ghost use Rattle.vt_permit.specs.PermitValue.{IsByRules, Judges, JudgingTakesMemory};
 ghost use Rattle.vt_request.specs.Requests.{call_of};
@@ -31,6 +33,8 @@ pub fn judge(
 ) -> Result<Permit, Deny>
     ensures judged { Judges tree.now (task_of task.now) (judge nat_eq (next_number tree.now) (inodes_of tree.now) name.now (task_of task.now) (call_of call)) result }
     ensures memory { JudgingTakesMemory (call_of call) ⊎ IsByRules (judge nat_eq (next_number tree.now) (inodes_of tree.now) name.now (task_of task.now) (call_of call)) result }
+    // S5 refuses a call that takes memory alone
+    ensures taken { IsErrOf result (denial S5) → JudgingTakesMemory (call_of call) }
 {
     match call {
         Call::Ls { path } => list(tree, task, &path),
