@@ -50,10 +50,13 @@ fn the_longest_line_is_taken_and_a_longer_one_refused_whole(rt: HostRuntime) -> 
         (8181, b"1 ok\n".as_slice()),
         (8182, b"1 deny 22 EINVAL S1\n".as_slice()),
     ] {
-        let line = long_line(rt.alloc(), bytes)?;
-        for piece in [1, 2, 3, 7, 8192] {
-            let sink = answered(rt.alloc(), &line, piece, 1)?;
-            assert_eq!(rt; sink.bytes(), answers, "{bytes} bytes in pieces of {piece}");
+        let mut script = long_line(rt.alloc(), bytes)?;
+        for ending in ["", "\n"] {
+            script.extend_from_slice(ending.as_bytes())?;
+            for piece in [1, 2, 3, 7, 8192] {
+                let sink = answered(rt.alloc(), &script, piece, 1)?;
+                assert_eq!(rt; sink.bytes(), answers, "{bytes} bytes in pieces of {piece}");
+            }
         }
     }
     Ok(())

@@ -154,9 +154,35 @@ fn a_text_with_a_long_name_makes_a_link_that_is_not_followed(rt: HostRuntime) ->
     let name = repeated(alloc, "a", 256)?;
     transcript.say(&format!(in alloc; "t symlink {name} /y")?, "ok")?;
     transcript.say("t stat /y", "deny 36 ENAMETOOLONG W2")?;
-    transcript.say("t write /y x", "deny 36 ENAMETOOLONG W2")?;
-    transcript.say("t lstat /y", "ok link 0777 0 0 256")?;
     check_transcript(&rt, alloc, "link text with a long name", &transcript)
+}
+
+#[test]
+fn a_link_with_a_long_name_in_its_text_is_an_object_of_its_own(
+    rt: HostRuntime,
+) -> Result<(), Fail> {
+    let alloc = rt.alloc();
+    let mut transcript = Transcript::new(alloc);
+    let name = repeated(alloc, "a", 256)?;
+    transcript.say(&format!(in alloc; "t symlink /no/{name} /y")?, "ok")?;
+    transcript.say(
+        &format!(in alloc; "t readlink /y")?,
+        &format!(in alloc; "ok /no/{name}")?,
+    )?;
+    say_all(
+        &mut transcript,
+        &[
+            ("t lstat /y", "ok link 0777 0 0 260"),
+            ("t read /y/x", "deny 36 ENAMETOOLONG W2"),
+            ("t write /y x", "deny 36 ENAMETOOLONG W2"),
+            ("t open /y r create 600", "deny 36 ENAMETOOLONG W2"),
+            ("t open /y r excl 600", "deny 17 EEXIST E1"),
+            ("t rename /y /z", "ok"),
+            ("t unlink /z", "ok"),
+            ("t ls /", "ok"),
+        ],
+    )?;
+    check_transcript(&rt, alloc, "link with a long name", &transcript)
 }
 
 #[test]
