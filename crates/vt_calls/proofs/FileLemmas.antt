@@ -1,8 +1,6 @@
 -- Files that begin and end to be in use.
-use Rattle.std.proofs.Common.{◌≡◌, ℕ, cond, List, [], ◌∷◌, map, fold, nat_eq, Option, Some, None, IsSome, refl, ap, eq-eqb}
-use Rattle.vt_spec.specs.OneTree.Inodes.{Inodes, unpinned, uses_in, with_changed, with_new}
-use Rattle.vt_spec.specs.OneTree.Policy.{without_uses}
-use Rattle.vt_spec.specs.OneTree.World.{Descriptor}
+use Rattle.std.proofs.Common.{◌≡◌, ℕ, cond, List, nat_eq, Option, Some, None, IsSome, refl, ap, eq-eqb}
+use Rattle.vt_spec.specs.OneTree.Inodes.{Inodes, uses_in, with_changed, with_new}
 use Rattle.vt_spec.specs.Tree.{Node, node_with_entry}
 
 -- a new file is in use once: by its name
@@ -11,15 +9,6 @@ pub uses-new : (inodes : Inodes ℕ) (directory : ℕ) (name : List ℕ) (number
 uses-new inodes directory name number node =
     ap (λ b. uses_in (cond b (Some (record { node = node; uses = 1 })) ((with_changed nat_eq inodes directory (node_with_entry name number)).inode number)))
     (eq-eqb number number refl)
-
--- descriptors end as their files lose a use each
-pub uses-of-files : (inodes : Inodes ℕ) (descriptors : List (Descriptor ℕ))
-    → fold (unpinned nat_eq) inodes (map (λ descriptor. descriptor.file) descriptors) ≡ without_uses nat_eq inodes descriptors
-uses-of-files inodes [] = refl
-uses-of-files inodes (descriptor ∷ rest) = uses-of-files (unpinned nat_eq inodes descriptor.file) rest
-
-pub some-equal : {A : Type 0} (x y : A) → Some x ≡ Some y → x ≡ y
-some-equal x y e = cc
 
 -- what holds where there is a value holds
 pub for-some : {A P : Type 0} (o : Option A) → IsSome o → ((a : A) → o ≡ Some a → P) → P

@@ -1,12 +1,12 @@
 -- How a call of the code ends, as the definitions see it.
-use Rattle.std.specs.Prelude.{◌≡◌, ◌⊎◌, ℕ, Result, Ok, Err, Some, nat_eq}
+use Rattle.std.specs.Prelude.{◌≡◌, ◌⊎◌, ℕ, Result, Ok, Err, nat_eq}
 use Rattle.vt_spec.specs.declared.errors.Deny.{Deny}
 use Rattle.vt_spec.specs.declared.errors.Rule.TheVariants.{S5}
 use Rattle.vt_spec.specs.Errors.{denial}
 use Rattle.vt_spec.specs.Machine.Calls.{Call}
 use Rattle.vt_spec.specs.Machine.World.{TaskName}
 use Rattle.vt_spec.specs.OneTree.Policy.{policy}
-use Rattle.vt_spec.specs.OneTree.World.{Outcome, Task, task_called}
+use Rattle.vt_spec.specs.OneTree.World.{Outcome}
 use Rattle.vt_request.specs.declared.answer.Answer.{Answer}
 use Rattle.vt_request.specs.Answers.{answer_of, result_of}
 use Rattle.vt_permit.specs.Memory.{TakesMemory}
@@ -22,7 +22,3 @@ Meets outcome (Err deny) old new = ((deny ≡ denial S5) ⊎ (outcome.answer ≡
 pub record Ends (old : Held) (name : TaskName) (call : Call) (result : Result Answer Deny) (new : Held) : Type 0 where
   pub outcome : Meets (policy nat_eq (world_of old) name call (fresh_number old)) result old new
   pub memory : ¬ TakesMemory call → result_of result ≡ (policy nat_eq (world_of old) name call (fresh_number old)).answer
-
--- a fact about the task of this name
-abbrev pub ForTask : Held → TaskName → (Task ℕ → Type 0) → Type 0
-ForTask world name fact = (task : Task ℕ) → task_called (world_of world) name ≡ Some task → fact task

@@ -14,7 +14,7 @@ use crate::spending::spend;
 use vt_ns::World;
 use vt_policy::judge;
 use vt_request::{Answer, Call, TaskName};
-use vt_spec::errors::{Deny, Rule};
+use vt_spec::errors::Deny;
 
 /// The calls of tasks.
 pub trait Calls {
@@ -42,9 +42,6 @@ fn judged_call(world: &mut World, name: &TaskName, call: Call) -> Result<Answer,
     // a call that takes no memory is answered as the policy says
     ensures memory { ¬ TakesMemory (call_of call) → result_of result ≡ (policy nat_eq (world_of world.old) name.now (call_of call) (fresh_number world.old)).answer }
 {
-    let Some(task) = world.tasks.get(name) else {
-        return Err(Rule::S2.denial());
-    };
-    let permit = judge(world.alloc, &world.tree, name, task, call)?;
+    let permit = judge(world, name, call)?;
     spend(world, name, permit)
 }

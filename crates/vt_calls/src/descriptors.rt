@@ -1,14 +1,13 @@
 //! Descriptors that begin and end. A file stays while it is open: open(2), unlink(2).
-ghost use Rattle.std.specs.Prelude.{◌≡◌, map, fold, nat_eq, IsSome};
+ghost use Rattle.std.specs.Prelude.{◌≡◌, nat_eq, IsSome};
 ghost use Rattle.vt_spec.specs.OneTree.Fits.{Fits};
-ghost use Rattle.vt_spec.specs.OneTree.Inodes.{unpinned};
-ghost use Rattle.vt_spec.specs.OneTree.Permits.Permit.{ToClose, ToExit, ToOpen, ToOpenNew};
+ghost use Rattle.vt_spec.specs.OneTree.Permits.Permit.{ToClose, ToOpen, ToOpenNew};
 ghost use Rattle.vt_spec.specs.OneTree.Policy.{spent};
 ghost use Rattle.vt_spec.specs.OneTree.World.{descriptor_numbered};
 ghost use Rattle.vt_spec.specs.Machine.Changes.Change.{Make};
-ghost use Rattle.vt_calls.specs.Meets.{ForTask, Meets};
+ghost use Rattle.vt_calls.specs.Meets.{Meets};
 ghost use Rattle.vt_calls.specs.Suits.{HasFreeDescriptor};
-ghost use Rattle.vt_ns.specs.WorldValue.{fresh_number, world_of};
+ghost use Rattle.vt_ns.specs.WorldValue.{ForTask, fresh_number, world_of};
 ghost use Rattle.vt_request.specs.Requests.{access_of};
 ghost use Rattle.vt_tree.specs.TreeValue.{inodes_of};
 
@@ -17,7 +16,6 @@ use vt_ns::World;
 use vt_request::{Access, Answer, TaskName};
 use vt_spec::errors::{Deny, Rule};
 use vt_tasks::OpenFile;
-use vt_tree::Tree;
 
 // Opens a file. S5 (ENOMEM): memory was refused, or the file has 2^64 - 1 uses; nothing has changed.
 pub(crate) fn open(
@@ -72,24 +70,5 @@ pub(crate) fn close(world: &mut World, name: &TaskName, descriptor: u8)
 {
     if let Some(held) = world.tasks.close(name, descriptor) {
         world.tree.unpin(held.file);
-    }
-}
-
-// The task's descriptors end one by one, and the task with them. It takes no memory.
-pub(crate) fn exit(world: &mut World, name: &TaskName)
-    ensures { ForTask world.old name.now (λ task.
-        world_of world.new ≡ (spent nat_eq (world_of world.old) name.now task ToExit).world) }
-{
-    if let Some(descriptors) = world.tasks.exit(name) {
-        unpin_all(&mut world.tree, descriptors.files());
-    }
-}
-
-// Takes back a use of each of these files.
-fn unpin_all(tree: &mut Tree, files: &[OpenFile])
-    ensures { inodes_of tree.new ≡ fold (unpinned nat_eq) (inodes_of tree.old) (map (λ held. held.file) files.now) }
-{
-    for held in files {
-        tree.unpin(held.file);
     }
 }

@@ -4,14 +4,14 @@ ghost use Rattle.vt_spec.specs.Errors.{denial};
 ghost use Rattle.vt_spec.specs.declared.errors.Rule.TheVariants.{S5};
 ghost use Rattle.vt_spec.specs.OneTree.Policy.{spent};
 ghost use Rattle.vt_spec.specs.OneTree.World.{task_called};
-ghost use Rattle.vt_calls.specs.Meets.{ForTask, Meets};
+ghost use Rattle.vt_calls.specs.Meets.{Meets};
 ghost use Rattle.vt_calls.specs.Suits.{SuitsTask};
-ghost use Rattle.vt_ns.specs.WorldValue.{world_of};
+ghost use Rattle.vt_ns.specs.WorldValue.{ForTask, world_of};
 ghost use Rattle.vt_permit.specs.Memory.{PermitTakesMemory};
 ghost use Rattle.vt_permit.specs.PermitValue.{FitsTree, permit_of};
 
 use crate::changes::{make, told};
-use crate::descriptors::{close, exit, open, open_new};
+use crate::descriptors::{close, open, open_new};
 use vt_ns::World;
 use vt_permit::Permit;
 use vt_request::{Answer, TaskName};
@@ -58,9 +58,9 @@ pub(crate) fn spend(world: &mut World, name: &TaskName, permit: Permit) -> Resul
             world.tasks.drop_caps(name, caps);
             Ok(Answer::Done)
         }
-        Permit::ToFork { cred } => Ok(Answer::Child(world.tasks.fork(name, cred)?)),
+        Permit::ToFork { cred } => Ok(Answer::Child(world.fork(name, cred)?)),
         Permit::ToExit => {
-            exit(world, name);
+            world.exit(name);
             Ok(Answer::Done)
         }
     }

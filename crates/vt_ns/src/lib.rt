@@ -1,4 +1,4 @@
-//! The world that calls are made in: one tree, and the tasks.
+//! The world that calls are made in: one tree, and the tasks, which begin and end in it.
 #![tactic(auto)]
 
 mod world;

@@ -7,6 +7,7 @@ ghost use Rattle.vt_permit.specs.PermitValue.{IsByRules, Judges, JudgingTakesMem
 ghost use Rattle.vt_request.specs.Requests.{call_of};
 ghost use Rattle.vt_tasks.specs.TasksValue.{task_of};
 ghost use Rattle.vt_tree.specs.TreeValue.{inodes_of, next_number};
+ghost use Rattle.vt_policy.specs.Judged.{JudgesCall};
 
 use crate::attributes::{chmod, chown};
 use crate::descriptors::{close, open, pread, pwrite};
@@ -15,16 +16,30 @@ use crate::making::{link, mkdir, symlink, write};
 use crate::removing::{rename, rmdir, unlink};
 use crate::tasks::{fork, named, permission_bits};
 use std::alloc::Global;
+use vt_ns::World;
 use vt_permit::Permit;
 use vt_request::{Call, TaskName};
-use vt_spec::errors::Deny;
+use vt_spec::errors::{Deny, Rule};
 use vt_tasks::Task;
 use vt_tree::Tree;
 
-/// What a call of a task is permitted on the tree, or the first rule that refuses it, in the policy's order.
+/// What a call of a task is permitted in the world, or the first rule that refuses it, in the policy's order. It changes nothing.
 ///
-/// S5 (ENOMEM): memory was refused, of a call that takes some. The other rules are those of the call.
-pub fn judge(
+/// S2 (ESRCH): there is no such task. S5 (ENOMEM): memory was refused, of a call that takes some. The other rules are those of
+/// the call.
+pub fn judge(world: &World, name: &TaskName, call: Call) -> Result<Permit, Deny>
+    ensures judged { JudgesCall world.now name.now (call_of call) result }
+    // S5 refuses a call that takes memory alone
+    ensures taken { IsErrOf result (denial S5) → JudgingTakesMemory (call_of call) }
+{
+    let Some(task) = world.tasks.get(name) else {
+        return Err(Rule::S2.denial());
+    };
+    judge_task(world.alloc, &world.tree, name, task, call)
+}
+
+// What a call is permitted to a task on the tree.
+pub(crate) fn judge_task(
     alloc: Global,
     tree: &Tree,
     name: &TaskName,
@@ -33,7 +48,6 @@ pub fn judge(
 ) -> Result<Permit, Deny>
     ensures judged { Judges tree.now (task_of task.now) (judge nat_eq (next_number tree.now) (inodes_of tree.now) name.now (task_of task.now) (call_of call)) result }
     ensures memory { JudgingTakesMemory (call_of call) ⊎ IsByRules (judge nat_eq (next_number tree.now) (inodes_of tree.now) name.now (task_of task.now) (call_of call)) result }
-    // S5 refuses a call that takes memory alone
     ensures taken { IsErrOf result (denial S5) → JudgingTakesMemory (call_of call) }
 {
     match call {

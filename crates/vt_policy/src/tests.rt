@@ -2,7 +2,7 @@
 //! file `g` and a directory `k`; of a link `l`, a whiteout `w`, and a file `p` that only its owner may read.
 ghost use Rattle.vt_spec.specs.Laws.Trees.{IsNewIn};
 
-use super::*;
+use crate::judging::judge_task;
 use std::alloc::Global;
 use std::test::Fail;
 use vt_cred::{Caps, Cred, Mode};
@@ -97,7 +97,7 @@ impl Asked {
 
     // The rule that refuses a call, if one does.
     fn refusal(&self, call: Call) -> Option<Rule> {
-        match judge(self.alloc, &self.tree, &self.name, &self.task, call) {
+        match judge_task(self.alloc, &self.tree, &self.name, &self.task, call) {
             Ok(_) => None,
             Err(deny) => Some(deny.rule),
         }

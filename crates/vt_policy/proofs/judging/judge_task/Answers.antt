@@ -1,5 +1,5 @@
 use Rattle.vt_policy.proofs.MemoryLemmas.{by-rules, chmod-memory, chown-memory, close-memory, exec-memory, list-memory, lstat-memory, pread-memory, pwrite-memory, read-memory, readlink-memory, stat-memory}
-use Rattle.vt_policy.proofs.judging.judge.Goals as goal
+use Rattle.vt_policy.proofs.judging.judge_task.Goals as goal
 
 pub returns-in-Pread-clause-judged : goal.returns-in-Pread-clause-judged
 returns-in-Pread-clause-judged c = rw c.in-Pread.is (c.pread.ensures.judged c.args.tree.now)
