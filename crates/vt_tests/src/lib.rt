@@ -4,9 +4,9 @@
 #[cfg(test)]
 mod answers;
 #[cfg(test)]
-mod examples;
+mod devices;
 #[cfg(test)]
-mod first_path;
+mod examples;
 #[cfg(test)]
 mod limits;
 #[cfg(test)]
