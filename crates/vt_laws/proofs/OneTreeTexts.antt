@@ -11,7 +11,7 @@ use Rattle.vt_spec.specs.OneTree.World.{World, opening}
 use Rattle.vt_laws.specs.Numbers.{Leaves, Renaming, completed_text}
 use Rattle.vt_laws.specs.OneTree.{IsAnsweredAlike, IsFit, IsImage}
 use Rattle.vt_laws.specs.OneTreeNumbers.{renamed_inode, renamed_outcome, renamed_world}
-use Rattle.vt_laws.specs.OneTreeTexts.{FilesTextIsTheText, LanguageTextIsTheText, OneTreeHasOneText, OneTreeHasSomeText}
+use Rattle.vt_laws.specs.OneTreeTexts.{FilesTextIsTheText, LanguageTextIsTheText, LinesKeepFit, OneTreeHasOneText, OneTreeHasSomeText, RefusedLinesKeepFit}
 use Rattle.vt_laws.proofs.OneTreeNumbers.{outcome_itself, world_itself}
 use Rattle.vt_laws.proofs.OneTreeOpening.{opening_is_fit}
 use Rattle.vt_laws.proofs.OneTreeRenamed.{renamed_alike}
@@ -285,3 +285,10 @@ files_text_is_the_text script refused long =
 pub language_text_is_the_text : LanguageTextIsTheText
 language_text_is_the_text version script refused text same tells =
     one_tree_has_one_text script refused 3 text (language_is_told version script refused text same tells)
+
+-- worlds stay fit
+pub lines_keep_fit : LinesKeepFit
+lines_keep_fit numbers world line number fit vacant = fit_line numbers world fit line number vacant
+
+pub refused_lines_keep_fit : RefusedLinesKeepFit
+refused_lines_keep_fit numbers world line fit = subst (IsFit numbers) (sym (refused_same world line)) fit

@@ -1,6 +1,6 @@
 //! The machine of one tree is the whole machine where there is one mount of one plain filesystem.
 ghost use Rattle.vt_laws.specs.OneTreeNumbers.{OneTreeDoesNotSeeNumbers};
-ghost use Rattle.vt_laws.specs.OneTreeTexts.{FilesTextIsTheText, LanguageTextIsTheText, OneTreeHasOneText, OneTreeHasSomeText};
+ghost use Rattle.vt_laws.specs.OneTreeTexts.{FilesTextIsTheText, LanguageTextIsTheText, LinesKeepFit, OneTreeHasOneText, OneTreeHasSomeText, RefusedLinesKeepFit};
 ghost use Rattle.vt_laws.specs.OneTree.{FilesAreInLanguage, FilesAreTold, FilesTextIsTold, LanguageIsTold, LinksAgree, RenamesAgree, RmdirsAgree, UnlinksAgree, AttributesAgree, ClosesAgree, DropsAgree, ExitsAgree, ForksAgree, LooksAgree, MkdirsAgree, OpeningIsFit, OpensAgree, PartialReadsAgree, PartialWritesAgree, SymlinksAgree, UmasksAgree, WritesAgree, DirectoryWalksAgree, FileWalksAgree, LinkWalksAgree, NewLeafWalksAgree, NewWalksAgree, ObjectWalksAgree, OldLeafWalksAgree, OldWalksAgree, RenameNewWalksAgree};
 
 /// Each walk of the tree ends as that of the whole machine does, by a task at the root of the one mount: at the same place,
@@ -78,4 +78,14 @@ pub fn one_tree_has_one_text()
     ensures some { OneTreeHasSomeText }
     ensures whole_machine { FilesTextIsTheText }
     ensures whole_language { LanguageTextIsTheText }
+{}
+
+/// The opening world is fit, and each line leaves a world fit.
+///
+/// So in each world that a script leads to the tree is whole, an inode is there as long as names or descriptors are on it, and
+/// tasks and descriptors have names and numbers of their own.
+pub fn one_tree_stays_fit()
+    ensures opening { OpeningIsFit }
+    ensures lines { LinesKeepFit }
+    ensures refused { RefusedLinesKeepFit }
 {}
