@@ -8,21 +8,21 @@ use vt_script::{RunFault, run};
 
 /// Each line of a script with its answer, which is empty where the line has none.
 #[derive(Clone, Copy)]
-pub struct Example {
+pub(crate) struct Example {
     pub name: &'static str,
     pub lines: &'static [(&'static str, &'static str)],
 }
 
 /// A script that is built line by line, and what it answers.
 #[derive(Drop)]
-pub struct Transcript {
+pub(crate) struct Transcript {
     pub script: String,
     pub answers: String,
     lines: u64,
 }
 
 impl Transcript {
-    pub fn new(alloc: Global) -> Self {
+    pub(crate) fn new(alloc: Global) -> Self {
         Transcript {
             script: String::new(alloc),
             answers: String::new(alloc),
@@ -30,7 +30,7 @@ impl Transcript {
         }
     }
 
-    pub fn say(&mut self, line: &str, answer: &str) -> Result<(), Fail> {
+    pub(crate) fn say(&mut self, line: &str, answer: &str) -> Result<(), Fail> {
         self.lines = self.lines.saturating_add(1);
         writeln!(self.script, "{line}")?;
         if !answer.is_empty() {
@@ -41,7 +41,7 @@ impl Transcript {
 }
 
 /// The example as a script and its answers.
-pub fn transcript_of(alloc: Global, example: &Example) -> Result<Transcript, Fail> {
+pub(crate) fn transcript_of(alloc: Global, example: &Example) -> Result<Transcript, Fail> {
     let mut transcript = Transcript::new(alloc);
     for (line, answer) in example.lines {
         transcript.say(line, answer)?;
@@ -50,7 +50,7 @@ pub fn transcript_of(alloc: Global, example: &Example) -> Result<Transcript, Fai
 }
 
 /// What the script answers, read in pieces and written in pieces.
-pub fn answered(
+pub(crate) fn answered(
     alloc: Global,
     script: &[u8],
     read: usize,
@@ -63,7 +63,7 @@ pub fn answered(
 }
 
 /// Runs the script in pieces of one byte and of 8,192, and compares the answers byte for byte.
-pub fn check_transcript(
+pub(crate) fn check_transcript(
     rt: &impl Abort,
     alloc: Global,
     name: &str,
@@ -81,7 +81,11 @@ pub fn check_transcript(
 }
 
 /// The same of each of these examples.
-pub fn check_examples(rt: &impl Abort, alloc: Global, examples: &[Example]) -> Result<(), Fail> {
+pub(crate) fn check_examples(
+    rt: &impl Abort,
+    alloc: Global,
+    examples: &[Example],
+) -> Result<(), Fail> {
     for example in examples {
         let transcript = transcript_of(alloc, example)?;
         check_transcript(rt, alloc, example.name, &transcript)?;
