@@ -12,7 +12,6 @@ use Rattle.vt_spec.specs.Machine.Mounts.{Location, mounts_over, same_location, t
 use Rattle.vt_spec.specs.PathText.{ends_in_slash, is_absolute, longest_name, parsed_path, words}
 use Rattle.vt_spec.specs.Machine.Rightful.{may, mounter_may}
 use Rattle.vt_spec.specs.Rights.{execute_right}
-use Rattle.vt_spec.specs.Machine.Sealed.{locations}
 use Rattle.vt_spec.specs.Tree.{entries_in, entry_named, parent_in}
 use Rattle.vt_spec.specs.Machine.World.{Task, World, files_at, is_directory_at, is_removed_at, mount_at, node_at}
 
@@ -76,7 +75,8 @@ pub record Stop (N : Type 0) : Type 0 where
   pub deny : Deny
   pub steps : List (List N)
 
--- where a parent walk ends: the directory, the last word in it, the object there, if any, and whether a slash follows
+-- where a parent walk ends: the directory, the last word in it, the object there, if any, and whether a slash follows the
+-- word; the slashes of a path without words follow none
 pub record Place (N : Type 0) : Type 0 where
   pub parent : Location N
   pub last : LastWord
@@ -246,7 +246,7 @@ module _ {N : Type 0} (eq : N → N → Bool) where
   -- A link is a walk of its text from its directory or the task's root, with what is left of the links. Links stand in
   -- one another's texts no deeper than there are links to follow.
   abbrev pub link_walked : ℕ → World N → Task N → Location N → Here N → List ℕ → Result (Here N) (Stop N)
-  link_walked zero world task directory link text = Ok link
+  link_walked zero world task directory link text = Err (record { deny = denial W7; steps = link.steps })
   link_walked (suc depth) world task directory link text =
       then_walk (walk_unless link.steps (follow_rules world link text) (link_start world task directory link text)) (λ start.
       then_walk (words_walked world task (λ inside next inner. link_walked depth world task inside next inner)
@@ -317,7 +317,7 @@ module _ {N : Type 0} (eq : N → N → Bool) where
 
   abbrev pub placed : World N → Task N → Here N → LastWord → Bool → Result (Place N) (Stop N)
   placed world task here NoWord slash =
-      Ok (record { parent = here.location; last = NoWord; object = Some here.location; slash = slash; steps = here.steps })
+      Ok (record { parent = here.location; last = NoWord; object = Some here.location; slash = false; steps = here.steps })
   placed world task here word slash =
       stopped_by (steps_at world task here word)
       (and_then (unless (search_rules world task here.location) (object_named world task here.location word))
