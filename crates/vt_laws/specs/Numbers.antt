@@ -18,14 +18,8 @@ use Rattle.vt_spec.specs.Machine.Turns.{Progress, Sched, Turned, turn}
 use Rattle.vt_spec.specs.Machine.World.{Descriptor, Filesystem, Layer, Namespace, Overlay, Real, Task, TaskName, World, opening}
 use Rattle.vt_spec.specs.Machine.World.Real.{Below, Upper}
 use Rattle.vt_spec.specs.Tree.{Content, Node}
+use Rattle.vt_one_text.specs.Renaming.{Leaves, Renaming}
 use Rattle.vt_spec.specs.Tree.Content.{Directory, Regular, Symlink, Whiteout}
-
--- each number gets a number of its own, and none is left out
-pub record Renaming (N M : Type 0) : Type 0 where
-  pub there : N → M
-  pub back : M → N
-  pub there_back : (number : M) → there (back number) ≡ number
-  pub back_there : (number : N) → back (there number) ≡ number
 
 module _ {N M : Type 0} (there : N → M) (back : M → N) where
   abbrev pub renamed_supply : Fresh N → Fresh M
@@ -97,10 +91,6 @@ SameWorldsAnswerAlike =
     × SameWorld (policy nat_eq fresh world name call).world (policy nat_eq (renamed_supply same.there same.back fresh) other name call).world
 
 -- A call changes no number but those that are handed in and those that it names.
-
--- the renaming leaves these numbers where they are
-abbrev pub Leaves : Renaming ℕ ℕ → (ℕ → Bool) → Type 0
-Leaves renaming named = (number : ℕ) → named number ≡ true → renaming.there number ≡ number
 
 -- A world keeps to some numbers where it has no others in it: whoever renames only others leaves it as it is.
 abbrev pub KeepsTo : (ℕ → Bool) → World ℕ → Type 0
