@@ -1,7 +1,6 @@
 pub mod Allotments
 pub mod AskedRules
 pub mod Cells
-pub mod Few
 pub mod LeastAnswers
 pub mod LeastRule
 pub mod NamedWorlds

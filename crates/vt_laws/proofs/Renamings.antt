@@ -1,6 +1,6 @@
 -- Worlds, outcomes, lines and turns commute with renamings of their numbers.
 use Rattle.vt_spec.specs.Machine.Policy.{policy}
-use Rattle.std.proofs.Common.{◌≡◌, refl, sym, ap, ◌∙◌, ℕ, nat_eq, List, Option, Some, None}
+use Rattle.std.proofs.Common.{◌≡◌, refl, sym, ap, ◌∙◌, ℕ, nat_eq, List, Option}
 use Rattle.std.specs.Prelude.{map, option_map}
 use Rattle.vt_spec.specs.Machine.FileTree.{FileTree}
 use Rattle.vt_spec.specs.Machine.Lists.{Fresh}

@@ -1,19 +1,17 @@
--- The whole machine, kept to the calls on files and tasks, has the one text of one tree.
-use Rattle.std.specs.Prelude.{Bool, List, length, nat_eq, ℕ, ◌≡◌}
-use Rattle.vt_spec.specs.Machine.Script.{files, lines_of}
+-- The whole machine has the one text of one tree.
+use Rattle.std.specs.Prelude.{Bool, List, ℕ, ◌≡◌}
+use Rattle.std.specs.List.{All}
+use Rattle.vt_spec.specs.Machine.Run as whole_run
+use Rattle.vt_spec.specs.Machine.Script.{Version, files, lines_of, request_of, whole}
 use Rattle.vt_spec.specs.OneTree.Run as tree_run
-use Rattle.vt_spec.specs.OneTree.Run.{script_text}
-use Rattle.vt_spec.specs.OneTree.World.{opening}
-use Rattle.vt_laws.specs.Numbers.{completed_text}
 
--- The one text that it has for a script of these calls, whatever unused numbers are handed in, may be written in one tree,
-abbrev pub FilesTextIsTold : Type 0
-FilesTextIsTold =
-    (script : List ℕ) (refused : List Bool) → length refused ≡ length (lines_of script)
-    → tree_run.Tells nat_eq (opening nat_eq 3) 1 (lines_of script) refused (completed_text files refused script)
-
--- and so it is the one text that one tree has.
+-- The text of the whole machine, kept to the calls on files and tasks, is that of one tree,
 abbrev pub FilesTextIsTheText : Type 0
-FilesTextIsTheText =
-    (script : List ℕ) (refused : List Bool)
-    → length refused ≡ length (lines_of script) → completed_text files refused script ≡ script_text refused script
+FilesTextIsTheText = (script : List ℕ) (refused : List Bool) → whole_run.script_text refused script ≡ tree_run.script_text refused script
+
+-- and so is its text in the whole language, for a script that has no more there than among these calls.
+abbrev pub MachineTextIsTheText : Type 0
+MachineTextIsTheText =
+    (version : Version) (script : List ℕ) (refused : List Bool)
+    → All (λ line. request_of (whole version) line ≡ request_of files line) (lines_of script)
+    → whole_run.machine_text version refused script ≡ tree_run.script_text refused script

@@ -1,9 +1,9 @@
 //! The whole machine and the machine of one tree have the same text for a script.
-ghost use Rattle.vt_laws.specs.SameTexts.{FilesTextIsTheText, FilesTextIsTold};
+ghost use Rattle.vt_laws.specs.SameTexts.{FilesTextIsTheText, MachineTextIsTheText};
 
-/// The one text that the whole machine has for a script, kept to the calls on files and tasks, is the one text that one tree
-/// has for it.
+/// The text of the whole machine, kept to the calls on files and tasks, is that of one tree, for every script, whatever lines
+/// were refused memory; and so is its text in the whole language, for a script that has no more there.
 pub fn whole_machine_has_the_text_of_one_tree()
-    ensures told { FilesTextIsTold }
-    ensures same { FilesTextIsTheText }
+    ensures files { FilesTextIsTheText }
+    ensures language { MachineTextIsTheText }
 {}

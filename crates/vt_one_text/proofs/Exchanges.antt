@@ -1,5 +1,5 @@
 -- Two numbers exchanged.
-use Rattle.std.proofs.Common.{◌≡◌, ◌≢◌, sym, ap, ◌∙◌, true≢false, refl, ℕ, nat_eq, eq-eqb, ne_eqb, Bool, true, false, cond, ⊎_elim}
+use Rattle.std.proofs.Common.{◌≡◌, ◌≢◌, sym, ap, ◌∙◌, true≢false, refl, ℕ, nat_eq, eq-eqb, ne_eqb, Bool, false, cond, ⊎_elim}
 use Rattle.std.proofs.lemmas.Bool.Decides.{eqb_tells}
 use Rattle.vt_one_text.specs.Renaming.{Leaves, Renaming}
 

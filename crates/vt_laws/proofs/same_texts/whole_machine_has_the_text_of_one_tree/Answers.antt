@@ -1,8 +1,8 @@
-use Rattle.vt_laws.proofs.SameTexts.{files_text_is_the_text, files_text_is_told}
+use Rattle.vt_laws.proofs.SameTexts.{files_text_is_the_text, machine_text_is_the_text}
 use Rattle.vt_laws.proofs.same_texts.whole_machine_has_the_text_of_one_tree.Goals as goal
 
-pub returns-clause-told : goal.returns-clause-told
-returns-clause-told c = files_text_is_told
+pub returns-clause-files : goal.returns-clause-files
+returns-clause-files c = files_text_is_the_text
 
-pub returns-clause-same : goal.returns-clause-same
-returns-clause-same c = files_text_is_the_text
+pub returns-clause-language : goal.returns-clause-language
+returns-clause-language c = machine_text_is_the_text
