@@ -12,6 +12,7 @@ pub mod LowersEveryCall
 pub mod LowersKept
 pub mod LowersMounts
 pub mod LowersWorld
+pub mod ShownAlike
 pub mod ShownAtPath
 pub mod ShownDirectories
 pub mod ShownFronts

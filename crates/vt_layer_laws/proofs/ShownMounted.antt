@@ -8,15 +8,16 @@ use Rattle.std.proofs.lemmas.List.Sums.{sum_by-cons}
 use Rattle.std.proofs.lemmas.Option.{slice_get-map}
 use Rattle.vt_spec.specs.Machine.FileTree.{FileTree}
 use Rattle.vt_spec.specs.Machine.Layers.{OpenLayer, Shown, shown}
-use Rattle.vt_spec.specs.Machine.Lists.{Fresh, holds_of, odds, then_some, when}
-use Rattle.vt_spec.specs.Machine.Merging.{layer_node, merged_inodes, merged_objects, real_of}
+use Rattle.vt_spec.specs.Machine.Lists.{Fresh, holds_of, odds, when}
+use Rattle.vt_spec.specs.Machine.Merging.{merged_inodes, merged_objects, real_of}
 use Rattle.vt_spec.specs.Machine.Outcome.Mounting.{inode_count, overlay_filesystem}
 use Rattle.vt_spec.specs.Machine.World.{Filesystem, Layer, Overlay, World, filesystem_numbered, is_overlay, no_filesystem, open_layer, shown_layers}
-use Rattle.vt_spec.specs.Machine.WorldLaws.{IsMerged, IsWorld, ListsNumbers, SameObject, is_plain_layer, is_there, node_shown, number_at_path, same_content}
+use Rattle.vt_spec.specs.Machine.WorldLaws.{IsMerged, IsWorld, ListsNumbers, SameObject, is_plain_layer, is_there, node_shown, same_content}
 use Rattle.vt_spec.specs.Tree.{Content, Node, is_directory_node}
 use Rattle.vt_spec.specs.Tree.Content.{Directory, Regular, Symlink, Whiteout}
 use Rattle.vt_spec.specs.TreeLaws.{IsDirectory, IsTree, entry_at, led}
-use Rattle.vt_layer_laws.specs.Layers.Mounted.{AreLayers, ShowTheSame}
+use Rattle.vt_layer_laws.specs.Layers.Mounted.{AreLayers, RemountShowsTheSame}
+use Rattle.vt_layer_laws.proofs.ShownAlike.{shown_alike}
 use Rattle.vt_layer_laws.proofs.ShownAtPath.{computed, none_is_some, some_is_one}
 use Rattle.vt_layer_laws.proofs.ShownDirectories.{AreOpen, last_of, no_white_directory}
 use Rattle.vt_layer_laws.proofs.ShownNames.{last_name}
@@ -25,7 +26,7 @@ use Rattle.vt_layer_laws.proofs.ShownTree.{real_shown_there, shows_layers}
 use Rattle.vt_layer_laws.proofs.ShownWhole.{merged_no_mark, merged_no_whiteout, merged_one_to_one, merged_upper}
 use Rattle.vt_layer_laws.proofs.UpperChain.{depth_below}
 use Rattle.vt_layer_laws.proofs.UpperLine.{and_first, and_second, has_entries, is_reached_in}
-use Rattle.vt_layer_laws.proofs.UpperWorld.{all_found}
+use Rattle.vt_layer_laws.proofs.UpperWorld.{all_found, overlay_layers}
 
 -- a part of a sum is no more than the sum
 in_sum : (test : Filesystem ℕ → Bool) (list : List (Filesystem ℕ)) (filesystem : Filesystem ℕ) → find test list ≡ Some filesystem → length filesystem.files.numbers ≤ sum (map (λ f. length f.files.numbers) list)
@@ -213,13 +214,12 @@ objects_alike (Some x) None (Some z) e f = absurd f
 objects_alike (Some x) (Some y) None e f = absurd e
 objects_alike (Some x) (Some y) (Some z) e f = (e.0 ∙ sym f.0, content_alike x.content y.content z.content e.1 f.1)
 
-pub remount_shows_the_same : (fresh : Fresh ℕ) (before later : World ℕ) (number : ℕ) (left anew : Overlay ℕ)
-    → IsWorld nat_eq before → (filesystem_numbered nat_eq before number).overlay ≡ Some left
-    → IsWorld nat_eq later → AreLayers later anew → ((j k : ℕ) → fresh j ≡ fresh k → j ≡ k)
-    → map (open_layer nat_eq later) (shown_layers anew) ≡ map (open_layer nat_eq before) (shown_layers left)
-    → ShowTheSame (overlay_filesystem nat_eq fresh later anew) (filesystem_numbered nat_eq before number)
-remount_shows_the_same fresh before later number left anew conditions is later_conditions are_layers distinct same path =
+pub remount_shows_the_same : RemountShowsTheSame
+remount_shows_the_same fresh before later number left anew conditions is later_conditions are_layers distinct as_left path =
+    let alike : SameObject (node_shown nat_eq before left path) (node_shown nat_eq later anew path) =
+    shown_alike (map (open_layer nat_eq before) (shown_layers left)) (map (open_layer nat_eq later) (shown_layers anew)) as_left
+    (are_open before conditions left (overlay_layers before conditions number left is)) (are_open later later_conditions anew are_layers) path in
+    let anew_shows = (made_merged later later_conditions anew are_layers fresh distinct).shows path in
     objects_alike _ _ (node_shown nat_eq before left path)
-    (subst (λ l. SameObject (then_some (number_at_path (overlay_filesystem nat_eq fresh later anew).files path) (overlay_filesystem nat_eq fresh later anew).files.tree.node) (then_some (shown l path) (layer_node l))) same
-    ((made_merged later later_conditions anew are_layers fresh distinct).shows path))
+    (objects_alike _ _ (node_shown nat_eq later anew path) anew_shows alike)
     ((conditions.overlays_merge number left is).shows path)

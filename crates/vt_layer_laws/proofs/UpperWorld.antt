@@ -1,22 +1,25 @@
 -- In a world, a change through an overlay writes to new inodes and to the overlay's own objects in the upper layer alone.
-use Rattle.std.proofs.Common.{◌≡◌, ◌≢◌, ◌<◌, All, refl, sym, ap, subst, ◌∙◌, true≢false, arith, ℕ, suc, nat_eq, Bool, true, false, cond, not, List, [], ◌∷◌, ◌++◌, map, length, Option, Some, None, is_some, unwrap_or}
+use Rattle.std.proofs.Common.{◌≡◌, ◌≢◌, ◌<◌, All, refl, sym, ap, subst, ◌∙◌, true≢false, arith, ℕ, suc, nat_eq, Bool, true, false, cond, not, ◌&&◌, List, [], ◌∷◌, ◌++◌, map, length, Option, Some, None, is_some, unwrap_or}
 use Rattle.std.specs.List.{find, list_all}
-use Rattle.std.specs.Prelude.{option_to_list}
+use Rattle.std.specs.Prelude.{nat_le, option_to_list}
 use Rattle.vt_spec.specs.Machine.Changes.{Change}
 use Rattle.vt_spec.specs.Machine.CopyUp.{Merge, merge_changed}
 use Rattle.vt_spec.specs.Machine.FileTree.{FileTree, a_name}
 use Rattle.vt_spec.specs.Machine.Filesystems.{filesystem_changed, merge_of, overlay_changed, raised, stack_of, with_change, with_files, with_merge}
 use Rattle.vt_spec.specs.Machine.Layers.{OpenLayer, shown}
-use Rattle.vt_spec.specs.Machine.Lists.{Fresh, front_of, then_some}
+use Rattle.vt_spec.specs.Machine.Lists.{Fresh, front_of, is_empty_list, then_some}
 use Rattle.vt_spec.specs.Machine.Locked.{of_overlay, overlay_or}
 use Rattle.vt_spec.specs.Machine.Merging.{layer_node, merged_at, real_object}
 use Rattle.vt_spec.specs.Machine.Mounts.{Location}
+use Rattle.vt_spec.specs.Machine.Outcome.Mounting.{most_lowers}
+use Rattle.vt_spec.specs.Machine.Policy.{same_bool}
 use Rattle.vt_spec.specs.Machine.World.{Filesystem, Layer, Overlay, Real, World, filesystem_at, filesystem_numbered, files_at, is_overlay, layers_of, mount_at, no_filesystem, open_layer, upper_object, with_filesystem}
 use Rattle.vt_spec.specs.Machine.World.Real.{Below, Upper}
-use Rattle.vt_spec.specs.Machine.WorldLaws.{IsMerged, IsWorld, ListsNumbers, SameObject, is_plain_layer, number_at_path}
+use Rattle.vt_spec.specs.Machine.WorldLaws.{IsMerged, IsWorld, ListsNumbers, SameObject, has_fit_layers, is_plain_layer, number_at_path}
 use Rattle.vt_spec.specs.Tree.{Node, is_directory_node}
 use Rattle.vt_spec.specs.TreeLaws.{IsTree, entry_at, led}
 use Rattle.vt_spec.proofs.Trees.{led-append}
+use Rattle.vt_layer_laws.specs.Layers.Mounted.{AreLayers}
 use Rattle.vt_layer_laws.specs.Layers.Untouched.{IsKept, inode_in}
 use Rattle.vt_layer_laws.specs.Layers.Upper.{IsUpperObject, SpeaksOfWhatIsThere}
 use Rattle.vt_layer_laws.proofs.LowersKept.{kept_same}
@@ -70,13 +73,41 @@ module _ (world : World ℕ) (conditions : IsWorld nat_eq world) (number : ℕ) 
   pub overlay_merges : IsMerged nat_eq world merged overlay
   overlay_merges = conditions.overlays_merge number overlay is
 
+  plain_layers : list_all (is_plain_layer nat_eq world) (layers_of overlay) ≡ true
+  plain_layers =
+      sym (ap (overlay_or true (λ o. list_all (is_plain_layer nat_eq world) (layers_of o))) is)
+      ∙ all_pass_found (of_overlay true (λ o. list_all (is_plain_layer nat_eq world) (layers_of o))) (λ filesystem. nat_eq number filesystem.number) world.filesystems conditions.plain_layers merged (overlay_found world number overlay is)
+
+  -- its layers may be mounted
+  pub overlay_layers : AreLayers world overlay
+  overlay_layers = (some_lower (option_to_list overlay.upper) overlay.lowers has_lowers, without_middle (option_to_list overlay.upper) (option_to_list overlay.work) overlay.lowers plain_layers)
+    where
+      has_lowers : not (is_empty_list overlay.lowers) ≡ true
+      has_lowers =
+          and_first (not (is_empty_list overlay.lowers)) (nat_le (length overlay.lowers) most_lowers)
+          (and_first (not (is_empty_list overlay.lowers) && nat_le (length overlay.lowers) most_lowers) (same_bool (is_some overlay.upper) (is_some overlay.work))
+          (sym (ap (overlay_or true has_fit_layers) is)
+          ∙ all_pass_found (of_overlay true has_fit_layers) (λ filesystem. nat_eq number filesystem.number) world.filesystems conditions.fit_layers merged (overlay_found world number overlay is)))
+
+      some_lower : (above lowers : List (Layer ℕ)) → not (is_empty_list lowers) ≡ true → above ++ lowers ≢ []
+      some_lower [] [] e none = true≢false (sym e)
+      some_lower [] (layer ∷ lowers) e none = absurd cc
+      some_lower (layer ∷ above) lowers e none = absurd cc
+
+      without_middle : (first middle last : List (Layer ℕ)) → list_all (is_plain_layer nat_eq world) (first ++ middle ++ last) ≡ true
+          → list_all (is_plain_layer nat_eq world) (first ++ last) ≡ true
+      without_middle [] [] last e = e
+      without_middle [] (layer ∷ middle) last e = without_middle [] middle last (and_second (is_plain_layer nat_eq world layer) _ e)
+      without_middle (layer ∷ first) middle last e =
+          let plain = and_first (is_plain_layer nat_eq world layer) _ e in
+          ap (λ b. b && list_all (is_plain_layer nat_eq world) (first ++ last)) plain
+          ∙ without_middle first middle last (and_second (is_plain_layer nat_eq world layer) _ e)
+
   module _ (upper : Layer ℕ) (has : overlay.upper ≡ Some upper) where
     plain_upper : is_plain_layer nat_eq world upper ≡ true
     plain_upper =
         and_first (is_plain_layer nat_eq world upper) _
-        (sym (ap (λ o. list_all (is_plain_layer nat_eq world) (option_to_list o ++ option_to_list overlay.work ++ overlay.lowers)) has)
-        ∙ sym (ap (overlay_or true (λ o. list_all (is_plain_layer nat_eq world) (layers_of o))) is)
-        ∙ all_pass_found (of_overlay true (λ o. list_all (is_plain_layer nat_eq world) (layers_of o))) (λ filesystem. nat_eq number filesystem.number) world.filesystems conditions.plain_layers merged (overlay_found world number overlay is))
+        (sym (ap (λ o. list_all (is_plain_layer nat_eq world) (option_to_list o ++ option_to_list overlay.work ++ overlay.lowers)) has) ∙ plain_layers)
 
     -- the upper layer is in another filesystem
     pub upper_elsewhere : upper.filesystem ≢ number

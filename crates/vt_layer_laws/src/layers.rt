@@ -34,8 +34,8 @@ pub fn overlays_change_their_upper_layer()
     ensures fit { OverlaysAreFit }
 {}
 
-/// A newly mounted overlay has at every path what its layers show. So an overlay that is mounted anew over the layers that
-/// another one left shows the same tree, whoever mounts it.
+/// A newly mounted overlay has at every path what its layers show. So an overlay that is mounted anew over layers that lead
+/// at every path to what another one left there shows the same tree, whoever mounts it, whatever numbers the inodes have.
 pub fn new_overlays_show_their_layers()
     ensures merged { NewOverlayIsMerged }
     ensures remount { RemountShowsTheSame }
