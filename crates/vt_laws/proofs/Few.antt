@@ -36,15 +36,15 @@ first_line : few_after [] (codes "t mkdir /a")
 unfolding everything first_numbers
 first_line fresh = refl
 
-second_line : few_after (codes "t mkdir /a" ∷ []) (codes "t mount plain /a")
+second_line : few_after (codes "t mkdir /a" ∷ []) (codes "t chmod /a 700")
 unfolding everything first_numbers
 second_line fresh = refl
 
-third_line : few_after (codes "t mkdir /a" ∷ codes "t mount plain /a" ∷ []) (codes "t write /a/f x")
+third_line : few_after (codes "t mkdir /a" ∷ codes "t chmod /a 700" ∷ []) (codes "t write /a/f x")
 unfolding everything first_numbers
 third_line fresh = refl
 
-fourth_line : few_after (codes "t mkdir /a" ∷ codes "t mount plain /a" ∷ codes "t write /a/f x" ∷ []) (codes "t ls /a")
+fourth_line : few_after (codes "t mkdir /a" ∷ codes "t chmod /a 700" ∷ codes "t write /a/f x" ∷ []) (codes "t ls /a")
 unfolding everything first_numbers
 fourth_line fresh = refl
 
@@ -52,11 +52,11 @@ pub four_lines_take_few : FourLinesTakeFew
 four_lines_take_few = (
   λ handed. few_by (whole Two) (after_lines []) 1 (codes "t mkdir /a") first_line,
   (
-    λ handed. few_by (whole Two) (after_lines (codes "t mkdir /a" ∷ [])) 2 (codes "t mount plain /a") second_line,
+    λ handed. few_by (whole Two) (after_lines (codes "t mkdir /a" ∷ [])) 2 (codes "t chmod /a 700") second_line,
     (
-      λ handed. few_by (whole Two) (after_lines (codes "t mkdir /a" ∷ codes "t mount plain /a" ∷ [])) 3 (codes "t write /a/f x") third_line,
+      λ handed. few_by (whole Two) (after_lines (codes "t mkdir /a" ∷ codes "t chmod /a 700" ∷ [])) 3 (codes "t write /a/f x") third_line,
       (
-        λ handed. few_by (whole Two) (after_lines (codes "t mkdir /a" ∷ codes "t mount plain /a" ∷ codes "t write /a/f x" ∷ [])) 4 (codes "t ls /a") fourth_line,
+        λ handed. few_by (whole Two) (after_lines (codes "t mkdir /a" ∷ codes "t chmod /a 700" ∷ codes "t write /a/f x" ∷ [])) 4 (codes "t ls /a") fourth_line,
         tt,
       ),
     ),

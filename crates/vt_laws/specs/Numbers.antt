@@ -396,7 +396,7 @@ CountedTextIsTheText =
 
 -- a script of which each line takes few: a directory, a mount on it, a file in that, and its names
 abbrev pub four_lines : List ℕ
-four_lines = codes "t mkdir /a\nt mount plain /a\nt write /a/f x\nt ls /a\n"
+four_lines = codes "t mkdir /a\nt chmod /a 700\nt write /a/f x\nt ls /a\n"
 
 abbrev pub FourLinesTakeFew : Type 0
 FourLinesTakeFew = EachTakesFew (whole Two) first_world 1 (lines_of four_lines) []
