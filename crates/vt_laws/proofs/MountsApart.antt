@@ -20,7 +20,7 @@ use Rattle.vt_laws.specs.Mounts.Changing.{named}
 use Rattle.vt_laws.proofs.MountsFound.{number_found}
 use Rattle.vt_spec.specs.Machine.Types.{retyped_each, type_after}
 use Rattle.vt_spec.specs.Machine.WorldLaws.{stand_at_one_place, is_nowhere_or_attached}
-use Rattle.vt_spec.specs.Machine.Namespaces.{copied_mount}
+use Rattle.vt_spec.specs.Machine.Namespaces.{copied_mount, copy_from}
 
 -- places that stay the same stay apart
 places_same : (f : Mount ℕ → Mount ℕ) (mounts : List (Mount ℕ)) → ((mount : Mount ℕ) → Among mount mounts → (f mount).place ≡ mount.place)
@@ -118,7 +118,7 @@ lazy_keeps_nowhere world one e = lazy_nowhere (deepest_first nat_eq world (mount
 pub unshare_keeps_nowhere : KeptByUnshare NowhereOrAttached
 unshare_keeps_nowhere world fresh task e =
     let copied = mounts_of nat_eq world task.namespace in
-    let copy = copied_mount nat_eq copied (odds fresh) (evens fresh 0) in
+    let copy = copied_mount (copy_from nat_eq (odds fresh) copied) (evens fresh 0) in
     list_all_from_among is_nowhere_or_attached (world.mounts ++ map copy copied) (λ mount m.
     ⊎_elim (λ old. among_from_list_all is_nowhere_or_attached world.mounts e mount old)
     (λ new. ap is_nowhere_or_attached (among-from_map copy copied mount new).2)

@@ -17,7 +17,7 @@ use Rattle.std.specs.Prelude.{if◌then◌else◌, slice_get, ◌*◌}
 use Rattle.vt_laws.specs.Mounts.Attaching.{OneNumberAMount, numbers_of}
 use Rattle.vt_laws.specs.Mounts.Conditions.{AttachKeepsNumbers, UnshareKeepsNumbers}
 use Rattle.vt_laws.specs.Mounts.Copies.{CopiesKeepNumbers, IsOneOf, ServeAsCopies, ServeAsImages, SuppliesServeAsCopies, SuppliesServeAsImages}
-use Rattle.vt_spec.specs.Machine.Namespaces.{copied_mount}
+use Rattle.vt_spec.specs.Machine.Namespaces.{copied_mount, copy_from}
 use Rattle.vt_laws.proofs.MountsAttached.{numbers_attached, others}
 use Rattle.std.proofs.lemmas.Option.{same_Some, slice_get_within}
 
@@ -322,7 +322,7 @@ attach_keeps_numbers world fresh place moves mounts serves own one =
 pub unshare_keeps_numbers : UnshareKeepsNumbers
 unshare_keeps_numbers world fresh task serves one =
     let copied = mounts_of nat_eq world task.namespace in
-    let copy = copied_mount nat_eq copied (odds fresh) (evens fresh 0) in
+    let copy = copied_mount (copy_from nat_eq (odds fresh) copied) (evens fresh 0) in
     let numbered_copy : (mount : Mount ℕ) → Among mount copied → (i : ℕ) × ((copy mount).number ≡ fresh (2 * i + 1)) × (x : Mount ℕ) × (slice_get copied i ≡ Some x) × (mount.number ≡ x.number) =
     λ mount m.
     let t = place_found (λ (other : Mount ℕ). nat_eq mount.number other.number) 0 copied mount m (eq-eqb mount.number mount.number refl) in
