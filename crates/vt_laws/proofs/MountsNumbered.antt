@@ -1,12 +1,12 @@
 -- New mounts have numbers of their own.
 use Rattle.std.proofs.Common.{◌≡◌, refl, sym, ap, subst, ◌∙◌, true, false, suc, nat_eq, ℕ, Bool, List, [], arith, eqb-true, flat_map, inl, inr, is_some, length, map, not, option_map, true≢false, unwrap_or, ⊎_elim, ◌&&◌, ◌++◌, ◌+◌, ◌<◌, ◌∷◌, Some, None, Option, eq-eqb, filter, ◌/◌}
 use Rattle.std.specs.List.{list_any}
-use Rattle.vt_spec.specs.Machine.Mounts.{Mount, Location, group_of}
+use Rattle.vt_spec.specs.Machine.Mounts.{Mount, Location, group_of, numbers_by, index_of}
 use Rattle.vt_laws.proofs.Lists.{Among, among-append, among-append_left, among-flat_map, among-from_filter, among-from_flat_map, among-from_map, any_among, is_among_numbers, none_among, none_from_among, among-map, pair-filter, pair-map}
 use Rattle.vt_laws.proofs.GroupsKept.{member_shared}
 use Rattle.vt_laws.proofs.MountsFound.{number_found}
 use Rattle.vt_spec.specs.Machine.Lists.{Fresh, any_pair, evens, holds_of, odds, place_from}
-use Rattle.vt_spec.specs.Machine.Attach.{Copies, Graft, Twig, attached_by, copies_at, copies_from, copy_at, graft_of, index_of, index_of_group, is_destination, numbered, parts_of, reaches, receivers_of, takes_part, twig_of}
+use Rattle.vt_spec.specs.Machine.Attach.{Copies, Graft, Twig, attached_by, copies_at, copies_from, copy_at, graft_of, index_of_group, is_destination, numbered, parts_of, reaches, receivers_of, takes_part, twig_of}
 use Rattle.vt_spec.specs.Machine.Receives.{has_members, is_member_of, receivers, receives}
 use Rattle.vt_spec.specs.Machine.Run.{Serves, numbers_in_use, used_by_filesystem, used_by_mount}
 use Rattle.vt_spec.specs.Machine.World.{World, Namespace, mount_at, mounts_of}
@@ -17,7 +17,7 @@ use Rattle.std.specs.Prelude.{if◌then◌else◌, slice_get, ◌*◌}
 use Rattle.vt_laws.specs.Mounts.Attaching.{OneNumberAMount, numbers_of}
 use Rattle.vt_laws.specs.Mounts.Conditions.{AttachKeepsNumbers, UnshareKeepsNumbers}
 use Rattle.vt_laws.specs.Mounts.Copies.{CopiesKeepNumbers, IsOneOf, ServeAsCopies, ServeAsImages, SuppliesServeAsCopies, SuppliesServeAsImages}
-use Rattle.vt_spec.specs.Machine.Namespaces.{copied_mount, copy_from}
+use Rattle.vt_spec.specs.Machine.Namespaces.{copied_mount}
 use Rattle.vt_laws.proofs.MountsAttached.{numbers_attached, others}
 use Rattle.std.proofs.lemmas.Option.{same_Some, slice_get_within}
 
@@ -66,7 +66,6 @@ place_found p k (y ∷ ys) a m e = by (p y) refl (place_found p (k + 1) ys a)
         let t = later l e in
         (suc t.0, t.1, ap (λ b. if b then Some k else place_from p (k + 1) ys) f ∙ t.2 ∙ ap Some (omega arith), t.3, t.4))
         m
-
 
 -- a mount of this number stands in the list at its index
 indexed : (mounts : List (Mount ℕ)) (number : ℕ) → IsOneOf mounts number
@@ -133,9 +132,9 @@ module _ (world : World ℕ) (fresh : Fresh ℕ) (serves : Serves nat_eq world f
     unused = λ part origin m n. serves.unused (2 * numbered (length mounts) (index_of nat_eq parts part) (index_of nat_eq mounts origin));
     apart = λ part origin other_part other m n o p e.
         let at = numbered_apart (length mounts) (index_of nat_eq parts part) (index_of nat_eq mounts origin) (index_of nat_eq parts other_part) (index_of nat_eq mounts other)
-            (index_below mounts origin n) (index_below mounts other p)
-            (evens_apart (numbered (length mounts) (index_of nat_eq parts part) (index_of nat_eq mounts origin))
-            (numbered (length mounts) (index_of nat_eq parts other_part) (index_of nat_eq mounts other)) e) in
+        (index_below mounts origin n) (index_below mounts other p)
+        (evens_apart (numbered (length mounts) (index_of nat_eq parts part) (index_of nat_eq mounts origin))
+        (numbered (length mounts) (index_of nat_eq parts other_part) (index_of nat_eq mounts other)) e) in
         (one_index parts part other_part m o at.0, one_index mounts origin other n p at.1);
   }
 
@@ -144,9 +143,9 @@ module _ (world : World ℕ) (fresh : Fresh ℕ) (serves : Serves nat_eq world f
     unused = λ group origin m n. serves.unused (2 * numbered (length mounts) (index_of_group nat_eq parts group) (index_of nat_eq mounts origin) + 1);
     apart = λ group origin other_group other m n o p e.
         let at = numbered_apart (length mounts) (index_of_group nat_eq parts group) (index_of nat_eq mounts origin) (index_of_group nat_eq parts other_group) (index_of nat_eq mounts other)
-            (index_below mounts origin n) (index_below mounts other p)
-            (odds_apart (numbered (length mounts) (index_of_group nat_eq parts group) (index_of nat_eq mounts origin))
-            (numbered (length mounts) (index_of_group nat_eq parts other_group) (index_of nat_eq mounts other)) e) in
+        (index_below mounts origin n) (index_below mounts other p)
+        (odds_apart (numbered (length mounts) (index_of_group nat_eq parts group) (index_of nat_eq mounts origin))
+        (numbered (length mounts) (index_of_group nat_eq parts other_group) (index_of nat_eq mounts other)) e) in
         (one_index_of_groups parts group other_group m o at.0, one_index mounts origin other n p at.1);
     not_copies = λ group origin part other m n e.
         evens_odds (numbered (length mounts) (index_of_group nat_eq parts group) (index_of nat_eq mounts origin))
@@ -229,13 +228,12 @@ module _ (world : World ℕ) (new : Copies ℕ) (place : Location ℕ) (moves : 
       → (origin : Mount ℕ) × Among origin mounts × (copy.number ≡ new.copy part.number origin.number)
   copied_from part copied copy m =
       let from = among-from_map (copy_at nat_eq world new tree (parts_of nat_eq world place) part) tree.twigs copy m in
-      let twig = among-from_map (twig_of new (group_of (mount_at nat_eq world place).propagation)) mounts from.0 from.1 in
-      (
+      let twig = among-from_map (twig_of new (group_of (mount_at nat_eq world place).propagation)) mounts from.0 from.1 in (
         twig.0,
         twig.1,
         ap (λ c. c.number) from.2
-        ∙ ap (λ b. if b then from.0.origin.number else new.copy part.number from.0.origin.number) copied
-        ∙ ap (λ (t : Twig ℕ). new.copy part.number t.origin.number) twig.2,
+            ∙ ap (λ b. if b then from.0.origin.number else new.copy part.number from.0.origin.number) copied
+            ∙ ap (λ (t : Twig ℕ). new.copy part.number t.origin.number) twig.2,
       )
 
   -- copies of two mounts, or at two parts, have two numbers
@@ -246,8 +244,8 @@ module _ (world : World ℕ) (new : Copies ℕ) (place : Location ℕ) (moves : 
       let t = copied_from y d b l in
       false_from_ne_true (nat_eq a.number b.number) (λ same.
       let at : (x.number ≡ y.number) × (s.0.number ≡ t.0.number) =
-          serve.apart x.number s.0.number y.number t.0.number (is_one_of (parts_of nat_eq world place) x m) (is_one_of mounts s.0 s.1)
-          (is_one_of (parts_of nat_eq world place) y n) (is_one_of mounts t.0 t.1) (sym s.2 ∙ eqb-true a.number b.number same ∙ t.2) in
+      serve.apart x.number s.0.number y.number t.0.number (is_one_of (parts_of nat_eq world place) x m) (is_one_of mounts s.0 s.1)
+      (is_one_of (parts_of nat_eq world place) y n) (is_one_of mounts t.0 t.1) (sym s.2 ∙ eqb-true a.number b.number same ∙ t.2) in
       true≢false (sym (eq-eqb x.number y.number at.0) ∙ differ))
 
   copies_apart : (part : Mount ℕ) → Among part (parts_of nat_eq world place) → IsCopied part → any_pair same_number (copies part) ≡ false
@@ -255,15 +253,15 @@ module _ (world : World ℕ) (new : Copies ℕ) (place : Location ℕ) (moves : 
       pair-map (λ (a b : Twig ℕ). nat_eq a.origin.number b.origin.number) same_number (copy_at nat_eq world new tree (parts_of nat_eq world place) part) tree.twigs
       (λ a b k l differ. false_from_ne_true (same_number (copy_at nat_eq world new tree (parts_of nat_eq world place) part a) (copy_at nat_eq world new tree (parts_of nat_eq world place) part b)) (λ same.
       let number : (t : Twig ℕ) → (copy_at nat_eq world new tree (parts_of nat_eq world place) part t).number ≡ new.copy part.number t.origin.number =
-          λ t. ap (λ b. if b then t.origin.number else new.copy part.number t.origin.number) copied in
+      λ t. ap (λ b. if b then t.origin.number else new.copy part.number t.origin.number) copied in
       let from_a = among-from_map (twig_of new (group_of (mount_at nat_eq world place).propagation)) mounts a k in
       let from_b = among-from_map (twig_of new (group_of (mount_at nat_eq world place).propagation)) mounts b l in
       let origin : (t : Twig ℕ) (x : Mount ℕ) → t ≡ twig_of new (group_of (mount_at nat_eq world place).propagation) x → Among x mounts → IsOneOf mounts t.origin.number =
-          λ t x e n. subst (λ u. IsOneOf mounts u.origin.number) (sym e) (is_one_of mounts x n) in
+      λ t x e n. subst (λ u. IsOneOf mounts u.origin.number) (sym e) (is_one_of mounts x n) in
       let part_one = is_one_of (parts_of nat_eq world place) part m in
       let at : (part.number ≡ part.number) × (a.origin.number ≡ b.origin.number) =
-          serve.apart part.number a.origin.number part.number b.origin.number part_one (origin a from_a.0 from_a.2 from_a.1) part_one (origin b from_b.0 from_b.2 from_b.1)
-          (sym (number a) ∙ eqb-true _ _ same ∙ number b) in
+      serve.apart part.number a.origin.number part.number b.origin.number part_one (origin a from_a.0 from_a.2 from_a.1) part_one (origin b from_b.0 from_b.2 from_b.1)
+      (sym (number a) ∙ eqb-true _ _ same ∙ number b) in
       true≢false (sym (eq-eqb a.origin.number b.origin.number at.1) ∙ differ)))
       (pair-map same_number (λ (a b : Twig ℕ). nat_eq a.origin.number b.origin.number) (twig_of new (group_of (mount_at nat_eq world place).propagation)) mounts (λ a b k l differ. differ) own)
 
@@ -310,7 +308,7 @@ copies_keep_numbers world new place true mounts serve own one =
     (λ part m. (
       inr m,
       apart place.mount part.number
-      (taker_elsewhere world place part (among-from_filter (takes_part nat_eq world place) (receivers_of nat_eq world (mount_at nat_eq world place)) part m).1),
+          (taker_elsewhere world place part (among-from_filter (takes_part nat_eq world place) (receivers_of nat_eq world (mount_at nat_eq world place)) part m).1),
     ))
     refl
 
@@ -318,11 +316,12 @@ pub attach_keeps_numbers : AttachKeepsNumbers
 attach_keeps_numbers world fresh place moves mounts serves own one =
     copies_keep_numbers world (copies_from nat_eq fresh (parts_of nat_eq world place) mounts) place moves mounts
     (copies_serve world fresh serves (parts_of nat_eq world place) mounts) own one
+
 -- Copies of a namespace
 pub unshare_keeps_numbers : UnshareKeepsNumbers
 unshare_keeps_numbers world fresh task serves one =
     let copied = mounts_of nat_eq world task.namespace in
-    let copy = copied_mount (copy_from nat_eq (odds fresh) copied) (evens fresh 0) in
+    let copy = copied_mount (numbers_by nat_eq (odds fresh) copied) (evens fresh 0) in
     let numbered_copy : (mount : Mount ℕ) → Among mount copied → (i : ℕ) × ((copy mount).number ≡ fresh (2 * i + 1)) × (x : Mount ℕ) × (slice_get copied i ≡ Some x) × (mount.number ≡ x.number) =
     λ mount m.
     let t = place_found (λ (other : Mount ℕ). nat_eq mount.number other.number) 0 copied mount m (eq-eqb mount.number mount.number refl) in

@@ -5,7 +5,7 @@ use Rattle.std.specs.Prelude.{Bool, List, None, Option, Some, [], false, filter,
 use Rattle.std.specs.List.{list_any}
 use Rattle.vt_spec.specs.Machine.FileTree.{is_directory_under}
 use Rattle.vt_spec.specs.Machine.Lists.{Fresh, evens, first_of_list, folded, holds_of, odds, place_from, rest_of, then_some, when}
-use Rattle.vt_spec.specs.Machine.Mounts.{Location, Mount, Propagation, children, group_of, is_shared, is_unbindable, root_of, stands_at, topmost, with_mount}
+use Rattle.vt_spec.specs.Machine.Mounts.{Location, Mount, Propagation, children, group_of, index_of, is_shared, is_unbindable, root_of, stands_at, topmost, with_mount}
 use Rattle.vt_spec.specs.Machine.Mounts.Propagation.{Private, Shared, Slave, Unbindable}
 use Rattle.vt_spec.specs.Machine.Receives.{groups_up, has_members, is_member_of, receivers, slave_of_heir}
 use Rattle.vt_spec.specs.Machine.Types.{master_after, with_master}
@@ -118,8 +118,7 @@ module _ {N : Type 0} (eq : N → N → Bool) where
   group_made world new graft parts part twig =
       if is_destination graft part.number then twig_master twig
       else then_some (group_of part.propagation) (λ group.
-      when (not (is_member_of eq group (mount_at eq world graft.place)))
-      (
+      when (not (is_member_of eq group (mount_at eq world graft.place))) (
         image new (mount_at eq world graft.place) twig group,
         nearest_image world new parts (mount_at eq world graft.place) twig (world.master group),
       ))
@@ -206,16 +205,13 @@ module _ {N : Type 0} (eq : N → N → Bool) where
   attached_by world new place moves mounts = attached world new (graft_of world new place moves mounts)
 
   -- New numbers by what they are made from, out of a supply: the i-th mount's at the k-th part
-  abbrev pub index_of : List (Mount N) → N → ℕ
-  index_of mounts number = unwrap_or (place_from (λ mount. eq number mount.number) 0 mounts) 0
-
   abbrev pub index_of_group : List (Mount N) → N → ℕ
   index_of_group parts group = unwrap_or (place_from (is_member_of eq group) 0 parts) 0
 
   abbrev pub copies_from : Fresh N → List (Mount N) → List (Mount N) → Copies N
   copies_from fresh parts mounts = record {
-    copy = λ part origin. evens fresh (numbered (length mounts) (index_of parts part) (index_of mounts origin));
-    image = λ group origin. odds fresh (numbered (length mounts) (index_of_group parts group) (index_of mounts origin));
+    copy = λ part origin. evens fresh (numbered (length mounts) (index_of eq parts part) (index_of eq mounts origin));
+    image = λ group origin. odds fresh (numbered (length mounts) (index_of_group parts group) (index_of eq mounts origin));
   }
 
   abbrev pub attach : World N → Fresh N → Location N → Bool → List (Mount N) → World N

@@ -3,8 +3,8 @@ use Rattle.std.specs.Prelude.{Bool, List, Option, Some, [], filter, if◌then◌
 use Rattle.std.specs.FinMap.Entries.{put}
 use Rattle.std.specs.List.{list_any}
 use Rattle.vt_spec.specs.Machine.Detach.{taken_away}
-use Rattle.vt_spec.specs.Machine.Lists.{Fresh, evens, holds_of, odds, place_from}
-use Rattle.vt_spec.specs.Machine.Mounts.{Location, Mount, root_of, same_location, topmost}
+use Rattle.vt_spec.specs.Machine.Lists.{Fresh, evens, holds_of, odds}
+use Rattle.vt_spec.specs.Machine.Mounts.{Location, Mount, numbers_by, root_of, same_location, topmost}
 use Rattle.vt_spec.specs.Machine.World.{Namespace, Task, World, mounts_of, root_mount, with_task}
 
 module _ {N : Type 0} where
@@ -46,13 +46,9 @@ module _ {N : Type 0} (eq : N → N → Bool) where
   })
       (unshared_task (mounts_of eq world task.namespace) copy namespace task)
 
-  -- numbers by what they are copied from, out of a supply: the i-th mount's
-  abbrev pub copy_from : Fresh N → List (Mount N) → N → N
-  copy_from fresh mounts number = fresh (unwrap_or (place_from (λ mount. eq number mount.number) 0 mounts) 0)
-
   abbrev pub unshared : World N → Fresh N → Task N → World N
   unshared world fresh task =
-      unshared_by world (copy_from (odds fresh) (mounts_of eq world task.namespace)) (evens fresh 0) task
+      unshared_by world (numbers_by eq (odds fresh) (mounts_of eq world task.namespace)) (evens fresh 0) task
 
   -- A namespace ends with its last task: its mounts go, without propagation
   abbrev pub has_tasks : World N → Namespace N → Bool
