@@ -9,7 +9,7 @@ use Rattle.vt_mount_laws.proofs.GroupsUp.Up.{above, here}
 use Rattle.vt_spec.proofs.Lists.{Among, among-append, among-append_left, among-filter, among-from_filter, among-from_map, among-map, among_from_list_all, any_among, any_from_among, head_among, none_among, tail_among}
 use Rattle.vt_mount_laws.specs.Mounts.Receivers.{GroupsLive}
 use Rattle.vt_mount_laws.specs.Mounts.Conditions.{KeptByEndedNamespaces, KeptByInheritance, KeptByLazyUnmount, KeptByPivot, KeptByTakingAway, KeptByUnmount, KeptByUnshare, SettlingKeepsGroups, FlagsKeepGroups}
-use Rattle.vt_spec.specs.Machine.Mounts.{Mount, Propagation, group_of, mount_in, mount_tree, source_of, with_mount, replaced_if_same}
+use Rattle.vt_spec.specs.Machine.Mounts.{Mount, Propagation, group_of, mount_in, mount_tree, source_of, with_mount, replaced_if_same, numbers_by}
 use Rattle.vt_spec.specs.Machine.World.{World, mount_numbered, mounts_of, mount_at}
 use Rattle.vt_spec.specs.Machine.Detach.{after_going, deepest_first, going, is_going, unmounted, unmounted_if_there}
 use Rattle.vt_spec.specs.Machine.Namespaces.{copied_mount, is_in_ended, pivoted, pivoted_mount, unshared}
@@ -199,7 +199,7 @@ pivot_keeps_groups world namespace root new put live = groups_live_by (pivoted n
 pub unshare_keeps_groups : KeptByUnshare GroupsLive
 unshare_keeps_groups world fresh task live =
     let copied = mounts_of nat_eq world task.namespace in
-    let copy = copied_mount nat_eq copied (odds fresh) (evens fresh 0) in
+    let copy = copied_mount (numbers_by nat_eq (odds fresh) copied) (evens fresh 0) in
     groups_live_by (unshared nat_eq world fresh task) (λ mount m source e.
     let more : (group : ℕ) → has_members nat_eq world.mounts group ≡ true → has_members nat_eq (world.mounts ++ map copy copied) group ≡ true =
     λ group has.

@@ -1,31 +1,31 @@
 -- Groups live on through a change of type.
-use Rattle.std.proofs.Common.{◌≡◌, refl, sym, ap, subst, ◌∙◌, true, false, nat_eq, Bool, List, Some, [], arith, eq-eqb, flat_map, inl, inr, is_some, map, true≢false, ⊎_elim, ◌++◌, ◌+◌, ◌∷◌, ◌≤◌, ◌⊎◌, ℕ}
-use Rattle.vt_spec.specs.Machine.Mounts.{Mount, Propagation, group_of, replaced_if_same, source_of}
+use Rattle.std.proofs.Common.{◌≡◌, refl, sym, ap, subst, ◌∙◌, true, false, nat_eq, Bool, List, Option, Some, [], eq-eqb, eqb-true, flat_map, inl, inr, is_some, map, true≢false, ⊎_elim, ◌++◌, ◌∷◌, ◌⊎◌, ℕ, length}
+use Rattle.std.specs.List.{list_any}
+use Rattle.vt_spec.specs.Machine.Mounts.{Mount, Propagation, index_of, source_of}
 use Rattle.vt_spec.specs.Machine.Mounts.Propagation.{Private, Shared, Slave, Unbindable}
 use Rattle.vt_spec.specs.Machine.Calls.TypeWord.{ToPrivate, ToShared, ToSlave, ToUnbindable}
 use Rattle.vt_mount_laws.proofs.GroupsUp.{EndsUp, LivesIn, lives_in}
 use Rattle.vt_mount_laws.proofs.GroupsUp.EndsUp.{at_top, goes_up}
 use Rattle.vt_mount_laws.proofs.GroupsUp.Lives.{below, top}
-use Rattle.vt_spec.proofs.Lists.{Among, among-append_left, among-flat_map, among-from_map, any_among, any_from_among, is_among_numbers}
-use Rattle.vt_spec.specs.Machine.Lists.{Fresh, is_among}
+use Rattle.vt_spec.proofs.Lists.{Among, among-append_left, among-flat_map, among-from_map, any_among, is_among_numbers}
+use Rattle.vt_spec.specs.Machine.Lists.{is_among}
 use Rattle.vt_mount_laws.specs.Mounts.Receivers.{GroupsLive}
 use Rattle.vt_mount_laws.specs.Mounts.Conditions.{TypeKeepsGroups}
 use Rattle.vt_spec.specs.Machine.Calls.{TypeWord}
 use Rattle.vt_spec.specs.Machine.World.{World, mount_numbered, Namespace}
-use Rattle.vt_mount_laws.proofs.MountsRetyped.{between, members_between, next_world, retyped_named}
+use Rattle.vt_mount_laws.proofs.MountsRetyped.{between, groups_by, next_world, retype}
 use Rattle.std.proofs.lemmas.Bool.Decides.{eqb_tells}
 use Rattle.std.proofs.lemmas.Bool.{false_from_ne_true}
 use Rattle.vt_mount_laws.proofs.MountsFound.{found_or_none}
 use Rattle.vt_spec.specs.Machine.Receives.{has_members, is_member_of}
 use Rattle.std.specs.Prelude.{if◌then◌else◌, option_to_list}
-use Rattle.vt_spec.specs.Machine.Types.{master_after, retyped_each, type_after}
-use Rattle.vt_mount_laws.proofs.GroupsKept.{member_shared, regrouped_live, shared_member}
-use Rattle.vt_mount_laws.specs.Mounts.Changing.{named}
+use Rattle.vt_spec.specs.Machine.Types.{master_after, named_mounts, type_after, with_master, with_new_groups}
+use Rattle.vt_mount_laws.proofs.GroupsKept.{member_shared, regrouped_live}
 use Rattle.vt_spec.specs.Machine.Run.{numbers_in_use, used_by_filesystem, used_by_mount}
-use Rattle.vt_mount_laws.proofs.MountsReplaced.{replaced_elsewhere, replaced_there}
+use Rattle.vt_mount_laws.proofs.MountsReplaced.{tree_among}
 use Rattle.std.proofs.lemmas.Option.{same_Some}
 
--- what a type that is taken has as its source, or as its group
+-- what a type that is taken has as its source
 source_taken : (new : ℕ) (word : TypeWord) (kind : Propagation ℕ) (source : ℕ) → source_of (type_after new word kind) ≡ Some source
     → (source ≡ new) ⊎ (source_of kind ≡ Some source)
 source_taken new ToShared (Shared group) source e = inr e
@@ -39,107 +39,105 @@ source_taken new ToSlave Unbindable source e = inr e
 source_taken new ToPrivate kind source e = absurd (true≢false (sym (ap is_some e)))
 source_taken new ToUnbindable kind source e = absurd (true≢false (sym (ap is_some e)))
 
-group_taken : (new : ℕ) (word : TypeWord) (kind : Propagation ℕ) (group : ℕ) → type_after new word kind ≡ Shared group
-    → (group ≡ new) ⊎ (kind ≡ Shared group)
-group_taken new ToShared (Shared own) group e = inr e
-group_taken new ToShared (Slave above) group e = inl (sym (same_Some new group (ap group_of e)))
-group_taken new ToShared Private group e = inl (sym (same_Some new group (ap group_of e)))
-group_taken new ToShared Unbindable group e = inl (sym (same_Some new group (ap group_of e)))
-group_taken new ToSlave (Shared own) group e = absurd (true≢false (sym (ap (λ k. is_some (group_of k)) e)))
-group_taken new ToSlave (Slave above) group e = absurd (true≢false (sym (ap (λ k. is_some (group_of k)) e)))
-group_taken new ToSlave Private group e = absurd (true≢false (sym (ap (λ k. is_some (group_of k)) e)))
-group_taken new ToSlave Unbindable group e = absurd (true≢false (sym (ap (λ k. is_some (group_of k)) e)))
-group_taken new ToPrivate kind group e = absurd (true≢false (sym (ap (λ k. is_some (group_of k)) e)))
-group_taken new ToUnbindable kind group e = absurd (true≢false (sym (ap (λ k. is_some (group_of k)) e)))
+-- the master of a group after new groups were made: as it was, or that of the mount for which the group is new
+module _ (group : ℕ → ℕ) where
+  IsNewMaster : List (Mount ℕ) → ℕ → Option ℕ → Type 0
+  IsNewMaster named one above = (mount : Mount ℕ) × Among mount named × (one ≡ group mount.number) × (above ≡ master_after mount.propagation)
 
-module _ (world : World ℕ) (new : ℕ) (word : TypeWord) (number : ℕ) where
-  abbrev before_type : Mount ℕ
-  before_type = mount_numbered nat_eq world number
+  later_master : (first : Mount ℕ) (rest : List (Mount ℕ)) (one : ℕ) (above : Option ℕ) → IsNewMaster rest one above → IsNewMaster (first ∷ rest) one above
+  unfolding IsNewMaster
+  later_master first rest one above t = (t.0, inr t.1, t.2, t.3)
 
-  abbrev after_type : Mount ℕ
-  after_type = record before_type { propagation = type_after new word before_type.propagation }
+  new_or_old : (master : ℕ → Option ℕ) (named : List (Mount ℕ)) (one : ℕ)
+      → (with_new_groups nat_eq group master named one ≡ master one) ⊎ IsNewMaster named one (with_new_groups nat_eq group master named one)
+  unfolding IsNewMaster
+  new_or_old master [] one = inl refl
+  new_or_old master (first ∷ rest) one =
+      ⊎_elim
+      (λ kept.
+      ⊎_elim
+      (λ other. inl (kept ∙ ap (λ b. if b then master_after first.propagation else master one) other.0))
+      (λ same. inr (first, inl refl, same.1, kept ∙ ap (λ b. if b then master_after first.propagation else master one) same.0))
+      (either one (group first.number)))
+      (λ t. inr (t.0, inr t.1, t.2, t.3))
+      (new_or_old (with_master nat_eq master (group first.number) (master_after first.propagation)) rest one)
+    where
+      either : (a b : ℕ) → ((nat_eq a b ≡ false) × Unit {0}) ⊎ ((nat_eq a b ≡ true) × (a ≡ b))
+      either a b = ⊎_elim (λ t. inr t) (λ t. inl (t.0, tt)) (eqb_tells a b)
 
-  -- a mount with a source is one of the world's
-  sourced_among : (source : ℕ) → source_of before_type.propagation ≡ Some source → Among before_type world.mounts
-  sourced_among source e =
-      ⊎_elim (λ m. m) (λ none. absurd (true≢false (sym (ap is_some e) ∙ ap (λ m. is_some (source_of m.propagation)) none))) (found_or_none world.mounts number)
+  -- a group that is made for one of them has a new master
+  new_for_one : (master : ℕ → Option ℕ) (named : List (Mount ℕ)) (mount : Mount ℕ) → Among mount named
+      → IsNewMaster named (group mount.number) (with_new_groups nat_eq group master named (group mount.number))
+  unfolding IsNewMaster
+  new_for_one master [] mount m = absurd m
+  new_for_one master (first ∷ rest) mount m =
+      ⊎_elim
+      (λ kept.
+      ⊎_elim
+      (λ e. (
+        first,
+        inl refl,
+        ap (λ (x : Mount ℕ). group x.number) e,
+        kept ∙ ap (λ b. if b then master_after first.propagation else master (group mount.number))
+            (eq-eqb (group mount.number) (group first.number) (ap (λ (x : Mount ℕ). group x.number) e)),
+      ))
+      (λ l. let t = new_for_one (with_master nat_eq master (group first.number) (master_after first.propagation)) rest mount l in (t.0, inr t.1, t.2, t.3))
+      m)
+      (λ t. (t.0, inr t.1, t.2, t.3))
+      (new_or_old (with_master nat_eq master (group first.number) (master_after first.propagation)) rest (group mount.number))
 
-  module _ (live : GroupsLive world) (none : has_members nat_eq world.mounts new ≡ false) where
-    other_master : (group : ℕ) → has_members nat_eq world.mounts group ≡ true
-        → (between world new word number).master group ≡ world.master group
-    other_master group has =
-        ⊎_elim
-        (λ t. absurd (true≢false (sym has ∙ ap (has_members nat_eq world.mounts) t.1 ∙ none)))
-        (λ t. ap (λ b. if b then master_after before_type.propagation else world.master group) t.0)
-        (eqb_tells group new)
+module _ (world : World ℕ) (group : ℕ → ℕ) (word : TypeWord) (named : List (Mount ℕ)) (live : GroupsLive world)
+    (none : (number : ℕ) → has_members nat_eq world.mounts (group number) ≡ false)
+    (sourced : (mount : Mount ℕ) → Among mount named → (source : ℕ) → source_of mount.propagation ≡ Some source → Among mount world.mounts) where
+  abbrev after_all : ℕ → Option ℕ
+  after_all = with_new_groups nat_eq group world.master named
 
-    still_ends : (group : ℕ) → LivesIn world group → EndsUp (between world new word number).master group
-    still_ends group (top it has e) = at_top it (other_master it has ∙ e)
-    still_ends group (below it next has e later) = goes_up it next (other_master it has ∙ e) (still_ends next later)
+  other_master : (one : ℕ) → has_members nat_eq world.mounts one ≡ true → after_all one ≡ world.master one
+  unfolding IsNewMaster
+  other_master one has =
+      ⊎_elim (λ kept. kept)
+      (λ t. absurd (true≢false (sym has ∙ ap (has_members nat_eq world.mounts) t.2 ∙ none t.0.number)))
+      (new_or_old group world.master named one)
 
-    new_master : (between world new word number).master new ≡ master_after before_type.propagation
-    new_master = ap (λ b. if b then master_after before_type.propagation else world.master new) (eq-eqb new new refl)
+  still_ends : (one : ℕ) → LivesIn world one → EndsUp after_all one
+  still_ends one (top it has e) = at_top it (other_master it has ∙ e)
+  still_ends one (below it next has e later) = goes_up it next (other_master it has ∙ e) (still_ends next later)
 
-    new_ends : EndsUp (between world new word number).master new
-    new_ends = by before_type.propagation refl
-      where
-        by : (kind : Propagation ℕ) → before_type.propagation ≡ kind → EndsUp (between world new word number).master new
-        by (Shared group) e = at_top new (new_master ∙ ap master_after e)
-        by (Slave above) e =
-            goes_up new above (new_master ∙ ap master_after e) (still_ends above (lives_in world live before_type (sourced_among above (ap source_of e)) above (ap source_of e)))
-        by Private e = at_top new (new_master ∙ ap master_after e)
-        by Unbindable e = at_top new (new_master ∙ ap master_after e)
+  new_ends : (mount : Mount ℕ) → Among mount named → EndsUp after_all (group mount.number)
+  unfolding IsNewMaster
+  new_ends mount m =
+      let t = new_for_one group world.master named mount m in
+      by t.0 t.1 t.0.propagation refl t.3
+    where
+      by : (x : Mount ℕ) → Among x named → (kind : Propagation ℕ) → x.propagation ≡ kind
+          → after_all (group mount.number) ≡ master_after x.propagation → EndsUp after_all (group mount.number)
+      by x l (Shared one) e is = at_top (group mount.number) (is ∙ ap master_after e)
+      by x l (Slave above) e is =
+          goes_up (group mount.number) above (is ∙ ap master_after e)
+          (still_ends above (lives_in world live x (sourced x l above (ap source_of e)) above (ap source_of e)))
+      by x l Private e is = at_top (group mount.number) (is ∙ ap master_after e)
+      by x l Unbindable e is = at_top (group mount.number) (is ∙ ap master_after e)
 
-    pub retyped_lives : GroupsLive (next_world world new word number)
-    retyped_lives = regrouped_live (between world new word number) (λ mount m source e.
-        let from = among-from_map (replaced_if_same nat_eq after_type) world.mounts mount m in
-        by from.0 from.1 (nat_eq after_type.number from.0.number) refl source (sym (ap (λ x. source_of x.propagation) from.2) ∙ e))
-      where
-        by : (old : Mount ℕ) → Among old world.mounts → (b : Bool) → nat_eq after_type.number old.number ≡ b
-            → (source : ℕ) → source_of (replaced_if_same nat_eq after_type old).propagation ≡ Some source
-            → EndsUp (between world new word number).master source
-        by old m true e source f =
-            ⊎_elim
-            (λ same. subst (EndsUp (between world new word number).master) (sym same) new_ends)
-            (λ was. still_ends source (lives_in world live before_type (sourced_among source was) source was))
-            (source_taken new word before_type.propagation source (sym (ap (λ x. source_of x.propagation) (replaced_there after_type old e)) ∙ f))
-        by old m false e source f = still_ends source (lives_in world live old m source (sym (ap (λ x. source_of x.propagation) (replaced_elsewhere after_type old e)) ∙ f))
-
-    -- a group that has members then had some, or is the new one
-    pub members_then : (group : ℕ) → has_members nat_eq (next_world world new word number).mounts group ≡ true
-        → (group ≡ new) ⊎ (has_members nat_eq world.mounts group ≡ true)
-    members_then group h =
-        let member = any_among (is_member_of nat_eq group) (between world new word number).mounts (sym (members_between world new word number group) ∙ h) in
-        let from = among-from_map (replaced_if_same nat_eq after_type) world.mounts member.0 member.1 in
-        by from.0 from.1 (nat_eq after_type.number from.0.number) refl (ap (λ x. x.propagation) (sym from.2) ∙ member_shared group member.0 member.2)
-      where
-        had : (mount : Mount ℕ) → Among mount world.mounts → mount.propagation ≡ Shared group
-            → has_members nat_eq world.mounts group ≡ true
-        had mount m e = any_from_among (is_member_of nat_eq group) world.mounts mount m (shared_member group mount e)
-
-        by : (old : Mount ℕ) → Among old world.mounts → (b : Bool) → nat_eq after_type.number old.number ≡ b
-            → (replaced_if_same nat_eq after_type old).propagation ≡ Shared group
-            → (group ≡ new) ⊎ (has_members nat_eq world.mounts group ≡ true)
-        by old m true e f =
-            ⊎_elim inl (λ was. inr (had before_type (sourced_among group (ap source_of was)) was))
-            (group_taken new word before_type.propagation group (sym (ap (λ x. x.propagation) (replaced_there after_type old e)) ∙ f))
-        by old m false e f = inr (had old m (sym (ap (λ x. x.propagation) (replaced_elsewhere after_type old e)) ∙ f))
-
--- One after the other
-each_lives : (fresh : Fresh ℕ) (word : TypeWord) → ((j k : ℕ) → nat_eq (fresh j) (fresh k) ≡ true → j ≡ k)
-    → (k : ℕ) (world : World ℕ) (mounts : List (Mount ℕ)) → GroupsLive world
-    → ((j : ℕ) → k ≤ j → has_members nat_eq world.mounts (fresh j) ≡ false)
-    → GroupsLive (retyped_each nat_eq fresh word k world mounts)
-each_lives fresh word distinct k world [] live unused = live
-each_lives fresh word distinct k world (mount ∷ rest) live unused =
-    let none : has_members nat_eq world.mounts (fresh k) ≡ false = unused k (omega arith) in
-    each_lives fresh word distinct (k + 1) (next_world world (fresh k) word mount.number) rest
-    (retyped_lives world (fresh k) word mount.number live none)
-    (λ j l. false_from_ne_true (has_members nat_eq (next_world world (fresh k) word mount.number).mounts (fresh j)) (λ h.
-    ⊎_elim
-    (λ same. let it : j ≡ k = distinct j k (eq-eqb (fresh j) (fresh k) same) in omega (arith, it, l))
-    (λ had. true≢false (sym had ∙ unused j (omega (arith, l))))
-    (members_then world (fresh k) word mount.number live none (fresh j) h)))
+  pub all_live : GroupsLive (next_world world group word named)
+  all_live = regrouped_live (between world group word named) (λ mount m source e.
+      let from = among-from_map (retype world group word named) world.mounts mount m in
+      by from.0 from.1 (list_any (λ (other : Mount ℕ). nat_eq from.0.number other.number) named) refl source
+      (sym (ap (λ x. source_of x.propagation) from.2) ∙ e))
+    where
+      by : (old : Mount ℕ) → Among old world.mounts → (b : Bool) → list_any (λ (other : Mount ℕ). nat_eq old.number other.number) named ≡ b
+          → (source : ℕ) → source_of (retype world group word named old).propagation ≡ Some source
+          → EndsUp after_all source
+      by old m true e source f =
+          let chosen = any_among (λ (other : Mount ℕ). nat_eq old.number other.number) named e in
+          let same : old.number ≡ chosen.0.number = eqb-true old.number chosen.0.number chosen.2 in
+          ⊎_elim
+          (λ new. subst (EndsUp after_all) (ap group (sym same) ∙ sym new) (new_ends chosen.0 chosen.1))
+          (λ was. still_ends source (lives_in world live old m source was))
+          (source_taken (group old.number) word old.propagation source
+          (sym (ap (λ b. source_of (if b then (record old { propagation = type_after (group old.number) word old.propagation }) else old).propagation) e) ∙ f))
+      by old m false e source f =
+          still_ends source (lives_in world live old m source
+          (sym (ap (λ b. source_of (if b then (record old { propagation = type_after (group old.number) word old.propagation }) else old).propagation) e) ∙ f))
 
 -- numbers that are not in use have no members
 unused_members : (world : World ℕ) (number : ℕ) → is_among nat_eq number (numbers_in_use world) ≡ false
@@ -153,7 +151,23 @@ unused_members world number h = false_from_ne_true (has_members nat_eq world.mou
     (among-append_left (flat_map used_by_mount world.mounts) (flat_map used_by_filesystem world.filesystems) number (among-flat_map used_by_mount world.mounts member.0 number member.1 used)) in
     true≢false (sym (is_among_numbers (numbers_in_use world) number among) ∙ h))
 
+-- a named mount with a source is one of the world's
+named_sourced : (world : World ℕ) (number : ℕ) (recursive : Bool) (mount : Mount ℕ) → Among mount (named_mounts nat_eq world number recursive)
+    → (source : ℕ) → source_of mount.propagation ≡ Some source → Among mount world.mounts
+named_sourced world number recursive mount m source e = by recursive m
+  where
+    itself : mount ≡ mount_numbered nat_eq world number → Among mount world.mounts
+    itself same =
+        ⊎_elim (λ there. subst (λ x. Among x world.mounts) (sym same) there)
+        (λ none. absurd (true≢false (sym (ap is_some e) ∙ ap (λ x. is_some (source_of x.propagation)) (same ∙ none))))
+        (found_or_none world.mounts number)
+
+    by : (b : Bool) → Among mount (named_mounts nat_eq world number b) → Among mount world.mounts
+    by true l = ⊎_elim itself (λ there. there) (tree_among (length world.mounts) world.mounts (mount_numbered nat_eq world number) mount l)
+    by false l = ⊎_elim itself (λ none. absurd none) l
+
 pub type_keeps_groups : TypeKeepsGroups
 type_keeps_groups world fresh number word recursive serves live =
-    subst GroupsLive (sym (retyped_named world fresh number word recursive))
-    (each_lives fresh word serves.apart 0 world (named world number recursive) live (λ j l. unused_members world (fresh j) (serves.unused j)))
+    all_live world (groups_by world fresh number recursive) word (named_mounts nat_eq world number recursive) live
+    (λ other. unused_members world (groups_by world fresh number recursive other) (serves.unused (index_of nat_eq (named_mounts nat_eq world number recursive) other)))
+    (named_sourced world number recursive)

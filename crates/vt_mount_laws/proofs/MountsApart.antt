@@ -1,24 +1,22 @@
 -- Mounts stay apart, by number and by place.
-use Rattle.std.proofs.Common.{◌≡◌, refl, sym, ap, subst, ◌∙◌, true, false, nat_eq, ℕ, Bool, List, [], eqb-true, is_some, map, ◌&&◌, ◌+◌, ◌∷◌, ⊎_elim, ◌++◌}
-use Rattle.vt_spec.specs.Machine.Mounts.{Mount, mount_in, mount_tree, replaced_if_same, same_location, with_mount}
+use Rattle.std.proofs.Common.{◌≡◌, refl, sym, ap, ◌∙◌, true, false, nat_eq, ℕ, Bool, List, [], eqb-true, is_some, map, ◌&&◌, ◌∷◌, ⊎_elim, ◌++◌}
+use Rattle.vt_spec.specs.Machine.Mounts.{Mount, mount_in, mount_tree, replaced_if_same, same_location, with_mount, numbers_by}
 use Rattle.vt_spec.proofs.Lists.{Among, pair-filter, pair-map, among-append, among-from_map, among_from_list_all, list_all_from_among}
 use Rattle.vt_mount_laws.specs.Mounts.Conditions.{AreApart, KeptByFlags, KeptByInheritance, KeptByLazyUnmount, KeptBySettling, KeptByType, NowhereOrAttached, OneNumberEach, FlagsKeepNowhere, KeptByUnshare}
-use Rattle.vt_spec.specs.Machine.Lists.{Fresh, any_pair, folded, same_option, evens, odds}
+use Rattle.vt_spec.specs.Machine.Lists.{any_pair, folded, same_option, evens, odds}
 use Rattle.vt_mount_laws.specs.Mounts.Places.{OneMountAPlace}
 use Rattle.vt_mount_laws.specs.Mounts.Attaching.{OneNumberAMount}
-use Rattle.vt_spec.specs.Machine.Calls.{TypeWord}
 use Rattle.vt_spec.specs.Machine.World.{World, mount_at, mount_numbered, mounts_of}
-use Rattle.vt_mount_laws.proofs.MountsRetyped.{between, next_world, numbers-retyped, retyped_named}
+use Rattle.vt_mount_laws.proofs.MountsRetyped.{between, groups_by, retype, retype_keeps}
 use Rattle.vt_spec.specs.Machine.Detach.{deepest_first, unmounted, unmounted_if_there}
-use Rattle.vt_mount_laws.proofs.MountsKept.{flags_keep_numbers, inheritance_keeps_numbers, settling_keeps_numbers, unmount_keeps_nowhere, unmount_keeps_numbers}
-use Rattle.vt_mount_laws.proofs.MountsReplaced.{found_itself, one_number_by_numbers, replaced_elsewhere, replaced_there}
+use Rattle.vt_mount_laws.proofs.MountsKept.{flags_keep_numbers, inheritance_keeps_numbers, settling_keeps_numbers, unmount_keeps_nowhere, unmount_keeps_numbers, types_keep_numbers}
+use Rattle.vt_mount_laws.proofs.MountsReplaced.{found_itself, replaced_elsewhere, replaced_there}
 use Rattle.std.specs.Prelude.{if◌then◌else◌}
 use Rattle.vt_spec.specs.Machine.Receives.{inheriting}
 use Rattle.vt_spec.specs.Machine.Settled.{mount_lives}
 use Rattle.vt_mount_laws.proofs.Groups.{mounts-regrouped}
-use Rattle.vt_mount_laws.specs.Mounts.Changing.{named}
 use Rattle.vt_mount_laws.proofs.MountsFound.{number_found}
-use Rattle.vt_spec.specs.Machine.Types.{retyped_each, type_after}
+use Rattle.vt_spec.specs.Machine.Types.{named_mounts}
 use Rattle.vt_spec.specs.Machine.WorldLaws.{stand_at_one_place, is_nowhere_or_attached}
 use Rattle.vt_spec.specs.Machine.Namespaces.{copied_mount}
 
@@ -54,27 +52,17 @@ flags_keep_apart world here flags both =
           (replaced_same_place world.mounts both.by_number new (ap (λ n. (mount_in nat_eq world.mounts n).place) (number_found world.mounts here.mount))) both.by_place;
     }
 
-retyped_apart : (world : World ℕ) (new : ℕ) (word : TypeWord) (number : ℕ) → AreApart world → AreApart (next_world world new word number)
-retyped_apart world new word number both =
-    let one = mount_numbered nat_eq world number in
-    let changed = record one { propagation = type_after new word one.propagation } in
-    record {
-      by_number = one_number_by_numbers world.mounts (next_world world new word number).mounts (numbers-retyped world new word number) both.by_number;
-      by_place = ap (any_pair (stand_at_one_place nat_eq)) (mounts-regrouped (between world new word number))
-          ∙ places_same (inheriting nat_eq (between world new word number)) (between world new word number).mounts (λ mount m. refl)
-          (places_same (replaced_if_same nat_eq changed) world.mounts
-          (replaced_same_place world.mounts both.by_number changed (ap (λ n. (mount_in nat_eq world.mounts n).place) (number_found world.mounts number))) both.by_place);
-    }
-
-each_apart : (fresh : Fresh ℕ) (word : TypeWord) (k : ℕ) (world : World ℕ) (mounts : List (Mount ℕ)) → AreApart world
-    → AreApart (retyped_each nat_eq fresh word k world mounts)
-each_apart fresh word k world [] both = both
-each_apart fresh word k world (mount ∷ rest) both =
-    each_apart fresh word (k + 1) (next_world world (fresh k) word mount.number) rest (retyped_apart world (fresh k) word mount.number both)
-
 pub types_keep_apart : KeptByType AreApart
 types_keep_apart world fresh number word recursive both =
-    subst AreApart (sym (retyped_named world fresh number word recursive)) (each_apart fresh word 0 world (named world number recursive) both)
+    let group = groups_by world fresh number recursive in
+    let named = named_mounts nat_eq world number recursive in
+    let middle = between world group word named in
+    record {
+      by_number = types_keep_numbers world fresh number word recursive both.by_number;
+      by_place = ap (any_pair (stand_at_one_place nat_eq)) (mounts-regrouped middle)
+          ∙ places_same (inheriting nat_eq middle) middle.mounts (λ mount m. refl)
+          (places_same (retype world group word named) world.mounts (λ mount m. (retype_keeps world group word named mount).place) both.by_place);
+    }
 
 pub inheritance_keeps_apart : KeptByInheritance AreApart
 inheritance_keeps_apart world both = record {
@@ -118,7 +106,7 @@ lazy_keeps_nowhere world one e = lazy_nowhere (deepest_first nat_eq world (mount
 pub unshare_keeps_nowhere : KeptByUnshare NowhereOrAttached
 unshare_keeps_nowhere world fresh task e =
     let copied = mounts_of nat_eq world task.namespace in
-    let copy = copied_mount nat_eq copied (odds fresh) (evens fresh 0) in
+    let copy = copied_mount (numbers_by nat_eq (odds fresh) copied) (evens fresh 0) in
     list_all_from_among is_nowhere_or_attached (world.mounts ++ map copy copied) (λ mount m.
     ⊎_elim (λ old. among_from_list_all is_nowhere_or_attached world.mounts e mount old)
     (λ new. ap is_nowhere_or_attached (among-from_map copy copied mount new).2)

@@ -1,7 +1,8 @@
 -- Mounts found by their numbers.
-use Rattle.std.proofs.Common.{◌≡◌, refl, sym, ap, subst, ◌∙◌, ◌⊎◌, inl, inr, ⊎_elim, ℕ, nat_eq, eqb-true, Bool, true, false, cond, List, [], ◌∷◌, map, Some, find}
+use Rattle.std.proofs.Common.{◌≡◌, refl, sym, ap, subst, ◌∙◌, ◌⊎◌, inl, inr, ⊎_elim, ℕ, nat_eq, eqb-true, Bool, true, false, cond, List, [], ◌∷◌, map, true≢false, Some, find, ◌||◌}
 use Rattle.std.specs.Prelude.{unwrap_or}
 use Rattle.vt_spec.specs.Machine.Mounts.{Mount, mount_in, no_mount}
+use Rattle.vt_spec.specs.Machine.Lists.{is_among}
 use Rattle.vt_spec.proofs.Lists.{Among}
 
 abbrev has_number : ℕ → Mount ℕ → Bool
@@ -49,6 +50,24 @@ found-map f numbers (first ∷ rest) number none = by (nat_eq number first.numbe
     by false e later =
         ap (λ b. unwrap_or (cond b (Some (f first)) (find (has_number number) (map f rest))) (no_mount number)) (ap (nat_eq number) (numbers first) ∙ e)
         ∙ later
+        ∙ sym (ap (λ b. f (unwrap_or (cond b (Some first) (find (has_number number) rest)) (no_mount number))) e)
+
+-- as that, of a mount that is there
+pub found-map_there : (f : Mount ℕ → Mount ℕ) → ((mount : Mount ℕ) → (f mount).number ≡ mount.number) → (mounts : List (Mount ℕ)) (number : ℕ)
+    → is_among nat_eq number (map (λ mount. mount.number) mounts) ≡ true
+    → mount_in nat_eq (map f mounts) number ≡ f (mount_in nat_eq mounts number)
+found-map_there f numbers [] number there = absurd (true≢false (sym there))
+found-map_there f numbers (first ∷ rest) number there = by (nat_eq number first.number) refl (found-map_there f numbers rest number)
+  where
+    by : (b : Bool) → nat_eq number first.number ≡ b
+        → (is_among nat_eq number (map (λ mount. mount.number) rest) ≡ true → mount_in nat_eq (map f rest) number ≡ f (mount_in nat_eq rest number))
+        → mount_in nat_eq (map f (first ∷ rest)) number ≡ f (mount_in nat_eq (first ∷ rest) number)
+    by true e later =
+        ap (λ b. unwrap_or (cond b (Some (f first)) (find (has_number number) (map f rest))) (no_mount number)) (ap (nat_eq number) (numbers first) ∙ e)
+        ∙ sym (ap (λ b. f (unwrap_or (cond b (Some first) (find (has_number number) rest)) (no_mount number))) e)
+    by false e later =
+        ap (λ b. unwrap_or (cond b (Some (f first)) (find (has_number number) (map f rest))) (no_mount number)) (ap (nat_eq number) (numbers first) ∙ e)
+        ∙ later (sym (ap (λ b. b || is_among nat_eq number (map (λ (mount : Mount ℕ). mount.number) rest)) e) ∙ there)
         ∙ sym (ap (λ b. f (unwrap_or (cond b (Some first) (find (has_number number) rest)) (no_mount number))) e)
 
 pub numbers-map : (f : Mount ℕ → Mount ℕ) → ((mount : Mount ℕ) → (f mount).number ≡ mount.number) → (mounts : List (Mount ℕ))

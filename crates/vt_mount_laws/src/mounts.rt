@@ -1,6 +1,7 @@
 //! Mounts: where they stand, who receives, and what mount calls change.
 ghost use Rattle.vt_mount_laws.specs.Mounts.Attaching.{NewMountsFollow, AttachKeepsMounts, AttachLeavesMounts, MoveKeepsMounts, MoveLeavesMounts, MovedMountsShow};
 ghost use Rattle.vt_mount_laws.specs.Mounts.Changing.{FlagsAreSet, FlagsAreOfOne, TypeIsAllThatChanges, TypeIsOfTheNamed, TypeIsTaken, AloneIsPrivate, TypesAreOfMounts};
+ghost use Rattle.vt_mount_laws.specs.Mounts.Copies.{CopiesKeepNumbers, SuppliesServeAsCopies, SuppliesServeAsImages};
 ghost use Rattle.vt_mount_laws.specs.Mounts.Conditions.{KeptByTakingAway, OneNumberEach, KeptByUnmount, KeptByEndedNamespaces, KeptByInheritance, KeptByType, KeptByFlags, AttachKeepsNumbers, UnshareKeepsNumbers, KeptByPivot, KeptByLazyUnmount, KeptBySettling, NowhereOrAttached, FlagsKeepNowhere, KeptByUnshare, UnmountLeavesOneMountAPlace, TreesLeaveOneMountAPlace, EndedNamespacesLeaveOneMountAPlace, AreApart, TypeKeepsGroups, FlagsKeepGroups, SettlingKeepsGroups, TypeKeepsPlacesEnding, FlagsKeepPlacesEnding, InheritanceKeepsPlacesEnding};
 ghost use Rattle.vt_mount_laws.specs.Mounts.Ends.{TheMountItselfGoes, TakenAreDetached, OthersAreKept, OthersKeepTheirPlaces, OthersKeepTheirTypes, LazyDetachesOrKeeps, LazyIsOfMounts};
 ghost use Rattle.vt_mount_laws.specs.Mounts.FileCalls.{FileCallsLeaveMounts};
@@ -91,6 +92,9 @@ pub fn mounts_keep_numbers_of_their_own()
     ensures types { KeptByType OneNumberEach }
     ensures flags { KeptByFlags OneNumberEach }
     ensures attach { AttachKeepsNumbers }
+    ensures copies { CopiesKeepNumbers }
+    ensures supplied_copies { SuppliesServeAsCopies }
+    ensures supplied_images { SuppliesServeAsImages }
     ensures unshare { UnshareKeepsNumbers }
     ensures pivot { KeptByPivot OneNumberEach }
     ensures lazy { KeptByLazyUnmount OneNumberEach }

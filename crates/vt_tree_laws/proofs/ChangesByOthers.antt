@@ -1,6 +1,5 @@
 -- Calls that change no file keep what is said of filesystems alone; the mount of a new tree adds one.
-use Rattle.std.proofs.Common.{◌≡◌, refl, ◌∙◌, ℕ, nat_eq, Bool, true, false, cond, List, [], ◌∷◌, ◌++◌, ◌||◌, Option, ok_or}
-use Rattle.std.specs.Prelude.{◌+◌}
+use Rattle.std.proofs.Common.{map, ◌≡◌, refl, ◌∙◌, ℕ, nat_eq, Bool, true, false, cond, List, [], ◌∷◌, ◌++◌, ◌||◌, Option, ok_or}
 use Rattle.vt_spec.specs.declared.errors.Rule.TheVariants.{K1, S2}
 use Rattle.vt_spec.specs.Errors.{denial}
 use Rattle.vt_spec.specs.Rights.{cap_sys_admin, cap_sys_chroot}
@@ -8,7 +7,7 @@ use Rattle.vt_spec.specs.Machine.Calls.{CapabilityWord, ForkWords, TypeWord}
 use Rattle.vt_spec.specs.Machine.Detach.{deepest_first, lazily_unmounted, unmounted, unmounted_if_there}
 use Rattle.vt_spec.specs.Machine.Listing.{mounts_outcome}
 use Rattle.vt_spec.specs.Machine.Lists.{Fresh, folded, odds}
-use Rattle.vt_spec.specs.Machine.Mounts.{Mount, MountFlags, mount_tree, with_mount}
+use Rattle.vt_spec.specs.Machine.Mounts.{Mount, MountFlags, mount_tree, numbers_by}
 use Rattle.vt_spec.specs.Machine.Namespaces.{namespace_entered, namespaces_ended, pivoted, unshared}
 use Rattle.vt_spec.specs.Machine.Outcome.Descriptors.{close_outcome, descriptor_at, pread_outcome, without_descriptor}
 use Rattle.vt_spec.specs.Machine.Outcome.Looking.{exec_outcome, exec_rules, list_outcome, list_rules, lstat_outcome, read_outcome, read_rules, readlink_outcome, readlink_rules, stat_outcome}
@@ -17,7 +16,7 @@ use Rattle.vt_spec.specs.Machine.Outcome.Tasks.{chdir_outcome, child_credentials
 use Rattle.vt_spec.specs.Machine.Outcomes.{granted}
 use Rattle.vt_spec.specs.Machine.Outcomes.Answer.{Done}
 use Rattle.vt_spec.specs.Machine.Rows.{lacks}
-use Rattle.vt_spec.specs.Machine.Types.{master_after, retyped, retyped_each, type_after, with_master, with_type}
+use Rattle.vt_spec.specs.Machine.Types.{named_mounts, retyped_mount, with_new_groups, with_type}
 use Rattle.vt_spec.specs.Machine.Walk.{directory_walk, link_walk, object_walk}
 use Rattle.vt_spec.specs.Machine.World.{Task, TaskName, World, mount_at, mount_numbered, task_called, with_task, without_task}
 use Rattle.vt_tree_laws.proofs.TreesOfWorlds.{regrouped_filesystems, taken_filesystems}
@@ -34,22 +33,15 @@ lazily_filesystems (mount ∷ mounts) world = lazily_filesystems mounts (unmount
     by true = taken_filesystems world _
     by false = refl
 
-retyped_filesystems : (fresh : Fresh ℕ) (word : TypeWord) (k : ℕ) (world : World ℕ) (mounts : List (Mount ℕ))
-    → (retyped_each nat_eq fresh word k world mounts).filesystems ≡ world.filesystems
-retyped_filesystems fresh word k world [] = refl
-retyped_filesystems fresh word k world (mount ∷ mounts) =
-    retyped_filesystems fresh word (k + 1) (retyped nat_eq world (fresh k) word (mount_numbered nat_eq world mount.number)) mounts
-    ∙ regrouped_filesystems (record world {
-      mounts = with_mount nat_eq world.mounts (record (mount_numbered nat_eq world mount.number) {
-        propagation = type_after (fresh k) word (mount_numbered nat_eq world mount.number).propagation;
-      });
-      master = with_master nat_eq world.master (fresh k) (master_after (mount_numbered nat_eq world mount.number).propagation);
-    })
-
 pub typed_filesystems : (fresh : Fresh ℕ) (world : World ℕ) (number : ℕ) (word : TypeWord) (recursive : Bool)
     → (with_type nat_eq fresh world number word recursive).filesystems ≡ world.filesystems
-typed_filesystems fresh world number word true = retyped_filesystems fresh word 0 world (mount_tree nat_eq world.mounts (mount_numbered nat_eq world number))
-typed_filesystems fresh world number word false = retyped_filesystems fresh word 0 world (mount_numbered nat_eq world number ∷ [])
+typed_filesystems fresh world number word recursive =
+    let named = named_mounts nat_eq world number recursive in
+    let group = numbers_by nat_eq fresh named in
+    regrouped_filesystems (record world {
+      mounts = map (retyped_mount nat_eq group word named) world.mounts;
+      master = with_new_groups nat_eq group world.master named;
+    })
 
 module _ (P : World ℕ → Type 0) (alike : (a b : World ℕ) → a.filesystems ≡ b.filesystems → P b → P a)
     (fresh : Fresh ℕ) (world : World ℕ) (task : Task ℕ) (conditions : P world) where

@@ -18,7 +18,7 @@ use Rattle.vt_spec.specs.Machine.Detach.{after_going, deepest_first, lazily_unmo
 use Rattle.vt_spec.specs.Machine.Filesystems.{raised, filesystem_changed, overlay_changed, with_change}
 use Rattle.vt_spec.specs.Machine.Listing.{mounts_outcome}
 use Rattle.vt_spec.specs.Machine.Lists.{Fresh, evens, folded, odds}
-use Rattle.vt_spec.specs.Machine.Mounts.{Location, Mount, MountFlags, mount_tree, with_mount}
+use Rattle.vt_spec.specs.Machine.Mounts.{Location, Mount, MountFlags, mount_tree, numbers_by}
 use Rattle.vt_spec.specs.Machine.Namespaces.{namespace_entered, namespaces_ended, pivoted, pivoted_location, pivoted_task, unshared}
 use Rattle.vt_spec.specs.Machine.Outcome.Attributes.{attr_at, attr_rules, attr_set, attr_with_mode, attr_with_owner, chmod_outcome, chown_outcome, may_chown, opaque_outcome, opaque_rules}
 use Rattle.vt_spec.specs.Machine.Outcome.Descriptors.{close_outcome, create_file, descriptor_at, descriptor_rules, exclusive_word_rules, is_copied_up, most_descriptors, open_by, open_file, open_outcome, open_rules, opened, opened_or_created, pread_outcome, pwrite_outcome, pwrite_rules, pwritten, with_copy, with_descriptor, without_descriptor}
@@ -32,7 +32,7 @@ use Rattle.vt_spec.specs.Machine.Outcomes.Answer.{Done}
 use Rattle.vt_spec.specs.Machine.Policy.{call_outcome, finished_by, raised_task}
 use Rattle.vt_spec.specs.Machine.Receives.{regrouped, regrouped_by}
 use Rattle.vt_spec.specs.Machine.Rows.{exact_attr, lacks, making, new_attr}
-use Rattle.vt_spec.specs.Machine.Types.{master_after, retyped, retyped_each, type_after, with_master, with_type}
+use Rattle.vt_spec.specs.Machine.Types.{named_mounts, retyped_mount, with_new_groups, with_type}
 use Rattle.vt_spec.specs.Machine.Walk.{Place, directory_walk, file_walk, is_directory_there, is_special, link_walk, new_leaf_walk, new_walk, object_walk, old_leaf_walk, old_walk}
 use Rattle.vt_spec.specs.Machine.World.{Layer, Overlay, Task, TaskName, World, filesystem_at, mount_at, mount_numbered, replaced_if_called, same_name, task_called, with_mounts, with_task, without_task}
 use Rattle.vt_spec.specs.Machine.WorldLaws.{is_within_limits}
@@ -77,22 +77,15 @@ lazily_tasks (mount ∷ mounts) world = lazily_tasks mounts (unmounted_if_there 
     by true = taken_tasks world _
     by false = refl
 
-retyped_tasks : (fresh : Fresh ℕ) (word : TypeWord) (k : ℕ) (world : World ℕ) (mounts : List (Mount ℕ))
-    → (retyped_each nat_eq fresh word k world mounts).tasks ≡ world.tasks
-retyped_tasks fresh word k world [] = refl
-retyped_tasks fresh word k world (mount ∷ mounts) =
-    retyped_tasks fresh word (k + 1) (retyped nat_eq world (fresh k) word (mount_numbered nat_eq world mount.number)) mounts
-    ∙ regrouped_tasks (record world {
-      mounts = with_mount nat_eq world.mounts (record (mount_numbered nat_eq world mount.number) {
-        propagation = type_after (fresh k) word (mount_numbered nat_eq world mount.number).propagation;
-      });
-      master = with_master nat_eq world.master (fresh k) (master_after (mount_numbered nat_eq world mount.number).propagation);
-    })
-
 typed_tasks : (fresh : Fresh ℕ) (world : World ℕ) (number : ℕ) (word : TypeWord) (recursive : Bool)
     → (with_type nat_eq fresh world number word recursive).tasks ≡ world.tasks
-typed_tasks fresh world number word true = retyped_tasks fresh word 0 world (mount_tree nat_eq world.mounts (mount_numbered nat_eq world number))
-typed_tasks fresh world number word false = retyped_tasks fresh word 0 world (mount_numbered nat_eq world number ∷ [])
+typed_tasks fresh world number word recursive =
+    let named = named_mounts nat_eq world number recursive in
+    let group = numbers_by nat_eq fresh named in
+    regrouped_tasks (record world {
+      mounts = map (retyped_mount nat_eq group word named) world.mounts;
+      master = with_new_groups nat_eq group world.master named;
+    })
 
 -- a task in the place of the one with its name
 task_keeps : (world : World ℕ) (task : Task ℕ) → is_within_limits task ≡ true → HasSmallTasks world → HasSmallTasks (with_task world task)

@@ -98,7 +98,8 @@ FlagsKeepNowhere =
 abbrev pub AttachKeepsNumbers : Type 0
 AttachKeepsNumbers =
     (world : World ℕ) (fresh : Fresh ℕ) (place : Location ℕ) (moves : Bool) (mounts : List (Mount ℕ))
-    → Serves nat_eq world fresh → OneNumberEach world → OneNumberEach (attach nat_eq world fresh place moves mounts)
+    → Serves nat_eq world fresh → OneNumberAMount mounts → OneNumberEach world
+    → OneNumberEach (attach nat_eq world fresh place moves mounts)
 
 -- and so have the copies of a namespace's mounts.
 abbrev pub UnshareKeepsNumbers : Type 0

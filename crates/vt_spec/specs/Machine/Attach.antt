@@ -1,11 +1,11 @@
 -- Attaching a tree of mounts at a place and at all that receives from there: the kernel's document sharedsubtree,
 -- "Bind semantics" and "Move semantics", and mount_namespaces(7). Types and masters of copies at receivers, and what
 -- becomes of a mount that stands at the place already, are the profile's.
-use Rattle.std.specs.Prelude.{Bool, List, None, Option, Some, [], false, filter, filter_map, find, flat_map, if◌then◌else◌, is_some, length, map, nat_lt, not, option_map, slice_get, suc, true, unwrap_or, zero, ℕ, ◌&&◌, ◌*◌, ◌++◌, ◌+◌, ◌==◌, ◌∷◌}
+use Rattle.std.specs.Prelude.{Bool, List, None, Option, Some, [], false, filter, filter_map, find, flat_map, if◌then◌else◌, is_some, length, map, nat_lt, not, option_map, suc, true, unwrap_or, zero, ℕ, ◌&&◌, ◌*◌, ◌++◌, ◌+◌, ◌∷◌}
 use Rattle.std.specs.List.{list_any}
 use Rattle.vt_spec.specs.Machine.FileTree.{is_directory_under}
-use Rattle.vt_spec.specs.Machine.Lists.{Fresh, counted_from, evens, folded, holds_of, odds, place_from, rest_of, then_some, when}
-use Rattle.vt_spec.specs.Machine.Mounts.{Location, Mount, Propagation, children, group_of, is_shared, is_unbindable, root_of, stands_at, topmost, with_mount}
+use Rattle.vt_spec.specs.Machine.Lists.{Fresh, evens, first_of_list, folded, holds_of, odds, place_from, rest_of, then_some, when}
+use Rattle.vt_spec.specs.Machine.Mounts.{Location, Mount, Propagation, children, group_of, index_of, is_shared, is_unbindable, root_of, stands_at, topmost, with_mount}
 use Rattle.vt_spec.specs.Machine.Mounts.Propagation.{Private, Shared, Slave, Unbindable}
 use Rattle.vt_spec.specs.Machine.Receives.{groups_up, has_members, is_member_of, receivers, slave_of_heir}
 use Rattle.vt_spec.specs.Machine.Types.{master_after, with_master}
@@ -27,13 +27,11 @@ pub record Graft (N : Type 0) : Type 0 where
 abbrev pub most_mounts : ℕ
 most_mounts = 4096
 
--- the supplies of new numbers for mounts and for groups
-pub record Supplies (N : Type 0) : Type 0 where
-  pub mounts : Fresh N
-  pub groups : Fresh N
-
-abbrev pub supplies : {N : Type 0} → Fresh N → Supplies N
-supplies fresh = record { mounts = evens fresh; groups = odds fresh }
+-- What is new where a tree is attached, by what it is made from: the copy of a mount at a receiver, and the group of the
+-- copies of a mount at the members of a group. Mounts and groups stand for their numbers.
+pub record Copies (N : Type 0) : Type 0 where
+  pub copy : N → N → N
+  pub image : N → N → N
 
 -- the number of the i-th thing of the k-th, where each has so many
 abbrev pub numbered : ℕ → ℕ → ℕ → ℕ
@@ -47,17 +45,13 @@ module _ {N : Type 0} where
   type_on_shared new Private = Shared new
   type_on_shared new Unbindable = Shared new
 
-  -- at a destination that is not shared it keeps its type
-  abbrev pub type_at : Bool → N → Propagation N → Propagation N
-  type_at true new kind = type_on_shared new kind
-  type_at false new kind = kind
+  -- at a destination that is not shared a mount keeps its type; at a member of a group it takes the image there
+  abbrev pub type_at : Copies N → Option N → Mount N → Propagation N
+  type_at new None mount = mount.propagation
+  type_at new (Some group) mount = type_on_shared (new.image group mount.number) mount.propagation
 
-  abbrev pub twig_of : Bool → Fresh N → ℕ × Mount N → Twig N
-  twig_of on_shared groups mount =
-      record { origin = mount.1; propagation = type_at on_shared (groups mount.0) mount.1.propagation }
-
-  abbrev pub twigs_of : Bool → Fresh N → List (Mount N) → List (Twig N)
-  twigs_of on_shared groups mounts = map (twig_of on_shared groups) (counted_from 0 mounts)
+  abbrev pub twig_of : Copies N → Option N → Mount N → Twig N
+  twig_of new group mount = record { origin = mount; propagation = type_at new group mount }
 
   -- a group that a twig makes at the destination, with its master: that of a slave
   abbrev pub twig_master : Twig N → Option (N × Option N)
@@ -65,21 +59,9 @@ module _ {N : Type 0} where
       if is_shared twig.origin.propagation then None
       else option_map (λ group. (group, master_after twig.origin.propagation)) (group_of twig.propagation)
 
-  -- The copies of one twig at members of one group are in one group, its image: at the destination's group that of the
-  -- twig there, at each other group a new one.
-  abbrev pub image_at : Fresh N → ℕ → Twig N → ℕ → ℕ → N
-  image_at groups size twig i zero = unwrap_or (group_of twig.propagation) (groups i)
-  image_at groups size twig i (suc k) = groups (numbered size (suc k) i)
-
-  -- the number of a copy; at the destination of a move mounts keep their numbers
-  abbrev pub copy_number : Fresh N → Graft N → ℕ → ℕ → N
-  copy_number mounts graft k i =
-      if graft.moves && k == 0 then unwrap_or (option_map (λ twig. twig.origin.number) (slice_get graft.twigs i)) (mounts i)
-      else mounts (numbered (length graft.twigs) k i)
-
   abbrev pub added_mounts : Bool → List (Mount N) → List (Mount N)
-  added_mounts true copies = []
-  added_mounts false copies = copies
+  added_mounts true copied = []
+  added_mounts false copied = copied
 
 module _ {N : Type 0} (eq : N → N → Bool) where
   -- the place is the mount's root, or lies under it
@@ -101,113 +83,140 @@ module _ {N : Type 0} (eq : N → N → Bool) where
   parts_of world place =
       mount_at eq world place ∷ filter (takes_part world place) (receivers_of world (mount_at eq world place))
 
-  abbrev pub place_of_group : List (Mount N) → N → ℕ
-  place_of_group parts group = unwrap_or (place_from (is_member_of eq group) 0 parts) 0
-
-  abbrev pub image : Fresh N → ℕ → List (Mount N) → ℕ × Twig N → N → N
-  image groups size parts twig group = image_at groups size twig.1 twig.0 (place_of_group parts group)
+  -- Copies at members of one group are in one group, the image of theirs: at the destination's group that of the twig
+  -- there, at each other group a new one.
+  abbrev pub image : Copies N → Mount N → Twig N → N → N
+  image new destination twig group =
+      if is_member_of eq group destination then unwrap_or (group_of twig.propagation) (new.image group twig.origin.number)
+      else new.image group twig.origin.number
 
   -- the image of the nearest group, from this one up the masters, that got a copy
-  abbrev pub nearest_image : World N → Fresh N → ℕ → List (Mount N) → ℕ × Twig N → Option N → Option N
-  nearest_image world groups size parts twig None = None
-  nearest_image world groups size parts twig (Some group) =
-      option_map (image groups size parts twig) (find (has_members eq parts) (groups_up world group))
+  abbrev pub nearest_image : World N → Copies N → List (Mount N) → Mount N → Twig N → Option N → Option N
+  nearest_image world new parts destination twig None = None
+  nearest_image world new parts destination twig (Some group) =
+      option_map (image new destination twig) (find (has_members eq parts) (groups_up world group))
 
-  -- the type of a copy, by that of the part that it is for
-  abbrev pub copy_type : World N → Fresh N → ℕ → List (Mount N) → ℕ × Twig N → Propagation N → Propagation N
-  copy_type world groups size parts twig (Shared group) = Shared (image groups size parts twig group)
-  copy_type world groups size parts twig (Slave master) =
-      slave_of_heir (nearest_image world groups size parts twig (Some master))
-  copy_type world groups size parts twig Private = Private
-  copy_type world groups size parts twig Unbindable = Unbindable
+  -- the type of a copy, by that of the receiver that it is for
+  abbrev pub copy_type : World N → Copies N → List (Mount N) → Mount N → Twig N → Propagation N → Propagation N
+  copy_type world new parts destination twig (Shared group) = Shared (image new destination twig group)
+  copy_type world new parts destination twig (Slave master) =
+      slave_of_heir (nearest_image world new parts destination twig (Some master))
+  copy_type world new parts destination twig Private = Private
+  copy_type world new parts destination twig Unbindable = Unbindable
 
-  abbrev pub type_at_part : World N → Fresh N → ℕ → List (Mount N) → ℕ × Mount N → ℕ × Twig N → Propagation N
-  type_at_part world groups size parts part twig =
-      if part.0 == 0 then twig.1.propagation else copy_type world groups size parts twig part.1.propagation
+  -- the part is the destination
+  abbrev pub is_destination : Graft N → N → Bool
+  is_destination graft part = eq part graft.place.mount
+
+  abbrev pub type_at_part : World N → Copies N → Graft N → List (Mount N) → Mount N → Twig N → Propagation N
+  type_at_part world new graft parts part twig =
+      if is_destination graft part.number then twig.propagation
+      else copy_type world new parts (mount_at eq world graft.place) twig part.propagation
 
   -- the groups that the copies at a part make, with their masters
-  abbrev pub group_made : World N → Fresh N → ℕ → List (Mount N) → ℕ × Mount N → ℕ × Twig N → Option (N × Option N)
-  group_made world groups size parts part twig =
-      if part.0 == 0 then twig_master twig.1
-      else then_some (group_of part.1.propagation) (λ group.
-      when (not (place_of_group parts group == 0))
-      (image groups size parts twig group, nearest_image world groups size parts twig (world.master group)))
+  abbrev pub group_made : World N → Copies N → Graft N → List (Mount N) → Mount N → Twig N → Option (N × Option N)
+  group_made world new graft parts part twig =
+      if is_destination graft part.number then twig_master twig
+      else then_some (group_of part.propagation) (λ group.
+      when (not (is_member_of eq group (mount_at eq world graft.place))) (
+        image new (mount_at eq world graft.place) twig group,
+        nearest_image world new parts (mount_at eq world graft.place) twig (world.master group),
+      ))
 
-  abbrev pub twig_standing_for : Graft N → N → ℕ
-  twig_standing_for graft number = unwrap_or (place_from (λ twig. eq number twig.origin.number) 0 graft.twigs) 0
+  -- the number of a copy; at the destination of a move mounts keep their numbers
+  abbrev pub copy_number : Copies N → Graft N → N → N → N
+  copy_number new graft part origin = if graft.moves && is_destination graft part then origin else new.copy part origin
 
-  abbrev pub place_on_copy : Fresh N → Graft N → ℕ → Location N → Location N
-  place_on_copy mounts graft k place =
-      record { mount = copy_number mounts graft k (twig_standing_for graft place.mount); node = place.node }
+  -- The top of the tree stands at the place, each other mount on the copy of the one that it stands on.
+  abbrev pub is_top : Graft N → N → Bool
+  is_top graft origin = holds_of (λ twig. eq origin twig.origin.number) (first_of_list graft.twigs)
 
-  -- the first twig stands at the place, each other one on the copy of the mount that it stands on
-  abbrev pub copy_place : Fresh N → Graft N → ℕ × Mount N → ℕ × Twig N → Location N
-  copy_place mounts graft part twig =
-      if twig.0 == 0 then record { mount = part.1.number; node = graft.place.node }
-      else unwrap_or (option_map (place_on_copy mounts graft part.0) twig.1.origin.place) graft.place
+  abbrev pub place_on_copy : Copies N → Graft N → N → Location N → Location N
+  place_on_copy new graft part place = record { mount = copy_number new graft part place.mount; node = place.node }
 
-  abbrev pub copy_at : World N → Supplies N → Graft N → List (Mount N) → ℕ × Mount N → ℕ × Twig N → Mount N
-  copy_at world new graft parts part twig = record twig.1.origin {
-    number = copy_number new.mounts graft part.0 twig.0;
-    namespace = part.1.namespace;
-    place = Some (copy_place new.mounts graft part twig);
-    propagation = type_at_part world new.groups (length graft.twigs) parts part twig;
+  abbrev pub copy_place : Copies N → Graft N → N → Mount N → Location N
+  copy_place new graft part origin =
+      if is_top graft origin.number then record { mount = part; node = graft.place.node }
+      else unwrap_or (option_map (place_on_copy new graft part) origin.place) graft.place
+
+  abbrev pub copy_at : World N → Copies N → Graft N → List (Mount N) → Mount N → Twig N → Mount N
+  copy_at world new graft parts part twig = record twig.origin {
+    number = copy_number new graft part.number twig.origin.number;
+    namespace = part.namespace;
+    place = Some (copy_place new graft part.number twig.origin);
+    propagation = type_at_part world new graft parts part twig;
   }
 
   -- the copy of the whole tree at one part
-  abbrev pub copies_at : World N → Supplies N → Graft N → List (Mount N) → ℕ × Mount N → List (Mount N)
-  copies_at world new graft parts part = map (copy_at world new graft parts part) (counted_from 0 graft.twigs)
+  abbrev pub copies_at : World N → Copies N → Graft N → List (Mount N) → Mount N → List (Mount N)
+  copies_at world new graft parts part = map (copy_at world new graft parts part) graft.twigs
 
   -- What stands at the place of a receiver already goes onto the topmost mount that the copied tree has over its root.
   abbrev pub top_of_copies : List (Mount N) → Location N → Location N
   top_of_copies [] place = place
   top_of_copies (first ∷ rest) place = topmost eq (first ∷ rest) (root_of first)
 
-  abbrev pub pushed_up : World N → Supplies N → Graft N → List (Mount N) → Mount N → ℕ × Mount N → Mount N
-  pushed_up world new graft parts mount part =
-      if stands_at eq (record { mount = part.1.number; node = graft.place.node }) mount
-      then record mount { place = Some (top_of_copies (copies_at world new graft parts part) graft.place) }
-      else mount
+  abbrev pub receiver_below : Graft N → List (Mount N) → Mount N → Option (Mount N)
+  receiver_below graft parts mount =
+      find (λ part. stands_at eq (record { mount = part.number; node = graft.place.node }) mount) (rest_of parts)
 
-  abbrev pub pushed_up_by_all : World N → Supplies N → Graft N → List (Mount N) → Mount N → Mount N
-  pushed_up_by_all world new graft parts mount = folded (pushed_up world new graft parts) mount (rest_of (counted_from 0 parts))
+  abbrev pub pushed_onto : World N → Copies N → Graft N → List (Mount N) → Mount N → Option (Mount N) → Mount N
+  pushed_onto world new graft parts mount None = mount
+  pushed_onto world new graft parts mount (Some part) =
+      record mount { place = Some (top_of_copies (copies_at world new graft parts part) graft.place) }
+
+  abbrev pub pushed_up : World N → Copies N → Graft N → List (Mount N) → Mount N → Mount N
+  pushed_up world new graft parts mount = pushed_onto world new graft parts mount (receiver_below graft parts mount)
 
   -- Mounts that move leave first, and keep their places in the list; else the destination's copies come last in it
   abbrev pub with_moved_mounts : Bool → List (Mount N) → List (Mount N) → List (Mount N)
-  with_moved_mounts true mounts copies = folded (with_mount eq) mounts copies
-  with_moved_mounts false mounts copies = mounts
+  with_moved_mounts true mounts copied = folded (with_mount eq) mounts copied
+  with_moved_mounts false mounts copied = mounts
 
   abbrev pub masters_with : (N → Option N) → N × Option N → N → Option N
-  masters_with master made = with_master eq master made.0 made.1
+  masters_with master group = with_master eq master group.0 group.1
 
-  abbrev pub all_groups_made : World N → Supplies N → Graft N → List (Mount N) → List (N × Option N)
+  abbrev pub all_groups_made : World N → Copies N → Graft N → List (Mount N) → List (N × Option N)
   all_groups_made world new graft parts =
-      flat_map (λ part. filter_map (group_made world new.groups (length graft.twigs) parts part) (counted_from 0 graft.twigs))
-      (counted_from 0 parts)
+      flat_map (λ part. filter_map (group_made world new graft parts part) graft.twigs) parts
 
   -- The world with the tree attached: at the destination first, then at the receivers in order of attachment
-  abbrev pub attached_at : World N → Supplies N → Graft N → List (Mount N) → World N
+  abbrev pub attached_at : World N → Copies N → Graft N → List (Mount N) → World N
   attached_at world new graft parts = record world {
-    mounts = map (pushed_up_by_all world new graft parts)
-        (with_moved_mounts graft.moves world.mounts (copies_at world new graft parts (0, mount_at eq world graft.place)))
-        ++ added_mounts graft.moves (copies_at world new graft parts (0, mount_at eq world graft.place))
-        ++ flat_map (copies_at world new graft parts) (rest_of (counted_from 0 parts));
+    mounts = map (pushed_up world new graft parts)
+        (with_moved_mounts graft.moves world.mounts (copies_at world new graft parts (mount_at eq world graft.place)))
+        ++ added_mounts graft.moves (copies_at world new graft parts (mount_at eq world graft.place))
+        ++ flat_map (copies_at world new graft parts) (rest_of parts);
     master = folded masters_with world.master (all_groups_made world new graft parts);
   }
 
-  abbrev pub attached : World N → Fresh N → Graft N → World N
-  attached world fresh graft = attached_at world (supplies fresh) graft (parts_of world graft.place)
+  abbrev pub attached : World N → Copies N → Graft N → World N
+  attached world new graft = attached_at world new graft (parts_of world graft.place)
 
   -- The graft of mounts at a place
-  abbrev pub graft_of : World N → Fresh N → Location N → Bool → List (Mount N) → Graft N
-  graft_of world fresh place moves mounts = record {
+  abbrev pub graft_of : World N → Copies N → Location N → Bool → List (Mount N) → Graft N
+  graft_of world new place moves mounts = record {
     place = place;
-    twigs = twigs_of (is_shared (mount_at eq world place).propagation) (supplies fresh).groups mounts;
+    twigs = map (twig_of new (group_of (mount_at eq world place).propagation)) mounts;
     moves = moves;
   }
 
+  abbrev pub attached_by : World N → Copies N → Location N → Bool → List (Mount N) → World N
+  attached_by world new place moves mounts = attached world new (graft_of world new place moves mounts)
+
+  -- New numbers by what they are made from, out of a supply: the i-th mount's at the k-th part
+  abbrev pub index_of_group : List (Mount N) → N → ℕ
+  index_of_group parts group = unwrap_or (place_from (is_member_of eq group) 0 parts) 0
+
+  abbrev pub copies_from : Fresh N → List (Mount N) → List (Mount N) → Copies N
+  copies_from fresh parts mounts = record {
+    copy = λ part origin. evens fresh (numbered (length mounts) (index_of eq parts part) (index_of eq mounts origin));
+    image = λ group origin. odds fresh (numbered (length mounts) (index_of_group parts group) (index_of eq mounts origin));
+  }
+
   abbrev pub attach : World N → Fresh N → Location N → Bool → List (Mount N) → World N
-  attach world fresh place moves mounts = attached world fresh (graft_of world fresh place moves mounts)
+  attach world fresh place moves mounts =
+      attached_by world (copies_from fresh (parts_of world place) mounts) place moves mounts
 
   -- A recursive bind takes each mount at or under the source, and leaves out unbindable ones with all below them. Below
   -- a mount that is taken everything is.

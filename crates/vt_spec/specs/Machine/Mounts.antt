@@ -1,6 +1,6 @@
 -- Mounts: mount(2), mount_namespaces(7) and the kernel's document sharedsubtree.
 use Rattle.std.specs.Prelude.{Bool, List, None, Option, Some, [], false, filter, find, flat_map, if◌then◌else◌, is_some, length, map, option_map, suc, true, unwrap_or, zero, ℕ, ◌&&◌, ◌∷◌}
-use Rattle.vt_spec.specs.Machine.Lists.{chain, holds_of, last_or}
+use Rattle.vt_spec.specs.Machine.Lists.{Fresh, chain, holds_of, last_or, place_from}
 
 -- a place in the tree of mounts: an inode, seen through a mount
 pub record Location (N : Type 0) : Type 0 where
@@ -113,3 +113,10 @@ module _ {N : Type 0} (eq : N → N → Bool) where
   -- a mount in the place of the one with its number
   abbrev pub with_mount : List (Mount N) → Mount N → List (Mount N)
   with_mount mounts mount = map (replaced_if_same mount) mounts
+
+  -- The place of a mount in a list, and numbers by the mounts for which they are, out of a supply: the i-th mount's
+  abbrev pub index_of : List (Mount N) → N → ℕ
+  index_of mounts number = unwrap_or (place_from (λ mount. eq number mount.number) 0 mounts) 0
+
+  abbrev pub numbers_by : Fresh N → List (Mount N) → N → N
+  numbers_by fresh mounts number = fresh (index_of mounts number)

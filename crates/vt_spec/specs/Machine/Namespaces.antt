@@ -2,53 +2,52 @@
 use Rattle.std.specs.Prelude.{Bool, List, Option, Some, [], filter, if◌then◌else◌, map, not, option_map, unwrap_or, ◌&&◌, ◌++◌, ◌∷◌}
 use Rattle.std.specs.List.{list_any}
 use Rattle.vt_spec.specs.Machine.Detach.{taken_away}
-use Rattle.vt_spec.specs.Machine.Lists.{Fresh, evens, holds_of, odds, place_from}
-use Rattle.vt_spec.specs.Machine.Mounts.{Location, Mount, root_of, same_location, topmost}
+use Rattle.vt_spec.specs.Machine.Lists.{Fresh, evens, holds_of, odds}
+use Rattle.vt_spec.specs.Machine.Mounts.{Location, Mount, numbers_by, root_of, same_location, topmost}
 use Rattle.vt_spec.specs.Machine.World.{Namespace, Task, World, mounts_of, root_mount, with_task}
 
 module _ {N : Type 0} where
   abbrev pub entered_at : Task N → N → Location N → Task N
   entered_at task namespace root = record task { namespace = namespace; root = root; directory = root }
 
-module _ {N : Type 0} (eq : N → N → Bool) where
-  -- Copies of a namespace's mounts, in their order; each has the number of its place among them. Copies of shared mounts
-  -- join the group, copies of slaves keep the master.
-  abbrev pub copy_of_mount : List (Mount N) → Fresh N → N → N
-  copy_of_mount mounts fresh number = fresh (unwrap_or (place_from (λ mount. eq number mount.number) 0 mounts) 0)
+  -- Copies of a namespace's mounts, whose numbers go by those of what they are copied from. Copies of shared mounts join the
+  -- group, copies of slaves keep the master.
+  abbrev pub location_on_copy : (N → N) → Location N → Location N
+  location_on_copy copy location = record location { mount = copy location.mount }
 
-  abbrev pub location_on_copy : List (Mount N) → Fresh N → Location N → Location N
-  location_on_copy mounts fresh location = record location { mount = copy_of_mount mounts fresh location.mount }
-
-  abbrev pub copied_mount : List (Mount N) → Fresh N → N → Mount N → Mount N
-  copied_mount mounts fresh namespace mount = record mount {
-    number = copy_of_mount mounts fresh mount.number;
+  abbrev pub copied_mount : (N → N) → N → Mount N → Mount N
+  copied_mount copy namespace mount = record mount {
+    number = copy mount.number;
     namespace = Some namespace;
-    place = option_map (location_on_copy mounts fresh) mount.place;
+    place = option_map (location_on_copy copy) mount.place;
   }
 
+module _ {N : Type 0} (eq : N → N → Bool) where
   abbrev pub is_copied : List (Mount N) → Location N → Bool
   is_copied mounts location = list_any (λ mount. eq location.mount mount.number) mounts
 
   -- the root and the working directory go to the copies, where they were on copied mounts
-  abbrev pub moved_location : List (Mount N) → Fresh N → Location N → Location N
-  moved_location mounts fresh location = if is_copied mounts location then location_on_copy mounts fresh location else location
+  abbrev pub moved_location : List (Mount N) → (N → N) → Location N → Location N
+  moved_location mounts copy location = if is_copied mounts location then location_on_copy copy location else location
 
-  abbrev pub unshared_task : List (Mount N) → Fresh N → N → Task N → Task N
-  unshared_task mounts fresh namespace task = record task {
+  abbrev pub unshared_task : List (Mount N) → (N → N) → N → Task N → Task N
+  unshared_task mounts copy namespace task = record task {
     namespace = namespace;
-    root = moved_location mounts fresh task.root;
-    directory = moved_location mounts fresh task.directory;
+    root = moved_location mounts copy task.root;
+    directory = moved_location mounts copy task.directory;
   }
 
-  abbrev pub unshared_by : World N → List (Mount N) → Fresh N → N → Task N → World N
-  unshared_by world mounts fresh namespace task = with_task (record world {
-    mounts = world.mounts ++ map (copied_mount mounts fresh namespace) mounts;
+  -- the copies follow in the order of what they are copied from
+  abbrev pub unshared_by : World N → (N → N) → N → Task N → World N
+  unshared_by world copy namespace task = with_task (record world {
+    mounts = world.mounts ++ map (copied_mount copy namespace) (mounts_of eq world task.namespace);
     namespaces = world.namespaces ++ (record { number = namespace; change = 0 } ∷ []);
   })
-      (unshared_task mounts fresh namespace task)
+      (unshared_task (mounts_of eq world task.namespace) copy namespace task)
 
   abbrev pub unshared : World N → Fresh N → Task N → World N
-  unshared world fresh task = unshared_by world (mounts_of eq world task.namespace) (odds fresh) (evens fresh 0) task
+  unshared world fresh task =
+      unshared_by world (numbers_by eq (odds fresh) (mounts_of eq world task.namespace)) (evens fresh 0) task
 
   -- A namespace ends with its last task: its mounts go, without propagation
   abbrev pub has_tasks : World N → Namespace N → Bool

@@ -1,10 +1,11 @@
 -- Change of a mount's propagation type: mount(2) with MS_SHARED, MS_SLAVE, MS_PRIVATE, MS_UNBINDABLE; the table is
 -- that of mount_namespaces(7).
-use Rattle.std.specs.Prelude.{Bool, List, None, Option, Some, [], false, if◌then◌else◌, true, ℕ, ◌+◌, ◌∷◌}
+use Rattle.std.specs.Prelude.{Bool, List, None, Option, Some, [], false, if◌then◌else◌, map, true, ◌∷◌}
+use Rattle.std.specs.List.{list_any}
 use Rattle.vt_spec.specs.Machine.Calls.{TypeWord}
 use Rattle.vt_spec.specs.Machine.Calls.TypeWord.{ToPrivate, ToShared, ToSlave, ToUnbindable}
 use Rattle.vt_spec.specs.Machine.Lists.{Fresh}
-use Rattle.vt_spec.specs.Machine.Mounts.{Mount, Propagation, mount_tree, with_mount}
+use Rattle.vt_spec.specs.Machine.Mounts.{Mount, Propagation, mount_tree, numbers_by}
 use Rattle.vt_spec.specs.Machine.Mounts.Propagation.{Private, Shared, Slave, Unbindable}
 use Rattle.vt_spec.specs.Machine.Receives.{regrouped}
 use Rattle.vt_spec.specs.Machine.World.{World, mount_numbered}
@@ -36,19 +37,28 @@ module _ {N : Type 0} (eq : N → N → Bool) where
   abbrev pub with_master : (N → Option N) → N → Option N → N → Option N
   with_master master group above other = if eq other group then above else master other
 
-  abbrev pub retyped : World N → N → TypeWord → Mount N → World N
-  retyped world new word mount = regrouped eq (record world {
-    mounts = with_mount eq world.mounts (record mount { propagation = type_after new word mount.propagation });
-    master = with_master world.master new (master_after mount.propagation);
+  -- The named mounts take their types at once. A new group is that of the mount for which it is made.
+  abbrev pub retyped_mount : (N → N) → TypeWord → List (Mount N) → Mount N → Mount N
+  retyped_mount group word named mount =
+      if list_any (λ other. eq mount.number other.number) named
+      then record mount { propagation = type_after (group mount.number) word mount.propagation } else mount
+
+  abbrev pub with_new_groups : (N → N) → (N → Option N) → List (Mount N) → N → Option N
+  with_new_groups group master [] = master
+  with_new_groups group master (mount ∷ rest) =
+      with_new_groups group (with_master master (group mount.number) (master_after mount.propagation)) rest
+
+  abbrev pub retyped : World N → (N → N) → TypeWord → List (Mount N) → World N
+  retyped world group word named = regrouped eq (record world {
+    mounts = map (retyped_mount group word named) world.mounts;
+    master = with_new_groups group world.master named;
   })
 
-  abbrev pub retyped_each : Fresh N → TypeWord → ℕ → World N → List (Mount N) → World N
-  retyped_each fresh word k world [] = world
-  retyped_each fresh word k world (mount ∷ rest) =
-      retyped_each fresh word (k + 1) (retyped world (fresh k) word (mount_numbered eq world mount.number)) rest
+  -- one mount, or that mount and all below it
+  abbrev pub named_mounts : World N → N → Bool → List (Mount N)
+  named_mounts world number true = mount_tree eq world.mounts (mount_numbered eq world number)
+  named_mounts world number false = mount_numbered eq world number ∷ []
 
-  -- one mount, or that mount and all below it one by one
   abbrev pub with_type : Fresh N → World N → N → TypeWord → Bool → World N
-  with_type fresh world number word true =
-      retyped_each fresh word 0 world (mount_tree eq world.mounts (mount_numbered eq world number))
-  with_type fresh world number word false = retyped_each fresh word 0 world (mount_numbered eq world number ∷ [])
+  with_type fresh world number word recursive =
+      retyped world (numbers_by eq fresh (named_mounts world number recursive)) word (named_mounts world number recursive)

@@ -1,6 +1,6 @@
 use Rattle.vt_mount_laws.proofs.MountsApart.{lazy_keeps_numbers}
 use Rattle.vt_mount_laws.proofs.MountsKept.{ended_namespaces_keep_numbers, flags_keep_numbers, inheritance_keeps_numbers, pivot_keeps_numbers, settling_keeps_numbers, taking_away_keeps_numbers, types_keep_numbers, unmount_keeps_numbers}
-use Rattle.vt_mount_laws.proofs.MountsNumbered.{attach_keeps_numbers, unshare_keeps_numbers}
+use Rattle.vt_mount_laws.proofs.MountsNumbered.{attach_keeps_numbers, copies_keep_numbers, supplies_serve_as_copies, supplies_serve_as_images, unshare_keeps_numbers}
 use Rattle.vt_mount_laws.proofs.mounts.mounts_keep_numbers_of_their_own.Goals as goal
 
 pub returns-clause-taking_away : goal.returns-clause-taking_away
@@ -35,3 +35,12 @@ returns-clause-lazy c = lazy_keeps_numbers
 
 pub returns-clause-settling : goal.returns-clause-settling
 returns-clause-settling c = settling_keeps_numbers
+
+pub returns-clause-copies : goal.returns-clause-copies
+returns-clause-copies c = copies_keep_numbers
+
+pub returns-clause-supplied_copies : goal.returns-clause-supplied_copies
+returns-clause-supplied_copies c = supplies_serve_as_copies
+
+pub returns-clause-supplied_images : goal.returns-clause-supplied_images
+returns-clause-supplied_images c = supplies_serve_as_images
