@@ -15,6 +15,7 @@ pub mod MountsPlaces
 pub mod MountsReplaced
 pub mod MountsRetyped
 pub mod Receivers
+pub mod Standing
 pub mod Unmounting
 pub mod UnmountingEnds
 pub mod UnmountingGoes

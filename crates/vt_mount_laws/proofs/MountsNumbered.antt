@@ -160,11 +160,11 @@ supplies_serve_as_images world fresh parts mounts serves = images_serve world fr
 
 -- What is attached
 
-abbrev same_number : Mount ℕ → Mount ℕ → Bool
+abbrev pub same_number : Mount ℕ → Mount ℕ → Bool
 same_number a b = nat_eq a.number b.number
 
 -- what is made of each of several, where what is made of one is apart, and what is made of two
-pair-flat_map : (test : Mount ℕ → Mount ℕ → Bool) (f : Mount ℕ → List (Mount ℕ)) (xs : List (Mount ℕ)) → any_pair same_number xs ≡ false
+pub pair-flat_map : (test : Mount ℕ → Mount ℕ → Bool) (f : Mount ℕ → List (Mount ℕ)) (xs : List (Mount ℕ)) → any_pair same_number xs ≡ false
     → ((x : Mount ℕ) → Among x xs → any_pair test (f x) ≡ false)
     → ((x y a b : Mount ℕ) → Among x xs → Among y xs → same_number x y ≡ false → Among a (f x) → Among b (f y) → test a b ≡ false)
     → any_pair test (flat_map f xs) ≡ false

@@ -30,7 +30,7 @@ last_longer next (suc n) a e = by (next a) refl (last_longer next n)
         ∙ later b (ap next (sym shorter) ∙ e)
         ∙ sym shorter
 
-one_namespace : (a b : Option ℕ) → same_option nat_eq a b ≡ true → a ≡ b
+pub one_namespace : (a b : Option ℕ) → same_option nat_eq a b ≡ true → a ≡ b
 one_namespace None None e = refl
 one_namespace None (Some b) e = absurd (true≢false (sym e))
 one_namespace (Some a) None e = absurd (true≢false (sym e))

@@ -7,4 +7,5 @@ pub mod FileCalls
 pub mod Granted
 pub mod Places
 pub mod Receivers
+pub mod Standing
 pub mod Unmounting

@@ -8,6 +8,7 @@ ghost use Rattle.vt_mount_laws.specs.Mounts.FileCalls.{FileCallsLeaveMounts};
 ghost use Rattle.vt_mount_laws.specs.Mounts.Granted.{BindBinds, MoveMoves, MountMounts, OverlayMounts, LazyUnmounts, RemountSetsFlags, TypeIsSet, PivotPivots, RmdirTakesMounts, RenameReplaces, RenameOfOneObject, ExitEnds, UnshareCopies, SetnsEnters};
 ghost use Rattle.vt_mount_laws.specs.Mounts.Places.{StandsAloneAtItsPlace};
 ghost use Rattle.vt_mount_laws.specs.Mounts.Receivers.{ReceivesIsComputed, ReceiversReceive, ReceiversAreClosed, ReceiversAreLeast, GroupsLive};
+ghost use Rattle.vt_mount_laws.specs.Mounts.Standing.{StandingIsComputed, TreesHaveEachOnce, BindsTakeEachOnce};
 ghost use Rattle.vt_mount_laws.specs.Mounts.Unmounting.{WhatGoesIsNamed, UnmountKeepsTheOrder, WhatGoesIsDetached, WhatStaysKeeps, WhatStaysKeepsItsPlace, RootMountsStay, WhatCoveredFalls, WhatStaysKeepsItsType, SlavesAreInherited, GroupsKeepTheirMasters, UnmountIsOfMounts, UmountUnmounts};
 
 /// At most one mount stands at a place.
@@ -99,6 +100,14 @@ pub fn mounts_keep_numbers_of_their_own()
     ensures pivot { KeptByPivot OneNumberEach }
     ensures lazy { KeptByLazyUnmount OneNumberEach }
     ensures settling { KeptBySettling OneNumberEach }
+{}
+
+/// Each mount stands on one that stands, in its namespace; that is what the test of it computes, and so a mount and all below it, and
+/// what a bind takes of them, are each once in their tree.
+pub fn mounts_stand_on_one_another()
+    ensures computed { StandingIsComputed }
+    ensures trees { TreesHaveEachOnce }
+    ensures binds { BindsTakeEachOnce }
 {}
 
 /// A mount outside every namespace has no place and is private: changes of mounts keep that.

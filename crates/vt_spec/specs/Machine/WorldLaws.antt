@@ -22,7 +22,7 @@ use Rattle.vt_spec.specs.PathText.{is_empty, longest_name, longest_path}
 use Rattle.vt_spec.specs.Tree.{Content, Node, bytes_in, is_directory_node, names_in}
 use Rattle.vt_spec.specs.Tree.Content.{Directory, Regular, Symlink}
 use Rattle.vt_spec.specs.TreeLaws.{HasOwnParents, IsTree, led}
-use Rattle.vt_spec.specs.Machine.World.{Descriptor, Filesystem, Layer, Namespace, Overlay, Real, Task, World, all_locations, filesystem_numbered, is_directory_at, is_overlay, layers_of, mount_at, mounts_of, open_layer, same_name, shown_layers}
+use Rattle.vt_spec.specs.Machine.World.{Descriptor, Filesystem, Layer, Namespace, Overlay, Real, Task, World, all_locations, filesystem_numbered, is_directory_at, is_overlay, layers_of, mount_at, mount_numbered, mounts_of, open_layer, same_name, shown_layers}
 use Rattle.vt_spec.specs.Machine.World.Real.{Upper}
 
 module _ {N : Type 0} where
@@ -89,13 +89,20 @@ module _ {N : Type 0} where
   abbrev pub number_at_path : FileTree N → List (List ℕ) → Option N
   number_at_path files path = led files.tree files.tree.root path
 
+-- A mount stands: it has no place, or its place is on a mount that stands, in the same namespace. Mounts go by their numbers.
+pub data Stands {N : Type 0} (eq : N → N → Bool) (world : World N) : N → Type 0 where
+  at_root : (number : N) → (mount_numbered eq world number).place ≡ None → Stands eq world number
+  on_parent : (number : N) (place : Location N) → (mount_numbered eq world number).place ≡ Some place
+      → (mount_numbered eq world number).namespace ≡ (mount_numbered eq world place.mount).namespace
+      → Stands eq world place.mount → Stands eq world number
+
 module _ {N : Type 0} (eq : N → N → Bool) where
   -- Mounts
 
   abbrev pub stand_at_one_place : Mount N → Mount N → Bool
   stand_at_one_place a b = is_some a.place && same_option (same_location eq) a.place b.place
 
-  -- the places below places come to an end, at a mount without one, in the same namespace
+  -- as a test: the places below places come to an end, at a mount without one, in the same namespace
   abbrev pub last_below : World N → Mount N → Mount N
   last_below world mount = last_or mount (chain (length world.mounts) (λ below. option_map (mount_at eq world) below.place) mount)
 
@@ -181,7 +188,7 @@ module _ {N : Type 0} (eq : N → N → Bool) where
     -- mounts: mount_namespaces(7), sharedsubtree
     pub one_number : any_pair (λ a b. eq a.number b.number) world.mounts ≡ false
     pub one_child : any_pair stand_at_one_place world.mounts ≡ false
-    pub no_cycle : list_all (stands_in_its_namespace world) world.mounts ≡ true
+    pub standing : All (λ mount. Stands eq world mount.number) world.mounts
     pub nowhere : list_all is_nowhere_or_attached world.mounts ≡ true
     pub groups : list_all (has_living_groups world) world.mounts ≡ true
     pub roots : list_all (has_its_root world) world.mounts ≡ true
