@@ -1,3 +1,5 @@
+pub mod Attaching
+pub mod BindsStand
 pub mod Groups
 pub mod GroupsKept
 pub mod GroupsRetyped

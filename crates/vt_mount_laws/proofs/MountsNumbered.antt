@@ -177,7 +177,7 @@ pair-flat_map test f (x ∷ xs) h own cross =
     let from = among-from_flat_map f xs b n in
     cross x from.0 a b (inl refl) (inr from.1) (none_among (same_number x) xs parts.0 from.0 from.1) m from.2)
 
-is_one_of : (mounts : List (Mount ℕ)) (mount : Mount ℕ) → Among mount mounts → IsOneOf mounts mount.number
+pub is_one_of : (mounts : List (Mount ℕ)) (mount : Mount ℕ) → Among mount mounts → IsOneOf mounts mount.number
 is_one_of mounts mount m = is_among_numbers (numbers_of mounts) mount.number (among-map (λ (other : Mount ℕ). other.number) mounts mount m)
 
 module _ (world : World ℕ) (place : Location ℕ) where

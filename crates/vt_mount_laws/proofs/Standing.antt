@@ -93,7 +93,7 @@ module _ (world : World ℕ) where
       (way_apart place.mount stands)
 
   -- a mount with a place is one of the world's
-  placed_among : (number : ℕ) (place : Location ℕ) → (mount_numbered nat_eq world number).place ≡ Some place → Among (mount_numbered nat_eq world number) world.mounts
+  pub placed_among : (number : ℕ) (place : Location ℕ) → (mount_numbered nat_eq world number).place ≡ Some place → Among (mount_numbered nat_eq world number) world.mounts
   placed_among number place e =
       ⊎_elim (λ there. there)
       (λ none. absurd (true≢false (sym (ap is_some e) ∙ ap (λ m. is_some m.place) none)))

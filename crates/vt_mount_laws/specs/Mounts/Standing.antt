@@ -1,11 +1,14 @@
 -- Where mounts stand: each on one that stands, down to the root mount of its namespace. mount_namespaces(7).
-use Rattle.std.specs.Prelude.{All, Bool, ℕ, nat_eq, ◌↔◌}
+use Rattle.std.specs.Prelude.{All, Bool, true, ℕ, nat_eq, ◌↔◌, ◌≡◌}
 use Rattle.vt_spec.specs.Machine.Attach.{bind_tree}
-use Rattle.vt_spec.specs.Machine.Mounts.{Location, mount_tree}
-use Rattle.vt_spec.specs.Machine.World.{World, mount_numbered}
+use Rattle.vt_spec.specs.Machine.Lists.{Fresh}
+use Rattle.vt_spec.specs.Machine.Mounts.{Location, MountFlags, mount_tree}
+use Rattle.vt_spec.specs.Machine.Outcome.Mounting.{bound_at, mounted, moved_to, with_new_filesystem}
+use Rattle.vt_spec.specs.Machine.Run.{Serves}
+use Rattle.vt_spec.specs.Machine.World.{Filesystem, World, mount_numbered}
 use Rattle.vt_spec.specs.Machine.WorldLaws.{Stands}
-use Rattle.vt_mount_laws.specs.Mounts.Attaching.{OneNumberAMount}
-use Rattle.vt_mount_laws.specs.Mounts.Conditions.{OneNumberEach}
+use Rattle.vt_mount_laws.specs.Mounts.Attaching.{OneNumberAMount, is_mount}
+use Rattle.vt_mount_laws.specs.Mounts.Conditions.{NowhereOrAttached, OneNumberEach}
 use Rattle.vt_mount_laws.specs.Mounts.Unmounting.{PlacesEnd}
 
 -- each mount stands
@@ -27,3 +30,34 @@ abbrev pub BindsTakeEachOnce : Type 0
 BindsTakeEachOnce =
     (world : World ℕ) (source : Location ℕ) (recursive : Bool) → OneNumberEach world → AllStand world
     → OneNumberAMount (bind_tree nat_eq world source recursive)
+
+-- Mounts keep standing, each with a number of its own, where those that are handed in are not in use: through a bind,
+abbrev pub BindsKeepStanding : Type 0
+BindsKeepStanding =
+    (world : World ℕ) (fresh : Fresh ℕ) (source place : Location ℕ) (recursive : Bool) → Serves nat_eq world fresh → OneNumberEach world
+    → NowhereOrAttached world → AllStand world → is_mount world place.mount ≡ true
+    → AllStand (bound_at nat_eq fresh world source place recursive)
+
+abbrev pub BindsKeepNumbers : Type 0
+BindsKeepNumbers =
+    (world : World ℕ) (fresh : Fresh ℕ) (source place : Location ℕ) (recursive : Bool) → Serves nat_eq world fresh → OneNumberEach world
+    → AllStand world → OneNumberEach (bound_at nat_eq fresh world source place recursive)
+
+-- through a new mount,
+abbrev pub NewMountsKeepStanding : Type 0
+NewMountsKeepStanding =
+    (world : World ℕ) (fresh : Fresh ℕ) (place : Location ℕ) (filesystem : Filesystem ℕ) (flags : MountFlags)
+    → Serves nat_eq (with_new_filesystem world filesystem) fresh → OneNumberEach world → NowhereOrAttached world → AllStand world
+    → is_mount world place.mount ≡ true → AllStand (mounted nat_eq fresh world place filesystem flags)
+
+abbrev pub NewMountsKeepNumbers : Type 0
+NewMountsKeepNumbers =
+    (world : World ℕ) (fresh : Fresh ℕ) (place : Location ℕ) (filesystem : Filesystem ℕ) (flags : MountFlags)
+    → Serves nat_eq (with_new_filesystem world filesystem) fresh → OneNumberEach world
+    → OneNumberEach (mounted nat_eq fresh world place filesystem flags)
+
+-- and through a move, which hands numbers to the copies at receivers.
+abbrev pub MovesKeepNumbers : Type 0
+MovesKeepNumbers =
+    (world : World ℕ) (fresh : Fresh ℕ) (source place : Location ℕ) → Serves nat_eq world fresh → OneNumberEach world → AllStand world
+    → OneNumberEach (moved_to nat_eq fresh world source place)
