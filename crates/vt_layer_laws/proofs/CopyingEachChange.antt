@@ -10,7 +10,7 @@ use Rattle.vt_spec.proofs.Nodes.{directory_used, node_set}
 use Rattle.vt_layer_laws.specs.Layers.ChangesUpper.{ChangesUpper, IsFitToChange, IsLeft, MarksAreRight, NamesLeft, ReachesUpper, RemovedIsEmpty}
 use Rattle.vt_layer_laws.specs.Layers.Untouched.{IsKept}
 use Rattle.vt_layer_laws.specs.Layers.Upper.{SpeaksOfWhatIsThere}
-use Rattle.vt_layer_laws.proofs.CopyingChanges.{made_marked, moved_left, moved_marked, object_there, removed_empty, removed_left}
+use Rattle.vt_layer_laws.proofs.CopyingChanges.{made_marked, moved_empty, moved_left, moved_marked, object_there, removed_empty, removed_left}
 use Rattle.vt_layer_laws.proofs.CopyingEach.{IsNew, last_in_line}
 use Rattle.vt_layer_laws.proofs.CopyingReaches.{linked_named, made_as, made_named, made_real, moved_named}
 use Rattle.vt_layer_laws.proofs.CopyingReady.{IsReady, leaves_upper, next_line, one_line, parent_in_line, stands_now}
@@ -138,7 +138,8 @@ module _ (fresh : Fresh ℕ) (stack : Stack ℕ) (before : Merge ℕ) (fit : IsF
         stands = stands_now fresh before fit (IsNew (odds (odds fresh))) (line_to nat_eq before.files object ++ line_to nat_eq before.files to) _ ready;
         names_left = subst (λ m. IsLeft stack m (moved nat_eq (odds (odds fresh)) stack m from old to name object) from old) (sym ready.soundly.is)
             (moved_left before.files fit.tree before.real (odds (odds fresh)) stack ready.soundly.real ready.soundly.upper ready.soundly.sound from old to name object seen_from.0 seen.0 there.0 seen_from.1 seen.1);
-        removed_empty = tt;
+        removed_empty = subst (λ m. RemovedIsEmpty m (moved nat_eq (odds (odds fresh)) stack m from old to name object) (Move from old to name object)) (sym ready.soundly.is)
+            (λ replaced number named empty is. moved_empty before.files fit.tree before.real (odds (odds fresh)) stack ready.soundly.real ready.soundly.upper ready.soundly.sound from old to name object seen_from.0 seen.0 there.0 seen_from.1 seen.1 replaced number named empty is seen_to.0 seen_to.1);
         marks = subst (λ m. MarksAreRight stack m (moved nat_eq (odds (odds fresh)) stack m from old to name object) (Move from old to name object)) (sym ready.soundly.is)
             (moved_marked before.files fit.tree before.real (odds (odds fresh)) stack ready.soundly.real ready.soundly.upper ready.soundly.sound from old to name object seen_from.0 seen.0 there.0 seen_from.1 seen.1);
         rest = rest_stays (Move from old to name object) there;

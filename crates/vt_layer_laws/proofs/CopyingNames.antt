@@ -138,6 +138,20 @@ parent_entries parent (Some node) = by node.content
     by (Symlink text) = refl
     by Whiteout = refl
 
+pub freed_entries : (upper : FileTree ℕ) (object : Option ℕ) (inode : ℕ) → entries_in ((without_parent nat_eq upper object).tree.node inode) ≡ entries_in (upper.tree.node inode)
+freed_entries upper None inode = refl
+freed_entries upper (Some object) inode = kept_part entries_in upper object (node_with_parent object) (parent_entries object) inode
+
+-- where a name is left, every other inode is as it was
+pub left_elsewhere : (hidden : Bool) (fresh : Fresh ℕ) (stack : Stack ℕ) (upper : FileTree ℕ) (directory : ℕ) (name : List ℕ) (inode : ℕ)
+    → inode ≢ directory → inode ≢ fresh 0
+    → (name_left_by nat_eq hidden fresh stack upper directory name).tree.node inode ≡ upper.tree.node inode
+left_elsewhere true fresh stack upper directory name inode differ new =
+    kept_elsewhere (with_inode nat_eq upper (fresh 0) (whiteout_of stack.mounter)) directory (node_with_entry name (fresh 0)) inode (ne_eqb inode directory differ)
+    ∙ ap (λ b. cond b (Some (whiteout_of stack.mounter)) (upper.tree.node inode)) (ne_eqb inode (fresh 0) new)
+left_elsewhere false fresh stack upper directory name inode differ new =
+    kept_elsewhere upper directory (node_without_entry name) inode (ne_eqb inode directory differ)
+
 pub emptied_is_empty : (upper : FileTree ℕ) (replaced : Option ℕ) (object : ℕ) → replaced ≡ Some object → entries_in ((emptied nat_eq upper replaced).tree.node object) ≡ []
 emptied_is_empty upper replaced object e =
     subst (λ o. entries_in ((emptied nat_eq upper o).tree.node object) ≡ []) (sym e)

@@ -127,10 +127,13 @@ NamesLeft stack copied later (Remove directory name object) =
 NamesLeft stack copied later (Move from old to new object) = IsLeft stack copied later from old
 NamesLeft stack copied later change = ⊤
 
--- the directory that a change removes
+-- the directory that a change removes, or that another takes the place of, which shows no names
 abbrev pub RemovedIsEmpty : Merge ℕ → Merge ℕ → Change ℕ → Type 0
 RemovedIsEmpty copied later (Remove directory name object) =
     (replaced : ℕ) → upper_directory_named copied directory name ≡ Some replaced → entries_in (later.upper.tree.node replaced) ≡ []
+RemovedIsEmpty copied later (Move from old to new object) =
+    (replaced number : ℕ) → entry_at copied.files.tree to new ≡ Some number → entries_in (copied.files.tree.node number) ≡ []
+    → upper_directory_named copied to new ≡ Some replaced → entries_in (later.upper.tree.node replaced) ≡ []
 RemovedIsEmpty copied later change = ⊤
 
 -- A new directory is opaque if lower layers show a directory there, else it has no mark. A moved one is opaque if lower layers
@@ -156,7 +159,7 @@ pub record ChangesUpper (fresh : Fresh ℕ) (stack : Stack ℕ) (before : Merge 
   pub reaches : ReachesUpper (copied_for fresh before change) later change
   -- where a name was removed or left stands a whiteout if something is shown below, else nothing
   pub names_left : NamesLeft stack (copied_for fresh before change) later change
-  -- a removed directory keeps no whiteout in it
+  -- a removed or replaced directory keeps no whiteout in it
   pub removed_empty : RemovedIsEmpty (copied_for fresh before change) later change
   -- a new or moved directory is opaque if a directory is shown below
   pub marks : MarksAreRight stack (copied_for fresh before change) later change
