@@ -1,6 +1,6 @@
 -- A change of an overlay does to its upper layer what it is asked, clause by clause.
 use Rattle.std.proofs.Common.{◌≡◌, ◌≢◌, refl, sym, ap, ◌∙◌, true≢false, arith, ℕ, suc, nat_eq, eq-eqb, ne_eqb, Bool, true, false, cond, ◌||◌, List, [], ◌∷◌, ◌++◌, Option, Some, None, is_some, unwrap_or}
-use Rattle.vt_spec.specs.Machine.Changes.{content_with_parent, with_inode, with_moved, with_name}
+use Rattle.vt_spec.specs.Machine.Changes.{content_with_parent, node_with_parent, node_without_entry, with_inode, with_moved, with_name, without_name, without_parent}
 use Rattle.vt_spec.specs.Machine.CopyUp.{Merge, Stack, emptied, hides_directory, made, marked, moved, name_left_by, removed, shown_below, upper_directory_named, upper_of}
 use Rattle.vt_spec.specs.Machine.FileTree.{FileTree, is_opaque_in}
 use Rattle.vt_spec.specs.Machine.Lists.{Fresh, then_some}
@@ -13,9 +13,11 @@ use Rattle.vt_spec.proofs.Nodes.{node_set}
 use Rattle.vt_spec.proofs.Trees.{led-append}
 use Rattle.vt_layer_laws.specs.Layers.ChangesUpper.{IsLeft}
 use Rattle.vt_layer_laws.proofs.CopyingEach.{IsNew}
-use Rattle.vt_layer_laws.proofs.CopyingNames.{emptied_is_empty, emptied_other, emptied_part, is_left_by, left_part, left_stays, left_where, marked_entries, marked_itself, marked_other, moved_part}
+use Rattle.vt_layer_laws.proofs.CopyingNames.{emptied_is_empty, emptied_other, emptied_part, freed_entries, is_left_by, left_elsewhere, left_part, left_stays, left_where, marked_entries, marked_itself, marked_other, moved_part, parent_entries}
+use Rattle.vt_layer_laws.proofs.CopyingParts.{kept_part}
 use Rattle.vt_layer_laws.proofs.CopyingSound.{IsSound, State}
 use Rattle.vt_layer_laws.proofs.LowersKept.{kept_elsewhere}
+use Rattle.vt_layer_laws.proofs.ShownAtPath.{none_is_some, some_is_one}
 use Rattle.vt_layer_laws.proofs.UpperChain.{one_depth}
 use Rattle.vt_layer_laws.proofs.UpperLine.{has_entries, is_reached_in}
 use Rattle.vt_layer_laws.proofs.UpperShown.{way_to}
@@ -159,3 +161,27 @@ module _ (files : FileTree ℕ) (tree : IsTree files.tree) (first : ℕ → Opti
         ∙ ap (λ b. hides_directory nat_eq stack here to name || b)
         (left_part is_opaque_in (λ change keeps. keeps.mark) (is_some (shown_below nat_eq stack here from old)) fresh stack away (upper_of here from) old (upper_of here object) object_new
         ∙ mark_away (upper_of here object))
+
+    -- what is replaced keeps no whiteout
+    pub moved_empty : (replaced number : ℕ) → entry_at files.tree to name ≡ Some number → entries_in (files.tree.node number) ≡ []
+        → upper_directory_named here to name ≡ Some replaced → (seen_to : ℕ) → upper_object (real to) ≡ Some seen_to
+        → entries_in ((moved nat_eq fresh stack here from old to name object).upper.tree.node replaced) ≡ []
+    moved_empty replaced number named empty is seen_to has_to =
+        let found = directory_named here to name replaced is in
+        let same_number : number ≡ found.0 = some_is_one number found.0 (sym named ∙ found.1) in
+        let not_from : replaced ≢ upper_of here from =
+        λ same. none_is_some object
+        (sym (ap (entry_named old) (ap (λ n. entries_in (files.tree.node n)) (sym same_number) ∙ empty))
+        ∙ ap (λ n. entry_at files.tree n old)
+        (sound.one found.0 from seen_from (found.2 ∙ ap Some (same ∙ upper_of_is here from seen_from has_from)) has_from) ∙ e) in
+        let not_to : replaced ≢ upper_of here to =
+        λ same. no_loop files tree to name
+        (found.1 ∙ ap Some (sound.one found.0 to seen_to (found.2 ∙ ap Some (same ∙ upper_of_is here to seen_to has_to)) has_to)) in
+        let base = without_name nat_eq (without_parent nat_eq freed (entry_named name (entries_in (freed.tree.node (upper_of here to))))) (upper_of here from) old in
+        marked_entries (hides_directory nat_eq stack here to name) left (upper_of here object) replaced
+        ∙ ap entries_in (left_elsewhere (is_some (shown_below nat_eq stack here from old)) fresh stack away (upper_of here from) old replaced not_from (old_differs found.0 replaced found.2))
+        ∙ kept_part entries_in (with_name nat_eq base (upper_of here to) name (upper_of here object)) (upper_of here object) (node_with_parent (upper_of here to)) (parent_entries (upper_of here to)) replaced
+        ∙ ap entries_in (kept_elsewhere base (upper_of here to) (node_with_entry name (upper_of here object)) replaced (ne_eqb replaced (upper_of here to) not_to))
+        ∙ ap entries_in (kept_elsewhere (without_parent nat_eq freed (entry_named name (entries_in (freed.tree.node (upper_of here to))))) (upper_of here from) (node_without_entry old) replaced (ne_eqb replaced (upper_of here from) not_from))
+        ∙ freed_entries freed (entry_named name (entries_in (freed.tree.node (upper_of here to)))) replaced
+        ∙ emptied_is_empty upper (upper_directory_named here to name) replaced is

@@ -1,7 +1,7 @@
 -- What stands in the upper layer where a name was, and what a mark changes.
 use Rattle.std.proofs.Common.{◌≡◌, ◌≢◌, refl, sym, ap, subst, ◌∙◌, true≢false, ℕ, nat_eq, ne_eqb, Bool, true, false, cond, not, ◌||◌, List, [], ◌∷◌, Option, Some, None, is_some}
 use Rattle.std.specs.Cmp.{tied_itself}
-use Rattle.std.specs.Cmp.Lexicographic.{nat_list_cmp_total, texts_ties}
+use Rattle.std.specs.Cmp.Lexicographic.{bytes_decides, nat_list_cmp_total, texts_ties}
 use Rattle.std.specs.Ordering.{eq_by_cmp, is_eq}
 use Rattle.std.specs.Str.{bytes_eq}
 use Rattle.vt_spec.specs.Machine.Changes.{changed_node, content_with_mark, node_with_mark, node_with_parent, node_without_entries, node_without_entry, with_inode, with_moved, with_name, without_entry, without_name, without_parent}
@@ -10,10 +10,10 @@ use Rattle.vt_spec.specs.Machine.FileTree.{FileTree, is_opaque_in, opaque_of}
 use Rattle.vt_spec.specs.Machine.Layers.{Shown}
 use Rattle.vt_spec.specs.Machine.Lists.{Fresh}
 use Rattle.vt_spec.specs.Rights.{is_directory}
-use Rattle.vt_spec.specs.Tree.{Content, Entries, Node, entries_in, entries_of, entry_named, is_directory_node, kind_of, name_cmp, node_with_entry, with_entries}
+use Rattle.vt_spec.specs.Tree.{Content, Entries, Node, entries_in, entries_of, entry_named, is_directory_node, kind_of, name_cmp, node_with_entry, with_entries, with_entry}
 use Rattle.vt_spec.specs.Tree.Content.{Directory, Regular, Symlink, Whiteout}
 use Rattle.vt_spec.specs.TreeLaws.{entry_at}
-use Rattle.vt_spec.proofs.Nodes.{entries-node_with_entry, entry_named-with_entry, node_set}
+use Rattle.vt_spec.proofs.Nodes.{entries-node_with_entry, entry_named-with_entry, entry_named-without_entry, node_set, same_name}
 use Rattle.vt_layer_laws.specs.Layers.ChangesUpper.{IsLeftBy}
 use Rattle.vt_layer_laws.proofs.CopyingParts.{KeepsButNames, entry_keeps, kept_part, parent_keeps, without_entries_keeps, without_entry_keeps}
 use Rattle.vt_layer_laws.proofs.LowersKept.{kept_elsewhere}
@@ -26,7 +26,7 @@ name_gone name (entry ∷ entries) = by (bytes_eq entry.0 name) refl (name_gone 
     other : bytes_eq entry.0 name ≡ false → (tied : Bool) → eq_by_cmp name_cmp name entry.0 ≡ tied → cond tied (Some entry.1) (entry_named name (without_entry name entries)) ≡ entry_named name (without_entry name entries)
     other e false t = refl
     other e true t =
-        absurd (true≢false (sym (texts_ties entry.0 name ∙ ap (λ n. eq_by_cmp name_cmp n name) (sym (Rattle.vt_spec.proofs.Nodes.same_name name entry.0 t)) ∙ ap is_eq (tied_itself nat_list_cmp_total name)) ∙ e))
+        absurd (true≢false (sym (texts_ties entry.0 name ∙ ap (λ n. eq_by_cmp name_cmp n name) (sym (same_name name entry.0 t)) ∙ ap is_eq (tied_itself nat_list_cmp_total name)) ∙ e))
 
     by : (b : Bool) → bytes_eq entry.0 name ≡ b → entry_named name (without_entry name entries) ≡ None → entry_named name (cond (not b) (entry ∷ without_entry name entries) (without_entry name entries)) ≡ None
     by true e rest = rest
@@ -48,6 +48,44 @@ name_put name number inode d =
     ap (entry_named name) (entries-node_with_entry name number inode d)
     ∙ entry_named-with_entry name name number (entries_in inode)
     ∙ ap (λ b. cond b (Some number) (entry_named name (entries_in inode))) (ap is_eq (tied_itself nat_list_cmp_total name))
+
+-- other names lead where they led
+differ_by_cmp : (name other : List ℕ) → name ≢ other → eq_by_cmp name_cmp name other ≡ false
+differ_by_cmp name other differ = by (eq_by_cmp name_cmp name other) refl
+  where
+    by : (b : Bool) → eq_by_cmp name_cmp name other ≡ b → eq_by_cmp name_cmp name other ≡ false
+    by true e = absurd (differ (same_name name other e))
+    by false e = e
+
+pub name_stays_put : (name other : List ℕ) (number : ℕ) (inode : Option (Node ℕ)) → name ≢ other
+    → entry_named name (entries_in (node_with_entry other number inode)) ≡ entry_named name (entries_in inode)
+name_stays_put name other number None differ = refl
+name_stays_put name other number (Some node) differ = by node.content
+  where
+    by : (content : Content ℕ) → entry_named name (entries_of (with_entries content (with_entry other number (entries_of content)))) ≡ entry_named name (entries_of content)
+    by (Directory parent entries opaque) =
+        entry_named-with_entry name other number entries
+        ∙ ap (λ b. cond b (Some number) (entry_named name entries)) (differ_by_cmp name other differ)
+    by (Regular bytes) = refl
+    by (Symlink text) = refl
+    by Whiteout = refl
+
+pub name_stays_without : (name other : List ℕ) (inode : Option (Node ℕ)) → name ≢ other
+    → entry_named name (entries_in (node_without_entry other inode)) ≡ entry_named name (entries_in inode)
+name_stays_without name other None differ = refl
+name_stays_without name other (Some node) differ = by node.content
+  where
+    apart : (b : Bool) → bytes_eq name other ≡ b → bytes_eq name other ≡ false
+    apart true e = absurd (differ ((bytes_decides name other).0 e))
+    apart false e = e
+
+    by : (content : Content ℕ) → entry_named name (entries_of (with_entries content (without_entry other (entries_of content)))) ≡ entry_named name (entries_of content)
+    by (Directory parent entries opaque) =
+        entry_named-without_entry name other entries
+        ∙ ap (λ b. cond (not b) (entry_named name entries) None) (apart (bytes_eq name other) refl)
+    by (Regular bytes) = refl
+    by (Symlink text) = refl
+    by Whiteout = refl
 
 -- where a name was, with the number of the whiteout
 abbrev pub LeftWith : ℕ → Option (Shown ℕ) → Stack ℕ → FileTree ℕ → ℕ → List ℕ → Type 0
@@ -90,7 +128,7 @@ emptied_has_none (Some node) = by node.content
     by (Symlink text) = refl
     by Whiteout = refl
 
-parent_entries : (parent : ℕ) (inode : Option (Node ℕ)) → entries_in (node_with_parent parent inode) ≡ entries_in inode
+pub parent_entries : (parent : ℕ) (inode : Option (Node ℕ)) → entries_in (node_with_parent parent inode) ≡ entries_in inode
 parent_entries parent None = refl
 parent_entries parent (Some node) = by node.content
   where
@@ -99,6 +137,20 @@ parent_entries parent (Some node) = by node.content
     by (Regular bytes) = refl
     by (Symlink text) = refl
     by Whiteout = refl
+
+pub freed_entries : (upper : FileTree ℕ) (object : Option ℕ) (inode : ℕ) → entries_in ((without_parent nat_eq upper object).tree.node inode) ≡ entries_in (upper.tree.node inode)
+freed_entries upper None inode = refl
+freed_entries upper (Some object) inode = kept_part entries_in upper object (node_with_parent object) (parent_entries object) inode
+
+-- where a name is left, every other inode is as it was
+pub left_elsewhere : (hidden : Bool) (fresh : Fresh ℕ) (stack : Stack ℕ) (upper : FileTree ℕ) (directory : ℕ) (name : List ℕ) (inode : ℕ)
+    → inode ≢ directory → inode ≢ fresh 0
+    → (name_left_by nat_eq hidden fresh stack upper directory name).tree.node inode ≡ upper.tree.node inode
+left_elsewhere true fresh stack upper directory name inode differ new =
+    kept_elsewhere (with_inode nat_eq upper (fresh 0) (whiteout_of stack.mounter)) directory (node_with_entry name (fresh 0)) inode (ne_eqb inode directory differ)
+    ∙ ap (λ b. cond b (Some (whiteout_of stack.mounter)) (upper.tree.node inode)) (ne_eqb inode (fresh 0) new)
+left_elsewhere false fresh stack upper directory name inode differ new =
+    kept_elsewhere upper directory (node_without_entry name) inode (ne_eqb inode directory differ)
 
 pub emptied_is_empty : (upper : FileTree ℕ) (replaced : Option ℕ) (object : ℕ) → replaced ≡ Some object → entries_in ((emptied nat_eq upper replaced).tree.node object) ≡ []
 emptied_is_empty upper replaced object e =
@@ -115,7 +167,7 @@ emptied_other upper (Some object) inode differ =
     ∙ kept_elsewhere upper object node_without_entries inode other
 
 -- a mark changes no entries, and marks a directory
-mark_entries : (mark : Bool) (inode : Option (Node ℕ)) → entries_in (node_with_mark mark inode) ≡ entries_in inode
+pub mark_entries : (mark : Bool) (inode : Option (Node ℕ)) → entries_in (node_with_mark mark inode) ≡ entries_in inode
 mark_entries mark None = refl
 mark_entries mark (Some node) = by node.content
   where
@@ -156,7 +208,7 @@ module _ {A : Type 0} (part : Option (Node ℕ) → A) (keeps : (change : Option
       kept_part part (changed_node nat_eq upper object node_without_entries) object (node_with_parent object) (keeps (node_with_parent object) (parent_keeps object)) inode
       ∙ kept_part part upper object node_without_entries (keeps node_without_entries without_entries_keeps) inode
 
-  freed_part : (upper : FileTree ℕ) (object : Option ℕ) (inode : ℕ) → part ((without_parent nat_eq upper object).tree.node inode) ≡ part (upper.tree.node inode)
+  pub freed_part : (upper : FileTree ℕ) (object : Option ℕ) (inode : ℕ) → part ((without_parent nat_eq upper object).tree.node inode) ≡ part (upper.tree.node inode)
   freed_part upper None inode = refl
   freed_part upper (Some object) inode = kept_part part upper object (node_with_parent object) (keeps (node_with_parent object) (parent_keeps object)) inode
 

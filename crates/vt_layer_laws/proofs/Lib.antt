@@ -4,6 +4,7 @@ pub mod CopyingEachChange
 pub mod CopyingLast
 pub mod CopyingNames
 pub mod CopyingParts
+pub mod CopyingReaches
 pub mod CopyingReady
 pub mod CopyingSound
 pub mod LowersCalls

@@ -25,9 +25,9 @@ pub fn lower_layers_stay()
     ensures locked { LockedInodesStay }
 {}
 
-/// A change of an overlay changes its tree as any tree, and in the upper layer what is asked: copies with their parents,
-/// whiteouts where a lower name is left, opaque marks where a lower directory would be merged, and nothing else. Each
-/// overlay of a world is one of which this is said.
+/// A change of an overlay changes its tree as any tree, and in the upper layer what is asked: copies with their parents, what
+/// the change makes of them (a new object, a name, bytes, attributes or a mark), whiteouts where a lower name is left, opaque
+/// marks where a lower directory would be merged, and nothing else. Each overlay of a world is one of which this is said.
 pub fn overlays_change_their_upper_layer()
     ensures changes { OverlayChanges }
     ensures copies { CopiesHaveTheirName }

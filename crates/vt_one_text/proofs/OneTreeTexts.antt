@@ -11,11 +11,11 @@ use Rattle.vt_spec.specs.OneTree.World.{World, opening}
 use Rattle.vt_one_text.specs.Renaming.{Leaves, Renaming}
 use Rattle.vt_one_text.specs.OneTree.{IsAnsweredAlike, IsFit, IsImage}
 use Rattle.vt_one_text.specs.OneTreeNumbers.{renamed_inode, renamed_outcome, renamed_world}
-use Rattle.vt_one_text.specs.OneTreeTexts.{LanguageTextIsTheText, LinesKeepFit, OneTreeHasOneText, OneTreeHasSomeText, RefusedLinesKeepFit}
+use Rattle.vt_one_text.specs.OneTreeTexts.{LanguageTextIsTheText, LinesKeepFit, OneTreeHasOneText, OneTreeHasSomeText, RefusedLinesKeepFit, WholeTextIsTheText}
 use Rattle.vt_one_text.proofs.OneTreeNumbers.{outcome_itself, world_itself}
 use Rattle.vt_one_text.proofs.OneTreeOpening.{opening_is_fit}
 use Rattle.vt_one_text.proofs.OneTreeRenamed.{renamed_alike}
-use Rattle.vt_one_text.proofs.OneTreeRuns.{RequestAnswered, language_is_told, not_above, request_answered, sum_of, vacant_if}
+use Rattle.vt_one_text.proofs.OneTreeRuns.{RequestAnswered, files_are_told, language_is_told, not_above, request_answered, sum_of, vacant_if}
 use Rattle.vt_one_text.proofs.Commuting.{Named, commutes_nat, stay_apart}
 use Rattle.vt_one_text.proofs.Exchanges.{exchange, exchange_leaves, swapped, swapped_first, swapped_other, swapped_twice}
 
@@ -277,7 +277,10 @@ pub one_tree_has_some_text : OneTreeHasSomeText
 unfolding script_text
 one_tree_has_some_text script refused long = text_told (Script.lines_of script) refused 1 (opening nat_eq 0) ready_opening long
 
--- and it is what the whole machine may write in the whole language
+-- and it is what the whole machine may write, kept to the calls on files and tasks, and in the whole language
+pub whole_text_is_the_text : WholeTextIsTheText
+whole_text_is_the_text script refused text tells = one_tree_has_one_text script refused 3 text (files_are_told script refused text tells)
+
 pub language_text_is_the_text : LanguageTextIsTheText
 language_text_is_the_text version script refused text same tells =
     one_tree_has_one_text script refused 3 text (language_is_told version script refused text same tells)

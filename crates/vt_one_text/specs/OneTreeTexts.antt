@@ -19,7 +19,14 @@ OneTreeHasSomeText =
     → length refused ≡ length (lines_of script)
     → Tells nat_eq (opening nat_eq 0) 1 (lines_of script) refused (script_text refused script)
 
--- It is also whatever the whole machine may write in the whole language, for a script that has no more there than among these calls.
+-- It is also whatever the whole machine may write for the script, kept to the calls on files and tasks,
+abbrev pub WholeTextIsTheText : Type 0
+WholeTextIsTheText =
+    (script : List ℕ) (refused : List Bool) (text : List ℕ)
+    → whole_run.Tells nat_eq files whole_run.first_world 1 (lines_of script) refused text
+    → text ≡ script_text refused script
+
+-- and whatever it may write in the whole language, for a script that has no more there than among these calls.
 abbrev pub LanguageTextIsTheText : Type 0
 LanguageTextIsTheText =
     (version : Version) (script : List ℕ) (refused : List Bool) (text : List ℕ)

@@ -1,6 +1,6 @@
 //! The machine of one tree is the whole machine where there is one mount of one plain filesystem.
 ghost use Rattle.vt_one_text.specs.OneTreeNumbers.{OneTreeDoesNotSeeNumbers};
-ghost use Rattle.vt_one_text.specs.OneTreeTexts.{LanguageTextIsTheText, LinesKeepFit, OneTreeHasOneText, OneTreeHasSomeText, RefusedLinesKeepFit};
+ghost use Rattle.vt_one_text.specs.OneTreeTexts.{LanguageTextIsTheText, LinesKeepFit, OneTreeHasOneText, OneTreeHasSomeText, RefusedLinesKeepFit, WholeTextIsTheText};
 ghost use Rattle.vt_one_text.specs.OneTree.{FilesAreInLanguage, FilesAreTold, LanguageIsTold, LinksAgree, RenamesAgree, RmdirsAgree, UnlinksAgree, AttributesAgree, ClosesAgree, DropsAgree, ExitsAgree, ForksAgree, LooksAgree, MkdirsAgree, OpeningIsFit, OpensAgree, PartialReadsAgree, PartialWritesAgree, SymlinksAgree, UmasksAgree, WritesAgree, DirectoryWalksAgree, FileWalksAgree, LinkWalksAgree, NewLeafWalksAgree, NewWalksAgree, ObjectWalksAgree, OldLeafWalksAgree, OldWalksAgree, RenameNewWalksAgree};
 
 /// Each walk of the tree ends as that of the whole machine does, by a task at the root of the one mount: at the same place,
@@ -70,10 +70,12 @@ pub fn one_tree_does_not_see_numbers()
 /// The answers to a script in one tree are one text, whatever number the root has and whatever unused numbers its lines are
 /// handed: no text but `script_text` may be written, and that one may.
 ///
-/// It is also the one that the whole machine may write in the whole language for a script that has no more there.
+/// It is also the one that the whole machine may write for the script, kept to the calls on files and tasks; and in the whole
+/// language, for a script that has no more there.
 pub fn one_tree_has_one_text()
     ensures one { OneTreeHasOneText }
     ensures some { OneTreeHasSomeText }
+    ensures whole_machine { WholeTextIsTheText }
     ensures whole_language { LanguageTextIsTheText }
 {}
 

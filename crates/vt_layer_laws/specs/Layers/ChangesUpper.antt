@@ -1,7 +1,7 @@
 -- What a change of an overlay does to its tree and to its upper layer, clause by clause: the kernel's overlayfs document,
 -- "upper and lower" (copy_up) and "whiteouts and opaque directories".
 use Rattle.std.specs.Prelude.{List, None, Option, Some, [], false, is_some, nat_eq, true, ℕ, ⊤, ◌++◌, ◌||◌, ◌≡◌, ◌≢◌, ◌⊎◌}
-use Rattle.vt_spec.specs.Machine.Changes.{Change, changed}
+use Rattle.vt_spec.specs.Machine.Changes.{Change, changed, node_with_attr, node_with_mark}
 use Rattle.vt_spec.specs.Machine.Changes.Change.{AddName, CopyUp, Make, Move, Remove, SetAttr, SetBytes, SetMark}
 use Rattle.vt_spec.specs.Machine.CopyUp.{Merge, Stack, copied_up, hides_directory, line_to, merge_changed, shown_below, upper_directory_named, upper_of, whiteout_of}
 use Rattle.vt_spec.specs.Machine.FileTree.{FileTree, a_name, attr_in, is_opaque_in, kind_in}
@@ -10,8 +10,8 @@ use Rattle.vt_spec.specs.Machine.Lists.{Fresh, evens, is_among, odds}
 use Rattle.vt_spec.specs.Machine.Filesystems.{merge_of}
 use Rattle.vt_spec.specs.Machine.World.{Layer, Overlay, World, filesystem_numbered, upper_object}
 use Rattle.vt_spec.specs.Machine.WorldLaws.{IsWorld, ListsNumbers, number_at_path}
-use Rattle.vt_spec.specs.Tree.{Node, bytes_in, entries_in, is_directory_node, new_directory}
-use Rattle.vt_spec.specs.TreeLaws.{IsDirectory, IsTree, entry_at}
+use Rattle.vt_spec.specs.Tree.{Node, bytes_in, bytes_of, entries_in, entries_of, is_directory_node, kind_of, new_directory, node_with_bytes}
+use Rattle.vt_spec.specs.TreeLaws.{IsDirectory, IsReached, IsTree, entry_at}
 use Rattle.vt_layer_laws.specs.Layers.Untouched.{IsKept, inode_in}
 use Rattle.vt_layer_laws.specs.Layers.Upper.{IsThere, SpeaksOfWhatIsThere}
 
@@ -76,6 +76,39 @@ StandsNow before copied number =
     (object : ℕ) × (upper_object (copied.real number) ≡ Some object)
     × ((upper_object (before.real number) ≡ Some object) ⊎ IsCopyOf (before.files.tree.node number) (copied.upper.tree.node object))
 
+-- a new object is as it was asked for; its parent is the upper layer's, and of its mark more is said below
+pub record IsMadeAs (node : Node ℕ) (made : Option (Node ℕ)) : Type 0 where
+  pub there : is_some made ≡ true
+  pub kind : kind_in made ≡ kind_of node.content
+  pub attr : attr_in made ≡ node.attr
+  pub names : entries_in made ≡ entries_of node.content
+  pub bytes : bytes_in made ≡ bytes_of node.content
+
+-- a directory that names lead to
+abbrev pub IsReachedDirectory : FileTree ℕ → ℕ → Type 0
+IsReachedDirectory files directory = IsReached files.tree directory × IsDirectory files.tree directory
+
+-- What a change asks for stands in the upper layer after it: a new object under its name, an object under a new name, in the
+-- object of the directory; and the object has the bytes, owner and mode, or mark. What is left of a removed name is said below.
+abbrev pub ReachesUpper : Merge ℕ → Merge ℕ → Change ℕ → Type 0
+ReachesUpper copied later (Make directory name number node) =
+    IsReachedDirectory copied.files directory
+    → (object : ℕ) × (upper_object (later.real number) ≡ Some object)
+    × (entry_at later.upper.tree (upper_of copied directory) name ≡ Some object) × IsMadeAs node (later.upper.tree.node object)
+ReachesUpper copied later (AddName directory name object) =
+    IsReachedDirectory copied.files directory → entry_at later.upper.tree (upper_of copied directory) name ≡ Some (upper_of copied object)
+ReachesUpper copied later (Remove directory name object) = ⊤
+ReachesUpper copied later (Move from old to new object) =
+    IsReachedDirectory copied.files to → entry_at copied.files.tree to new ≢ Some object
+    → entry_at later.upper.tree (upper_of copied to) new ≡ Some (upper_of copied object)
+ReachesUpper copied later (SetBytes file bytes) =
+    later.upper.tree.node (upper_of copied file) ≡ node_with_bytes bytes (copied.upper.tree.node (upper_of copied file))
+ReachesUpper copied later (SetAttr object attr) =
+    later.upper.tree.node (upper_of copied object) ≡ node_with_attr attr (copied.upper.tree.node (upper_of copied object))
+ReachesUpper copied later (SetMark directory opaque) =
+    later.upper.tree.node (upper_of copied directory) ≡ node_with_mark opaque (copied.upper.tree.node (upper_of copied directory))
+ReachesUpper copied later (CopyUp object) = ⊤
+
 -- where a name was, a whiteout stands if lower layers show something there, else nothing
 abbrev pub IsLeftBy : Option (Shown ℕ) → Stack ℕ → FileTree ℕ → ℕ → List ℕ → Type 0
 IsLeftBy None stack upper directory name = entry_at upper.tree directory name ≡ None
@@ -94,10 +127,13 @@ NamesLeft stack copied later (Remove directory name object) =
 NamesLeft stack copied later (Move from old to new object) = IsLeft stack copied later from old
 NamesLeft stack copied later change = ⊤
 
--- the directory that a change removes
+-- the directory that a change removes, or that another takes the place of, which shows no names
 abbrev pub RemovedIsEmpty : Merge ℕ → Merge ℕ → Change ℕ → Type 0
 RemovedIsEmpty copied later (Remove directory name object) =
     (replaced : ℕ) → upper_directory_named copied directory name ≡ Some replaced → entries_in (later.upper.tree.node replaced) ≡ []
+RemovedIsEmpty copied later (Move from old to new object) =
+    (replaced number : ℕ) → entry_at copied.files.tree to new ≡ Some number → entries_in (copied.files.tree.node number) ≡ []
+    → upper_directory_named copied to new ≡ Some replaced → entries_in (later.upper.tree.node replaced) ≡ []
 RemovedIsEmpty copied later change = ⊤
 
 -- A new directory is opaque if lower layers show a directory there, else it has no mark. A moved one is opaque if lower layers
@@ -119,9 +155,11 @@ pub record ChangesUpper (fresh : Fresh ℕ) (stack : Stack ℕ) (before : Merge 
   -- what is asked stands in the upper layer, missing parents too, with the shown owner, mode and content, and no mark
   pub stands : (number : ℕ)
       → is_among nat_eq number (asked_copies before.files change) ≡ true → IsThere before.files number → StandsNow before (copied_for fresh before change) number
+  -- and so does, after the change, what it makes of it
+  pub reaches : ReachesUpper (copied_for fresh before change) later change
   -- where a name was removed or left stands a whiteout if something is shown below, else nothing
   pub names_left : NamesLeft stack (copied_for fresh before change) later change
-  -- a removed directory keeps no whiteout in it
+  -- a removed or replaced directory keeps no whiteout in it
   pub removed_empty : RemovedIsEmpty (copied_for fresh before change) later change
   -- a new or moved directory is opaque if a directory is shown below
   pub marks : MarksAreRight stack (copied_for fresh before change) later change
