@@ -113,6 +113,26 @@ pub length-words_between : (s : ℕ) (xs : List ℕ) → length (words_between s
 length-words_between s [] = omega arith
 length-words_between s (x ∷ xs) = omega (arith, count_with_byte (x == s) x (parts s xs), length-words_between s xs)
 
+with_byte_within : (b : Bool) (byte n : ℕ) (ps : List (List ℕ)) → All (λ part. length part ≤ n) ps → All (λ part. length part ≤ n + 1) (with_byte b byte ps)
+with_byte_within true byte n ps within =
+    All-cons (λ part. length part ≤ n + 1) [] ps (omega arith) (All-weaker (λ part. length part ≤ n) (λ part. length part ≤ n + 1) (λ part h. omega arith) ps within)
+with_byte_within false byte n [] within =
+    All-cons (λ part. length part ≤ n + 1) (byte ∷ []) [] (omega arith) (All-nil (λ part. length part ≤ n + 1))
+with_byte_within false byte n (p ∷ ps) within =
+    let first = All-head (λ part. length part ≤ n) p ps within in
+    All-cons (λ part. length part ≤ n + 1) (byte ∷ p) ps (omega arith)
+    (All-weaker (λ part. length part ≤ n) (λ part. length part ≤ n + 1) (λ part h. omega arith) ps (All-tail (λ part. length part ≤ n) p ps within))
+
+parts_within : (s : ℕ) (xs : List ℕ) → All (λ part. length part ≤ length xs) (parts s xs)
+parts_within s [] = All-cons (λ part. length part ≤ 0) [] [] (omega arith) (All-nil (λ part. length part ≤ 0))
+parts_within s (x ∷ xs) =
+    All-weaker (λ part. length part ≤ length xs + 1) (λ part. length part ≤ length (x ∷ xs)) (λ part h. omega arith)
+    (with_byte (x == s) x (parts s xs)) (with_byte_within (x == s) x (length xs) (parts s xs) (parts_within s xs))
+
+-- it is no longer than the text
+pub words_between_within : (s : ℕ) (xs : List ℕ) → All (λ word. length word ≤ length xs) (words_between s xs)
+words_between_within s xs = All-filter (λ part. not (is_empty part)) (λ word. length word ≤ length xs) (parts s xs) (parts_within s xs)
+
 -- what holds of each word holds of the last
 pub last_word : (P : List ℕ → Type 0) (ws front : List (List ℕ)) (last : List ℕ) → ws ≡ front ++ last ∷ [] → All P ws → P last
 last_word P ws front last cut each = All-contains P ws last each (subst (λ l. Contains l last) (sym cut) (Contains-push front last))

@@ -132,11 +132,11 @@ impl<'a> Clone for PathText<'a> {
     }
 }
 
-// Whether a word of the text is over its limit.
+// Whether a word of the text is over its limit. A text within that limit has no such word, and is not looked through.
 pub(crate) fn has_long_word(text: &[u8]) -> bool
     ensures { result ≡ list_any (λ word. nat_lt longest_name (length word)) (words text.now) }
 {
-    Words { text }.any(|word| word.len() > LONGEST_NAME)
+    text.len() > LONGEST_NAME && Words { text }.any(|word| word.len() > LONGEST_NAME)
 }
 
 // Whether the text, or one of its words, is over its limit.
