@@ -13,6 +13,7 @@ ghost use Rattle.vt_tasks.specs.TasksValue.{task_of};
 ghost use Rattle.vt_tree.specs.TreeValue.{TreeValue, next_number, tree_of};
 ghost use Rattle.vt_walk.specs.WalkValue.{IsPlace, last_of, place_of};
 
+use crate::making::LARGEST_FILE;
 use crate::paths::{file_place, new_place, object_at};
 use crate::rights::{is_kind, may, name_at, new_attr};
 use std::alloc::Global;
@@ -24,9 +25,6 @@ use vt_spec::errors::{Deny, Rule};
 use vt_tasks::{MAX_DESCRIPTORS, Task};
 use vt_tree::Tree;
 use vt_walk::Place;
-
-/// The most bytes of a file, 1 MiB: RLIMIT_FSIZE of setrlimit(2).
-const LARGEST_FILE: usize = 1_048_576;
 
 // The rights that an access mode asks for, as one request.
 fn rights_of(access: Access) -> Rights

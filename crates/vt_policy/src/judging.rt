@@ -39,7 +39,7 @@ pub fn judge(world: &World, name: &TaskName, call: Call) -> Result<Permit, Deny>
 }
 
 // What a call is permitted to a task on the tree.
-pub(crate) fn judge_task(
+fn judge_task(
     alloc: Global,
     tree: &Tree,
     name: &TaskName,

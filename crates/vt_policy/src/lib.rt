@@ -12,6 +12,3 @@ mod rights;
 mod tasks;
 
 pub use judging::judge;
-
-#[cfg(test)]
-mod tests;

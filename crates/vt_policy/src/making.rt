@@ -19,14 +19,12 @@ use vt_node::{Kind, Node, NodeId};
 use vt_permit::{Change, Permit};
 use vt_spec::errors::{Deny, Rule};
 use vt_tasks::Task;
+use vt_text::path::LONGEST_PATH;
 use vt_tree::Tree;
 use vt_walk::Place;
 
 /// The most bytes of a file, 1 MiB: RLIMIT_FSIZE of setrlimit(2).
-const LARGEST_FILE: usize = 1_048_576;
-
-/// The most bytes of a path, and so of a link's text: PATH_MAX of limits.h, less its final zero byte.
-const LONGEST_PATH: usize = 4095;
+pub(crate) const LARGEST_FILE: usize = 1_048_576;
 
 /// The mode that mkdir asks for where none is given, 0777: mkdir(1).
 const DIRECTORY_MODE: u16 = 0o777;

@@ -53,13 +53,6 @@ impl Tasks {
         Ok(Tasks { by_name })
     }
 
-    /// How many tasks there are.
-    pub fn len(&self) -> usize
-        ensures { result ≡ length self.now }
-    {
-        self.by_name.len()
-    }
-
     /// The task of this name.
     pub fn get(&self, name: &TaskName) -> Option<&Task>
         ensures { option_map task_of (option_copied result) ≡ called name.now self.now }

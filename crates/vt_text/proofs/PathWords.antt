@@ -71,37 +71,6 @@ words_between-cons s word ys some other =
 
 -- ---- what every word is
 
-some_from_test : (word : List ℕ) → not (is_empty word) ≡ true → 0 < length word
-some_from_test [] e = cc
-some_from_test (b ∷ bs) e = omega arith
-
--- it has a byte
-pub words_between_some : (s : ℕ) (xs : List ℕ) → All (λ word. 0 < length word) (words_between s xs)
-words_between_some s xs =
-    All-weaker
-    (λ word. not (is_empty word) ≡ true)
-    (λ word. 0 < length word)
-    some_from_test
-    (words_between s xs)
-    (filter_passes (λ part. not (is_empty part)) (parts s xs))
-
-with_byte_other : (s : ℕ) (b : Bool) (byte : ℕ) (ps : List (List ℕ)) → (b ≡ false → byte ≢ s) → All (λ part. All (λ c. c ≢ s) part) ps → All (λ part. All (λ c. c ≢ s) part) (with_byte b byte ps)
-with_byte_other s true byte ps other rest = All-cons (λ part. All (λ c. c ≢ s) part) [] ps (All-nil (λ c. c ≢ s)) rest
-with_byte_other s false byte [] other rest =
-    All-cons (λ part. All (λ c. c ≢ s) part) (byte ∷ []) [] (All-cons (λ c. c ≢ s) byte [] (other refl) (All-nil (λ c. c ≢ s))) rest
-with_byte_other s false byte (p ∷ ps) other rest =
-    All-cons (λ part. All (λ c. c ≢ s) part) (byte ∷ p) ps
-    (All-cons (λ c. c ≢ s) byte p (other refl) (All-head (λ part. All (λ c. c ≢ s) part) p ps rest))
-    (All-tail (λ part. All (λ c. c ≢ s) part) p ps rest)
-
-parts_other : (s : ℕ) (xs : List ℕ) → All (λ part. All (λ c. c ≢ s) part) (parts s xs)
-parts_other s [] = All-cons (λ part. All (λ c. c ≢ s) part) [] [] (All-nil (λ c. c ≢ s)) (All-nil (λ part. All (λ c. c ≢ s) part))
-parts_other s (x ∷ xs) = with_byte_other s (x == s) x (parts s xs) (eqb-false x s) (parts_other s xs)
-
--- it has no separator
-pub words_between_other : (s : ℕ) (xs : List ℕ) → All (λ word. All (λ b. b ≢ s) word) (words_between s xs)
-words_between_other s xs = All-filter (λ part. not (is_empty part)) (λ word. All (λ b. b ≢ s) word) (parts s xs) (parts_other s xs)
-
 count_with_byte : (b : Bool) (byte : ℕ) (ps : List (List ℕ)) → length (filter (λ part. not (is_empty part)) (with_byte b byte ps)) ≤ length (filter (λ part. not (is_empty part)) ps) + 1
 count_with_byte true byte ps = omega arith
 count_with_byte false byte [] = omega arith
@@ -113,9 +82,25 @@ pub length-words_between : (s : ℕ) (xs : List ℕ) → length (words_between s
 length-words_between s [] = omega arith
 length-words_between s (x ∷ xs) = omega (arith, count_with_byte (x == s) x (parts s xs), length-words_between s xs)
 
--- what holds of each word holds of the last
-pub last_word : (P : List ℕ → Type 0) (ws front : List (List ℕ)) (last : List ℕ) → ws ≡ front ++ last ∷ [] → All P ws → P last
-last_word P ws front last cut each = All-contains P ws last each (subst (λ l. Contains l last) (sym cut) (Contains-push front last))
+with_byte_within : (b : Bool) (byte n : ℕ) (ps : List (List ℕ)) → All (λ part. length part ≤ n) ps → All (λ part. length part ≤ n + 1) (with_byte b byte ps)
+with_byte_within true byte n ps within =
+    All-cons (λ part. length part ≤ n + 1) [] ps (omega arith) (All-weaker (λ part. length part ≤ n) (λ part. length part ≤ n + 1) (λ part h. omega arith) ps within)
+with_byte_within false byte n [] within =
+    All-cons (λ part. length part ≤ n + 1) (byte ∷ []) [] (omega arith) (All-nil (λ part. length part ≤ n + 1))
+with_byte_within false byte n (p ∷ ps) within =
+    let first = All-head (λ part. length part ≤ n) p ps within in
+    All-cons (λ part. length part ≤ n + 1) (byte ∷ p) ps (omega arith)
+    (All-weaker (λ part. length part ≤ n) (λ part. length part ≤ n + 1) (λ part h. omega arith) ps (All-tail (λ part. length part ≤ n) p ps within))
+
+parts_within : (s : ℕ) (xs : List ℕ) → All (λ part. length part ≤ length xs) (parts s xs)
+parts_within s [] = All-cons (λ part. length part ≤ 0) [] [] (omega arith) (All-nil (λ part. length part ≤ 0))
+parts_within s (x ∷ xs) =
+    All-weaker (λ part. length part ≤ length xs + 1) (λ part. length part ≤ length (x ∷ xs)) (λ part h. omega arith)
+    (with_byte (x == s) x (parts s xs)) (with_byte_within (x == s) x (length xs) (parts s xs) (parts_within s xs))
+
+-- no word is longer than the text
+pub words_between_within : (s : ℕ) (xs : List ℕ) → All (λ word. length word ≤ length xs) (words_between s xs)
+words_between_within s xs = All-filter (λ part. not (is_empty part)) (λ word. length word ≤ length xs) (parts s xs) (parts_within s xs)
 
 -- ---- the same by index
 

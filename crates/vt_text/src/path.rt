@@ -1,14 +1,13 @@
 //! A path is its words: path_resolution(7), and limits.h for PATH_MAX and NAME_MAX.
-ghost use Rattle.std.specs.Prelude.{◌≡◌, ◌≢◌, ◌≤◌, ◌<◌, ◌↔◌, ◌-◌, ◌++◌, ◌∷◌, [], ◌||◌, ⊤, List, ℕ, length, slice_index, IsOk, IfOk, IfSome, MatchOption, nat_lt};
+ghost use Rattle.std.specs.Prelude.{◌≡◌, ◌≢◌, ◌≤◌, ◌<◌, ◌↔◌, ◌-◌, ◌++◌, ◌∷◌, [], ◌||◌, List, ℕ, length, slice_index, IsOk, IfOk, MatchOption, nat_lt};
 ghost use Rattle.std.specs.Iterator.{item_count, YieldsFirstRef};
 ghost use Rattle.std.specs.List.{list_any};
 ghost use Rattle.vt_spec.specs.declared.errors.Rule.TheVariants.{W1, W2};
 ghost use Rattle.vt_spec.specs.Errors.{denial};
-ghost use Rattle.vt_spec.specs.PathText.{words, is_absolute, ends_in_slash, parsed_path, longest_path, longest_name};
+ghost use Rattle.vt_spec.specs.PathText.{words, ends_in_slash, parsed_path, longest_path, longest_name};
 ghost use Rattle.vt_text.specs.Walkable.{IsTooLong, IsWalkable};
 
 use crate::{Deny, Rule};
-use std::alloc::AllocError;
 use std::iter::FusedIterator;
 use std::marker::Model;
 
@@ -80,16 +79,6 @@ impl<'a> Model for Words<'a> {
     ghost view = { λ w. words w.text.now };
 }
 
-impl<'a> Clone for Words<'a> {
-    ghost is_clone = { λ from copy. copy ≡ from };
-
-    ghost is_infallible = { λ _. ⊤ };
-
-    fn clone(&self) -> Result<Self, AllocError> {
-        Ok(Words { text: self.text })
-    }
-}
-
 impl<'a> Iterator for Words<'a> {
     type Item = &'a [u8];
 
@@ -122,21 +111,11 @@ impl<'a> Model for PathText<'a> {
     ghost invariant = { λ path. IsWalkable path.text.now };
 }
 
-impl<'a> Clone for PathText<'a> {
-    ghost is_clone = { λ from copy. copy ≡ from };
-
-    ghost is_infallible = { λ _. ⊤ };
-
-    fn clone(&self) -> Result<Self, AllocError> {
-        Ok(PathText { text: self.text })
-    }
-}
-
-// Whether a word of the text is over its limit.
+// Whether a word of the text is over its limit. A text within that limit has no such word, and is not looked through.
 pub(crate) fn has_long_word(text: &[u8]) -> bool
     ensures { result ≡ list_any (λ word. nat_lt longest_name (length word)) (words text.now) }
 {
-    Words { text }.any(|word| word.len() > LONGEST_NAME)
+    text.len() > LONGEST_NAME && Words { text }.any(|word| word.len() > LONGEST_NAME)
 }
 
 // Whether the text, or one of its words, is over its limit.
@@ -185,29 +164,11 @@ impl<'a> PathText<'a> {
         Words { text: self.text }
     }
 
-    /// Whether it begins with a slash, and so at the task's root.
-    pub fn is_absolute(&self) -> bool
-        ensures { result ≡ is_absolute self.now }
-    {
-        self.text.first() == Some(&b'/')
-    }
-
     /// Whether it ends in a slash, and so asks for a directory.
     pub fn ends_in_slash(&self) -> bool
         ensures { result ≡ ends_in_slash self.now }
     {
         self.text.last() == Some(&b'/')
-    }
-
-    /// The words before the last, and the last word, if there is one.
-    pub fn split_last(&self) -> Option<(Words<'a>, &'a [u8])>
-        ensures words { MatchOption result (words self.now ≡ []) (λ parts. words self.now ≡ parts.0 ++ parts.1.now ∷ []) }
-        ensures count { IfSome result (λ parts. length parts.0 < longest_path) }
-        ensures last { IfSome result (λ parts. (0 < length parts.1.now) × (length parts.1.now ≤ longest_name)) }
-        ensures limits { IsWalkable self.now }
-    {
-        let (front, last) = split_last_word(self.text)?;
-        Some((Words { text: front }, last))
     }
 }
 

@@ -7,8 +7,8 @@ use Rattle.vt_spec.specs.OneTree.Walk.{Follow, Here, follow_rules, link_start, l
 use Rattle.vt_spec.specs.PathText.{words}
 use Rattle.vt_spec.specs.Rights.{Credentials}
 use Rattle.vt_spec.specs.Tree.{Tree}
-use Rattle.vt_walk.proofs.LinksWalked.{follow-begun, follow-refused, inside_walked, slash_checked}
-use Rattle.vt_walk.proofs.RefusalLemmas.{and_then-and_then, unless-and_then, unless-let_through, unless-stopped}
+use Rattle.vt_walk.proofs.LinksWalked.{begun-walked, follow-refused}
+use Rattle.vt_walk.proofs.RefusalLemmas.{and_then-and_then, and_then-ok, unless-let_through, unless-stopped}
 use Rattle.vt_walk.specs.declared.steps.LinkMet.{LinkMet}
 use Rattle.vt_walk.specs.declared.steps.Pending.{Pending}
 use Rattle.vt_walk.specs.PendingTexts.{link_passed, links_within, texts_walked}
@@ -20,6 +20,31 @@ reverse-push texts others top pushed = ap reverse pushed ∙ reverse-append othe
 pub link_passed-as : (tree : Tree ℕ) (who : Credentials) (follow : Follow ℕ) (here : Here ℕ) (link as_met : Option LinkMet) (walked : Result (Here ℕ) Deny) → link ≡ as_met
     → link_passed tree who follow here link ≡ walked → link_passed tree who follow here as_met ≡ walked
 link_passed-as tree who follow here link as_met walked same e = ap (link_passed tree who follow here) (sym same) ∙ e
+
+-- a link that is met while nothing waits: its text stands above the words behind it
+pub first-begun : (tree : Tree ℕ) (who : Credentials) (directory : ℕ) (link : Here ℕ) (inner : List ℕ) (behind : List (List ℕ)) (next : Here ℕ)
+    → Ok next ≡ unless (follow_rules link inner) (Ok (link_start tree directory link inner))
+    → (left above : Pending) (once twice : List Pending) → once ≡ [] ++ left ∷ [] → twice ≡ once ++ above ∷ []
+    → left.text.now ≡ [] → left.words ≡ behind → above.text.now ≡ inner → above.words ≡ words inner
+    → texts_walked tree who next (reverse twice)
+    ≡ and_then (link_walked 41 tree who directory link inner) (λ there. words_walked tree who (links_within 41 tree who) there (reverse behind))
+first-begun tree who directory link inner behind next begun left above once twice first second text rest inside all =
+    ap (texts_walked tree who next) (reverse-push twice once above second ∙ ap (λ ts. above ∷ ts) (reverse-push once [] left first))
+    ∙ (λ i. and_then (words_walked tree who (links_within 40 tree who) next (reverse (all i)))
+    (λ reached. unless (slash_rules tree (inside i) reached.node)
+    (and_then (words_walked tree who (links_within 41 tree who) reached (reverse (rest i)))
+    (λ there. unless (slash_rules tree (text i) there.node) (Ok there)))))
+    ∙ begun-walked tree who 41 directory link inner (omega arith) next begun behind (λ there. Ok there)
+    ∙ (λ i. and_then (link_walked 41 tree who directory link inner)
+    (λ there. and_then-ok (words_walked tree who (links_within 41 tree who) there (reverse behind)) i))
+
+-- and where it is not followed
+pub first-denied : (tree : Tree ℕ) (who : Credentials) (directory : ℕ) (link : Here ℕ) (inner : List ℕ) (behind : List (List ℕ)) (deny : Deny)
+    → Err deny ≡ unless (follow_rules link inner) (Ok (link_start tree directory link inner))
+    → Err deny ≡ and_then (link_walked 41 tree who directory link inner) (λ there. words_walked tree who (links_within 41 tree who) there (reverse behind))
+first-denied tree who directory link inner behind deny refused =
+    ap (λ r. and_then r (λ there. words_walked tree who (links_within 41 tree who) there (reverse behind)))
+    (follow-refused tree who 41 directory link inner (omega arith) deny refused)
 
 module _ (tree : Tree ℕ) (who : Credentials) (whole : Result (Here ℕ) Deny) (here : Here ℕ) (texts : List Pending) (so_far : texts_walked tree who here (reverse texts) ≡ whole) where
   pub all-walked : (0 < length texts → ⊥) → Ok here ≡ whole
@@ -85,10 +110,7 @@ module _ (tree : Tree ℕ) (who : Credentials) (whole : Result (Here ℕ) Deny) 
             (λ reached. unless (slash_rules tree (inside i) reached.node)
             (and_then (words_walked tree who (links_within (41 - length (reverse others)) tree who) reached (reverse (rest i)))
             (λ there. unless (slash_rules tree (text i) there.node) (texts_walked tree who there (reverse others))))))
-            ∙ (λ i. and_then (inside_walked tree who (41 - length (reverse others) - 1) next (words inner))
-            (λ reached. unless-and_then (slash_rules tree inner reached.node) reached (λ there. and_then (behind_walked there) others_walked) i))
-            ∙ by-link _ (sym (and_then-and_then (inside_walked tree who (41 - length (reverse others) - 1) next (words inner)) (slash_checked tree who inner) (λ there. and_then (behind_walked there) others_walked))
-            ∙ ap (λ r. and_then r (λ there. and_then (behind_walked there) others_walked)) (follow-begun tree who (41 - length (reverse others)) directory link inner deep next begun))
+            ∙ by-link _ (begun-walked tree who (41 - length (reverse others)) directory link inner deep next begun behind others_walked)
           where
             less : 41 - length (left ∷ reverse others) ≡ 41 - length (reverse others) - 1
             less = omega arith

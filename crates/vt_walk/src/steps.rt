@@ -1,12 +1,12 @@
 //! Words walked one after the other, and links followed.
-ghost use Rattle.std.specs.Prelude.{◌≡◌, ℕ, reverse, option_copied, Ok, true, OnOk, IfOk};
+ghost use Rattle.std.specs.Prelude.{◌≡◌, ℕ, reverse, option_copied, Ok, Some, true, OnOk, IfOk};
 ghost use Rattle.vt_spec.specs.Errors.{and_then, unless};
 ghost use Rattle.vt_spec.specs.Machine.FileTree.{link_text};
 ghost use Rattle.vt_spec.specs.OneTree.Walk.{Follow, is_directory_at, search_rules, object_named, word_walked, last_walked, follow_rules, slash_rules, link_start, words_walked, followed};
 ghost use Rattle.vt_spec.specs.PathText.{words};
 ghost use Rattle.vt_spec.specs.TreeLaws.{IsTree};
 ghost use Rattle.vt_tree.specs.TreeValue.{tree_of};
-ghost use Rattle.vt_walk.specs.PendingTexts.{walked_on_from};
+ghost use Rattle.vt_walk.specs.PendingTexts.{link_passed, walked_on_from};
 ghost use Rattle.vt_walk.specs.WalkValue.{last_of, last_rules, here_of, here_result, IsThere};
 
 use crate::here::{Here, MOST_TEXTS};
@@ -204,8 +204,7 @@ pub(crate) fn asked_by_slash(tree: &Tree, text: &[u8], here: NodeId) -> Result<(
     Ok(())
 }
 
-// The place that the words lead to, every link followed, the last one too. What is left behind a link waits on a stack while
-// the link's text is walked.
+// The place that the words lead to, every link followed, the last one too.
 pub(crate) fn words_walked<'a>(
     tree: &'a Tree,
     who: &Cred,
@@ -217,10 +216,27 @@ pub(crate) fn words_walked<'a>(
     ensures there { IsTree (tree_of tree.now) → IsThere (tree_of tree.now) start.node
         → IfOk result (λ here. IsThere (tree_of tree.now) here.node) }
 {
-    let mut here = start;
+    let Reached { here, link } = walked_to_link(tree, who, start, words)?;
+    match link {
+        Some(link) => link_walked(tree, who, here, link),
+        None => Ok(here),
+    }
+}
+
+// The place that a link and the words behind it lead to, every link followed. What is left behind a link waits on a stack while
+// the link's text is walked; a walk that comes to no link needs no stack.
+fn link_walked<'a>(tree: &'a Tree, who: &Cred, met: Here, link: LinkMet<'a>) -> Result<Here, Deny>
+    ensures { here_result result ≡ link_passed (tree_of tree.now) who.now
+        (followed (tree_of tree.now) who.now) (here_of met) (Some link.entry) }
+{
+    let mut here = link_begun(tree, link.directory, met, link.text)?;
     let mut pending = ArrayVec::<Pending, MOST_TEXTS>::new();
     // A slash behind the words themselves is the caller's to ask for.
-    pending.push(Pending { text: &[], words });
+    pending.push(Pending {
+        text: &[],
+        words: link.behind,
+    });
+    pending.push(Pending::of(link.text));
     while let Some(Pending { text, words }) = pending.pop() {
         let Reached {
             here: reached,

@@ -101,33 +101,12 @@ fn walks_to_places(rt: HostRuntime) -> Result<(), Fail> {
     let path = PathText::parse(b"/d/f")?;
     let there = Ok((*directory, Some(*file), false));
     assert_eq!(rt; seen(&new_walk(tree, who, &path), b"f"), there);
+    assert_eq!(rt; seen(&new_leaf_walk(tree, who, &path), b"f"), there);
+    assert_eq!(rt; seen(&old_walk(tree, who, &path), b"f"), there);
     assert_eq!(rt; seen(&old_leaf_walk(tree, who, &path), b"f"), there);
+    let renamed = rename_new_walk(tree, who, &path, false);
+    assert_eq!(rt; seen(&renamed, b"f"), there);
     assert_eq!(rt; seen(&file_walk(tree, who, &path), b"f"), there);
-    Ok(())
-}
-
-#[test]
-fn walks_to_missing_names(rt: HostRuntime) -> Result<(), Fail> {
-    let World {
-        tree,
-        who,
-        directory,
-        ..
-    } = &made(rt.alloc())?;
-    let path = PathText::parse(b"d/g/")?;
-    let missing = Ok((*directory, None, true));
-    assert_eq!(rt; seen(&new_walk(tree, who, &path), b"g"), missing);
-    assert_eq!(rt;
-        seen(&rename_new_walk(tree, who, &path, true), b"g"),
-        missing
-    );
-    assert_eq!(rt;
-        seen(&rename_new_walk(tree, who, &path, false), b"g"),
-        Err(Some(Rule::W3.denial()))
-    );
-    let refused = Err(Some(Rule::W6.denial()));
-    assert_eq!(rt; seen(&new_leaf_walk(tree, who, &path), b"g"), refused);
-    assert_eq!(rt; seen(&old_walk(tree, who, &path), b"g"), refused);
     Ok(())
 }
 
@@ -149,66 +128,5 @@ fn follows_links_to_objects(rt: HostRuntime) -> Result<(), Fail> {
         assert_eq!(rt; object_walk(tree, &world.who, &path), object);
         assert_eq!(rt; link_walk(tree, &world.who, &path), unfollowed);
     }
-    Ok(())
-}
-
-#[test]
-fn follows_links_to_missing_names(rt: HostRuntime) -> Result<(), Fail> {
-    let mut world = made(rt.alloc())?;
-    let root = world.tree.root();
-    let link = linked(&mut world.tree, rt.alloc(), b"l", b"d/g/")?;
-    let tree = &world.tree;
-    let path = PathText::parse(b"l")?;
-    let itself = Ok((root, Some(link), false));
-    assert_eq!(rt; seen(&new_walk(tree, &world.who, &path), b"l"), itself);
-    let missing = Ok((world.directory, None, true));
-    assert_eq!(rt; seen(&file_walk(tree, &world.who, &path), b"g"), missing);
-    Ok(())
-}
-
-#[test]
-fn walks_on_behind_40_links(rt: HostRuntime) -> Result<(), Fail> {
-    let mut world = made(rt.alloc())?;
-    linked(&mut world.tree, rt.alloc(), &[1], b"d")?;
-    for name in 2..42u8 {
-        linked(
-            &mut world.tree,
-            rt.alloc(),
-            &[name],
-            &[name - 1, b'/', b'.'],
-        )?;
-    }
-    let tree = &world.tree;
-    let path = PathText::parse(&[40, b'/', b'f'])?;
-    assert_eq!(rt; object_walk(tree, &world.who, &path), Ok(world.file));
-    let path = PathText::parse(&[3, b'/', b'.', b'.', b'/', 4])?;
-    assert_eq!(rt; object_walk(tree, &world.who, &path), Ok(world.directory));
-    let path = PathText::parse(&[41, b'/', b'f'])?;
-    assert_eq!(rt;
-        object_walk(tree, &world.who, &path),
-        Err(Rule::W7.denial())
-    );
-    Ok(())
-}
-
-#[test]
-fn follows_40_links(rt: HostRuntime) -> Result<(), Fail> {
-    let mut world = made(rt.alloc())?;
-    linked(&mut world.tree, rt.alloc(), &[1], b"d")?;
-    for name in 2..42u8 {
-        linked(&mut world.tree, rt.alloc(), &[name], &[name - 1])?;
-    }
-    let tree = &world.tree;
-    let path = PathText::parse(&[40])?;
-    assert_eq!(rt; object_walk(tree, &world.who, &path), Ok(world.directory));
-    let there = Ok((tree.root(), Some(world.directory), false));
-    assert_eq!(rt; seen(&file_walk(tree, &world.who, &path), b"d"), there);
-    let path = PathText::parse(&[41])?;
-    assert_eq!(rt;
-        object_walk(tree, &world.who, &path),
-        Err(Rule::W7.denial())
-    );
-    let refused = Err(Some(Rule::W7.denial()));
-    assert_eq!(rt; seen(&file_walk(tree, &world.who, &path), b"d"), refused);
     Ok(())
 }

@@ -1,4 +1,5 @@
 use super::*;
+use crate::link;
 use std::test::Fail;
 
 #[test]
@@ -6,17 +7,16 @@ fn gives_the_words_of_a_path(rt: HostRuntime) -> Result<(), Fail> {
     let path = PathText::parse(b"//a/./b//").ok().ok_or("refused")?;
     let mut words = path.words();
     assert_eq!(rt; words.next(), Some(b"a".as_slice()));
-    assert_eq!(rt; words.clone()?.next(), Some(b".".as_slice()));
     assert_eq!(rt; words.next(), Some(b".".as_slice()));
     assert_eq!(rt; words.next(), Some(b"b".as_slice()));
     assert_eq!(rt; words.next(), None);
 
-    let (front, last) = path.split_last().ok_or("no last word")?;
+    let text = path.as_bytes();
+    let (front, last) = link::split_last(text).ok_or("no last word")?;
     assert_eq!(rt; last, b"b".as_slice());
     assert_eq!(rt; front.count(), 2);
-    assert!(rt; path.is_absolute());
+    assert!(rt; link::is_absolute(text));
     assert!(rt; path.ends_in_slash());
-    assert_eq!(rt; path.clone()?.as_bytes(), b"//a/./b//".as_slice());
     Ok(())
 }
 
@@ -24,7 +24,7 @@ fn gives_the_words_of_a_path(rt: HostRuntime) -> Result<(), Fail> {
 fn gives_no_word_of_the_root(rt: HostRuntime) -> Result<(), Fail> {
     let root = PathText::parse(b"/").ok().ok_or("refused")?;
     assert_eq!(rt; root.words().count(), 0);
-    assert!(rt; root.split_last().is_none());
+    assert!(rt; link::split_last(root.as_bytes()).is_none());
     Ok(())
 }
 
