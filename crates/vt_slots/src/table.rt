@@ -68,7 +68,7 @@ impl Slots {
     ghost use Rattle.vt_slots.specs.Slots.{Slots as Table, slots_len, slot_at, node_at, put_at, most_uses, with_uses, goes};
     ghost use Rattle.vt_slots.specs.Lends.{lends_node, lends_present};
 
-    /// No nodes. It takes no memory.
+    /// No nodes. It does not allocate.
     pub fn new(alloc: Global) -> Self
         ensures { result ≡ record { slots = []; next = 0; room = 0 } }
     {
@@ -130,7 +130,7 @@ impl Slots {
         NodeId::new(self.slab.vacant_key())
     }
 
-    /// Makes room for so many more nodes. S5: memory was refused.
+    /// Makes room for so many more nodes. S5: an allocation failed.
     pub fn reserve(&mut self, additional: usize) -> Result<(), Deny>
         ensures ok { OnOk result (additional ≤ self.new.room) }
         ensures succeeds { additional ≤ self.old.room → IsOk result }
@@ -157,21 +157,7 @@ impl Slots {
         NodeId::new(self.slab.insert_reserved(Slot { node, uses: 1 }))
     }
 
-    /// Gives a node with one use the next number. S5: memory was refused.
-    pub fn insert(&mut self, node: Node) -> Result<NodeId, Deny>
-        ensures number { IfOk result (λ id. id ≡ self.old.next) }
-        ensures vacant { IfOk result (λ id. slot_at self.old id ≡ None) }
-        ensures inserted { IfOk result (λ id. slot_at self.new ≡ put_at (slot_at self.old) id (Some (record { node = node; uses = 1 }))) }
-        ensures len { OnOk result (slots_len self.new ≡ slots_len self.old + 1) }
-        ensures succeeds { 0 < self.old.room → IsOk result }
-        ensures memory { IfErr result (λ deny. deny ≡ denial S5) }
-        ensures err { OnErr result (self.new ≡ record self.old { room = self.new.room }) }
-    {
-        self.reserve(1)?;
-        Ok(self.insert_reserved(node))
-    }
-
-    /// Counts one use more of a node that is there. It takes no memory. S5: the count is at its limit, 2^64 - 1.
+    /// Counts one use more of a node that is there. It does not allocate. S5: the count is at its limit, 2^64 - 1.
     pub fn acquire(&mut self, id: NodeId) -> Result<(), Deny>
         ensures acquired { OnOk result (slot_at self.new ≡ put_at (slot_at self.old) id (used_once_more (slot_at self.old id))) }
         ensures limit { IsErrOf result (denial S5) ↔ (uses_in (slot_at self.old id) ≡ most_uses) }
@@ -201,7 +187,7 @@ impl Slots {
     }
 
     /// Counts one use less of a node that is there, and tells whether that was the last: with it the node goes, and its number is
-    /// the next to be given out. It takes no memory.
+    /// the next to be given out. It does not allocate.
     pub fn release(&mut self, id: NodeId) -> bool
         ensures released { slot_at self.new ≡ put_at (slot_at self.old) id (used_once_less (slot_at self.old id)) }
         ensures gone { result ≡ goes (slot_at self.old id) }

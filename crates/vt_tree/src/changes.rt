@@ -13,7 +13,7 @@ use vt_node::{Attr, NodeId};
 use vt_slots::Slots;
 use vt_spec::errors::{Deny, Rule};
 
-// Puts an entry into a directory. S5: memory was refused, which a name that is there does not need.
+// Puts an entry into a directory. S5: an allocation failed; a name that exists needs none.
 pub(crate) fn insert_entry(
     slots: &mut Slots,
     directory: NodeId,
@@ -72,7 +72,7 @@ pub(crate) fn set_bytes(slots: &mut Slots, file: NodeId, bytes: Vec<u8>)
     }
 }
 
-// Writes bytes into a file from an offset on. S5: memory was refused.
+// Writes bytes into a file from an offset on. S5: an allocation failed.
 pub(crate) fn write_bytes(
     slots: &mut Slots,
     file: NodeId,
