@@ -1,7 +1,7 @@
 //! Nodes: their attributes, and what they hold by their kind.
 ghost use Rattle.std.specs.FinMap.Entries.{is_sorted};
 ghost use Rattle.std.specs.Prelude.{◌≡◌, [], true, ◌+◌, ◌<◌, ◌^◌, map, length, not, take, drop, IsSome, IsOk, IfOk, OnOk, OnErr};
-ghost use Rattle.vt_spec.specs.declared.attributes.Kind.TheVariants.{File};
+ghost use Rattle.vt_spec.specs.declared.attributes.Kind.TheVariants.{Dir, File};
 ghost use Rattle.vt_spec.specs.Rights.{is_directory};
 ghost use Rattle.vt_spec.specs.Machine.Changes.{content_with_parent, without_entry};
 ghost use Rattle.vt_spec.specs.Machine.FileTree.{opaque_of};
@@ -202,6 +202,7 @@ impl Node {
           attr = self.old.attr;
           content = with_entries self.old.content (with_entry name.items id (entries_of self.old.content));
         }) }
+        ensures directory { OnErr result (kind_of self.old.content ≡ Dir) }
         ensures present { IsSome (entry_named name.items (entries_of self.old.content)) → IsOk result }
         ensures in_order { is_sorted name_cmp (entries_of self.old.content) ≡ true }
         ensures err { OnErr result (self.new ≡ self.old) }

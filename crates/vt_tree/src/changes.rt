@@ -1,8 +1,10 @@
 //! Changes of one inode, as the calls of a tree are made of.
-ghost use Rattle.std.specs.Prelude.{◌≡◌, ℕ, true, ◌+◌, ◌<◌, ◌^◌, Some, length, nat_eq, IsSome, IsOk, IfErr, OnOk, OnErr};
+ghost use Rattle.std.specs.Prelude.{◌≡◌, ℕ, true, ◌+◌, ◌<◌, ◌^◌, Some, length, nat_eq, IsSome, IsTrue, IsOk, IfErr, OnOk, OnErr};
 ghost use Rattle.std.specs.FinMap.Entries.{is_sorted};
 ghost use Rattle.vt_spec.specs.Errors.{denial};
 ghost use Rattle.vt_spec.specs.declared.errors.Rule.TheVariants.{S5};
+ghost use Rattle.vt_spec.specs.declared.attributes.Kind.TheVariants.{File};
+ghost use Rattle.vt_spec.specs.Machine.FileTree.{is_kind_in};
 ghost use Rattle.vt_spec.specs.Machine.Changes.{node_with_attr, node_with_parent, node_without_entry};
 ghost use Rattle.vt_spec.specs.Machine.Outcome.Descriptors.{overwritten};
 ghost use Rattle.vt_spec.specs.OneTree.Inodes.{with_changed, unpinned, without_replaced};
@@ -82,6 +84,7 @@ pub(crate) fn write_bytes(
     requires { offset + length bytes.now < 2 ^ 64 }
     ensures ok { (root : ℕ) → OnOk result (inodes_in root slots.new ≡ with_changed nat_eq (inodes_in root slots.old) file
         (node_with_bytes (overwritten offset bytes.now (bytes_in (node_at slots.old file))))) }
+    ensures file { OnErr result (IsTrue (is_kind_in File (node_at slots.old file))) }
     ensures longer { OnErr result (length (bytes_in (node_at slots.old file)) < offset + length bytes.now) }
     ensures memory { IfErr result (λ deny. deny ≡ denial S5) }
     ensures err { OnErr result (slots.new ≡ slots.old) }

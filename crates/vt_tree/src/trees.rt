@@ -1,13 +1,14 @@
 //! `Tree`, and what its calls change.
 ghost use Rattle.std.specs.Prelude.{◌≡◌, ◌≢◌, ◌+◌, ◌<◌, nat_eq, [], ◌∷◌, map, length, drop, take, Ok, None, Some, IfOk, IfErr, OnOk, OnErr, IsErrOf, IsOk, IsOkUnless, IsTrue, ◌↔◌, ◌⊎◌, option_copied};
 ghost use Rattle.vt_spec.specs.Errors.{denial};
+ghost use Rattle.vt_spec.specs.declared.attributes.Kind.TheVariants.{File};
 ghost use Rattle.vt_spec.specs.declared.errors.Rule.TheVariants.{S5, E2};
 ghost use Rattle.vt_spec.specs.Laws.Trees.{IsNewIn};
 ghost use Rattle.vt_spec.specs.Machine.Changes.Change.{AddName, Make, Move, Remove, SetAttr, SetBytes};
 ghost use Rattle.vt_spec.specs.Machine.Outcome.Descriptors.{overwritten};
 ghost use Rattle.vt_spec.specs.OneTree.Fits.{Fits};
 ghost use Rattle.vt_spec.specs.OneTree.Inodes.{changed, is_directory_under, one_directory, pinned, unpinned, uses_in};
-ghost use Rattle.vt_spec.specs.OneTree.Rules.{is_filled};
+ghost use Rattle.vt_spec.specs.OneTree.Rules.{is_filled, is_kind_at};
 ghost use Rattle.vt_spec.specs.Tree.{is_directory_node, parent_in, entries_in, names_in, bytes_in};
 ghost use Rattle.vt_spec.specs.TreeLaws.{entry_at};
 ghost use Rattle.vt_tree.specs.TreeRules.{AnswersBy, leads_to, link_rules, make_rules, rename_rules, ruling, unlink_rules, write_rules};
@@ -321,6 +322,7 @@ impl Tree {
         ensures ok { OnOk result (inodes_of self.new ≡ changed nat_eq (inodes_of self.old)
             (SetBytes file (overwritten offset bytes.now (bytes_in ((tree_of self.old).node file))))) }
         ensures answer { AnswersBy (write_rules (inodes_of self.old) file (offset + length bytes.now)) result }
+        ensures file { IsErrOf result (denial S5) → IsTrue (is_kind_at (tree_of self.old) file File) }
         ensures longer { IsErrOf result (denial S5) → length (bytes_in ((tree_of self.old).node file)) < offset + length bytes.now }
         ensures fits { Fits (inodes_of self.old) (SetBytes file (overwritten offset bytes.now (bytes_in ((tree_of self.old).node file))))
             → IsOkUnless result (denial S5) }
