@@ -101,7 +101,8 @@ impl Node {
         self.attr
     }
 
-    /// Whether it is a directory with the mark that hides what lies below it in an overlay: overlayfs, "Opaque directories".
+    /// Whether it is a directory with the mark that hides what lies below it in an overlay: overlayfs, "Opaque
+    /// directories".
     pub fn is_opaque(&self) -> bool
         ensures { result ≡ opaque_of self.now.content }
     {
@@ -161,7 +162,7 @@ impl Node {
         }
     }
 
-    /// At most so many bytes of a file from an offset on, or of a symlink's text: pread(2). Past the end there are none.
+    /// At most `size` bytes of a file, or of a symlink's text, from an offset on: pread(2). Past the end there are none.
     pub fn bytes_part(&self, offset: usize, size: usize) -> &[u8]
         ensures { result.now ≡ take size (drop offset (bytes_of self.now.content)) }
     {
@@ -186,7 +187,8 @@ impl Node {
     ///
     /// It fails only if an allocation does, and no names need none.
     pub fn names(&self, alloc: Global) -> Result<Vec<Vec<u8>>, AllocError>
-        ensures ok { IfOk result (λ names. map (λ name. name.items) names.items ≡ map (λ entry. entry.0) (entries_of self.now.content)) }
+        ensures ok { IfOk result (λ names.
+            map (λ name. name.items) names.items ≡ map (λ entry. entry.0) (entries_of self.now.content)) }
         ensures empty { entries_of self.now.content ≡ [] → IsOk result }
     {
         match &self.content {
@@ -195,8 +197,9 @@ impl Node {
         }
     }
 
-    /// Puts an entry into a directory; any other node stays as it is. It fails only if an allocation does, and a name that exists
-    /// needs none.
+    /// Puts an entry into a directory; any other node stays as it is.
+    ///
+    /// It fails only if an allocation does, and only a new name of a directory allocates.
     pub fn insert_entry(&mut self, name: Vec<u8>, id: NodeId) -> Result<(), AllocError>
         ensures ok { OnOk result (self.new ≡ record {
           attr = self.old.attr;
@@ -241,8 +244,8 @@ impl Node {
         self.attr = attr;
     }
 
-    /// Writes bytes into a file from an offset on, and zeros into a gap before them: pwrite(2). Any other node stays as it is.
-    /// It fails only if an allocation does, and only a file that gets longer allocates.
+    /// Writes bytes into a file from an offset on, and zeros into a gap before them: pwrite(2). Any other node stays as it
+    /// is. It fails only if an allocation does, and only a file that gets longer allocates.
     pub fn write_at(&mut self, offset: usize, bytes: &[u8]) -> Result<(), AllocError>
         requires { offset + length bytes.now < 2 ^ 64 }
         ensures ok { OnOk result (self.new ≡ record {

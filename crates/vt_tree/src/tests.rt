@@ -1,4 +1,5 @@
-//! What no clause says: that calls succeed with ample memory. Scripts through `run` (`vt_tests`, `checks/refuse-memory`) do the rest.
+//! What no clause says: that calls succeed with ample memory. Scripts through `run` do the rest (`vt_tests`,
+//! `checks/refuse-memory`).
 use super::*;
 use std::test::Fail;
 use vt_node::{Attr, Mode, Node, copied_bytes};

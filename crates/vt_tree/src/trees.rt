@@ -28,8 +28,8 @@ use vt_spec::errors::{Deny, Rule};
 // The most bytes of a file.
 const LARGEST_FILE: usize = 1_048_576;
 
-/// A tree of directories, files, symlinks and whiteouts, each with a number, and with a count of its uses: the names that lead to it,
-/// and what a caller pins. With its last use an object goes.
+/// A tree of directories, files, symlinks and whiteouts, each with a number, and with a count of its uses: the names that
+/// lead to it, and what a caller pins. With its last use an object goes.
 #[derive(Debug, Drop)]
 pub struct Tree {
     slots: Slots,
@@ -124,16 +124,20 @@ impl Tree {
         self.slots.get(directory)?.entry(name)
     }
 
-    /// How often the object is in use: the names that lead to it, and what is pinned. A number without an object has no use.
+    /// How often the object is in use: the names that lead to it, and what is pinned. A number without an object has no
+    /// use.
     pub fn uses(&self, object: NodeId) -> u64
         ensures { result ≡ uses_in ((inodes_of self.now).inode object) }
     {
         self.slots.uses(object)
     }
 
-    /// The names of a directory, in the order of their bytes: readdir(3). What is no directory has none. S5: an allocation failed.
+    /// The names of a directory, in the order of their bytes: readdir(3). What is no directory has none.
+    ///
+    /// S5: an allocation failed. No names need none.
     pub fn list(&self, directory: NodeId) -> Result<Vec<Vec<u8>>, Deny>
-        ensures ok { IfOk result (λ names. map (λ name. name.items) names.items ≡ names_in ((tree_of self.now).node directory)) }
+        ensures ok { IfOk result (λ names.
+            map (λ name. name.items) names.items ≡ names_in ((tree_of self.now).node directory)) }
         ensures empty { entries_in ((tree_of self.now).node directory) ≡ [] → IsOk result }
         ensures memory { IfErr result (λ deny. deny ≡ denial S5) }
     {
@@ -143,7 +147,9 @@ impl Tree {
         node.names(self.alloc).map_err(|_error| Rule::S5.denial())
     }
 
-    /// The bytes of a file: read(2). E2: a directory. S5: an allocation failed.
+    /// The bytes of a file, or the text of a symlink: read(2).
+    ///
+    /// E2: a directory. S5: an allocation failed. No bytes need none.
     pub fn read(&self, file: NodeId) -> Result<Vec<u8>, Deny>
         ensures ok { IfOk result (λ bytes. bytes.items ≡ bytes_in ((tree_of self.now).node file)) }
         ensures directory { IsErrOf result (denial E2) ↔ IsTrue (is_directory_node ((tree_of self.now).node file)) }
@@ -159,9 +165,12 @@ impl Tree {
         }
     }
 
-    /// At most so many bytes of a file from an offset on: pread(2). Past the end there are none. S5: an allocation failed.
+    /// At most `size` bytes of a file from an offset on: pread(2). Past the end there are none.
+    ///
+    /// S5: an allocation failed. No bytes need none.
     pub fn read_part(&self, file: NodeId, offset: usize, size: usize) -> Result<Vec<u8>, Deny>
-        ensures ok { IfOk result (λ bytes. bytes.items ≡ take size (drop offset (bytes_in ((tree_of self.now).node file)))) }
+        ensures ok { IfOk result (λ bytes.
+            bytes.items ≡ take size (drop offset (bytes_in ((tree_of self.now).node file)))) }
         ensures empty { take size (drop offset (bytes_in ((tree_of self.now).node file))) ≡ [] → IsOk result }
         ensures memory { IfErr result (λ deny. deny ≡ denial S5) }
     {
@@ -194,13 +203,15 @@ impl Tree {
 
     /// Makes an object under a name of a directory: mkdir(2), open(2) with O_CREAT, symlink(2), mknod(2).
     ///
-    /// E3: no directory. E1: the name is there. S5: an allocation failed.
+    /// E3: no directory. E1: the name exists. S5: an allocation failed.
     pub fn create(&mut self, directory: NodeId, name: Vec<u8>, node: Node) -> Result<NodeId, Deny>
         requires { IsNewIn directory node }
-        ensures ok { IfOk result (λ id. inodes_of self.new ≡ changed nat_eq (inodes_of self.old) (Make directory name.items id node)) }
+        ensures ok { IfOk result (λ id.
+            inodes_of self.new ≡ changed nat_eq (inodes_of self.old) (Make directory name.items id node)) }
         ensures number { IfOk result (λ id. id ≡ next_number self.old) }
         ensures answer { AnswersBy (make_rules (inodes_of self.old) directory name.items) result }
-        ensures fits { Fits (inodes_of self.old) (Make directory name.items (next_number self.old) node) → IsOkUnless result (denial S5) }
+        ensures fits { Fits (inodes_of self.old) (Make directory name.items (next_number self.old) node)
+            → IsOkUnless result (denial S5) }
         ensures err { OnErr result (self.new ≡ self.old) }
     {
         if let Err(deny) = self.check_name(directory, &name) {
@@ -212,12 +223,13 @@ impl Tree {
         Ok(self.slots.insert_reserved(node))
     }
 
-    /// Gives an object a name more: link(2). The caller names an object that is there: the name is made all the same.
+    /// Makes a further hard link to an object: link(2). That the object exists is not checked: it is the caller's.
     ///
-    /// E3: no directory. E1: the name is there. E7: the object is a directory. S5: an allocation failed, or the object has 2^64 - 1
-    /// uses.
+    /// E3: no directory. E1: the name exists. E7: the object is a directory. S5: an allocation failed, or the object has
+    /// 2^64 - 1 uses.
     pub fn link(&mut self, directory: NodeId, name: Vec<u8>, object: NodeId) -> Result<(), Deny>
-        ensures ok { OnOk result (inodes_of self.new ≡ changed nat_eq (inodes_of self.old) (AddName directory name.items object)) }
+        ensures ok { OnOk result
+            (inodes_of self.new ≡ changed nat_eq (inodes_of self.old) (AddName directory name.items object)) }
         ensures answer { AnswersBy (link_rules (inodes_of self.old) directory name.items object) result }
         ensures fits { Fits (inodes_of self.old) (AddName directory name.items object) → IsOkUnless result (denial S5) }
         ensures err { OnErr result (self.new ≡ self.old) }
@@ -240,7 +252,8 @@ impl Tree {
     ///
     /// W6: the name is not the object's. E4: the object is a directory with entries.
     pub fn unlink(&mut self, directory: NodeId, name: &[u8], object: NodeId) -> Result<(), Deny>
-        ensures ok { OnOk result (inodes_of self.new ≡ changed nat_eq (inodes_of self.old) (Remove directory name.now object)) }
+        ensures ok { OnOk result
+            (inodes_of self.new ≡ changed nat_eq (inodes_of self.old) (Remove directory name.now object)) }
         ensures answer { result ≡ ruling (unlink_rules (inodes_of self.old) directory name.now object) }
         ensures fits { Fits (inodes_of self.old) (Remove directory name.now object) → result ≡ Ok tt }
         ensures err { OnErr result (self.new ≡ self.old) }
@@ -258,8 +271,9 @@ impl Tree {
 
     /// Gives an object another name, and takes the place of what had that: rename(2). Two names of one object stay.
     ///
-    /// W6: the old name is not the object's. E3: no directory, or a directory over what is none. E2: no directory over a directory.
-    /// E4: a directory over one with entries. E5: a directory under itself. S5: an allocation failed.
+    /// W6: the old name is not the object's. E3: no directory, or a directory over what is none. E2: no directory over a
+    /// directory. E4: a directory over one with entries. E5: a directory under itself. S5: an allocation failed, which only
+    /// a new name needs.
     pub fn rename(
         &mut self,
         from: NodeId,
@@ -269,13 +283,17 @@ impl Tree {
         object: NodeId,
     ) -> Result<(), Deny>
         ensures ok { entry_at (tree_of self.old) to new.items ≢ Some object
-            → OnOk result (inodes_of self.new ≡ changed nat_eq (inodes_of self.old) (Move from old.now to new.items object)) }
-        ensures one_object { entry_at (tree_of self.old) to new.items ≡ Some object → OnOk result (self.new ≡ self.old) }
+            → OnOk result
+            (inodes_of self.new ≡ changed nat_eq (inodes_of self.old) (Move from old.now to new.items object)) }
+        ensures one_object { entry_at (tree_of self.old) to new.items ≡ Some object
+            → OnOk result (self.new ≡ self.old) }
         ensures answer { AnswersBy (rename_rules (inodes_of self.old) from old.now to new.items object) result }
         ensures new_name { IsErrOf result (denial S5) → entry_at (tree_of self.old) to new.items ≡ None }
-        ensures fits { Fits (inodes_of self.old) (Move from old.now to new.items object) → IsOkUnless result (denial S5) }
+        ensures fits { Fits (inodes_of self.old) (Move from old.now to new.items object)
+            → IsOkUnless result (denial S5) }
         ensures fits_ok { Fits (inodes_of self.old) (Move from old.now to new.items object)
-            → OnOk result (inodes_of self.new ≡ changed nat_eq (inodes_of self.old) (Move from old.now to new.items object)) }
+            → OnOk result
+            (inodes_of self.new ≡ changed nat_eq (inodes_of self.old) (Move from old.now to new.items object)) }
         ensures err { OnErr result (self.new ≡ self.old) }
     {
         if let Err(deny) = self.check_rename(from, old, to, &new, object) {
@@ -296,9 +314,11 @@ impl Tree {
 
     /// Sets the whole content of a file: write(2) after open(2) with O_TRUNC. It does not allocate.
     ///
-    /// E2: a directory. E6: more than 1,048,576 bytes. A symlink, a whiteout and a number without an object stay as they are.
+    /// E2: a directory. E6: more than 1,048,576 bytes. A symlink, a whiteout and a number without an object stay as they
+    /// are.
     pub fn write(&mut self, file: NodeId, bytes: Vec<u8>) -> Result<(), Deny>
-        ensures ok { OnOk result (inodes_of self.new ≡ changed nat_eq (inodes_of self.old) (SetBytes file bytes.items)) }
+        ensures ok { OnOk result
+            (inodes_of self.new ≡ changed nat_eq (inodes_of self.old) (SetBytes file bytes.items)) }
         ensures answer { result ≡ ruling (write_rules (inodes_of self.old) file (length bytes.items)) }
         ensures fits { Fits (inodes_of self.old) (SetBytes file bytes.items) → result ≡ Ok tt }
         ensures err { OnErr result (self.new ≡ self.old) }
@@ -313,18 +333,20 @@ impl Tree {
         Ok(())
     }
 
-    /// Writes bytes into a file from an offset on, and zeros into a gap before them: pwrite(2). Only a file that gets longer
-    /// allocates.
+    /// Writes bytes into a file from an offset on, and zeros into a gap before them: pwrite(2). Only a file that gets
+    /// longer allocates.
     ///
-    /// E2: a directory. E6: the bytes would end behind 1,048,576. S5: an allocation failed. A symlink, a whiteout and a number without
-    /// an object stay as they are.
+    /// E2: a directory. E6: the bytes would end behind 1,048,576. S5: an allocation failed. A symlink, a whiteout and a
+    /// number without an object stay as they are.
     pub fn write_at(&mut self, file: NodeId, offset: usize, bytes: &[u8]) -> Result<(), Deny>
         ensures ok { OnOk result (inodes_of self.new ≡ changed nat_eq (inodes_of self.old)
             (SetBytes file (overwritten offset bytes.now (bytes_in ((tree_of self.old).node file))))) }
         ensures answer { AnswersBy (write_rules (inodes_of self.old) file (offset + length bytes.now)) result }
         ensures file { IsErrOf result (denial S5) → IsTrue (is_kind_at (tree_of self.old) file File) }
-        ensures longer { IsErrOf result (denial S5) → length (bytes_in ((tree_of self.old).node file)) < offset + length bytes.now }
-        ensures fits { Fits (inodes_of self.old) (SetBytes file (overwritten offset bytes.now (bytes_in ((tree_of self.old).node file))))
+        ensures longer { IsErrOf result (denial S5)
+            → length (bytes_in ((tree_of self.old).node file)) < offset + length bytes.now }
+        ensures fits { Fits (inodes_of self.old)
+            (SetBytes file (overwritten offset bytes.now (bytes_in ((tree_of self.old).node file))))
             → IsOkUnless result (denial S5) }
         ensures err { OnErr result (self.new ≡ self.old) }
     {
