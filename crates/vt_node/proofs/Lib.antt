@@ -1,2 +1,3 @@
 pub mod ListedLemmas
+pub mod SortedNames
 pub mod ByteLemmas

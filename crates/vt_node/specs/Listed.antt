@@ -1,8 +1,9 @@
 -- How the entries of a directory are kept, and what contracts see of them.
-use Rattle.std.specs.Prelude.{ℕ, List, map}
+use Rattle.std.specs.Prelude.{ℕ, List, [], ◌∷◌}
 use Rattle.std.specs.declared.vec.Vec.{Vec}
-use Rattle.vt_spec.specs.Tree.{Entries}
+use Rattle.vt_spec.specs.Tree.{Entries, with_entry}
 
--- each entry with its name's bytes
+-- the entries in the order of their names, in whatever order they are kept
 abbrev pub listed : {A : Type 0} → List (Vec ℕ A × ℕ) → Entries ℕ
-listed kept = map (λ e. (e.0.items, e.1)) kept
+listed [] = []
+listed (e ∷ es) = with_entry e.0.items e.1 (listed es)

@@ -1,35 +1,35 @@
-//! The entries of a directory: a map from names, listed in the order of the names' bytes.
-ghost use Rattle.std.specs.Prelude.{◌≡◌, [], map, length, true, IsSome, IsTrue, IsOk, ◌↔◌, OnOk, OnErr};
+//! The entries of a directory: a map from names, which contracts see in the order of the names' bytes.
+ghost use Rattle.std.specs.Prelude.{◌≡◌, [], map, true, IsSome, IsTrue, IsOk, IfOk, ◌↔◌, OnOk, OnErr};
 ghost use Rattle.std.specs.FinMap.Entries.{is_sorted};
 ghost use Rattle.vt_spec.specs.Tree.{name_cmp, entry_named, with_entry};
 ghost use Rattle.vt_spec.specs.Machine.Changes.{without_entry};
 
 use crate::NodeId;
+use crate::copies::copied_names;
 use indexmap::IndexMap;
 use std::alloc::{AllocError, Global};
 use std::marker::Model;
 
 /// The entries of a directory: each name once, with the number of its node.
+///
+/// They are kept by hash and in no order, so that an entry is put in and taken out at once however many there are.
 #[derive(Debug, Drop)]
 pub struct DirectoryEntries {
     by_name: IndexMap<Vec<u8>, NodeId>,
 }
 
 impl Model for DirectoryEntries {
-    ghost use Rattle.std.specs.Prelude.{◌≡◌, ℕ, true};
-    ghost use Rattle.std.specs.FinMap.Entries.{is_sorted};
-    ghost use Rattle.vt_spec.specs.Tree.{Entries, name_cmp};
+    ghost use Rattle.std.specs.Prelude.{ℕ};
+    ghost use Rattle.vt_spec.specs.Tree.{Entries};
     ghost use Rattle.vt_node.specs.Listed.{listed};
 
     ghost Value = { Entries ℕ };
 
     ghost view = { λ d. listed d.by_name.entries };
-
-    ghost invariant = { λ d. is_sorted name_cmp (listed d.by_name.entries) ≡ true };
 }
 
 impl DirectoryEntries {
-    /// No entries. It takes no memory.
+    /// No entries. It does not allocate.
     pub fn new(alloc: Global) -> Self
         ensures { result ≡ [] }
     {
@@ -45,38 +45,32 @@ impl DirectoryEntries {
         self.by_name.get(name).copied()
     }
 
-    /// Puts an entry in its place. It fails only for want of memory, which a name that is there does not take.
+    /// Puts an entry in. It fails only if an allocation does, and a name that exists needs none.
     pub fn insert(&mut self, name: Vec<u8>, id: NodeId) -> Result<(), AllocError>
         ensures ok { OnOk result (self.new ≡ with_entry name.items id self.old) }
         ensures present { IsSome (entry_named name.items self.old) → IsOk result }
         ensures in_order { is_sorted name_cmp self.old ≡ true }
         ensures err { OnErr result (self.new ≡ self.old) }
     {
-        self.by_name.insert_sorted(name, id)?;
+        self.by_name.insert(name, id)?;
         Ok(())
     }
 
-    /// Takes an entry out, if it is there, and tells the number that it led to. The others stay in order. It takes no memory.
-    pub fn remove(&mut self, name: &[u8]) -> Option<NodeId>
-        ensures value { result ≡ entry_named name.now self.old }
-        ensures removed { self.new ≡ without_entry name.now self.old }
+    /// Takes an entry out, if it exists. It does not allocate.
+    pub fn remove(&mut self, name: &[u8])
+        ensures { self.new ≡ without_entry name.now self.old }
     {
-        self.by_name.shift_remove(name)
+        self.by_name.swap_remove(name);
     }
 
-    /// The names, in the order of their bytes.
-    pub fn names(&self) -> &[Vec<u8>]
-        ensures names { map (λ name. name.items) result.now ≡ map (λ entry. entry.0) self.now }
-        ensures sorted { is_sorted name_cmp self.now ≡ true }
+    /// Copies of the names, in the order of their bytes. It fails only if an allocation does, and no entries need none.
+    pub fn names(&self, alloc: Global) -> Result<Vec<Vec<u8>>, AllocError>
+        ensures ok { IfOk result (λ names. map (λ name. name.items) names.items ≡ map (λ entry. entry.0) self.now) }
+        ensures empty { self.now ≡ [] → IsOk result }
     {
-        self.by_name.keys().as_slice()
-    }
-
-    /// How many entries there are.
-    pub fn len(&self) -> usize
-        ensures { result ≡ length self.now }
-    {
-        self.by_name.len()
+        let mut names = copied_names(alloc, self.by_name.keys().as_slice())?;
+        names.sort_unstable();
+        Ok(names)
     }
 
     /// Whether there are no entries.

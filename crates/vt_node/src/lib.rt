@@ -1,11 +1,13 @@
-//! Inodes of a tree: what each holds, and a directory's entries in the order of their names.
+//! Inodes of a tree: what each holds, and the entries of a directory.
 #![tactic(auto)]
 
+mod copies;
 mod entries;
 mod nodes;
 mod numbers;
 
-pub use entries::DirectoryEntries;
+pub use copies::copied_bytes;
+pub(crate) use entries::DirectoryEntries;
 pub use nodes::Node;
 pub use numbers::NodeId;
 pub use vt_spec::attributes::{Attr, Kind, Mode};

@@ -1,7 +1,7 @@
 //! Nodes: their attributes, and what they hold by their kind.
 ghost use Rattle.std.specs.FinMap.Entries.{is_sorted};
-ghost use Rattle.std.specs.Prelude.{◌≡◌, true, ◌+◌, ◌<◌, ◌^◌, map, length, not, take, drop, IsSome, IsOk, OnOk, OnErr};
-ghost use Rattle.vt_spec.specs.declared.attributes.Kind.TheVariants.{File};
+ghost use Rattle.std.specs.Prelude.{◌≡◌, [], true, ◌+◌, ◌<◌, ◌^◌, map, length, not, take, drop, IsSome, IsOk, IfOk, OnOk, OnErr};
+ghost use Rattle.vt_spec.specs.declared.attributes.Kind.TheVariants.{Dir, File};
 ghost use Rattle.vt_spec.specs.Rights.{is_directory};
 ghost use Rattle.vt_spec.specs.Machine.Changes.{content_with_parent, without_entry};
 ghost use Rattle.vt_spec.specs.Machine.FileTree.{opaque_of};
@@ -50,7 +50,7 @@ impl Model for Node {
 }
 
 impl Node {
-    /// An empty directory below this parent; the root is its own parent. It takes no memory.
+    /// An empty directory below this parent; the root is its own parent. It does not allocate.
     pub fn new_directory(alloc: Global, attr: Attr, parent: NodeId) -> Self
         ensures { result ≡ record { attr = attr; content = new_directory parent } }
     {
@@ -74,7 +74,7 @@ impl Node {
         }
     }
 
-    /// A symbolic link with this text.
+    /// A symlink with this text.
     pub fn new_link(attr: Attr, text: Vec<u8>) -> Self
         ensures { result ≡ record { attr = attr; content = Symlink text.items } }
     {
@@ -101,7 +101,8 @@ impl Node {
         self.attr
     }
 
-    /// Whether it is a directory with the mark that hides what lies below it in an overlay: overlayfs, "Opaque directories".
+    /// Whether it is a directory with the mark that hides what lies below it in an overlay: overlayfs, "Opaque
+    /// directories".
     pub fn is_opaque(&self) -> bool
         ensures { result ≡ opaque_of self.now.content }
     {
@@ -150,7 +151,7 @@ impl Node {
         }
     }
 
-    /// The bytes of a file, or the text of a link; of any other node none.
+    /// The bytes of a file, or the text of a symlink; any other node has none.
     pub fn bytes(&self) -> &[u8]
         ensures { result.now ≡ bytes_of self.now.content }
     {
@@ -161,7 +162,7 @@ impl Node {
         }
     }
 
-    /// At most so many bytes of a file from an offset on, or of a link's text: pread(2). Past the end there are none.
+    /// At most `size` bytes of a file, or of a symlink's text, from an offset on: pread(2). Past the end there are none.
     pub fn bytes_part(&self, offset: usize, size: usize) -> &[u8]
         ensures { result.now ≡ take size (drop offset (bytes_of self.now.content)) }
     {
@@ -182,22 +183,29 @@ impl Node {
         }
     }
 
-    /// The names of a directory, in the order of their bytes; of any other node none.
-    pub fn names(&self) -> &[Vec<u8>]
-        ensures { map (λ name. name.items) result.now ≡ map (λ entry. entry.0) (entries_of self.now.content) }
+    /// Copies of the names of a directory, in the order of their bytes; any other node has none.
+    ///
+    /// It fails only if an allocation does, and no names need none.
+    pub fn names(&self, alloc: Global) -> Result<Vec<Vec<u8>>, AllocError>
+        ensures ok { IfOk result (λ names.
+            map (λ name. name.items) names.items ≡ map (λ entry. entry.0) (entries_of self.now.content)) }
+        ensures empty { entries_of self.now.content ≡ [] → IsOk result }
     {
         match &self.content {
-            Content::Directory { entries, .. } => entries.names(),
-            _ => &[],
+            Content::Directory { entries, .. } => entries.names(alloc),
+            _ => Ok(Vec::new(alloc)),
         }
     }
 
-    /// Puts an entry into a directory, in its place; any other node stays as it is. A name that is there takes no memory.
+    /// Puts an entry into a directory; any other node stays as it is.
+    ///
+    /// It fails only if an allocation does, and only a new name of a directory allocates.
     pub fn insert_entry(&mut self, name: Vec<u8>, id: NodeId) -> Result<(), AllocError>
         ensures ok { OnOk result (self.new ≡ record {
           attr = self.old.attr;
           content = with_entries self.old.content (with_entry name.items id (entries_of self.old.content));
         }) }
+        ensures directory { OnErr result (kind_of self.old.content ≡ Dir) }
         ensures present { IsSome (entry_named name.items (entries_of self.old.content)) → IsOk result }
         ensures in_order { is_sorted name_cmp (entries_of self.old.content) ≡ true }
         ensures err { OnErr result (self.new ≡ self.old) }
@@ -208,7 +216,7 @@ impl Node {
         }
     }
 
-    /// Takes an entry out of a directory, if it is there; any other node stays as it is. It takes no memory.
+    /// Takes an entry out of a directory, if it exists; any other node stays as it is. It does not allocate.
     pub fn remove_entry(&mut self, name: &[u8])
         ensures { self.new ≡ record {
           attr = self.old.attr;
@@ -220,7 +228,7 @@ impl Node {
         }
     }
 
-    /// Sets the parent of a directory; any other node stays as it is. It takes no memory.
+    /// Sets the parent of a directory; any other node stays as it is. It does not allocate.
     pub fn set_parent(&mut self, parent: NodeId)
         ensures { self.new ≡ record { attr = self.old.attr; content = content_with_parent parent self.old.content } }
     {
@@ -229,15 +237,15 @@ impl Node {
         }
     }
 
-    /// Sets its owner, group and mode. It takes no memory.
+    /// Sets its owner, group and mode. It does not allocate.
     pub fn set_attr(&mut self, attr: Attr)
         ensures { self.new ≡ record { attr = attr; content = self.old.content } }
     {
         self.attr = attr;
     }
 
-    /// Writes bytes into a file from an offset on, and zeros into a gap before them: pwrite(2). Any other node stays as it is.
-    /// It fails only for want of memory, and only a file that gets longer takes any.
+    /// Writes bytes into a file from an offset on, and zeros into a gap before them: pwrite(2). Any other node stays as it
+    /// is. It fails only if an allocation does, and only a file that gets longer allocates.
     pub fn write_at(&mut self, offset: usize, bytes: &[u8]) -> Result<(), AllocError>
         requires { offset + length bytes.now < 2 ^ 64 }
         ensures ok { OnOk result (self.new ≡ record {
@@ -254,7 +262,7 @@ impl Node {
         }
     }
 
-    /// Sets the whole content of a file; any other node stays as it is. It takes no memory.
+    /// Sets the whole content of a file; any other node stays as it is. It does not allocate.
     pub fn set_bytes(&mut self, bytes: Vec<u8>)
         ensures { self.new ≡ record { attr = self.old.attr; content = with_bytes self.old.content bytes.items } }
     {

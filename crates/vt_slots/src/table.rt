@@ -43,8 +43,8 @@ impl Slot {
 
 /// Nodes by number.
 ///
-/// Each use of a node counts: an entry that leads to it, an open file, a place where a task stands. The count is exact: a use
-/// beyond 2^64 - 1 is refused.
+/// Each use of a node counts: an entry that leads to it, an open file, a place where a task stands. The count is exact: a
+/// use beyond 2^64 - 1 is refused.
 #[derive(Debug, Drop)]
 pub struct Slots {
     slab: Slab<Slot>,
@@ -68,7 +68,7 @@ impl Slots {
     ghost use Rattle.vt_slots.specs.Slots.{Slots as Table, slots_len, slot_at, node_at, put_at, most_uses, with_uses, goes};
     ghost use Rattle.vt_slots.specs.Lends.{lends_node, lends_present};
 
-    /// No nodes. It takes no memory.
+    /// No nodes. It does not allocate.
     pub fn new(alloc: Global) -> Self
         ensures { result ≡ record { slots = []; next = 0; room = 0 } }
     {
@@ -130,7 +130,7 @@ impl Slots {
         NodeId::new(self.slab.vacant_key())
     }
 
-    /// Makes room for so many more nodes. S5: memory was refused.
+    /// Makes room for so many more nodes. S5: an allocation failed.
     pub fn reserve(&mut self, additional: usize) -> Result<(), Deny>
         ensures ok { OnOk result (additional ≤ self.new.room) }
         ensures succeeds { additional ≤ self.old.room → IsOk result }
@@ -150,30 +150,18 @@ impl Slots {
         requires { 0 < self.old.room }
         ensures number { result ≡ self.old.next }
         ensures vacant { slot_at self.old result ≡ None }
-        ensures inserted { slot_at self.new ≡ put_at (slot_at self.old) result (Some (record { node = node; uses = 1 })) }
+        ensures inserted { slot_at self.new
+            ≡ put_at (slot_at self.old) result (Some (record { node = node; uses = 1 })) }
         ensures len { slots_len self.new ≡ slots_len self.old + 1 }
         ensures room { self.new.room + 1 ≡ self.old.room }
     {
         NodeId::new(self.slab.insert_reserved(Slot { node, uses: 1 }))
     }
 
-    /// Gives a node with one use the next number. S5: memory was refused.
-    pub fn insert(&mut self, node: Node) -> Result<NodeId, Deny>
-        ensures number { IfOk result (λ id. id ≡ self.old.next) }
-        ensures vacant { IfOk result (λ id. slot_at self.old id ≡ None) }
-        ensures inserted { IfOk result (λ id. slot_at self.new ≡ put_at (slot_at self.old) id (Some (record { node = node; uses = 1 }))) }
-        ensures len { OnOk result (slots_len self.new ≡ slots_len self.old + 1) }
-        ensures succeeds { 0 < self.old.room → IsOk result }
-        ensures memory { IfErr result (λ deny. deny ≡ denial S5) }
-        ensures err { OnErr result (self.new ≡ record self.old { room = self.new.room }) }
-    {
-        self.reserve(1)?;
-        Ok(self.insert_reserved(node))
-    }
-
-    /// Counts one use more of a node that is there. It takes no memory. S5: the count is at its limit, 2^64 - 1.
+    /// Counts one use more of a node that exists. It does not allocate. S5: the count is at its limit, 2^64 - 1.
     pub fn acquire(&mut self, id: NodeId) -> Result<(), Deny>
-        ensures acquired { OnOk result (slot_at self.new ≡ put_at (slot_at self.old) id (used_once_more (slot_at self.old id))) }
+        ensures acquired { OnOk result
+            (slot_at self.new ≡ put_at (slot_at self.old) id (used_once_more (slot_at self.old id))) }
         ensures limit { IsErrOf result (denial S5) ↔ (uses_in (slot_at self.old id) ≡ most_uses) }
         ensures memory { IfErr result (λ deny. deny ≡ denial S5) }
         ensures next { self.new.next ≡ self.old.next }
@@ -188,7 +176,7 @@ impl Slots {
         Ok(())
     }
 
-    /// Counts one use more of a node that is there, for a caller that knows that the count is below its limit.
+    /// Counts one use more of a node that exists, for a caller that knows that the count is below its limit.
     pub fn count_use(&mut self, id: NodeId)
         requires { uses_in (slot_at self.old id) < most_uses }
         ensures acquired { slot_at self.new ≡ put_at (slot_at self.old) id (used_once_more (slot_at self.old id)) }
@@ -200,13 +188,14 @@ impl Slots {
         self.set_uses(id, uses + 1);
     }
 
-    /// Counts one use less of a node that is there, and tells whether that was the last: with it the node goes, and its number is
-    /// the next to be given out. It takes no memory.
+    /// Counts one use less of a node that exists, and returns whether that was the last: with it the node goes, and its
+    /// number is the next to be given out. It does not allocate.
     pub fn release(&mut self, id: NodeId) -> bool
         ensures released { slot_at self.new ≡ put_at (slot_at self.old) id (used_once_less (slot_at self.old id)) }
         ensures gone { result ≡ goes (slot_at self.old id) }
         ensures next { self.new.next ≡ (if goes (slot_at self.old id) then id else self.old.next) }
-        ensures len { slots_len self.new ≡ (if goes (slot_at self.old id) then slots_len self.old - 1 else slots_len self.old) }
+        ensures len { slots_len self.new
+            ≡ (if goes (slot_at self.old id) then slots_len self.old - 1 else slots_len self.old) }
         ensures room { self.old.room ≤ self.new.room }
     {
         let uses = self.uses(id);
@@ -217,7 +206,7 @@ impl Slots {
         false
     }
 
-    // Sets the count of a node that is there.
+    // Sets the count of a node that exists.
     fn set_uses(&mut self, id: NodeId, uses: u64)
         ensures set { slot_at self.new ≡ put_at (slot_at self.old) id (with_uses uses (slot_at self.old id)) }
         ensures next { self.new.next ≡ self.old.next }

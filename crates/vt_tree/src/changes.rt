@@ -1,8 +1,10 @@
 //! Changes of one inode, as the calls of a tree are made of.
-ghost use Rattle.std.specs.Prelude.{◌≡◌, ℕ, true, ◌+◌, ◌<◌, ◌^◌, Some, length, nat_eq, IsSome, IsOk, IfErr, OnOk, OnErr};
+ghost use Rattle.std.specs.Prelude.{◌≡◌, ℕ, true, ◌+◌, ◌<◌, ◌^◌, Some, length, nat_eq, IsSome, IsTrue, IsOk, IfErr, OnOk, OnErr};
 ghost use Rattle.std.specs.FinMap.Entries.{is_sorted};
 ghost use Rattle.vt_spec.specs.Errors.{denial};
 ghost use Rattle.vt_spec.specs.declared.errors.Rule.TheVariants.{S5};
+ghost use Rattle.vt_spec.specs.declared.attributes.Kind.TheVariants.{File};
+ghost use Rattle.vt_spec.specs.Machine.FileTree.{is_kind_in};
 ghost use Rattle.vt_spec.specs.Machine.Changes.{node_with_attr, node_with_parent, node_without_entry};
 ghost use Rattle.vt_spec.specs.Machine.Outcome.Descriptors.{overwritten};
 ghost use Rattle.vt_spec.specs.OneTree.Inodes.{with_changed, unpinned, without_replaced};
@@ -13,14 +15,15 @@ use vt_node::{Attr, NodeId};
 use vt_slots::Slots;
 use vt_spec::errors::{Deny, Rule};
 
-// Puts an entry into a directory. S5: memory was refused, which a name that is there does not need.
+// Puts an entry into a directory. S5: an allocation failed; a name that exists needs none.
 pub(crate) fn insert_entry(
     slots: &mut Slots,
     directory: NodeId,
     name: Vec<u8>,
     id: NodeId,
 ) -> Result<(), Deny>
-    ensures ok { (root : ℕ) → OnOk result (inodes_in root slots.new ≡ with_changed nat_eq (inodes_in root slots.old) directory (node_with_entry name.items id)) }
+    ensures ok { (root : ℕ) → OnOk result (inodes_in root slots.new
+        ≡ with_changed nat_eq (inodes_in root slots.old) directory (node_with_entry name.items id)) }
     ensures present { IsSome (entry_named name.items (entries_in (node_at slots.old directory))) → IsOk result }
     ensures in_order { is_sorted name_cmp (entries_in (node_at slots.old directory)) ≡ true }
     ensures next { slots.new.next ≡ slots.old.next }
@@ -38,7 +41,8 @@ pub(crate) fn insert_entry(
 
 // Takes an entry out of a directory.
 pub(crate) fn remove_entry(slots: &mut Slots, directory: NodeId, name: &[u8])
-    ensures removed { (root : ℕ) → inodes_in root slots.new ≡ with_changed nat_eq (inodes_in root slots.old) directory (node_without_entry name.now) }
+    ensures removed { (root : ℕ) → inodes_in root slots.new
+        ≡ with_changed nat_eq (inodes_in root slots.old) directory (node_without_entry name.now) }
 {
     if let Some(node) = slots.get_mut(directory) {
         node.remove_entry(name);
@@ -47,7 +51,8 @@ pub(crate) fn remove_entry(slots: &mut Slots, directory: NodeId, name: &[u8])
 
 // Sets the parent of a directory.
 pub(crate) fn set_parent(slots: &mut Slots, directory: NodeId, parent: NodeId)
-    ensures set { (root : ℕ) → inodes_in root slots.new ≡ with_changed nat_eq (inodes_in root slots.old) directory (node_with_parent parent) }
+    ensures set { (root : ℕ) → inodes_in root slots.new
+        ≡ with_changed nat_eq (inodes_in root slots.old) directory (node_with_parent parent) }
 {
     if let Some(node) = slots.get_mut(directory) {
         node.set_parent(parent);
@@ -56,7 +61,8 @@ pub(crate) fn set_parent(slots: &mut Slots, directory: NodeId, parent: NodeId)
 
 // Sets the owner, group and mode of an object.
 pub(crate) fn set_attr(slots: &mut Slots, object: NodeId, attr: Attr)
-    ensures set { (root : ℕ) → inodes_in root slots.new ≡ with_changed nat_eq (inodes_in root slots.old) object (node_with_attr attr) }
+    ensures set { (root : ℕ) → inodes_in root slots.new
+        ≡ with_changed nat_eq (inodes_in root slots.old) object (node_with_attr attr) }
 {
     if let Some(node) = slots.get_mut(object) {
         node.set_attr(attr);
@@ -65,14 +71,15 @@ pub(crate) fn set_attr(slots: &mut Slots, object: NodeId, attr: Attr)
 
 // Sets the whole content of a file.
 pub(crate) fn set_bytes(slots: &mut Slots, file: NodeId, bytes: Vec<u8>)
-    ensures set { (root : ℕ) → inodes_in root slots.new ≡ with_changed nat_eq (inodes_in root slots.old) file (node_with_bytes bytes.items) }
+    ensures set { (root : ℕ) → inodes_in root slots.new
+        ≡ with_changed nat_eq (inodes_in root slots.old) file (node_with_bytes bytes.items) }
 {
     if let Some(node) = slots.get_mut(file) {
         node.set_bytes(bytes);
     }
 }
 
-// Writes bytes into a file from an offset on. S5: memory was refused.
+// Writes bytes into a file from an offset on. S5: an allocation failed.
 pub(crate) fn write_bytes(
     slots: &mut Slots,
     file: NodeId,
@@ -80,8 +87,10 @@ pub(crate) fn write_bytes(
     bytes: &[u8],
 ) -> Result<(), Deny>
     requires { offset + length bytes.now < 2 ^ 64 }
-    ensures ok { (root : ℕ) → OnOk result (inodes_in root slots.new ≡ with_changed nat_eq (inodes_in root slots.old) file
+    ensures ok { (root : ℕ) → OnOk result (inodes_in root slots.new
+        ≡ with_changed nat_eq (inodes_in root slots.old) file
         (node_with_bytes (overwritten offset bytes.now (bytes_in (node_at slots.old file))))) }
+    ensures file { OnErr result (IsTrue (is_kind_in File (node_at slots.old file))) }
     ensures longer { OnErr result (length (bytes_in (node_at slots.old file)) < offset + length bytes.now) }
     ensures memory { IfErr result (λ deny. deny ≡ denial S5) }
     ensures err { OnErr result (slots.new ≡ slots.old) }
@@ -95,9 +104,11 @@ pub(crate) fn write_bytes(
     }
 }
 
-// Takes back a use that an entry was: a directory without a name is its own parent, and with its last use an object goes.
+// Takes back a use that an entry was: a directory without a name is its own parent, and with its last use an object
+// goes.
 pub(crate) fn remove_object(slots: &mut Slots, object: NodeId)
-    ensures removed { (root : ℕ) → inodes_in root slots.new ≡ without_replaced nat_eq (inodes_in root slots.old) (Some object) }
+    ensures removed { (root : ℕ) → inodes_in root slots.new
+        ≡ without_replaced nat_eq (inodes_in root slots.old) (Some object) }
 {
     set_parent(slots, object, object);
     release(slots, object);

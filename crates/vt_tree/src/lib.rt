@@ -2,7 +2,6 @@
 #![tactic(auto)]
 
 mod changes;
-mod copies;
 mod trees;
 
 pub use trees::Tree;

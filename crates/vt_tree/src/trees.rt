@@ -1,14 +1,15 @@
 //! `Tree`, and what its calls change.
-ghost use Rattle.std.specs.Prelude.{◌≡◌, ◌≢◌, ◌+◌, ◌<◌, nat_eq, [], ◌∷◌, map, length, drop, take, Ok, None, Some, IfOk, IfErr, OnOk, OnErr, IsErrOf, IsOkUnless, IsTrue, ◌↔◌, ◌⊎◌, option_copied};
+ghost use Rattle.std.specs.Prelude.{◌≡◌, ◌≢◌, ◌+◌, ◌<◌, nat_eq, [], ◌∷◌, map, length, drop, take, Ok, None, Some, IfOk, IfErr, OnOk, OnErr, IsErrOf, IsOk, IsOkUnless, IsTrue, ◌↔◌, ◌⊎◌, option_copied};
 ghost use Rattle.vt_spec.specs.Errors.{denial};
+ghost use Rattle.vt_spec.specs.declared.attributes.Kind.TheVariants.{File};
 ghost use Rattle.vt_spec.specs.declared.errors.Rule.TheVariants.{S5, E2};
 ghost use Rattle.vt_spec.specs.Laws.Trees.{IsNewIn};
 ghost use Rattle.vt_spec.specs.Machine.Changes.Change.{AddName, Make, Move, Remove, SetAttr, SetBytes};
 ghost use Rattle.vt_spec.specs.Machine.Outcome.Descriptors.{overwritten};
 ghost use Rattle.vt_spec.specs.OneTree.Fits.{Fits};
 ghost use Rattle.vt_spec.specs.OneTree.Inodes.{changed, is_directory_under, one_directory, pinned, unpinned, uses_in};
-ghost use Rattle.vt_spec.specs.OneTree.Rules.{is_filled};
-ghost use Rattle.vt_spec.specs.Tree.{is_directory_node, parent_in, names_in, bytes_in};
+ghost use Rattle.vt_spec.specs.OneTree.Rules.{is_filled, is_kind_at};
+ghost use Rattle.vt_spec.specs.Tree.{is_directory_node, parent_in, entries_in, names_in, bytes_in};
 ghost use Rattle.vt_spec.specs.TreeLaws.{entry_at};
 ghost use Rattle.vt_tree.specs.TreeRules.{AnswersBy, leads_to, link_rules, make_rules, rename_rules, ruling, unlink_rules, write_rules};
 ghost use Rattle.vt_tree.specs.TreeValue.{inodes_of, tree_of, next_number};
@@ -18,18 +19,17 @@ use crate::changes::{
     insert_entry, release, remove_entry, remove_object, set_attr, set_bytes, set_parent,
     write_bytes,
 };
-use crate::copies::{copied_bytes, copied_names};
 use std::alloc::Global;
 use std::marker::Model;
-use vt_node::{Attr, Node, NodeId};
+use vt_node::{Attr, Node, NodeId, copied_bytes};
 use vt_slots::Slots;
 use vt_spec::errors::{Deny, Rule};
 
 // The most bytes of a file.
 const LARGEST_FILE: usize = 1_048_576;
 
-/// A tree of directories, files, links and whiteouts, each with a number, and with a count of its uses: the names that lead to it,
-/// and what a caller pins. With its last use an object goes.
+/// A tree of directories, files, symlinks and whiteouts, each with a number, and with a count of its uses: the names that
+/// lead to it, and what a caller pins. With its last use an object goes.
 #[derive(Debug, Drop)]
 pub struct Tree {
     slots: Slots,
@@ -46,7 +46,7 @@ impl Model for Tree {
 }
 
 impl Tree {
-    /// A tree of one empty directory, its root, with the number 0. S5: memory was refused.
+    /// A tree of one empty directory, its root, with the number 0. S5: an allocation failed.
     pub fn new(alloc: Global, attr: Attr) -> Result<Self, Deny>
         ensures ok { IfOk result (λ tree. inodes_of tree ≡ one_directory nat_eq 0 attr) }
         ensures memory { IfErr result (λ deny. deny ≡ denial S5) }
@@ -124,44 +124,60 @@ impl Tree {
         self.slots.get(directory)?.entry(name)
     }
 
-    /// How often the object is in use: the names that lead to it, and what is pinned. A number without an object has no use.
+    /// How often the object is in use: the names that lead to it, and what is pinned. A number without an object has no
+    /// use.
     pub fn uses(&self, object: NodeId) -> u64
         ensures { result ≡ uses_in ((inodes_of self.now).inode object) }
     {
         self.slots.uses(object)
     }
 
-    /// The names of a directory, in the order of their bytes: readdir(3). What is no directory has none. S5: memory was refused.
+    /// The names of a directory, in the order of their bytes: readdir(3). What is no directory has none.
+    ///
+    /// S5: an allocation failed. No names need none.
     pub fn list(&self, directory: NodeId) -> Result<Vec<Vec<u8>>, Deny>
-        ensures ok { IfOk result (λ names. map (λ name. name.items) names.items ≡ names_in ((tree_of self.now).node directory)) }
+        ensures ok { IfOk result (λ names.
+            map (λ name. name.items) names.items ≡ names_in ((tree_of self.now).node directory)) }
+        ensures empty { entries_in ((tree_of self.now).node directory) ≡ [] → IsOk result }
         ensures memory { IfErr result (λ deny. deny ≡ denial S5) }
     {
-        match self.slots.get(directory) {
-            Some(node) => copied_names(self.alloc, node.names()),
-            None => Ok(Vec::new(self.alloc)),
-        }
+        let Some(node) = self.slots.get(directory) else {
+            return Ok(Vec::new(self.alloc));
+        };
+        node.names(self.alloc).map_err(|_error| Rule::S5.denial())
     }
 
-    /// The bytes of a file: read(2). E2: a directory. S5: memory was refused.
+    /// The bytes of a file, or the text of a symlink: read(2).
+    ///
+    /// E2: a directory. S5: an allocation failed. No bytes need none.
     pub fn read(&self, file: NodeId) -> Result<Vec<u8>, Deny>
         ensures ok { IfOk result (λ bytes. bytes.items ≡ bytes_in ((tree_of self.now).node file)) }
         ensures directory { IsErrOf result (denial E2) ↔ IsTrue (is_directory_node ((tree_of self.now).node file)) }
+        ensures empty { IsErrOf result (denial S5) → bytes_in ((tree_of self.now).node file) ≢ [] }
         ensures errors { IfErr result (λ deny. (deny ≡ denial E2) ⊎ (deny ≡ denial S5)) }
     {
         match self.slots.get(file) {
             Some(node) if node.is_directory() => Err(Rule::E2.denial()),
-            Some(node) => copied_bytes(self.alloc, node.bytes()),
+            Some(node) => {
+                copied_bytes(self.alloc, node.bytes()).map_err(|_error| Rule::S5.denial())
+            }
             None => Ok(Vec::new(self.alloc)),
         }
     }
 
-    /// At most so many bytes of a file from an offset on: pread(2). Past the end there are none. S5: memory was refused.
+    /// At most `size` bytes of a file from an offset on: pread(2). Past the end there are none.
+    ///
+    /// S5: an allocation failed. No bytes need none.
     pub fn read_part(&self, file: NodeId, offset: usize, size: usize) -> Result<Vec<u8>, Deny>
-        ensures ok { IfOk result (λ bytes. bytes.items ≡ take size (drop offset (bytes_in ((tree_of self.now).node file)))) }
+        ensures ok { IfOk result (λ bytes.
+            bytes.items ≡ take size (drop offset (bytes_in ((tree_of self.now).node file)))) }
+        ensures empty { take size (drop offset (bytes_in ((tree_of self.now).node file))) ≡ [] → IsOk result }
         ensures memory { IfErr result (λ deny. deny ≡ denial S5) }
     {
         match self.slots.get(file) {
-            Some(node) => copied_bytes(self.alloc, node.bytes_part(offset, size)),
+            Some(node) => copied_bytes(self.alloc, node.bytes_part(offset, size)).map_err(
+                |_error| Rule::S5.denial(),
+            ),
             None => Ok(Vec::new(self.alloc)),
         }
     }
@@ -187,13 +203,15 @@ impl Tree {
 
     /// Makes an object under a name of a directory: mkdir(2), open(2) with O_CREAT, symlink(2), mknod(2).
     ///
-    /// E3: no directory. E1: the name is there. S5: memory was refused.
+    /// E3: no directory. E1: the name exists. S5: an allocation failed.
     pub fn create(&mut self, directory: NodeId, name: Vec<u8>, node: Node) -> Result<NodeId, Deny>
         requires { IsNewIn directory node }
-        ensures ok { IfOk result (λ id. inodes_of self.new ≡ changed nat_eq (inodes_of self.old) (Make directory name.items id node)) }
+        ensures ok { IfOk result (λ id.
+            inodes_of self.new ≡ changed nat_eq (inodes_of self.old) (Make directory name.items id node)) }
         ensures number { IfOk result (λ id. id ≡ next_number self.old) }
         ensures answer { AnswersBy (make_rules (inodes_of self.old) directory name.items) result }
-        ensures fits { Fits (inodes_of self.old) (Make directory name.items (next_number self.old) node) → IsOkUnless result (denial S5) }
+        ensures fits { Fits (inodes_of self.old) (Make directory name.items (next_number self.old) node)
+            → IsOkUnless result (denial S5) }
         ensures err { OnErr result (self.new ≡ self.old) }
     {
         if let Err(deny) = self.check_name(directory, &name) {
@@ -205,12 +223,13 @@ impl Tree {
         Ok(self.slots.insert_reserved(node))
     }
 
-    /// Gives an object a name more: link(2). The caller names an object that is there: the name is made all the same.
+    /// Makes a further hard link to an object: link(2). That the object exists is not checked: it is the caller's.
     ///
-    /// E3: no directory. E1: the name is there. E7: the object is a directory. S5: memory was refused, or the object has 2^64 - 1
-    /// uses.
+    /// E3: no directory. E1: the name exists. E7: the object is a directory. S5: an allocation failed, or the object has
+    /// 2^64 - 1 uses.
     pub fn link(&mut self, directory: NodeId, name: Vec<u8>, object: NodeId) -> Result<(), Deny>
-        ensures ok { OnOk result (inodes_of self.new ≡ changed nat_eq (inodes_of self.old) (AddName directory name.items object)) }
+        ensures ok { OnOk result
+            (inodes_of self.new ≡ changed nat_eq (inodes_of self.old) (AddName directory name.items object)) }
         ensures answer { AnswersBy (link_rules (inodes_of self.old) directory name.items object) result }
         ensures fits { Fits (inodes_of self.old) (AddName directory name.items object) → IsOkUnless result (denial S5) }
         ensures err { OnErr result (self.new ≡ self.old) }
@@ -229,11 +248,12 @@ impl Tree {
         Ok(())
     }
 
-    /// Takes a name from an object: unlink(2), rmdir(2). With its last use the object goes. It takes no memory.
+    /// Takes a name from an object: unlink(2), rmdir(2). With its last use the object goes. It does not allocate.
     ///
     /// W6: the name is not the object's. E4: the object is a directory with entries.
     pub fn unlink(&mut self, directory: NodeId, name: &[u8], object: NodeId) -> Result<(), Deny>
-        ensures ok { OnOk result (inodes_of self.new ≡ changed nat_eq (inodes_of self.old) (Remove directory name.now object)) }
+        ensures ok { OnOk result
+            (inodes_of self.new ≡ changed nat_eq (inodes_of self.old) (Remove directory name.now object)) }
         ensures answer { result ≡ ruling (unlink_rules (inodes_of self.old) directory name.now object) }
         ensures fits { Fits (inodes_of self.old) (Remove directory name.now object) → result ≡ Ok tt }
         ensures err { OnErr result (self.new ≡ self.old) }
@@ -251,8 +271,9 @@ impl Tree {
 
     /// Gives an object another name, and takes the place of what had that: rename(2). Two names of one object stay.
     ///
-    /// W6: the old name is not the object's. E3: no directory, or a directory over what is none. E2: no directory over a directory.
-    /// E4: a directory over one with entries. E5: a directory under itself. S5: memory was refused.
+    /// W6: the old name is not the object's. E3: no directory, or a directory over what is none. E2: no directory over a
+    /// directory. E4: a directory over one with entries. E5: a directory under itself. S5: an allocation failed, which only
+    /// a new name needs.
     pub fn rename(
         &mut self,
         from: NodeId,
@@ -262,12 +283,17 @@ impl Tree {
         object: NodeId,
     ) -> Result<(), Deny>
         ensures ok { entry_at (tree_of self.old) to new.items ≢ Some object
-            → OnOk result (inodes_of self.new ≡ changed nat_eq (inodes_of self.old) (Move from old.now to new.items object)) }
-        ensures one_object { entry_at (tree_of self.old) to new.items ≡ Some object → OnOk result (self.new ≡ self.old) }
+            → OnOk result
+            (inodes_of self.new ≡ changed nat_eq (inodes_of self.old) (Move from old.now to new.items object)) }
+        ensures one_object { entry_at (tree_of self.old) to new.items ≡ Some object
+            → OnOk result (self.new ≡ self.old) }
         ensures answer { AnswersBy (rename_rules (inodes_of self.old) from old.now to new.items object) result }
-        ensures fits { Fits (inodes_of self.old) (Move from old.now to new.items object) → IsOkUnless result (denial S5) }
+        ensures new_name { IsErrOf result (denial S5) → entry_at (tree_of self.old) to new.items ≡ None }
+        ensures fits { Fits (inodes_of self.old) (Move from old.now to new.items object)
+            → IsOkUnless result (denial S5) }
         ensures fits_ok { Fits (inodes_of self.old) (Move from old.now to new.items object)
-            → OnOk result (inodes_of self.new ≡ changed nat_eq (inodes_of self.old) (Move from old.now to new.items object)) }
+            → OnOk result
+            (inodes_of self.new ≡ changed nat_eq (inodes_of self.old) (Move from old.now to new.items object)) }
         ensures err { OnErr result (self.new ≡ self.old) }
     {
         if let Err(deny) = self.check_rename(from, old, to, &new, object) {
@@ -286,11 +312,13 @@ impl Tree {
         Ok(())
     }
 
-    /// Sets the whole content of a file: write(2) after open(2) with O_TRUNC. It takes no memory.
+    /// Sets the whole content of a file: write(2) after open(2) with O_TRUNC. It does not allocate.
     ///
-    /// E2: a directory. E6: more than 1,048,576 bytes. A link, a whiteout and a number without an object stay as they are.
+    /// E2: a directory. E6: more than 1,048,576 bytes. A symlink, a whiteout and a number without an object stay as they
+    /// are.
     pub fn write(&mut self, file: NodeId, bytes: Vec<u8>) -> Result<(), Deny>
-        ensures ok { OnOk result (inodes_of self.new ≡ changed nat_eq (inodes_of self.old) (SetBytes file bytes.items)) }
+        ensures ok { OnOk result
+            (inodes_of self.new ≡ changed nat_eq (inodes_of self.old) (SetBytes file bytes.items)) }
         ensures answer { result ≡ ruling (write_rules (inodes_of self.old) file (length bytes.items)) }
         ensures fits { Fits (inodes_of self.old) (SetBytes file bytes.items) → result ≡ Ok tt }
         ensures err { OnErr result (self.new ≡ self.old) }
@@ -305,17 +333,20 @@ impl Tree {
         Ok(())
     }
 
-    /// Writes bytes into a file from an offset on, and zeros into a gap before them: pwrite(2). Only a file that gets longer takes
-    /// memory.
+    /// Writes bytes into a file from an offset on, and zeros into a gap before them: pwrite(2). Only a file that gets
+    /// longer allocates.
     ///
-    /// E2: a directory. E6: the bytes would end behind 1,048,576. S5: memory was refused. A link, a whiteout and a number without
-    /// an object stay as they are.
+    /// E2: a directory. E6: the bytes would end behind 1,048,576. S5: an allocation failed. A symlink, a whiteout and a
+    /// number without an object stay as they are.
     pub fn write_at(&mut self, file: NodeId, offset: usize, bytes: &[u8]) -> Result<(), Deny>
         ensures ok { OnOk result (inodes_of self.new ≡ changed nat_eq (inodes_of self.old)
             (SetBytes file (overwritten offset bytes.now (bytes_in ((tree_of self.old).node file))))) }
         ensures answer { AnswersBy (write_rules (inodes_of self.old) file (offset + length bytes.now)) result }
-        ensures longer { IsErrOf result (denial S5) → length (bytes_in ((tree_of self.old).node file)) < offset + length bytes.now }
-        ensures fits { Fits (inodes_of self.old) (SetBytes file (overwritten offset bytes.now (bytes_in ((tree_of self.old).node file))))
+        ensures file { IsErrOf result (denial S5) → IsTrue (is_kind_at (tree_of self.old) file File) }
+        ensures longer { IsErrOf result (denial S5)
+            → length (bytes_in ((tree_of self.old).node file)) < offset + length bytes.now }
+        ensures fits { Fits (inodes_of self.old)
+            (SetBytes file (overwritten offset bytes.now (bytes_in ((tree_of self.old).node file))))
             → IsOkUnless result (denial S5) }
         ensures err { OnErr result (self.new ≡ self.old) }
     {
@@ -328,14 +359,14 @@ impl Tree {
         write_bytes(&mut self.slots, file, offset, bytes)
     }
 
-    /// Sets the owner, group and mode of an object: chmod(2), chown(2). It takes no memory.
+    /// Sets the owner, group and mode of an object: chmod(2), chown(2). It does not allocate.
     pub fn set_attr(&mut self, object: NodeId, attr: Attr)
         ensures { inodes_of self.new ≡ changed nat_eq (inodes_of self.old) (SetAttr object attr) }
     {
         set_attr(&mut self.slots, object, attr);
     }
 
-    /// Counts one use more of an object, as open(2) does: it stays while it is in use. It takes no memory.
+    /// Counts one use more of an object, as open(2) does: it stays while it is in use. It does not allocate.
     ///
     /// S5: the object has 2^64 - 1 uses.
     pub fn pin(&mut self, object: NodeId) -> Result<(), Deny>
@@ -347,7 +378,7 @@ impl Tree {
         self.slots.acquire(object)
     }
 
-    /// Counts one use less of an object, as close(2) does: with its last use it goes. It takes no memory.
+    /// Counts one use less of an object, as close(2) does: with its last use it goes. It does not allocate.
     pub fn unpin(&mut self, object: NodeId)
         ensures { inodes_of self.new ≡ unpinned nat_eq (inodes_of self.old) object }
     {
