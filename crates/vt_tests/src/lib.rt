@@ -1,13 +1,7 @@
-//! Tests that cross crates.
+//! Tests that cross crates, of what no contract says: devices that fail, and the program.
 #![tactic(auto)]
 
 #[cfg(test)]
-mod answers;
-#[cfg(test)]
 mod devices;
 #[cfg(test)]
-mod examples;
-#[cfg(test)]
-mod limits;
-#[cfg(test)]
-mod running;
+mod program;
