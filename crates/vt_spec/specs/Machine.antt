@@ -8,6 +8,8 @@ pub mod World
 pub mod Calls
 pub mod Outcomes
 pub mod Rightful
+pub mod Looks
+pub mod Walking
 pub mod Walk
 pub mod Merging
 pub mod CopyUp

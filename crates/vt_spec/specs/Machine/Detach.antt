@@ -106,6 +106,11 @@ module _ {N : Type 0} (eq : N → N → Bool) where
   abbrev pub is_busy : World N → N → Bool
   is_busy world number = has_child world number || is_used world (going world (mount_numbered eq world number))
 
+  -- EBUSY of mount(2) with MS_REMOUNT and MS_RDONLY: a file is open for writing through the mount
+  abbrev pub is_written_through : World N → N → Bool
+  is_written_through world mount =
+      list_any (λ task. list_any (λ descriptor. descriptor.writes && eq mount descriptor.location.mount) task.descriptors) world.tasks
+
   -- Mount points are directories, whatever mount they are seen through; on an overlay so is the object in the upper layer
   abbrev pub is_point : World N → N → N → Mount N → Bool
   is_point world filesystem node mount =

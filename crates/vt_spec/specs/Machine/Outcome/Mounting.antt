@@ -6,7 +6,7 @@ use Rattle.vt_spec.specs.declared.errors.Deny.{Deny}
 use Rattle.vt_spec.specs.declared.errors.Rule.TheVariants.{K1, M10, M11, M12, M2, M3, M4, M5, M6, M7, M8, M9, O2, O3, O5, W8}
 use Rattle.vt_spec.specs.Machine.Attach.{attach, bind_tree, has_too_many}
 use Rattle.vt_spec.specs.Machine.Calls.{OverlayWords, TypeWord}
-use Rattle.vt_spec.specs.Machine.Detach.{is_busy, lazily_unmounted, unmounted}
+use Rattle.vt_spec.specs.Machine.Detach.{is_busy, is_written_through, lazily_unmounted, unmounted}
 use Rattle.vt_spec.specs.Errors.{Rules, and_then, denial}
 use Rattle.vt_spec.specs.Machine.FileTree.{is_directory_under}
 use Rattle.vt_spec.specs.Machine.Lists.{Fresh, any_pair, chain, evens, holds_of, is_empty_list, odds, rest_of}
@@ -281,15 +281,11 @@ module _ {N : Type 0} (eq : N → N → Bool) where
       (granted Done (lazily_unmounted eq world here.location.mount))))
 
   -- mount(2) with MS_REMOUNT and MS_BIND: EINVAL, EBUSY
-  abbrev pub is_written_through : World N → N → Bool
-  is_written_through world mount =
-      list_any (λ task. list_any (λ descriptor. descriptor.writes && eq mount descriptor.location.mount) task.descriptors) world.tasks
-
   abbrev pub remount_rules : World N → Task N → Location N → MountFlags → Rules
   remount_rules world task here flags =
       (is_elsewhere eq world task here, M2)
       ∷ (is_no_root eq world here, M7)
-      ∷ (flags.read_only && is_written_through world here.mount, M8)
+      ∷ (flags.read_only && is_written_through eq world here.mount, M8)
       ∷ []
 
   abbrev pub with_flags : World N → Location N → MountFlags → World N

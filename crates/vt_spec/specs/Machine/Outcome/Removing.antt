@@ -6,19 +6,18 @@ use Rattle.vt_spec.specs.Machine.Changes.{Change}
 use Rattle.vt_spec.specs.Machine.Changes.Change.{Move, Remove}
 use Rattle.vt_spec.specs.Machine.Detach.{is_point_anywhere, is_point_in, without_mounts_on}
 use Rattle.vt_spec.specs.Errors.{Rules}
-use Rattle.vt_spec.specs.Machine.FileTree.{is_directory_under, path_down}
-use Rattle.vt_spec.specs.Machine.Filesystems.{mounter_rules, with_change}
-use Rattle.vt_spec.specs.Machine.Layers.{OpenLayer, cuts, node_at_path}
+use Rattle.vt_spec.specs.Machine.FileTree.{is_directory_under}
+use Rattle.vt_spec.specs.Machine.Filesystems.{has_lower_directory_at, mounter_rules, with_change}
 use Rattle.vt_spec.specs.Machine.Lists.{Fresh, holds_of, is_empty_list}
-use Rattle.vt_spec.specs.Machine.Locked.{is_locked_at, of_overlay}
+use Rattle.vt_spec.specs.Machine.Locked.{is_locked_at}
 use Rattle.vt_spec.specs.Machine.Mounts.{Location, same_location}
 use Rattle.vt_spec.specs.Machine.Outcomes.{Outcome, after, granted, judged}
 use Rattle.vt_spec.specs.Machine.Outcomes.Answer.{Done}
 use Rattle.vt_spec.specs.Rights.{write_right}
 use Rattle.vt_spec.specs.Machine.Rows.{has_no_upper, is_kept, is_read_only, may_not, mounter_may_not}
-use Rattle.vt_spec.specs.Tree.{entries_in, is_directory_node}
+use Rattle.vt_spec.specs.Tree.{entries_in}
 use Rattle.vt_spec.specs.Machine.Walk.{Place, Stop, is_directory_there, is_dot, is_dot_dot, is_no_word, is_special, name_of, new_walk, old_leaf_walk, old_walk, then_walk, walk_end, walk_unless}
-use Rattle.vt_spec.specs.Machine.World.{Task, World, files_at, filesystem_at, is_directory_at, mount_at, node_at, open_layer}
+use Rattle.vt_spec.specs.Machine.World.{Task, World, files_at, is_directory_at, mount_at, node_at}
 
 module _ {N : Type 0} where
   abbrev pub removing : Place N → Location N → Change N
@@ -38,16 +37,6 @@ module _ {N : Type 0} where
   -- The two places of a rename. A slash behind either asks that the old object is a directory.
   abbrev pub old_word_rules : Place N → Rules
   old_word_rules place = (is_special place.last, P1) ∷ []
-
-  -- O1: a lower layer that is not cut has a directory there: overlayfs, "renaming directories"
-  abbrev pub lowers_have_directory : List (OpenLayer N) → List (List ℕ) → Bool
-  lowers_have_directory [] path = false
-  lowers_have_directory (layer ∷ lower) path =
-      is_directory_node (node_at_path layer path) || (not (cuts layer path) && lowers_have_directory lower path)
-
-  abbrev pub has_lower_directory : List (OpenLayer N) → List (OpenLayer N) → List (List ℕ) → Bool
-  has_lower_directory uppers lowers path =
-      not (list_any (λ upper. cuts upper path) uppers) && lowers_have_directory lowers path
 
   abbrev pub moving : Place N → Place N → Location N → Change N
   moving from to old = Move from.parent.node (name_of from.last) to.parent.node (name_of to.last) old.node
@@ -120,17 +109,8 @@ module _ {N : Type 0} (eq : N → N → Bool) where
   abbrev pub changes_parent : World N → Place N → Place N → Location N → Bool
   changes_parent world from to old = is_directory_at eq world old && not (same_location eq from.parent to.parent)
 
-  abbrev pub path_in : World N → Place N → List (List ℕ)
-  path_in world place =
-      unwrap_or (path_down eq (files_at eq world place.parent) (files_at eq world place.parent).tree.root place.parent.node) []
-      ++ (name_of place.last ∷ [])
-
   abbrev pub is_stuck : World N → Place N → Location N → Bool
-  is_stuck world from old =
-      is_directory_at eq world old
-      && of_overlay false (λ overlay. has_lower_directory
-      (map (open_layer eq world) (option_to_list overlay.upper)) (map (open_layer eq world) overlay.lowers) (path_in world from))
-      (filesystem_at eq world from.parent)
+  is_stuck world from old = is_directory_at eq world old && has_lower_directory_at eq world from.parent (name_of from.last)
 
   -- rename(2): EISDIR, ENOTDIR, ENOTEMPTY, EINVAL, EROFS, EBUSY, EXDEV, EACCES, EPERM
   abbrev pub rename_rules : World N → Task N → Place N → Place N → Location N → Rules
