@@ -39,6 +39,33 @@ pub fn last_word_of_write()
     ensures trailing_slash_in_a_file { script_text [] (codes "t write /f x\nt write /f/g/ y\n") ≡ codes "1 ok\n2 deny 20 ENOTDIR W3\n" }
 {}
 
+/// The last word of `rename`: `.`, `..` and no word of either path name no entry. A trailing slash asks that a directory is renamed;
+/// the slashes of a path without words stand behind no word, and ask for nothing.
+#[tactic(auto, unfolding(crate::specs::Opened::computed))]
+pub fn last_word_of_rename()
+    ensures dot { script_text [] (codes "t write /f x\nt rename /f /.\n") ≡ codes "1 ok\n2 deny 16 EBUSY P1\n" }
+    ensures dot_dot { script_text [] (codes "t write /f x\nt rename /f /..\n") ≡ codes "1 ok\n2 deny 16 EBUSY P1\n" }
+    ensures no_word { script_text [] (codes "t write /f x\nt rename /f /\n") ≡ codes "1 ok\n2 deny 16 EBUSY P1\n" }
+    ensures no_word_but_slashes { script_text [] (codes "t write /f x\nt rename /f //\n") ≡ codes "1 ok\n2 deny 16 EBUSY P1\n" }
+    ensures no_word_for_a_directory { script_text [] (codes "t mkdir /d\nt rename /d /\n") ≡ codes "1 ok\n2 deny 16 EBUSY P1\n" }
+    ensures no_word_of_the_old_path { script_text [] (codes "t write /f x\nt rename / /f\n") ≡ codes "1 ok\n2 deny 16 EBUSY P1\n" }
+    ensures trailing_slash_of_the_old_path { script_text [] (codes "t write /f x\nt rename /f/ /\n") ≡ codes "1 ok\n2 deny 20 ENOTDIR W3\n" }
+    ensures trailing_slash { script_text [] (codes "t write /f x\nt rename /f /g/\n") ≡ codes "1 ok\n2 deny 20 ENOTDIR W3\n" }
+    ensures trailing_slash_for_a_directory { script_text [] (codes "t mkdir /d\nt rename /d /e/\n") ≡ codes "1 ok\n2 ok\n" }
+{}
+
+/// A path without words is the root, and names no entry.
+#[tactic(auto, unfolding(crate::specs::Opened::computed))]
+pub fn no_word_of_other_calls()
+    ensures stat { script_text [] (codes "t stat /\nt lstat //\n") ≡ codes "1 ok dir 0755 0 0\n2 ok dir 0755 0 0\n" }
+    ensures symlink { script_text [] (codes "t symlink x /\n") ≡ codes "1 deny 17 EEXIST E1\n" }
+    ensures link { script_text [] (codes "t write /f x\nt link /f /\n") ≡ codes "1 ok\n2 deny 17 EEXIST E1\n" }
+    ensures open { script_text [] (codes "t open / w\nt open / w create 600\n") ≡ codes "1 deny 21 EISDIR E2\n2 deny 21 EISDIR E2\n" }
+    ensures open_exclusively { script_text [] (codes "t open / w excl 600\n") ≡ codes "1 deny 17 EEXIST E1\n" }
+    ensures unlink { script_text [] (codes "t unlink /\n") ≡ codes "1 deny 21 EISDIR E2\n" }
+    ensures rmdir { script_text [] (codes "t rmdir /\n") ≡ codes "1 deny 16 EBUSY P1\n" }
+{}
+
 /// W1: an empty path.
 #[tactic(auto, unfolding(crate::specs::Opened::computed))]
 pub fn empty_path()

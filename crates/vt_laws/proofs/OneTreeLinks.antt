@@ -110,7 +110,7 @@ module _ (numbers : List ℕ) (world : World ℕ) (fit : IsFit numbers world) (w
   then_there (Err deny) f is h = tt
 
   link_there : (depth : ℕ) → EndsThere (λ directory link text. link_walked depth tree who directory link text)
-  link_there zero directory link text from is = is
+  link_there zero directory link text from is = tt
   link_there (suc depth) directory link text from is =
       ruled (follow_rules link text) _
       (then_there (words_walked tree who (λ inside next inner. link_walked depth tree who inside next inner) (link_start tree directory link text) (reverse (words text))) _

@@ -233,7 +233,7 @@ module _ (beside : Beside) (world : World ℕ) (entry : TaskName × Task ℕ) (f
 
   -- links are followed alike
   link_alike : (depth : ℕ) → FollowAlike (λ directory link text. link_walked depth tree who directory link text) (λ directory link text. Machine.link_walked nat_eq depth there task directory link text)
-  link_alike zero directory link steps text = (steps, refl)
+  link_alike zero directory link steps text = refl
   link_alike (suc depth) directory link steps text =
       rules_then here_there steps (follow_rules link text)
       (and_then (words_walked tree who (λ inside next inner. link_walked depth tree who inside next inner) (link_start tree directory link text) (reverse (words text))) (λ reached.

@@ -65,7 +65,7 @@ module _ {N : Type 0} (eq : N → N → Bool) (world : World N) (task : Task N) 
       if_link_walks next _ (follow reached.location next) (h reached.location next)))
 
   link_walks : (depth : ℕ) → FollowsAsWalk (link_walked eq depth world task)
-  link_walks zero directory link text = tt
+  link_walks zero directory link text = (refl, refl)
   link_walks (suc depth) directory link text =
       then_walk_own walk_rules _ _
       (walk_unless_own walk_rules link.steps (follow_rules eq world link text) (link_start eq world task directory link text) refl)

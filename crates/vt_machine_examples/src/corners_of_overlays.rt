@@ -111,6 +111,19 @@ pub fn a_second_name_outside_a_layer()
         ++ codes "16 ok\n17 ok y\n" }
 {}
 
+/// An open file of an overlay whose last name there went counts as under the upper directory: a directory that has another name of it
+/// overlaps that one (O2 before O3, and O3 alone where the two are of different mounts), and it stays locked (L1).
+pub fn an_unlinked_object_counts_as_under_its_upper_directory()
+    ensures { machine_text One [] (codes "t mkdir /l\nt mkdir /u\nt mkdir /w\nt mkdir /z\nt mkdir /y\nt mkdir /m\nt write /u/f x\n"
+        ++ codes "t link /u/f /z/f\nt mount overlay /m lowerdir=/l,upperdir=/u,workdir=/w\nt open /m/f r\nt unlink /m/f\n"
+        ++ codes "t mount overlay /m lowerdir=/l,upperdir=/u,workdir=/z\nt mount overlay /m lowerdir=/l,upperdir=/z,workdir=/y\n"
+        ++ codes "t mount overlay /m lowerdir=/z,upperdir=/y,workdir=/y\nt mount overlay /m lowerdir=/z:/y\nt write /z/f y\n"
+        ++ codes "t close 0\nt write /z/f y\nt mount overlay /m lowerdir=/l,upperdir=/u,workdir=/z\n")
+        ≡ codes "1 ok\n2 ok\n3 ok\n4 ok\n5 ok\n6 ok\n7 ok\n8 ok\n9 ok\n10 ok 0\n11 ok\n12 deny 22 EINVAL O2\n"
+        ++ codes "13 deny 16 EBUSY O3\n14 deny 22 EINVAL O2\n15 deny 16 EBUSY O3\n16 deny 16 EBUSY L1\n17 ok\n18 ok\n"
+        ++ codes "19 deny 16 EBUSY O3\n" }
+{}
+
 /// A directory of an overlay is a mount point where its directory in the upper layer is one.
 pub fn mount_points_of_an_upper_directory()
     ensures { machine_text One [] (codes "t mkdir /l\nt mkdir /u\nt mkdir /w\nt mkdir /m\n"

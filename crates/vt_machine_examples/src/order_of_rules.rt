@@ -18,6 +18,20 @@ pub fn special_words_before_the_second_path()
         ++ codes "24 deny 16 EBUSY P1\n25 deny 2 ENOENT W1\n26 deny 22 EINVAL E5\n27 deny 13 EACCES E8\n" }
 {}
 
+/// A path without words is the task's root, and names no entry; its slashes stand behind no word, and ask for nothing.
+pub fn paths_without_words()
+    ensures { machine_text One [] (codes "t write /f x\nt mkdir /d\nt rename /f /\nt rename /f //\nt rename / /f\nt rename /d /\n"
+        ++ codes "t rename /f/ /\nt rename /f /g/\nt rename /d /e/\nt symlink / /l\nt rename /l /\nt rename /l ///\n"
+        ++ codes "t stat /\nt lstat //\nt open / w\nt open / w create 600\nt open / w excl 600\nt write / x\n"
+        ++ codes "t write /l x\nt mkdir /\nt symlink x /\nt whiteout /\nt link /f /\nt unlink /\nt rmdir /\n"
+        ++ codes "t ls /\n")
+        ≡ codes "1 ok\n2 ok\n3 deny 16 EBUSY P1\n4 deny 16 EBUSY P1\n5 deny 16 EBUSY P1\n6 deny 16 EBUSY P1\n"
+        ++ codes "7 deny 20 ENOTDIR W3\n8 deny 20 ENOTDIR W3\n9 ok\n10 ok\n11 deny 16 EBUSY P1\n12 deny 16 EBUSY P1\n"
+        ++ codes "13 ok dir 0755 0 0\n14 ok dir 0755 0 0\n15 deny 21 EISDIR E2\n16 deny 21 EISDIR E2\n17 deny 17 EEXIST E1\n"
+        ++ codes "18 deny 21 EISDIR E2\n19 deny 21 EISDIR E2\n20 deny 17 EEXIST E1\n21 deny 17 EEXIST E1\n22 deny 17 EEXIST E1\n"
+        ++ codes "23 deny 17 EEXIST E1\n24 deny 21 EISDIR E2\n25 deny 16 EBUSY P1\n26 ok e f l\n" }
+{}
+
 /// What a removed working directory answers.
 pub fn a_removed_working_directory()
     ensures { machine_text One [] (codes "t mkdir /a\nt chdir /a\nt rmdir /a\nt mkdir ..\nt mkdir .\nt rmdir .\nt unlink .\nt unlink x\n"

@@ -3,13 +3,10 @@
 -- becomes of a mount that stands at the place already, are the profile's.
 use Rattle.std.specs.Prelude.{Bool, List, None, Option, Some, [], false, filter, filter_map, find, flat_map, if◌then◌else◌, is_some, length, map, nat_lt, not, option_map, slice_get, suc, true, unwrap_or, zero, ℕ, ◌&&◌, ◌*◌, ◌++◌, ◌+◌, ◌==◌, ◌∷◌}
 use Rattle.std.specs.List.{list_any}
-use Rattle.vt_spec.specs.Machine.CopyUp.{made}
 use Rattle.vt_spec.specs.Machine.FileTree.{is_directory_under}
-use Rattle.vt_spec.specs.Machine.Filesystems.{copies}
 use Rattle.vt_spec.specs.Machine.Lists.{Fresh, counted_from, evens, folded, holds_of, odds, place_from, rest_of, then_some, when}
 use Rattle.vt_spec.specs.Machine.Mounts.{Location, Mount, Propagation, children, group_of, is_shared, is_unbindable, root_of, stands_at, topmost, with_mount}
 use Rattle.vt_spec.specs.Machine.Mounts.Propagation.{Private, Shared, Slave, Unbindable}
-use Rattle.vt_spec.specs.PathText.{parts}
 use Rattle.vt_spec.specs.Machine.Receives.{groups_up, has_members, is_member_of, receivers, slave_of_heir}
 use Rattle.vt_spec.specs.Machine.Types.{master_after, with_master}
 use Rattle.vt_spec.specs.Machine.World.{World, files_at, filesystem_numbered, mount_at, mounts_of}

@@ -86,10 +86,6 @@ module _ {N : Type 0} (eq : N → N → Bool) where
       if is_directory_node (files.tree.node object) then is_directory_under files top object
       else is_file_under files top object
 
-  -- some inode lies at or under both directories; a file with a name in each counts
-  abbrev pub do_overlap : FileTree N → N → N → Bool
-  do_overlap files a b = list_any (λ object. is_under files a object && is_under files b object) files.numbers
-
   -- a name of an object, and the directory that has it
   abbrev pub name_in : FileTree N → N → N → Option (N × List ℕ)
   name_in files object directory =

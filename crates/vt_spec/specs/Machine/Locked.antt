@@ -1,11 +1,11 @@
 -- The layers of live overlays: what lies in one is not changed, and what may not be a layer of two (profile; the
 -- kernel's overlayfs document, "changes to underlying filesystems").
-use Rattle.std.specs.Prelude.{Bool, List, None, Option, Some, false, filter, option_to_list, ◌&&◌, ◌++◌, ◌||◌}
+use Rattle.std.specs.Prelude.{Bool, List, None, Option, Some, [], false, filter, flat_map, option_to_list, ◌&&◌, ◌++◌, ◌||◌}
 use Rattle.std.specs.List.{list_any}
-use Rattle.vt_spec.specs.Machine.FileTree.{do_overlap, is_directory_under, is_under}
+use Rattle.vt_spec.specs.Machine.FileTree.{is_directory_under, is_under}
 use Rattle.vt_spec.specs.Machine.Lists.{holds_of}
 use Rattle.vt_spec.specs.Machine.Mounts.{Location}
-use Rattle.vt_spec.specs.Machine.World.{Filesystem, Layer, Overlay, World, filesystem_numbered, is_overlay, mount_at, upper_object}
+use Rattle.vt_spec.specs.Machine.World.{Filesystem, Layer, Overlay, World, filesystem_numbered, is_overlay, layers_of, mount_at, upper_object}
 
 module _ {N : Type 0} where
   -- the overlays that are there; each lives as long as a mount of it
@@ -20,7 +20,19 @@ module _ {N : Type 0} where
   abbrev pub of_overlay : {A : Type 0} → A → (Overlay N → A) → Filesystem N → A
   of_overlay plain said filesystem = overlay_or plain said filesystem.overlay
 
+  -- the directories of an overlay to which changes go
+  abbrev pub upper_and_work : Overlay N → List (Layer N)
+  upper_and_work overlay = option_to_list overlay.upper ++ option_to_list overlay.work
+
+  -- the layers of live overlays, and those to which changes go
+  abbrev pub live_layers : World N → List (Layer N)
+  live_layers world = flat_map (of_overlay [] layers_of) (overlays world)
+
+  abbrev pub live_upper_and_work : World N → List (Layer N)
+  live_upper_and_work world = flat_map (of_overlay [] upper_and_work) (overlays world)
+
 module _ {N : Type 0} (eq : N → N → Bool) where
+  -- an inode is, or lies under, a layer's directory
   abbrev pub lies_in_layer : World N → N → N → Layer N → Bool
   lies_in_layer world filesystem object layer =
       eq filesystem layer.filesystem && is_under eq (filesystem_numbered eq world filesystem).files layer.directory object
@@ -34,29 +46,32 @@ module _ {N : Type 0} (eq : N → N → Bool) where
       holds_of (λ layer. eq filesystem layer.filesystem) overlay.upper
       && list_any (is_real_upper overlay object) merged.files.numbers
 
-  abbrev pub lies_in_upper_or_work : World N → N → N → Filesystem N → Bool
-  lies_in_upper_or_work world filesystem object merged =
+  -- an upper inode that is an object of a live overlay counts as under its upper directory, with or without a name, and so as
+  -- under a layer in which that directory lies
+  abbrev pub counts_in_layer : World N → N → N → Layer N → Filesystem N → Bool
+  counts_in_layer world filesystem object layer merged =
       of_overlay false (λ overlay.
-      list_any (lies_in_layer world filesystem object) (option_to_list overlay.upper ++ option_to_list overlay.work)
-      || is_object_of filesystem object merged overlay) merged
+      holds_of (λ upper. lies_in_layer world upper.filesystem upper.directory layer) overlay.upper
+      && is_object_of filesystem object merged overlay) merged
 
-  abbrev pub lies_in_overlay : World N → N → N → Filesystem N → Bool
-  lies_in_overlay world filesystem object merged =
-      of_overlay false (λ overlay. list_any (lies_in_layer world filesystem object) overlay.lowers) merged
-      || lies_in_upper_or_work world filesystem object merged
+  abbrev pub lies_or_counts_under : World N → N → N → Layer N → Bool
+  lies_or_counts_under world filesystem object layer =
+      lies_in_layer world filesystem object layer
+      || list_any (counts_in_layer world filesystem object layer) (overlays world)
 
-  -- L1: the inode is, or lies under, a layer of a live overlay
+  -- L1: the inode lies or counts under a layer of a live overlay
   abbrev pub is_locked : World N → N → N → Bool
-  is_locked world filesystem object = list_any (lies_in_overlay world filesystem object) (overlays world)
+  is_locked world filesystem object = list_any (lies_or_counts_under world filesystem object) (live_layers world)
 
   abbrev pub is_locked_at : World N → Location N → Bool
   is_locked_at world location = is_locked world (mount_at eq world location).filesystem location.node
 
-  -- some inode lies in both of two layers
-  abbrev pub layers_overlap : World N → Layer N → Layer N → Bool
-  layers_overlap world a b =
-      eq a.filesystem b.filesystem
-      && do_overlap eq (filesystem_numbered eq world a.filesystem).files a.directory b.directory
+  -- a layer overlaps one of others: some inode lies or counts under both
+  abbrev pub overlaps_one_of : World N → List (Layer N) → Layer N → Bool
+  overlaps_one_of world others layer =
+      list_any (λ object. lies_or_counts_under world layer.filesystem object layer
+      && list_any (lies_or_counts_under world layer.filesystem object) others)
+      (filesystem_numbered eq world layer.filesystem).files.numbers
 
   -- one directory is at or under another
   abbrev pub one_under_another : World N → Layer N → Layer N → Bool
@@ -65,15 +80,8 @@ module _ {N : Type 0} (eq : N → N → Bool) where
       && (is_directory_under eq (filesystem_numbered eq world a.filesystem).files a.directory b.directory
       || is_directory_under eq (filesystem_numbered eq world a.filesystem).files b.directory a.directory)
 
-  -- some inode of a layer passes
-  abbrev pub some_in_layer : World N → (N → N → Bool) → Layer N → Bool
-  some_in_layer world test layer =
-      list_any (λ object. lies_in_layer world layer.filesystem object layer && test layer.filesystem object)
-      (filesystem_numbered eq world layer.filesystem).files.numbers
-
   -- O3: the upper or work directory overlaps a layer of a live overlay, or a lower one the upper or work directory of one
   abbrev pub in_use : World N → Overlay N → Bool
   in_use world wanted =
-      list_any (some_in_layer world (is_locked world)) (option_to_list wanted.upper ++ option_to_list wanted.work)
-      || list_any (some_in_layer world (λ filesystem object.
-      list_any (lies_in_upper_or_work world filesystem object) (overlays world))) wanted.lowers
+      list_any (overlaps_one_of world (live_layers world)) (upper_and_work wanted)
+      || list_any (overlaps_one_of world (live_upper_and_work world)) wanted.lowers

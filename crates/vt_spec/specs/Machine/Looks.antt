@@ -6,7 +6,7 @@ use Rattle.vt_spec.specs.Machine.Detach.{is_busy, is_written_through, mounts_on}
 use Rattle.vt_spec.specs.Machine.FileTree.{is_directory_under}
 use Rattle.vt_spec.specs.Machine.Filesystems.{has_lower_directory_at, mounter_rules}
 use Rattle.vt_spec.specs.Machine.Lists.{last_or}
-use Rattle.vt_spec.specs.Machine.Locked.{in_use, is_locked_at, layers_overlap}
+use Rattle.vt_spec.specs.Machine.Locked.{in_use, is_locked_at, overlaps_one_of}
 use Rattle.vt_spec.specs.Machine.Mounts.{Location, Mount, mount_tree, mounts_over}
 use Rattle.vt_spec.specs.Machine.Rightful.{mounter_allows, node_allows}
 use Rattle.vt_spec.specs.Tree.{Node, is_directory_node}
@@ -40,9 +40,9 @@ pub record Looks (N : Type 0) : Type 0 where
   pub has_lower_directory : Location N → List ℕ → Bool
   -- what is there lies in a layer of a live overlay: overlayfs, "changes to underlying filesystems"
   pub is_locked : Location N → Bool
-  -- some inode lies in both of two layers; a layer of a new overlay is one of a live overlay (profile)
-  pub layers_overlap : Layer N → Layer N → Bool
-  pub are_in_use : Overlay N → Bool
+  -- some inode lies or counts under a layer and under one of others; a new overlay would share one with a live overlay (profile)
+  pub overlaps_one_of : List (Layer N) → Layer N → Bool
+  pub is_in_use : Overlay N → Bool
 
 -- what a world shows
 abbrev pub looks_of : {N : Type 0} → (N → N → Bool) → World N → Looks N
@@ -62,8 +62,8 @@ looks_of eq world = record {
   mounter_rules = mounter_rules eq world;
   has_lower_directory = has_lower_directory_at eq world;
   is_locked = is_locked_at eq world;
-  layers_overlap = layers_overlap eq world;
-  are_in_use = in_use eq world;
+  overlaps_one_of = overlaps_one_of eq world;
+  is_in_use = in_use eq world;
 }
 
 module _ {N : Type 0} where

@@ -1,6 +1,5 @@
 -- Mount namespaces: mount_namespaces(7), unshare(2) with CLONE_NEWNS, setns(2), pivot_root(2).
 use Rattle.std.specs.Prelude.{Bool, List, Option, Some, [], filter, if◌then◌else◌, map, not, option_map, unwrap_or, ◌&&◌, ◌++◌, ◌∷◌}
-use Rattle.std.specs.FinMap.Entries.{put}
 use Rattle.std.specs.List.{list_any}
 use Rattle.vt_spec.specs.Machine.Detach.{taken_away}
 use Rattle.vt_spec.specs.Machine.Lists.{Fresh, evens, holds_of, odds, place_from}

@@ -1,6 +1,5 @@
 -- The policy: what each call does, in which world, for which task.
 use Rattle.std.specs.Prelude.{Bool, Option, false, if◌then◌else◌, is_ok, map, not, ok_or, true, ◌&&◌, ◌||◌}
-use Rattle.std.specs.FinMap.Entries.{put}
 use Rattle.vt_spec.specs.declared.errors.Rule.TheVariants.{S2}
 use Rattle.vt_spec.specs.Machine.Calls.{Call}
 use Rattle.vt_spec.specs.Machine.Calls.Call.{Bind, Chdir, Chmod, Chown, Chroot, Close, Drop, Exec, Exit, Fork, Lazy, LinkTo, ListMounts, Ls, Lstat, MakeWhiteout, Mkdir, MountOverlay, MountPlain, MoveMount, Opaque, OpenFile, PivotRoot, Pread, Pwrite, Read, Readlink, Remount, Rename, Rmdir, SetType, Setns, Stat, SymlinkAt, Umask, Umount, Unlink, Unshare, Write}
@@ -18,7 +17,6 @@ use Rattle.vt_spec.specs.Machine.Outcome.Mounting.{bind_outcome, lazy_outcome, m
 use Rattle.vt_spec.specs.Machine.Outcome.Removing.{rename_outcome, rmdir_outcome, unlink_outcome}
 use Rattle.vt_spec.specs.Machine.Outcome.Tasks.{chdir_outcome, chroot_outcome, drop_outcome, exit_outcome, fork_outcome, setns_outcome, umask_outcome, unshare_outcome}
 use Rattle.vt_spec.specs.Machine.Outcomes.{Outcome, after}
-use Rattle.vt_spec.specs.PathText.{words}
 use Rattle.vt_spec.specs.Machine.Settled.{settled}
 use Rattle.vt_spec.specs.Machine.World.{Namespace, Task, TaskName, World, mounts_of, same_name, task_called}
 

@@ -11,9 +11,7 @@ use Rattle.vt_spec.specs.Machine.Outcomes.{Answer, MountLine, PeerLine, Spot, St
 use Rattle.vt_spec.specs.Machine.Outcomes.Answer.{Bytes, Child, Done, MountList, Names, Opened, PeerList, Told, YesNo}
 use Rattle.vt_spec.specs.Machine.Outcomes.Spot.{Gone, Reached}
 use Rattle.vt_spec.specs.Machine.Outcomes.TypeLine.{PrivateLine, SharedLine, SlaveLine, UnbindableLine}
-use Rattle.vt_spec.specs.PathText.{words}
 use Rattle.vt_spec.specs.Machine.Script.{is_plain}
-use Rattle.vt_spec.specs.Machine.Sealed.{members}
 use Rattle.vt_spec.specs.Machine.World.{TaskName}
 
 -- a lower-case hexadecimal digit

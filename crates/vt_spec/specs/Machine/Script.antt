@@ -1,5 +1,5 @@
 -- The text of a script: its lines, tokens and grammar (profile).
-use Rattle.std.specs.Prelude.{Bool, List, None, Option, Some, [], codes, drop, false, if◌then◌else◌, length, nat_le, nat_lt, not, option_map, set, slice_index, take, true, unwrap_or, ℕ, ◌&&◌, ◌*◌, ◌+◌, ◌-◌, ◌==◌, ◌∷◌}
+use Rattle.std.specs.Prelude.{Bool, List, None, Option, Some, [], codes, drop, false, if◌then◌else◌, length, nat_le, nat_lt, not, option_map, slice_index, take, true, unwrap_or, ℕ, ◌&&◌, ◌*◌, ◌+◌, ◌-◌, ◌==◌, ◌∷◌}
 use Rattle.std.specs.Int.RustNames.{bit_or}
 use Rattle.std.specs.List.{list_all, list_any}
 use Rattle.std.specs.Str.{bytes_eq}
@@ -10,8 +10,8 @@ use Rattle.vt_spec.specs.Machine.Calls.Creation.{Exclusive, NoCreation, OrCreate
 use Rattle.vt_spec.specs.Machine.Calls.Directive.{AskPeers, AskSealed}
 use Rattle.vt_spec.specs.Machine.Calls.TypeWord.{ToPrivate, ToShared, ToSlave, ToUnbindable}
 use Rattle.vt_spec.specs.Machine.Lists.{folded, or_else, then_some, when}
-use Rattle.vt_spec.specs.Machine.Mounts.{MountFlags, children, plain_flags}
-use Rattle.vt_spec.specs.PathText.{is_empty, parts, words, words_between}
+use Rattle.vt_spec.specs.Machine.Mounts.{MountFlags, plain_flags}
+use Rattle.vt_spec.specs.PathText.{is_empty, parts, words_between}
 use Rattle.vt_spec.specs.Rights.{cap_chown, cap_dac_override, cap_dac_read_search, cap_fowner, cap_setgid, cap_setuid, cap_sys_admin, cap_sys_chroot}
 use Rattle.vt_spec.specs.Machine.World.{TaskName}
 
@@ -421,12 +421,12 @@ directive_words name words =
     else if bytes_eq name (codes "sealed") then some_tasks words
     else None
 
--- What of the language is there: calls by their names, and what such a call is taken as, if at all, by its words; and
--- directives by their names. A line with anything else is not of the grammar.
+-- What of the language is there: calls by their names, of those the calls with such words, and directives by their names. A
+-- line with anything else is not of the grammar.
 pub record Grammar : Type 0 where
   pub version : Version
   pub knows : List ℕ → Bool
-  pub takes : Call → Option Call
+  pub has : Call → Bool
   pub directs : List ℕ → Bool
 
 -- the names of the calls on files and tasks, in one tree
@@ -442,13 +442,13 @@ abbrev pub files : Grammar
 files = record {
   version = One;
   knows = λ name. list_any (bytes_eq name) file_call_names;
-  takes = λ call. Some call;
+  has = λ call. true;
   directs = λ name. false;
 }
 
 -- the whole language
 abbrev pub whole : Version → Grammar
-whole version = record { version = version; knows = λ name. true; takes = λ call. Some call; directs = λ name. true }
+whole version = record { version = version; knows = λ name. true; has = λ call. true; directs = λ name. true }
 
 -- whose line it is: a task's, or nobody's
 pub data Who : Type 0 where
@@ -466,7 +466,9 @@ who_of token = if bytes_eq token (codes "!") then Some Nobody else option_map So
 abbrev pub call_asked : Grammar → TaskName → List (List ℕ) → Option Request
 call_asked grammar task [] = None
 call_asked grammar task (name ∷ words) =
-    if grammar.knows name then option_map (Calling task) (then_some (call_words grammar.version name words) grammar.takes) else None
+    if grammar.knows name then
+    option_map (Calling task) (then_some (call_words grammar.version name words) (λ call. when (grammar.has call) call))
+    else None
 
 abbrev pub directive_asked : Grammar → List (List ℕ) → Option Request
 directive_asked grammar [] = None

@@ -1,7 +1,6 @@
 -- Calls in turns: each task, and `!`, has a queue of its lines. A turn walks one word of a call, or judges and acts
 -- (profile).
 use Rattle.std.specs.Prelude.{Bool, Err, List, None, Ok, Option, Result, Some, [], false, filter, filter_map, find, if◌then◌else◌, length, map, nat_eq, nat_le, nat_lt, not, option_map, option_to_list, reverse, slice_get, true, unwrap_or, ℕ, ◌&&◌, ◌++◌, ◌+◌, ◌==◌, ◌||◌, ◌∷◌}
-use Rattle.std.specs.FinMap.Entries.{put}
 use Rattle.std.specs.List.{list_any}
 use Rattle.vt_spec.specs.declared.errors.Deny.{Deny}
 use Rattle.vt_spec.specs.declared.errors.Rule.TheVariants.{K1, S1, S5}
@@ -14,7 +13,6 @@ use Rattle.vt_spec.specs.Machine.Outcome.Descriptors.{descriptor_rules}
 use Rattle.vt_spec.specs.Machine.Outcome.Mounting.{admin_rules, destination_walk, source_walk, work_walked}
 use Rattle.vt_spec.specs.Machine.Outcome.Removing.{rename_new_walk}
 use Rattle.vt_spec.specs.Machine.Outcomes.{Answer, Outcome, denied}
-use Rattle.vt_spec.specs.PathText.{words}
 use Rattle.vt_spec.specs.Machine.Policy.{policy}
 use Rattle.vt_spec.specs.Machine.Printed.{reply_line}
 use Rattle.vt_spec.specs.Rights.{cap_sys_chroot}

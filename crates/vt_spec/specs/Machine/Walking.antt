@@ -75,7 +75,8 @@ pub record Stop (N : Type 0) : Type 0 where
   pub deny : Deny
   pub steps : List (List N)
 
--- where a parent walk ends: the directory, the last word in it, the object there, if any, and whether a slash follows
+-- where a parent walk ends: the directory, the last word in it, the object there, if any, and whether a slash follows the
+-- word; the slashes of a path without words follow none
 pub record Place (N : Type 0) : Type 0 where
   pub parent : Location N
   pub last : LastWord
@@ -245,7 +246,7 @@ module _ {N : Type 0} (eq : N → N → Bool) where
   -- A link is a walk of its text from its directory or the task's root, with what is left of the links. Links stand in
   -- one another's texts no deeper than there are links to follow.
   abbrev pub link_walked : ℕ → Looks N → Task N → Location N → Here N → List ℕ → Result (Here N) (Stop N)
-  link_walked zero looks task directory link text = Ok link
+  link_walked zero looks task directory link text = Err (record { deny = denial W7; steps = link.steps })
   link_walked (suc depth) looks task directory link text =
       then_walk (walk_unless link.steps (follow_rules looks link text) (link_start looks task directory link text)) (λ start.
       then_walk (words_walked looks task (λ inside next inner. link_walked depth looks task inside next inner)
@@ -316,7 +317,7 @@ module _ {N : Type 0} (eq : N → N → Bool) where
 
   abbrev pub placed : Looks N → Task N → Here N → LastWord → Bool → Result (Place N) (Stop N)
   placed looks task here NoWord slash =
-      Ok (record { parent = here.location; last = NoWord; object = Some here.location; slash = slash; steps = here.steps })
+      Ok (record { parent = here.location; last = NoWord; object = Some here.location; slash = false; steps = here.steps })
   placed looks task here word slash =
       stopped_by (steps_at looks task here word)
       (and_then (unless (search_rules looks task here.location) (object_named looks task here.location word))

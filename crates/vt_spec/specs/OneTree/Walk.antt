@@ -19,7 +19,8 @@ pub record Here (N : Type 0) : Type 0 where
   pub node : N
   pub left : ℕ
 
--- where a parent walk ends: the directory, the last word in it, the object there, if any, and whether a slash follows
+-- where a parent walk ends: the directory, the last word in it, the object there, if any, and whether a slash follows the
+-- word; the slashes of a path without words follow none
 pub record Place (N : Type 0) : Type 0 where
   pub parent : N
   pub last : LastWord
@@ -95,7 +96,7 @@ module _ {N : Type 0} where
   -- A link is a walk of its text from its directory or the root, with what is left of the links. Links stand in one another's
   -- texts no deeper than there are links to follow.
   abbrev pub link_walked : ℕ → Tree N → Credentials → N → Here N → List ℕ → Result (Here N) Deny
-  link_walked zero tree who directory link text = Ok link
+  link_walked zero tree who directory link text = Err (denial W7)
   link_walked (suc depth) tree who directory link text =
       unless (follow_rules link text)
       (and_then (words_walked tree who (λ inside next inner. link_walked depth tree who inside next inner)
@@ -148,7 +149,7 @@ module _ {N : Type 0} where
 
   -- Parent walks: what a last word stands for, without a link followed
   abbrev pub placed : Tree N → Credentials → N → LastWord → Bool → Result (Place N) Deny
-  placed tree who here NoWord slash = Ok (record { parent = here; last = NoWord; object = Some here; slash = slash })
+  placed tree who here NoWord slash = Ok (record { parent = here; last = NoWord; object = Some here; slash = false })
   placed tree who here word slash =
       unless (search_rules tree who here)
       (Ok (record { parent = here; last = word; object = object_named tree here word; slash = slash }))

@@ -1,6 +1,5 @@
 -- Mount calls: their rules, and what they change.
 use Rattle.std.specs.Prelude.{Bool, List, None, Ok, Option, Result, Some, [], false, if◌then◌else◌, is_some, length, map, nat_lt, not, option_map, option_to_list, sum, true, ℕ, ◌&&◌, ◌++◌, ◌||◌, ◌∷◌}
-use Rattle.std.specs.FinMap.Entries.{put}
 use Rattle.std.specs.List.{list_any}
 use Rattle.vt_spec.specs.declared.errors.Deny.{Deny}
 use Rattle.vt_spec.specs.declared.errors.Rule.TheVariants.{K1, M10, M11, M12, M2, M3, M4, M5, M6, M7, M8, M9, O2, O3, O5, W8}
@@ -10,14 +9,13 @@ use Rattle.vt_spec.specs.Machine.Detach.{is_busy, is_written_through, lazily_unm
 use Rattle.vt_spec.specs.Errors.{Rules, and_then, denial}
 use Rattle.vt_spec.specs.Machine.FileTree.{is_directory_under}
 use Rattle.vt_spec.specs.Machine.Lists.{Fresh, any_pair, chain, evens, holds_of, is_empty_list, odds, rest_of}
-use Rattle.vt_spec.specs.Machine.Locked.{in_use, layers_overlap, one_under_another}
+use Rattle.vt_spec.specs.Machine.Locked.{in_use, one_under_another, overlaps_one_of, upper_and_work}
 use Rattle.vt_spec.specs.Machine.Merging.{MergedInode, merged_inodes, merged_objects, real_of, tree_of}
 use Rattle.vt_spec.specs.Machine.Mounts.{Location, Mount, MountFlags, is_shared, is_unbindable, mount_tree, topmost, with_mount}
 use Rattle.vt_spec.specs.Machine.Mounts.Propagation.{Private}
 use Rattle.vt_spec.specs.Machine.Namespaces.{pivoted}
 use Rattle.vt_spec.specs.Machine.Outcomes.{Outcome, after, denied, granted, judged}
 use Rattle.vt_spec.specs.Machine.Outcomes.Answer.{Done}
-use Rattle.vt_spec.specs.PathText.{words}
 use Rattle.vt_spec.specs.Rights.{cap_sys_admin}
 use Rattle.vt_spec.specs.Machine.Rows.{is_elsewhere, is_no_root, is_read_only, lacks}
 use Rattle.vt_spec.specs.Machine.Types.{with_type}
@@ -137,15 +135,15 @@ module _ {N : Type 0} (eq : N → N → Bool) where
 
   abbrev pub lie_apart : World N → Overlay N → Bool
   lie_apart world overlay =
-      any_pair (λ a b. not (eq a.filesystem b.filesystem)) (option_to_list overlay.upper ++ option_to_list overlay.work)
+      any_pair (λ a b. not (eq a.filesystem b.filesystem)) (upper_and_work overlay)
 
   abbrev pub upper_overlaps_work : World N → Overlay N → Bool
   upper_overlaps_work world overlay =
-      any_pair (layers_overlap eq world) (option_to_list overlay.upper ++ option_to_list overlay.work)
+      list_any (overlaps_one_of eq world (option_to_list overlay.work)) (option_to_list overlay.upper)
 
   abbrev pub overlap_upward : World N → Overlay N → Bool
   overlap_upward world overlay =
-      list_any (λ layer. list_any (layers_overlap eq world layer) overlay.lowers) (option_to_list overlay.upper ++ option_to_list overlay.work)
+      list_any (overlaps_one_of eq world overlay.lowers) (upper_and_work overlay)
 
   -- the kernel's overlayfs document, "multiple lower layers", "sharing and copying layers"; EINVAL, EBUSY, ELOOP
   abbrev pub layer_rules : World N → LayerPlaces N → Overlay N → Rules
