@@ -21,6 +21,7 @@ pub mod Types
 pub mod Attach
 pub mod Detach
 pub mod Namespaces
+pub mod Rules
 pub mod Rows
 pub mod Outcome
 pub mod Listing

@@ -126,14 +126,6 @@ module _ {N : Type 0} (eq : N → N → Bool) where
   mounts_on world location =
       filter (λ mount. list_any (λ point. is_point world point.0 point.1 mount) (points_of world location)) world.mounts
 
-  -- P1: a mount point in a namespace; and in any
-  abbrev pub is_point_in : World N → N → Location N → Bool
-  is_point_in world namespace location =
-      list_any (λ mount. holds_of (eq namespace) mount.namespace) (mounts_on world location)
-
-  abbrev pub is_point_anywhere : World N → Location N → Bool
-  is_point_anywhere world location = list_any (λ mount. is_some mount.namespace) (mounts_on world location)
-
   -- a removed directory takes the mounts on it, in whatever namespace, away
   abbrev pub without_mounts_on : World N → Location N → World N
   without_mounts_on world location = trees_taken_away world (mounts_on world location)
