@@ -1,5 +1,6 @@
 pub mod Allotments
 pub mod AskedRules
+pub mod CallsJudged
 pub mod Cells
 pub mod ChangesByCalls
 pub mod ChangesByLinks
@@ -29,6 +30,7 @@ pub mod GroupsUp
 pub mod LeastAnswers
 pub mod LeastRule
 pub mod Lists
+pub mod LooksAlike
 pub mod LowersCalls
 pub mod LowersEachCall
 pub mod LowersEveryCall

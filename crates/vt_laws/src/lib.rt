@@ -2,6 +2,7 @@
 #![tactic(auto)]
 
 pub mod denials;
+pub mod judged;
 pub mod layers;
 pub mod mounts;
 pub mod numbers;

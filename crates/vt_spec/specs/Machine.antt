@@ -25,6 +25,9 @@ pub mod Rules
 pub mod Rows
 pub mod Outcome
 pub mod Listing
+pub mod Permits
+pub mod Apply
+pub mod Judge
 pub mod Policy
 pub mod Sealed
 pub mod Script

@@ -1,4 +1,4 @@
--- Conditions that many tables of rules share.
+-- What new objects are, and the change that makes one.
 use Rattle.std.specs.Prelude.{ℕ}
 use Rattle.vt_spec.specs.declared.attributes.Attr.{Attr}
 use Rattle.vt_spec.specs.Machine.Changes.{Change}
