@@ -81,7 +81,7 @@ module _ (tree : Tree ℕ) (who : Credentials) where
       (λ next. linked next (link_text (tree.node next.node)) (follow reached.node next) (so reached.node next)))
 
   link-memory : (depth : ℕ) (directory : ℕ) (link : Here ℕ) (text : List ℕ) → HasMemory (link_walked depth tree who directory link text)
-  link-memory zero directory link text = tt
+  link-memory zero directory link text = refl
   link-memory (suc depth) directory link text =
       let walked = words_walked tree who (λ inside next inner. link_walked depth tree who inside next inner) (link_start tree directory link text) (reverse (words text)) in
       after-rules (follow_rules link text) (and_then walked (λ reached. unless (slash_rules tree text reached.node) (Ok reached))) refl

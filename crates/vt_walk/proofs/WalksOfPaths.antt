@@ -1,12 +1,12 @@
 -- What each walk is, once its path is parsed and its words are walked.
 use Rattle.std.proofs.Common.{◌≡◌, ℕ, Bool, true, false, List, [], ◌∷◌, Result, Ok, Err, refl, sym, ap, ◌∙◌, length, reverse, ◌||◌, if◌then◌else◌}
-use Rattle.std.specs.Prelude.{nat_lt, not}
+use Rattle.std.specs.Prelude.{nat_lt, not, ◌&&◌}
 use Rattle.std.specs.List.{list_any}
 use Rattle.vt_spec.specs.declared.errors.Deny.{Deny}
 use Rattle.vt_spec.specs.declared.errors.Rule.TheVariants.{W3}
 use Rattle.vt_spec.specs.Errors.{and_then, denial, unless}
 use Rattle.vt_spec.specs.Machine.Lists.{rest_of}
-use Rattle.vt_spec.specs.Machine.Walk.{LastWord, final_word}
+use Rattle.vt_spec.specs.Machine.Walk.{LastWord, final_word, is_no_word}
 use Rattle.vt_spec.specs.Machine.Walk.LastWord.{NoWord, Dot, DotDot, Named}
 use Rattle.vt_spec.specs.OneTree.Walk.{Here, directory_walk, followed, front_walked, is_directory_at, last_walked, link_walk, new_walk, object_named, object_walk, path_walked, placed, slash_rules, unfollowed_walk, walk_start, words_walked}
 use Rattle.vt_spec.specs.PathText.{ends_in_slash, is_empty, longest_name, longest_path, parsed_path, words}
@@ -109,7 +109,7 @@ module _ (tree : Tree ℕ) (who : Credentials) where
 
   -- a place, with what was asked of its directory
   pub placed-by : (here : ℕ) (word : LastWord) (slash : Bool) →
-      unless (last_rules tree who here word) (Ok (record { parent = here; last = word; object = object_named tree here word; slash = slash }))
+      unless (last_rules tree who here word) (Ok (record { parent = here; last = word; object = object_named tree here word; slash = not (is_no_word word) && slash }))
       ≡ placed tree who here word slash
   placed-by here NoWord slash = refl
   placed-by here Dot slash = refl

@@ -17,6 +17,7 @@ use vt_text::path::PathText;
 use vt_tree::Tree;
 
 // What a last word stands for in a directory, with no link followed. W3, W4: where a word is left, the directory is searched.
+// Where none is left, no slash stands behind it.
 fn placed<'a>(
     tree: &Tree,
     who: &Cred,
@@ -32,7 +33,7 @@ fn placed<'a>(
         parent: here,
         last,
         object: object_named(tree, here, last),
-        slash,
+        slash: !last.is_no_word() && slash,
     })
 }
 

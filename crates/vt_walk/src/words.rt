@@ -1,7 +1,7 @@
 //! The last words of paths, and the places that they name.
 ghost use Rattle.std.specs.Prelude.{◌≡◌, reverse};
 ghost use Rattle.vt_spec.specs.Machine.Lists.{rest_of};
-ghost use Rattle.vt_spec.specs.Machine.Walk.{last_word, final_word, is_special, name_of};
+ghost use Rattle.vt_spec.specs.Machine.Walk.{last_word, final_word, is_no_word, is_special, name_of};
 ghost use Rattle.vt_spec.specs.PathText.{words};
 ghost use Rattle.vt_walk.specs.WalkValue.{last_of};
 
@@ -41,6 +41,13 @@ impl<'a> LastWord<'a> {
         }
     }
 
+    // Whether there is none.
+    pub(crate) fn is_no_word(&self) -> bool
+        ensures { result ≡ is_no_word (last_of self.now) }
+    {
+        matches!(self, LastWord::NoWord)
+    }
+
     /// The name, and nothing for a word that names no entry.
     pub fn name(&self) -> &'a [u8]
         ensures { result.now ≡ name_of (last_of self.now) }
@@ -52,7 +59,7 @@ impl<'a> LastWord<'a> {
     }
 }
 
-/// Where a parent walk ends: the directory, the last word in it, the object there, if any, and whether a slash follows.
+/// Where a parent walk ends: the directory, the last word in it, the object there, if any, and whether a slash follows the word.
 #[derive(Clone, Copy, Debug)]
 pub struct Place<'a> {
     pub parent: NodeId,
