@@ -20,7 +20,8 @@ use Rattle.vt_spec.specs.Machine.World.{Layer, Overlay, Task, TaskName, World, t
 abbrev pub CallIsJudgedThenApplied : Type 0
 CallIsJudgedThenApplied =
     (fresh : Fresh ℕ) (world : World ℕ) (task : Task ℕ) (call : Call)
-    → call_outcome nat_eq fresh world task call ≡ after world (judge_in nat_eq fresh world task call) (apply nat_eq fresh world task)
+    → call_outcome nat_eq fresh world task call
+    ≡ after world (judge_in nat_eq fresh world task call) (apply nat_eq fresh world task)
 
 -- so is that of the policy, of a task that is there
 abbrev pub PolicyJudgesThenApplies : Type 0
@@ -28,7 +29,8 @@ PolicyJudgesThenApplies =
     (fresh : Fresh ℕ) (world : World ℕ) (name : TaskName) (call : Call)
     → policy nat_eq fresh world name call
     ≡ after world (ok_or (task_called world name) (denial S2)) (λ task.
-      finished nat_eq world name call (after world (judge_in nat_eq fresh world task call) (apply nat_eq fresh world task)))
+      finished nat_eq world name call
+      (after world (judge_in nat_eq fresh world task call) (apply nat_eq fresh world task)))
 
 -- two worlds look alike: whatever is looked at, they show the same
 pub record LookAlike (one other : Looks ℕ) : Type 0 where
@@ -42,12 +44,16 @@ pub record LookAlike (one other : Looks ℕ) : Type 0 where
   pub is_written_through : (mount : ℕ) → one.is_written_through mount ≡ other.is_written_through mount
   pub node : (location : Location ℕ) → one.node location ≡ other.node location
   pub is_removed : (location : Location ℕ) → one.is_removed location ≡ other.is_removed location
-  pub is_under : (filesystem top directory : ℕ) → one.is_under filesystem top directory ≡ other.is_under filesystem top directory
+  pub is_under : (filesystem top directory : ℕ)
+      → one.is_under filesystem top directory ≡ other.is_under filesystem top directory
   pub overlay : (location : Location ℕ) → one.overlay location ≡ other.overlay location
-  pub mounter_rules : (location : Location ℕ) (change : Change ℕ) → one.mounter_rules location change ≡ other.mounter_rules location change
-  pub has_lower_directory : (location : Location ℕ) (name : List ℕ) → one.has_lower_directory location name ≡ other.has_lower_directory location name
+  pub mounter_rules : (location : Location ℕ) (change : Change ℕ)
+      → one.mounter_rules location change ≡ other.mounter_rules location change
+  pub has_lower_directory : (location : Location ℕ) (name : List ℕ)
+      → one.has_lower_directory location name ≡ other.has_lower_directory location name
   pub is_locked : (location : Location ℕ) → one.is_locked location ≡ other.is_locked location
-  pub overlaps_one_of : (others : List (Layer ℕ)) (layer : Layer ℕ) → one.overlaps_one_of others layer ≡ other.overlaps_one_of others layer
+  pub overlaps_one_of : (others : List (Layer ℕ)) (layer : Layer ℕ)
+      → one.overlaps_one_of others layer ≡ other.overlaps_one_of others layer
   pub is_in_use : (overlay : Overlay ℕ) → one.is_in_use overlay ≡ other.is_in_use overlay
 
 -- each walk of a path ends alike in both: path_resolution(7)
@@ -66,8 +72,8 @@ AlikeAreWalkedAlike =
     × (source_walk nat_eq one task path ≡ source_walk nat_eq other task path)
     × (destination_walk nat_eq one task path ≡ destination_walk nat_eq other task path)
 
--- Each call is judged alike in both: by the same rule, or with the same permit. Of what attaches mounts it is given whether it
--- leaves a namespace with too many.
+-- Each call is judged alike in both: by the same rule, or with the same permit. Of what attaches mounts it is given
+-- whether it leaves a namespace with too many.
 abbrev pub AlikeAreJudgedAlike : Type 0
 AlikeAreJudgedAlike =
     (one other : Looks ℕ) → LookAlike one other

@@ -38,16 +38,20 @@ module _ {N : Type 0} (eq : N → N → Bool) where
   apply fresh world task (ToChange location change) = granted Done (with_change eq fresh world location change)
   apply fresh world task (ToMake directory name node) = granted Done (with_new_inode fresh world directory name node)
   apply fresh world task (ToRemoveDirectory parent name directory) =
-      granted Done (with_change eq fresh (without_mounts_on eq world directory) parent (Remove parent.node name directory.node))
+      granted Done (with_change eq fresh (without_mounts_on eq world directory) parent
+      (Remove parent.node name directory.node))
   apply fresh world task (ToRename from old to new object replaced) =
-      granted Done (with_change eq fresh (without_replaced eq world replaced) from (Move from.node old to.node new object.node))
+      granted Done (with_change eq fresh (without_replaced eq world replaced) from
+      (Move from.node old to.node new object.node))
   apply fresh world task (ToOpen file access) =
       opened (with_copy eq (is_copied_up eq world file access) fresh world file) task file access
   apply fresh world task (ToOpenNew directory name node access) =
-      opened (with_new_inode fresh world directory name node) task (record { mount = directory.mount; node = evens fresh 0 }) access
+      opened (with_new_inode fresh world directory name node) task
+      (record { mount = directory.mount; node = evens fresh 0 }) access
   apply fresh world task (ToWritePart file offset bytes) = granted Done (pwritten eq fresh world file offset bytes)
   apply fresh world task (ToClose descriptor) = granted Done (with_task world (without_descriptor task descriptor))
-  apply fresh world task (ToSetDirectory directory) = granted Done (with_task world (record task { directory = directory }))
+  apply fresh world task (ToSetDirectory directory) =
+      granted Done (with_task world (record task { directory = directory }))
   apply fresh world task (ToSetRoot root) = granted Done (with_task world (record task { root = root }))
   apply fresh world task (ToSetUmask umask) = granted Done (with_task world (record task { umask = umask }))
   apply fresh world task (ToSetCredentials credentials) =
@@ -68,7 +72,8 @@ module _ {N : Type 0} (eq : N → N → Bool) where
   apply fresh world task (ToUnmount mount) = granted Done (unmounted eq world mount)
   apply fresh world task (ToUnmountLazily mount) = granted Done (lazily_unmounted eq world mount)
   apply fresh world task (ToSetFlags mount flags) =
-      granted Done (with_mounts world (with_mount eq world.mounts (record (mount_numbered eq world mount) { flags = flags })))
+      granted Done (with_mounts world
+      (with_mount eq world.mounts (record (mount_numbered eq world mount) { flags = flags })))
   apply fresh world task (ToSetType mount word recursive) = granted Done (with_type eq fresh world mount word recursive)
   apply fresh world task (ToPivot new put) =
       granted Done (pivoted eq world task.namespace (mount_at eq world task.root) (mount_numbered eq world new) put)

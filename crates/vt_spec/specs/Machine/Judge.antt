@@ -1,4 +1,5 @@
--- Each call is judged by its walks and its tables of rules: it gets a permit, or is refused by the first rule that fails.
+-- Each call is judged by its walks and its tables of rules over what a world shows: it gets a permit, or is refused by
+-- the first rule that fails.
 use Rattle.std.specs.Prelude.{Bool, Err, List, None, Ok, Option, Result, Some, [], false, length, nat_lt, ok_or, true, unwrap_or, ℕ, ◌++◌, ◌||◌, ◌∷◌}
 use Rattle.vt_spec.specs.declared.attributes.Attr.{Attr}
 use Rattle.vt_spec.specs.declared.errors.Deny.{Deny}
@@ -55,7 +56,8 @@ module _ {N : Type 0} where
   -- fork(2)
   unfoldable pub fork_permit : Task N → Option ForkWords → Judgement N
   fork_permit task words =
-      unless (fork_rules task (child_credentials task.credentials words)) (Ok (ToFork (child_credentials task.credentials words)))
+      unless (fork_rules task (child_credentials task.credentials words))
+      (Ok (ToFork (child_credentials task.credentials words)))
 
   -- pread(2), close(2)
   unfoldable pub pread_permit : Task N → ℕ → ℕ → ℕ → Judgement N
@@ -64,13 +66,15 @@ module _ {N : Type 0} where
       Ok (ToReadPart descriptor.location offset size))
 
   unfoldable pub close_permit : Task N → ℕ → Judgement N
-  close_permit task number = and_then (descriptor_at task number (λ descriptor. true)) (λ descriptor. Ok (ToClose number))
+  close_permit task number =
+      and_then (descriptor_at task number (λ descriptor. true)) (λ descriptor. Ok (ToClose number))
 
   -- pwrite(2)
   unfoldable pub pwrite_permit : Looks N → Task N → ℕ → ℕ → List ℕ → Judgement N
   pwrite_permit looks task number offset bytes =
       and_then (descriptor_at task number (λ descriptor. descriptor.writes)) (λ descriptor.
-      unless (pwrite_rules looks descriptor.location offset bytes) (Ok (ToWritePart descriptor.location offset bytes)))
+      unless (pwrite_rules looks descriptor.location offset bytes)
+      (Ok (ToWritePart descriptor.location offset bytes)))
 
   -- unshare(2)
   unfoldable pub unshare_permit : Task N → Judgement N
@@ -80,7 +84,8 @@ module _ {N : Type 0} where
   unfoldable pub setns_permit : Looks N → Task N → TaskName → Judgement N
   setns_permit looks task name =
       and_then (ok_or (looks.task_called name) (denial S2)) (λ target.
-      unless ((lacks task cap_sys_admin || lacks task cap_sys_chroot, K1) ∷ []) (Ok (ToEnterNamespace target.namespace)))
+      unless ((lacks task cap_sys_admin || lacks task cap_sys_chroot, K1) ∷ [])
+      (Ok (ToEnterNamespace target.namespace)))
 
 module _ {N : Type 0} (eq : N → N → Bool) where
   -- Calls that look
@@ -221,7 +226,8 @@ module _ {N : Type 0} (eq : N → N → Bool) where
 
   abbrev pub create_file_permit : Looks N → Task N → Place N → Access → ℕ → Judgement N
   create_file_permit looks task place access mode =
-      unless (make_rules looks task place (unnumbered place (new_file task mode []))) (Ok (open_new_permit task place access mode))
+      unless (make_rules looks task place (unnumbered place (new_file task mode [])))
+      (Ok (open_new_permit task place access mode))
 
   abbrev pub opened_or_created_permit : Looks N → Task N → Place N → Access → ℕ → Option (Location N) → Judgement N
   opened_or_created_permit looks task place access mode (Some file) = open_file_permit looks task file access
@@ -262,14 +268,17 @@ module _ {N : Type 0} (eq : N → N → Bool) where
       (and_then (walk_end (destination_walk eq looks task path)) (λ here.
       attach_permit (new_mount_rules eq looks task here.location) overfills (ToMountPlain here.location flags)))
 
-  abbrev pub overlay_permit_by : Looks N → (Permit N → Bool) → Task N → Location N → Option OverlayWords → MountFlags → Judgement N
+  abbrev pub overlay_permit_by : Looks N → (Permit N → Bool) → Task N → Location N → Option OverlayWords → MountFlags
+      → Judgement N
   overlay_permit_by looks overfills task place None flags = Err (denial O2)
   overlay_permit_by looks overfills task place (Some words) flags =
       and_then (layers_walked eq looks task words) (λ places.
       unless (layer_rules eq looks places (overlay_at looks task places))
-      (attach_permit (new_mount_rules eq looks task place) overfills (ToMountOverlay place (overlay_at looks task places) flags)))
+      (attach_permit (new_mount_rules eq looks task place) overfills
+      (ToMountOverlay place (overlay_at looks task places) flags)))
 
-  unfoldable pub mount_overlay_permit : Looks N → (Permit N → Bool) → Task N → List ℕ → Option OverlayWords → MountFlags → Judgement N
+  unfoldable pub mount_overlay_permit : Looks N → (Permit N → Bool) → Task N → List ℕ → Option OverlayWords → MountFlags
+      → Judgement N
   mount_overlay_permit looks overfills task path options flags =
       unless (admin_rules task)
       (and_then (walk_end (destination_walk eq looks task path)) (λ here.
@@ -280,14 +289,16 @@ module _ {N : Type 0} (eq : N → N → Bool) where
       unless (admin_rules task)
       (and_then (walk_end (source_walk eq looks task source)) (λ from.
       and_then (walk_end (destination_walk eq looks task path)) (λ here.
-      attach_permit (bind_rules eq looks task from.location here.location) overfills (ToBind from.location here.location recursive))))
+      attach_permit (bind_rules eq looks task from.location here.location) overfills
+      (ToBind from.location here.location recursive))))
 
   unfoldable pub move_permit : Looks N → (Permit N → Bool) → Task N → List ℕ → List ℕ → Judgement N
   move_permit looks overfills task source path =
       unless (admin_rules task)
       (and_then (walk_end (source_walk eq looks task source)) (λ from.
       and_then (walk_end (destination_walk eq looks task path)) (λ here.
-      attach_permit (move_rules eq looks task from.location here.location) overfills (ToMove from.location.mount here.location))))
+      attach_permit (move_rules eq looks task from.location here.location) overfills
+      (ToMove from.location.mount here.location))))
 
   unfoldable pub umount_permit : Looks N → Task N → List ℕ → Judgement N
   umount_permit looks task path =
@@ -353,7 +364,8 @@ module _ {N : Type 0} (eq : N → N → Bool) where
   judge looks overfills task Unshare = unshare_permit task
   judge looks overfills task (Setns name) = setns_permit looks task name
   judge looks overfills task (MountPlain path flags) = mount_plain_permit looks overfills task path flags
-  judge looks overfills task (MountOverlay path options flags) = mount_overlay_permit looks overfills task path options flags
+  judge looks overfills task (MountOverlay path options flags) =
+      mount_overlay_permit looks overfills task path options flags
   judge looks overfills task (Bind source path recursive) = bind_permit looks overfills task source path recursive
   judge looks overfills task (MoveMount source path) = move_permit looks overfills task source path
   judge looks overfills task (Umount path) = umount_permit looks task path

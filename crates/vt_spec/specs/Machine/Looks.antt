@@ -1,4 +1,5 @@
--- What walks and tables of rules look at. Two worlds that look alike are walked and judged alike, however they are kept.
+-- What walks and tables of rules look at. Two worlds that look alike are walked and judged alike, however they are
+-- kept.
 use Rattle.std.specs.Prelude.{Bool, List, Option, length, ℕ}
 use Rattle.vt_spec.specs.Errors.{Rules}
 use Rattle.vt_spec.specs.Machine.Changes.{Change}
@@ -15,7 +16,8 @@ use Rattle.vt_spec.specs.Machine.World.{Layer, Overlay, Task, TaskName, World, f
 pub record Looks (N : Type 0) : Type 0 where
   -- the task that has a name: the process of setns(2)
   pub task_called : TaskName → Option (Task N)
-  -- the mount that has a number, how many mounts there are, and a mount with all below it: mount_namespaces(7)
+  -- the mount that has a number; how many mounts exist; a mount and all below it, each before its children:
+  -- mount_namespaces(7)
   pub mount : N → Mount N
   pub mount_count : ℕ
   pub mount_tree : N → List (Mount N)
@@ -23,10 +25,10 @@ pub record Looks (N : Type 0) : Type 0 where
   pub mounts_over : Location N → List (Location N)
   -- the mounts that stand on a directory, through whatever mount they are seen: EBUSY of rmdir(2) and rename(2)
   pub mounts_on : Location N → List (Mount N)
-  -- EBUSY of umount(2), and of mount(2) with MS_REMOUNT: a mount is in use; a file is open for writing through it
+  -- EBUSY of umount(2): a mount is in use; of mount(2) with MS_REMOUNT: a file is open for writing through it
   pub is_busy : N → Bool
   pub is_written_through : N → Bool
-  -- what is at a location: inode(7)
+  -- the inode at a location: inode(7)
   pub node : Location N → Option (Node N)
   -- a directory that has lost its name: rmdir(2) while it is in use
   pub is_removed : Location N → Bool
@@ -34,13 +36,14 @@ pub record Looks (N : Type 0) : Type 0 where
   pub is_under : (filesystem : N) → (top : N) → (directory : N) → Bool
   -- the overlay that a location is in, if it is in one: its layers and its mounter
   pub overlay : Location N → Option (Overlay N)
-  -- what the mounter of an overlay is refused of a change there (profile; overlayfs, "permission model")
+  -- B1 and B2 of a change there, which the mounter of an overlay is asked for (profile; overlayfs, "permission model")
   pub mounter_rules : Location N → Change N → Rules
-  -- a lower layer that is not cut has a directory under this name of a directory: overlayfs, "renaming directories"
+  -- O1: a lower layer that is not cut has a directory under this name of a directory: overlayfs, "renaming directories"
   pub has_lower_directory : Location N → List ℕ → Bool
-  -- what is there lies in a layer of a live overlay: overlayfs, "changes to underlying filesystems"
+  -- L1: what is there lies in a layer of a live overlay: overlayfs, "changes to underlying filesystems"
   pub is_locked : Location N → Bool
-  -- some inode lies or counts under a layer and under one of others; a new overlay would share one with a live overlay (profile)
+  -- O2, O5: some inode lies or counts under a layer and under one of others; O3: a layer of a new overlay overlaps one
+  -- of a live overlay (profile)
   pub overlaps_one_of : List (Layer N) → Layer N → Bool
   pub is_in_use : Overlay N → Bool
 
@@ -57,7 +60,8 @@ looks_of eq world = record {
   is_written_through = is_written_through eq world;
   node = node_at eq world;
   is_removed = is_removed_at eq world;
-  is_under = λ filesystem top directory. is_directory_under eq (filesystem_numbered eq world filesystem).files top directory;
+  is_under = λ filesystem top directory.
+      is_directory_under eq (filesystem_numbered eq world filesystem).files top directory;
   overlay = λ location. (filesystem_at eq world location).overlay;
   mounter_rules = mounter_rules eq world;
   has_lower_directory = has_lower_directory_at eq world;

@@ -18,8 +18,8 @@ pub data Permit (N : Type 0) : Type 0 where
   ToRead : (file : Location N) → Permit N
   -- bytes from an offset on, at most so many: pread(2)
   ToReadPart : (file : Location N) → (offset : ℕ) → (size : ℕ) → Permit N
-  -- a change of names, bytes or attributes in the filesystem of a location: link(2), unlink(2), write(2), chmod(2), chown(2) and
-  -- setxattr(2) of the opaque mark
+  -- a change of names, bytes or attributes in the filesystem of a location: link(2), unlink(2), write(2), chmod(2),
+  -- chown(2) and setxattr(2) of the opaque mark
   ToChange : (location : Location N) → (change : Change N) → Permit N
   -- a new inode under a name of a directory: mkdir(2), symlink(2), mknod(2), and open(2) with O_CREAT before write(2)
   ToMake : (directory : Location N) → (name : List ℕ) → (node : Node N) → Permit N
@@ -53,7 +53,8 @@ pub data Permit (N : Type 0) : Type 0 where
   ToMountPlain : (place : Location N) → (flags : MountFlags) → Permit N
   -- a mount of a new overlay with these layers: mount(2) of an overlay
   ToMountOverlay : (place : Location N) → (overlay : Overlay N) → (flags : MountFlags) → Permit N
-  -- a copy of the mount of a source, from that directory on, or of the mounts under it too: mount(2) with MS_BIND, MS_REC
+  -- a copy of the mount of a source, from that directory on, or of the mounts under it too: mount(2) with MS_BIND, and
+  -- MS_REC
   ToBind : (source : Location N) → (place : Location N) → (recursive : Bool) → Permit N
   -- a mount and all below it get another place: mount(2) with MS_MOVE
   ToMove : (mount : N) → (place : Location N) → Permit N

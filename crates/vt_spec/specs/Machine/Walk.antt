@@ -1,4 +1,4 @@
--- Walks in a world: `Walking` of what the world shows.
+-- Walks in a world: those of `Walking.antt`, over what the world shows.
 use Rattle.std.specs.Prelude.{Bool, List, Option, Result, ℕ}
 use Rattle.vt_spec.specs.declared.errors.Deny.{Deny}
 use Rattle.vt_spec.specs.Errors.{Rules}
@@ -118,7 +118,8 @@ module _ {N : Type 0} (eq : N → N → Bool) where
   abbrev pub link_there : World N → Place N → Option (List ℕ)
   link_there world = Walking.link_there eq (looks_of eq world)
 
-  abbrev pub file_or_link : World N → Place N → Option (List ℕ) → (List ℕ → Result (Place N) (Stop N)) → Result (Place N) (Stop N)
+  abbrev pub file_or_link : World N → Place N → Option (List ℕ) → (List ℕ → Result (Place N) (Stop N))
+      → Result (Place N) (Stop N)
   file_or_link world = Walking.file_or_link eq (looks_of eq world)
 
   abbrev pub file_walked : ℕ → World N → Task N → Here N → List ℕ → Bool → Result (Place N) (Stop N)

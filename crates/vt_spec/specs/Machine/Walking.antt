@@ -75,8 +75,8 @@ pub record Stop (N : Type 0) : Type 0 where
   pub deny : Deny
   pub steps : List (List N)
 
--- where a parent walk ends: the directory, the last word in it, the object there, if any, and whether a slash follows the
--- word; the slashes of a path without words follow none
+-- where a parent walk ends: the directory, the last word in it, the object there, if any, and whether a slash follows
+-- the word; the slashes of a path without words follow none
 pub record Place (N : Type 0) : Type 0 where
   pub parent : Location N
   pub last : LastWord
@@ -139,7 +139,8 @@ module _ {N : Type 0} where
       record { location = unwrap_or place.object place.parent; left = here.left; steps = place.steps }
 
 module _ {N : Type 0} (eq : N → N → Bool) where
-  -- before a word is looked up, the place reached must be a directory that the task, and on an overlay its mounter, may search
+  -- before a word is looked up, the place reached must be a directory that the task, and on an overlay its mounter, may
+  -- search
   abbrev pub search_rules : Looks N → Task N → Location N → Rules
   search_rules looks task here =
       (not (is_directory_at looks here), W3)
@@ -150,9 +151,11 @@ module _ {N : Type 0} (eq : N → N → Bool) where
   -- the entry that a name has in a directory
   abbrev pub entry_location : Looks N → Location N → List ℕ → Option (Location N)
   entry_location looks here name =
-      option_map (λ object. record { mount = here.mount; node = object }) (entry_named name (entries_in (looks.node here)))
+      option_map (λ object. record { mount = here.mount; node = object })
+      (entry_named name (entries_in (looks.node here)))
 
-  -- `..` at the root of a mount goes on from the mount's place, but stays at the task's root and where a mount has no place
+  -- `..` at the root of a mount goes on from the mount's place, but stays at the task's root and where a mount has no
+  -- place
   abbrev pub hop : Looks N → Task N → Location N → Option (Location N)
   hop looks task here =
       if same_location eq here task.root then None
@@ -248,7 +251,8 @@ module _ {N : Type 0} (eq : N → N → Bool) where
   abbrev pub link_walked : ℕ → Looks N → Task N → Location N → Here N → List ℕ → Result (Here N) (Stop N)
   link_walked zero looks task directory link text = Err (record { deny = denial W7; steps = link.steps })
   link_walked (suc depth) looks task directory link text =
-      then_walk (walk_unless link.steps (follow_rules looks link text) (link_start looks task directory link text)) (λ start.
+      then_walk
+      (walk_unless link.steps (follow_rules looks link text) (link_start looks task directory link text)) (λ start.
       then_walk (words_walked looks task (λ inside next inner. link_walked depth looks task inside next inner)
       start (reverse (words text))) (λ reached.
       walk_unless reached.steps (slash_rules looks text reached.location) reached))
@@ -317,7 +321,13 @@ module _ {N : Type 0} (eq : N → N → Bool) where
 
   abbrev pub placed : Looks N → Task N → Here N → LastWord → Bool → Result (Place N) (Stop N)
   placed looks task here NoWord slash =
-      Ok (record { parent = here.location; last = NoWord; object = Some here.location; slash = false; steps = here.steps })
+      Ok (record {
+        parent = here.location;
+        last = NoWord;
+        object = Some here.location;
+        slash = false;
+        steps = here.steps;
+      })
   placed looks task here word slash =
       stopped_by (steps_at looks task here word)
       (and_then (unless (search_rules looks task here.location) (object_named looks task here.location word))
@@ -380,7 +390,8 @@ module _ {N : Type 0} (eq : N → N → Bool) where
   abbrev pub link_there : Looks N → Place N → Option (List ℕ)
   link_there looks place = then_some place.object (λ object. link_text (looks.node object))
 
-  abbrev pub file_or_link : Looks N → Place N → Option (List ℕ) → (List ℕ → Result (Place N) (Stop N)) → Result (Place N) (Stop N)
+  abbrev pub file_or_link : Looks N → Place N → Option (List ℕ) → (List ℕ → Result (Place N) (Stop N))
+      → Result (Place N) (Stop N)
   file_or_link looks place None follow = Ok (entered looks place)
   file_or_link looks place (Some text) follow = follow text
 

@@ -1,4 +1,4 @@
--- Calls that change owner, mode and mark: their rules, and what they change.
+-- Calls that change owner, mode and mark: their rules in a world (`Rules/Attributes.antt`), and what they change.
 use Rattle.std.specs.Prelude.{Bool, List, Option, [], unwrap_or, ℕ, ◌&&◌, ◌==◌, ◌||◌, ◌∷◌}
 use Rattle.vt_spec.specs.declared.attributes.Attr.{Attr}
 use Rattle.vt_spec.specs.declared.errors.Rule.TheVariants.{K1}

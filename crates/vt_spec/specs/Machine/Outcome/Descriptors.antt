@@ -1,4 +1,4 @@
--- Calls on open files: their rules, and what they change.
+-- Calls on open files: their rules in a world (`Rules/Descriptors.antt`), and what they change.
 use Rattle.std.specs.Prelude.{Bool, List, None, Option, Some, [], drop, false, filter, if◌then◌else◌, length, nat_lt, not, replicate, take, true, ℕ, ◌++◌, ◌+◌, ◌-◌, ◌==◌, ◌∷◌}
 use Rattle.vt_spec.specs.Machine.Calls.{Access, Creation}
 use Rattle.vt_spec.specs.Machine.Calls.Creation.{Exclusive, NoCreation, OrCreate}

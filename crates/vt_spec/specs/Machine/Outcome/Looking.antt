@@ -1,4 +1,4 @@
--- Calls that look: their rules, and what they answer.
+-- Calls that look: their rules in a world (`Rules/Looking.antt`), and what they answer.
 use Rattle.std.specs.Prelude.{Bool, List, Option, length, ℕ}
 use Rattle.vt_spec.specs.Errors.{Rules}
 use Rattle.vt_spec.specs.Machine.FileTree.{attr_in, is_opaque_in, kind_in}

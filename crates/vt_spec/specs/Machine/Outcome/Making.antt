@@ -1,4 +1,4 @@
--- Calls that make a name, and write: their rules, and what they change.
+-- Calls that make a name, and write: their rules in a world (`Rules/Making.antt`), and what they change.
 use Rattle.std.specs.Prelude.{Bool, List, None, Option, Some, [], length, nat_lt, unwrap_or, ℕ, ◌++◌, ◌∷◌}
 use Rattle.vt_spec.specs.declared.errors.Rule.TheVariants.{E1, E6}
 use Rattle.vt_spec.specs.Machine.Changes.{Change}

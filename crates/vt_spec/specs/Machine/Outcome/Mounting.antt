@@ -1,4 +1,4 @@
--- Mount calls: their rules, and what they change.
+-- Mount calls: their walks and rules in a world (`Rules/Mounting.antt`), and what they change.
 use Rattle.std.specs.Prelude.{Bool, List, None, Option, Result, Some, [], false, is_some, length, map, sum, true, ℕ, ◌++◌, ◌∷◌}
 use Rattle.vt_spec.specs.declared.errors.Deny.{Deny}
 use Rattle.vt_spec.specs.declared.errors.Rule.TheVariants.{O2}
@@ -46,7 +46,8 @@ module _ {N : Type 0} (eq : N → N → Bool) where
       (new_mount filesystem.number filesystem.files.tree.root flags ∷ [])
 
   abbrev pub new_mount_rules : World N → Task N → Location N → World N → Rules
-  new_mount_rules world task place result = Mounting.new_mount_rules eq (looks_of eq world) task place (has_too_many eq result)
+  new_mount_rules world task place result =
+      Mounting.new_mount_rules eq (looks_of eq world) task place (has_too_many eq result)
 
   -- mount(2) of a tmpfs
   abbrev pub plain_filesystem : Fresh N → Filesystem N
@@ -108,7 +109,8 @@ module _ {N : Type 0} (eq : N → N → Bool) where
       overlay_by fresh world task here.location options flags))
 
   abbrev pub bind_rules : World N → Task N → Location N → Location N → World N → Rules
-  bind_rules world task source place result = Mounting.bind_rules eq (looks_of eq world) task source place (has_too_many eq result)
+  bind_rules world task source place result =
+      Mounting.bind_rules eq (looks_of eq world) task source place (has_too_many eq result)
 
   abbrev pub bound_at : Fresh N → World N → Location N → Location N → Bool → World N
   bound_at fresh world source place recursive = attach eq world fresh place false (bind_tree eq world source recursive)
@@ -126,7 +128,8 @@ module _ {N : Type 0} (eq : N → N → Bool) where
   moved_tree world source = mount_tree eq world.mounts (mount_at eq world source)
 
   abbrev pub move_rules : World N → Task N → Location N → Location N → World N → Rules
-  move_rules world task source place result = Mounting.move_rules eq (looks_of eq world) task source place (has_too_many eq result)
+  move_rules world task source place result =
+      Mounting.move_rules eq (looks_of eq world) task source place (has_too_many eq result)
 
   abbrev pub moved_to : Fresh N → World N → Location N → Location N → World N
   moved_to fresh world source place = attach eq world fresh place true (moved_tree world source)

@@ -1,4 +1,4 @@
--- Calls that remove and rename: their rules, and what they change.
+-- Calls that remove and rename: their rules in a world (`Rules/Removing.antt`), and what they change.
 use Rattle.std.specs.Prelude.{Bool, List, None, Option, Result, Some, [], false, true, ℕ, ◌∷◌}
 use Rattle.vt_spec.specs.declared.errors.Rule.TheVariants.{E2}
 use Rattle.vt_spec.specs.Machine.Detach.{without_mounts_on}

@@ -1,4 +1,4 @@
--- Calls on tasks and namespaces: their rules, and what they change.
+-- Calls on tasks and namespaces: their rules in a world (`Rules/Tasks.antt`), and what they change.
 use Rattle.std.specs.Prelude.{Bool, List, None, Option, Some, [], map, ok_or, ℕ, ◌%◌, ◌++◌, ◌+◌, ◌||◌, ◌∷◌}
 use Rattle.vt_spec.specs.declared.errors.Rule.TheVariants.{K1, S2}
 use Rattle.vt_spec.specs.Machine.Calls.{CapabilityWord, ForkWords}

@@ -11,6 +11,7 @@ use Rattle.vt_spec.specs.Rights.{has_all, may_delete_sticky}
 use Rattle.vt_spec.specs.declared.attributes.Kind.{Kind}
 
 module _ {N : Type 0} where
+  -- K1: the caller does not have a capability: capabilities(7)
   abbrev pub lacks : Task N → ℕ → Bool
   lacks task capability = not (has_all task.credentials.capabilities capability)
 
@@ -37,6 +38,7 @@ module _ {N : Type 0} where
   is_kept looks task directory object =
       not (may_delete_sticky task.credentials (attr_in (looks.node directory)) (attr_in (looks.node object)))
 
+  -- P1: a mount stands there, in whatever namespace: mount_namespaces(7), "restrictions"
   abbrev pub is_point_anywhere : Looks N → Location N → Bool
   is_point_anywhere looks location = list_any (λ mount. is_some mount.namespace) (looks.mounts_on location)
 
@@ -53,6 +55,7 @@ module _ {N : Type 0} (eq : N → N → Bool) where
   abbrev pub is_no_root : Looks N → Location N → Bool
   is_no_root looks location = not (eq location.node (mount_at looks location).root)
 
-  -- P1: a mount stands there in a namespace; and in any: mount_namespaces(7), "restrictions"
+  -- P1: a mount of this namespace stands there
   abbrev pub is_point_in : Looks N → N → Location N → Bool
-  is_point_in looks namespace location = list_any (λ mount. holds_of (eq namespace) mount.namespace) (looks.mounts_on location)
+  is_point_in looks namespace location =
+      list_any (λ mount. holds_of (eq namespace) mount.namespace) (looks.mounts_on location)

@@ -100,7 +100,8 @@ module _ {N : Type 0} (eq : N → N → Bool) where
 
   abbrev pub walked_if_given : Looks N → Task N → Option (List ℕ) → Result (Option (Location N)) Deny
   walked_if_given looks task None = Ok None
-  walked_if_given looks task (Some path) = and_then (walk_end (source_walk looks task path)) (λ here. Ok (Some here.location))
+  walked_if_given looks task (Some path) =
+      and_then (walk_end (source_walk looks task path)) (λ here. Ok (Some here.location))
 
   abbrev pub layers_walked : Looks N → Task N → OverlayWords → Result (LayerPlaces N) Deny
   layers_walked looks task words =
@@ -198,7 +199,8 @@ module _ {N : Type 0} (eq : N → N → Bool) where
 
   abbrev pub is_below_mount : Looks N → N → Location N → Bool
   is_below_mount looks mount here =
-      list_any (λ place. eq mount place.mount) (rest_of (chain looks.mount_count (λ place. (mount_at looks place).place) here))
+      list_any (λ place. eq mount place.mount)
+      (rest_of (chain looks.mount_count (λ place. (mount_at looks place).place) here))
 
   abbrev pub pivot_rules : Looks N → Task N → Location N → Location N → Rules
   pivot_rules looks task new put =

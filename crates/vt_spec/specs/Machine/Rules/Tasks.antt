@@ -22,7 +22,11 @@ module _ {N : Type 0} where
   fork_rules task child =
       (nat_le most_forks task.forks || nat_le deepest_name (length task.name), S6)
       ∷ (not (child.uid == task.credentials.uid) && lacks task cap_setuid, K1)
-      ∷ (not (child.gid == task.credentials.gid && bytes_eq child.groups task.credentials.groups) && lacks task cap_setgid, K1)
+      ∷ (
+        not (child.gid == task.credentials.gid && bytes_eq child.groups task.credentials.groups)
+            && lacks task cap_setgid,
+        K1,
+      )
       ∷ (lacks task child.capabilities, K1)
       ∷ []
 
