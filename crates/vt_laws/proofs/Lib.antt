@@ -1,8 +1,10 @@
 pub mod Allotments
 pub mod AskedRules
+pub mod CallsJudged
 pub mod Cells
 pub mod LeastAnswers
 pub mod LeastRule
+pub mod LooksAlike
 pub mod NamedWorlds
 pub mod Outcomes
 pub mod OwnLines

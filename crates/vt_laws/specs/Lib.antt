@@ -1,5 +1,6 @@
 pub mod Asked
 pub mod Denials
+pub mod Judged
 pub mod Numbers
 pub mod RuleOrder
 pub mod RuleRanks

@@ -4,6 +4,7 @@
 #![tactic(auto)]
 
 pub mod denials;
+pub mod judged;
 pub mod numbers;
 pub mod rules;
 pub mod same_texts;

@@ -8,6 +8,8 @@ pub mod World
 pub mod Calls
 pub mod Outcomes
 pub mod Rightful
+pub mod Looks
+pub mod Walking
 pub mod Walk
 pub mod Merging
 pub mod CopyUp
@@ -19,9 +21,13 @@ pub mod Types
 pub mod Attach
 pub mod Detach
 pub mod Namespaces
+pub mod Rules
 pub mod Rows
 pub mod Outcome
 pub mod Listing
+pub mod Permits
+pub mod Apply
+pub mod Judge
 pub mod Policy
 pub mod Sealed
 pub mod Script

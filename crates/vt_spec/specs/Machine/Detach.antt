@@ -106,6 +106,11 @@ module _ {N : Type 0} (eq : N → N → Bool) where
   abbrev pub is_busy : World N → N → Bool
   is_busy world number = has_child world number || is_used world (going world (mount_numbered eq world number))
 
+  -- EBUSY of mount(2) with MS_REMOUNT and MS_RDONLY: a file is open for writing through the mount
+  abbrev pub is_written_through : World N → N → Bool
+  is_written_through world mount =
+      list_any (λ task. list_any (λ descriptor. descriptor.writes && eq mount descriptor.location.mount) task.descriptors) world.tasks
+
   -- Mount points are directories, whatever mount they are seen through; on an overlay so is the object in the upper layer
   abbrev pub is_point : World N → N → N → Mount N → Bool
   is_point world filesystem node mount =
@@ -120,14 +125,6 @@ module _ {N : Type 0} (eq : N → N → Bool) where
   abbrev pub mounts_on : World N → Location N → List (Mount N)
   mounts_on world location =
       filter (λ mount. list_any (λ point. is_point world point.0 point.1 mount) (points_of world location)) world.mounts
-
-  -- P1: a mount point in a namespace; and in any
-  abbrev pub is_point_in : World N → N → Location N → Bool
-  is_point_in world namespace location =
-      list_any (λ mount. holds_of (eq namespace) mount.namespace) (mounts_on world location)
-
-  abbrev pub is_point_anywhere : World N → Location N → Bool
-  is_point_anywhere world location = list_any (λ mount. is_some mount.namespace) (mounts_on world location)
 
   -- a removed directory takes the mounts on it, in whatever namespace, away
   abbrev pub without_mounts_on : World N → Location N → World N

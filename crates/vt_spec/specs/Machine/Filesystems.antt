@@ -1,5 +1,5 @@
 -- A change of a filesystem in the world, and what the mounter of an overlay is asked for it.
-use Rattle.std.specs.Prelude.{Bool, List, None, Option, Some, [], filter, find, flat_map, if◌then◌else◌, is_some, map, not, option_map, option_to_list, ℕ, ◌&&◌, ◌++◌, ◌+◌, ◌==◌, ◌||◌, ◌∷◌}
+use Rattle.std.specs.Prelude.{Bool, List, None, Option, Some, [], false, filter, find, flat_map, if◌then◌else◌, is_some, map, not, option_map, option_to_list, unwrap_or, ℕ, ◌&&◌, ◌++◌, ◌+◌, ◌==◌, ◌||◌, ◌∷◌}
 use Rattle.std.specs.List.{list_any}
 use Rattle.vt_spec.specs.declared.attributes.Attr.{Attr}
 use Rattle.vt_spec.specs.declared.attributes.Kind.TheVariants.{File}
@@ -8,13 +8,14 @@ use Rattle.vt_spec.specs.Machine.Changes.{Change, changed}
 use Rattle.vt_spec.specs.Machine.Changes.Change.{AddName, CopyUp, Make, Move, Remove, SetAttr, SetBytes, SetMark}
 use Rattle.vt_spec.specs.Machine.CopyUp.{Merge, Stack, merge_changed}
 use Rattle.vt_spec.specs.Errors.{Rules}
-use Rattle.vt_spec.specs.Machine.FileTree.{FileTree, a_name, ancestors, attr_in, is_kind_in}
+use Rattle.vt_spec.specs.Machine.FileTree.{FileTree, a_name, ancestors, attr_in, is_kind_in, path_down}
+use Rattle.vt_spec.specs.Machine.Layers.{has_lower_directory}
 use Rattle.vt_spec.specs.Machine.Lists.{Fresh, before_first}
 use Rattle.vt_spec.specs.Machine.Locked.{of_overlay}
 use Rattle.vt_spec.specs.Machine.Mounts.{Location}
 use Rattle.vt_spec.specs.Machine.Rightful.{node_allows}
 use Rattle.vt_spec.specs.Rights.{Credentials, cap_chown, execute_right, has_all, is_member, read_right, write_right}
-use Rattle.vt_spec.specs.Machine.World.{Filesystem, Layer, Overlay, World, filesystem_at, filesystem_numbered, open_layer, upper_object, with_filesystem}
+use Rattle.vt_spec.specs.Machine.World.{Filesystem, Layer, Overlay, World, files_at, filesystem_at, filesystem_numbered, open_layer, upper_object, with_filesystem}
 
 -- a change number stays at the largest one: 2^64 - 1
 abbrev pub raised : ℕ → ℕ
@@ -143,3 +144,14 @@ module _ {N : Type 0} (eq : N → N → Bool) where
   abbrev pub mounter_rules : World N → Location N → Change N → Rules
   mounter_rules world location change =
       of_overlay [] (overlay_rules (filesystem_at eq world location) change) (filesystem_at eq world location)
+
+  -- O1: a lower layer that is not cut has a directory under a name: overlayfs, "renaming directories"
+  abbrev pub path_of_name : World N → Location N → List ℕ → List (List ℕ)
+  path_of_name world directory name =
+      unwrap_or (path_down eq (files_at eq world directory) (files_at eq world directory).tree.root directory.node) [] ++ (name ∷ [])
+
+  abbrev pub has_lower_directory_at : World N → Location N → List ℕ → Bool
+  has_lower_directory_at world directory name =
+      of_overlay false (λ overlay. has_lower_directory
+      (map (open_layer eq world) (option_to_list overlay.upper)) (map (open_layer eq world) overlay.lowers) (path_of_name world directory name))
+      (filesystem_at eq world directory)

@@ -1,12 +1,12 @@
 -- What the layers of an overlay show at a path: the kernel's overlayfs document, "upper and lower", "whiteouts and
 -- opaque directories" and "multiple lower layers". That a middle layer cuts what is below it is the profile's.
-use Rattle.std.specs.Prelude.{Bool, List, None, Option, Some, [], false, filter, flat_map, if◌then◌else◌, is_some, map, not, suc, true, zero, ℕ, ◌++◌, ◌+◌, ◌||◌, ◌∷◌}
+use Rattle.std.specs.Prelude.{Bool, List, None, Option, Some, [], false, filter, flat_map, if◌then◌else◌, is_some, map, not, suc, true, zero, ℕ, ◌&&◌, ◌++◌, ◌+◌, ◌||◌, ◌∷◌}
 use Rattle.std.specs.List.{list_any}
 use Rattle.vt_spec.specs.declared.attributes.Kind.TheVariants.{White}
 use Rattle.vt_spec.specs.Machine.FileTree.{is_kind_in, is_opaque_in}
 use Rattle.vt_spec.specs.Machine.Lists.{folded, front_of, fronts, then_some, when}
 use Rattle.vt_spec.specs.Rights.{is_directory}
-use Rattle.vt_spec.specs.Tree.{Entries, Node, Tree, entries_in, kind_of, with_entry}
+use Rattle.vt_spec.specs.Tree.{Entries, Node, Tree, entries_in, is_directory_node, kind_of, with_entry}
 use Rattle.vt_spec.specs.TreeLaws.{led}
 
 -- a layer, as it is looked into: a directory of a plain tree
@@ -76,3 +76,13 @@ module _ {N : Type 0} where
   paths_from zero layers path = path ∷ []
   paths_from (suc depth) layers path =
       path ∷ flat_map (λ name. paths_from depth layers (path ++ (name ∷ []))) (names_shown layers path)
+
+  -- O1: a lower layer that is not cut has a directory there: overlayfs, "renaming directories"
+  abbrev pub lowers_have_directory : List (OpenLayer N) → List (List ℕ) → Bool
+  lowers_have_directory [] path = false
+  lowers_have_directory (layer ∷ lower) path =
+      is_directory_node (node_at_path layer path) || (not (cuts layer path) && lowers_have_directory lower path)
+
+  abbrev pub has_lower_directory : List (OpenLayer N) → List (OpenLayer N) → List (List ℕ) → Bool
+  has_lower_directory uppers lowers path =
+      not (list_any (λ upper. cuts upper path) uppers) && lowers_have_directory lowers path

@@ -2,7 +2,7 @@
 -- kernel's overlayfs document, "changes to underlying filesystems").
 use Rattle.std.specs.Prelude.{Bool, List, None, Option, Some, [], false, filter, flat_map, option_to_list, ◌&&◌, ◌++◌, ◌||◌}
 use Rattle.std.specs.List.{list_any}
-use Rattle.vt_spec.specs.Machine.FileTree.{is_directory_under, is_under}
+use Rattle.vt_spec.specs.Machine.FileTree.{is_under}
 use Rattle.vt_spec.specs.Machine.Lists.{holds_of}
 use Rattle.vt_spec.specs.Machine.Mounts.{Location}
 use Rattle.vt_spec.specs.Machine.World.{Filesystem, Layer, Overlay, World, filesystem_numbered, is_overlay, layers_of, mount_at, upper_object}
@@ -72,13 +72,6 @@ module _ {N : Type 0} (eq : N → N → Bool) where
       list_any (λ object. lies_or_counts_under world layer.filesystem object layer
       && list_any (lies_or_counts_under world layer.filesystem object) others)
       (filesystem_numbered eq world layer.filesystem).files.numbers
-
-  -- one directory is at or under another
-  abbrev pub one_under_another : World N → Layer N → Layer N → Bool
-  one_under_another world a b =
-      eq a.filesystem b.filesystem
-      && (is_directory_under eq (filesystem_numbered eq world a.filesystem).files a.directory b.directory
-      || is_directory_under eq (filesystem_numbered eq world a.filesystem).files b.directory a.directory)
 
   -- O3: the upper or work directory overlaps a layer of a live overlay, or a lower one the upper or work directory of one
   abbrev pub in_use : World N → Overlay N → Bool

@@ -1,20 +1,20 @@
--- Calls that change owner, mode and mark: their rules, and what they change.
-use Rattle.std.specs.Prelude.{Bool, List, Option, [], not, unwrap_or, ℕ, ◌&&◌, ◌==◌, ◌||◌, ◌∷◌}
+-- Calls that change owner, mode and mark: their rules in a world (`Rules/Attributes.antt`), and what they change.
+use Rattle.std.specs.Prelude.{Bool, List, Option, [], unwrap_or, ℕ, ◌&&◌, ◌==◌, ◌||◌, ◌∷◌}
 use Rattle.vt_spec.specs.declared.attributes.Attr.{Attr}
-use Rattle.vt_spec.specs.declared.errors.Rule.TheVariants.{C2, F1, F2, K1, L1, O4}
+use Rattle.vt_spec.specs.declared.errors.Rule.TheVariants.{K1}
 use Rattle.vt_spec.specs.Machine.Changes.Change.{SetAttr, SetMark}
 use Rattle.vt_spec.specs.Errors.{Rules}
-use Rattle.vt_spec.specs.Machine.FileTree.{attr_in}
-use Rattle.vt_spec.specs.Machine.Filesystems.{mounter_rules, with_change}
+use Rattle.vt_spec.specs.Machine.Filesystems.{with_change}
 use Rattle.vt_spec.specs.Machine.Lists.{Fresh}
-use Rattle.vt_spec.specs.Machine.Locked.{is_locked_at}
 use Rattle.vt_spec.specs.Machine.Mounts.{Location}
 use Rattle.vt_spec.specs.Machine.Outcomes.{Outcome, after, granted, judged}
 use Rattle.vt_spec.specs.Machine.Outcomes.Answer.{Done}
 use Rattle.vt_spec.specs.Rights.{Credentials, cap_chown, cap_sys_admin, has_all, is_member, owns}
-use Rattle.vt_spec.specs.Machine.Rows.{has_no_upper, is_read_only, lacks}
+use Rattle.vt_spec.specs.Machine.Rows.{lacks}
 use Rattle.vt_spec.specs.Machine.Walk.{directory_walk, object_walk, walk_end}
-use Rattle.vt_spec.specs.Machine.World.{Task, World, is_overlay_at, node_at}
+use Rattle.vt_spec.specs.Machine.World.{Task, World}
+use Rattle.vt_spec.specs.Machine.Looks.{looks_of}
+use Rattle.vt_spec.specs.Machine.Rules.Attributes
 
 -- chmod(2)
 abbrev pub attr_with_mode : Attr → ℕ → Attr
@@ -31,16 +31,10 @@ may_chown who old new =
 
 module _ {N : Type 0} (eq : N → N → Bool) where
   abbrev pub attr_at : World N → Location N → Attr
-  attr_at world object = attr_in (node_at eq world object)
+  attr_at world = Attributes.attr_at (looks_of eq world)
 
-  -- an attribute is changed, by one who may: EROFS, EPERM
   abbrev pub attr_rules : World N → Location N → Bool → Attr → Rules
-  attr_rules world object allowed attr =
-      (is_read_only eq world object, F1)
-      ∷ (has_no_upper eq world object, F2)
-      ∷ (is_locked_at eq world object, L1)
-      ∷ (not allowed, C2)
-      ∷ mounter_rules eq world object (SetAttr object.node attr)
+  attr_rules world = Attributes.attr_rules (looks_of eq world)
 
   abbrev pub attr_set : Fresh N → World N → Location N → Bool → Attr → Outcome N
   attr_set fresh world object allowed attr =
@@ -60,14 +54,8 @@ module _ {N : Type 0} (eq : N → N → Bool) where
       (may_chown task.credentials (attr_at world here.location) (attr_with_owner (attr_at world here.location) uid gid))
       (attr_with_owner (attr_at world here.location) uid gid))
 
-  -- the opaque mark: setxattr(2) of trusted.overlay.opaque, which needs CAP_SYS_ADMIN; not through an overlay (profile)
   abbrev pub opaque_rules : World N → Location N → Rules
-  opaque_rules world directory =
-      (is_read_only eq world directory, F1)
-      ∷ (has_no_upper eq world directory, F2)
-      ∷ (is_locked_at eq world directory, L1)
-      ∷ (is_overlay_at eq world directory, O4)
-      ∷ []
+  opaque_rules world = Attributes.opaque_rules (looks_of eq world)
 
   unfoldable pub opaque_outcome : Fresh N → World N → Task N → List ℕ → Bool → Outcome N
   opaque_outcome fresh world task path mark =

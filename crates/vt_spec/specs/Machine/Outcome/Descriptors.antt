@@ -1,33 +1,22 @@
--- Calls on open files: their rules, and what they change.
-use Rattle.std.specs.Prelude.{Bool, List, None, Option, Result, Some, [], drop, false, filter, find, if◌then◌else◌, is_some, length, nat_le, nat_lt, not, ok_or, option_to_list, replicate, take, true, ℕ, ◌&&◌, ◌++◌, ◌+◌, ◌-◌, ◌==◌, ◌∷◌}
-use Rattle.vt_spec.specs.declared.attributes.Kind.TheVariants.{White}
-use Rattle.vt_spec.specs.declared.errors.Deny.{Deny}
-use Rattle.vt_spec.specs.declared.errors.Rule.TheVariants.{B1, C1, E1, E2, E6, E9, F1, F2, L1, S3, S4}
+-- Calls on open files: their rules in a world (`Rules/Descriptors.antt`), and what they change.
+use Rattle.std.specs.Prelude.{Bool, List, None, Option, Some, [], drop, false, filter, if◌then◌else◌, length, nat_lt, not, replicate, take, true, ℕ, ◌++◌, ◌+◌, ◌-◌, ◌==◌, ◌∷◌}
 use Rattle.vt_spec.specs.Machine.Calls.{Access, Creation}
 use Rattle.vt_spec.specs.Machine.Calls.Creation.{Exclusive, NoCreation, OrCreate}
 use Rattle.vt_spec.specs.Machine.Changes.Change.{CopyUp, SetBytes}
-use Rattle.vt_spec.specs.Errors.{Rules, denial}
-use Rattle.vt_spec.specs.Machine.Filesystems.{lies_below, mounter_rules, with_change}
+use Rattle.vt_spec.specs.Errors.{Rules}
+use Rattle.vt_spec.specs.Machine.Filesystems.{with_change}
 use Rattle.vt_spec.specs.Machine.Lists.{Fresh, evens}
-use Rattle.vt_spec.specs.Machine.Locked.{is_locked_at, of_overlay}
 use Rattle.vt_spec.specs.Machine.Mounts.{Location}
-use Rattle.vt_spec.specs.Machine.Outcome.Making.{file_word_rules, largest_file, make_rules, new_file, with_new}
+use Rattle.vt_spec.specs.Machine.Outcome.Making.{file_word_rules, make_rules, new_file, with_new}
 use Rattle.vt_spec.specs.Machine.Outcomes.{Outcome, after, granted, judged}
 use Rattle.vt_spec.specs.Machine.Outcomes.Answer.{Bytes, Done, Opened}
-use Rattle.vt_spec.specs.PathText.{is_empty}
-use Rattle.vt_spec.specs.Rights.{read_right, write_right}
-use Rattle.vt_spec.specs.Machine.Rows.{has_no_upper, is_read_only, kind_at, making, may_not, mounter_may_not}
+use Rattle.vt_spec.specs.Machine.Rows.{making}
 use Rattle.vt_spec.specs.Tree.{bytes_in}
-use Rattle.vt_spec.specs.Machine.Walk.{Place, file_walk, is_special, new_walk, object_walk, walk_end}
-use Rattle.vt_spec.specs.Machine.World.{Descriptor, Task, World, filesystem_at, is_directory_at, node_at, with_task}
-
--- open files of a task (profile; RLIMIT_NOFILE of setrlimit(2))
-abbrev pub most_descriptors : ℕ
-most_descriptors = 256
-
--- the rights that an access mode asks for, as one request: open(2)
-abbrev pub access_rights : Access → ℕ
-access_rights access = (if access.reads then read_right else 0) + (if access.writes then write_right else 0)
+use Rattle.vt_spec.specs.Machine.Walk.{Place, file_walk, new_walk, object_walk, walk_end}
+use Rattle.vt_spec.specs.Machine.World.{Descriptor, Task, World, node_at, with_task}
+use Rattle.vt_spec.specs.Machine.Looks.{looks_of}
+use Rattle.vt_spec.specs.Machine.Rules.Descriptors
+pub use Rattle.vt_spec.specs.Machine.Rules.Descriptors.{access_rights, descriptor_at, descriptor_numbered, descriptor_rules, exclusive_word_rules, most_descriptors}
 
 -- the bytes with others at an offset, zeros between: pwrite(2), lseek(2)
 abbrev pub padded : ℕ → List ℕ → List ℕ
@@ -37,9 +26,6 @@ abbrev pub overwritten : ℕ → List ℕ → List ℕ → List ℕ
 overwritten offset new bytes = take offset (padded offset bytes) ++ new ++ drop (offset + length new) bytes
 
 module _ {N : Type 0} where
-  abbrev pub descriptor_numbered : Task N → ℕ → Option (Descriptor N)
-  descriptor_numbered task number = find (λ descriptor. number == descriptor.number) task.descriptors
-
   -- the least number that is free, the descriptors standing in order of their numbers: open(2)
   abbrev pub free_from : ℕ → List (Descriptor N) → ℕ
   free_from number [] = number
@@ -67,52 +53,24 @@ module _ {N : Type 0} where
   opened world task file access =
       granted (Opened (free_number task)) (with_task world (with_descriptor task file access))
 
-  -- EMFILE of open(2)
-  abbrev pub descriptor_rules : Task N → Rules
-  descriptor_rules task = (nat_le most_descriptors (length task.descriptors), S3) ∷ []
-
-  -- O_EXCL: EEXIST, and EISDIR behind a slash
-  abbrev pub exclusive_word_rules : Place N → Rules
-  exclusive_word_rules place =
-      (is_special place.last, E1)
-      ∷ (place.slash, E2)
-      ∷ (is_some place.object, E1)
-      ∷ []
-
-  -- EBADF of pread(2) and pwrite(2): no such descriptor, or not opened for this
-  abbrev pub descriptor_at : Task N → ℕ → (Descriptor N → Bool) → Result (Descriptor N) Deny
-  descriptor_at task number fits = ok_or (find fits (option_to_list (descriptor_numbered task number))) (denial S4)
-
   unfoldable pub close_outcome : World N → Task N → ℕ → Outcome N
   close_outcome world task number =
       after world (descriptor_at task number (λ descriptor. true)) (λ descriptor.
       granted Done (with_task world (without_descriptor task number)))
 
 module _ {N : Type 0} (eq : N → N → Bool) where
-  -- an object that lies only below is copied when it is opened for writing: overlayfs, "upper and lower"
   abbrev pub is_copied_up : World N → Location N → Access → Bool
-  is_copied_up world file access =
-      access.writes && of_overlay false (λ overlay. lies_below overlay file.node) (filesystem_at eq world file)
+  is_copied_up world = Descriptors.is_copied_up (looks_of eq world)
 
   abbrev pub copy_rules : Bool → World N → Location N → Rules
-  copy_rules true world file = mounter_rules eq world file (CopyUp file.node)
-  copy_rules false world file = []
+  copy_rules copies world = Descriptors.copy_rules copies (looks_of eq world)
 
   abbrev pub with_copy : Bool → Fresh N → World N → Location N → World N
   with_copy true fresh world file = with_change eq fresh world file (CopyUp file.node)
   with_copy false fresh world file = world
 
-  -- open(2) of a file that is there: EISDIR, ENXIO, EROFS, EACCES
   abbrev pub open_rules : World N → Task N → Location N → Access → Rules
-  open_rules world task file access =
-      (is_directory_at eq world file, E2)
-      ∷ (kind_at eq world file White, E9)
-      ∷ (access.writes && is_read_only eq world file, F1)
-      ∷ (access.writes && has_no_upper eq world file, F2)
-      ∷ (access.writes && is_locked_at eq world file, L1)
-      ∷ (may_not eq world task file (access_rights access), C1)
-      ∷ (mounter_may_not eq world file (access_rights access), B1)
-      ∷ copy_rules (is_copied_up world file access) world file
+  open_rules world task = Descriptors.open_rules (looks_of eq world) task
 
   abbrev pub open_file : Fresh N → World N → Task N → Location N → Access → Outcome N
   open_file fresh world task file access =
@@ -151,12 +109,8 @@ module _ {N : Type 0} (eq : N → N → Bool) where
       after world (descriptor_at task number (λ descriptor. descriptor.reads)) (λ descriptor.
       granted (Bytes (take size (drop offset (bytes_in (node_at eq world descriptor.location))))) world)
 
-  -- pwrite(2): EFBIG; and a locked layer refuses a descriptor that was opened before (profile)
   abbrev pub pwrite_rules : World N → Location N → ℕ → List ℕ → Rules
-  pwrite_rules world file offset bytes =
-      (not (is_empty bytes) && nat_lt largest_file (offset + length bytes), E6)
-      ∷ (is_locked_at eq world file, L1)
-      ∷ []
+  pwrite_rules world = Descriptors.pwrite_rules (looks_of eq world)
 
   abbrev pub pwritten : Fresh N → World N → Location N → ℕ → List ℕ → World N
   pwritten fresh world file offset [] = world

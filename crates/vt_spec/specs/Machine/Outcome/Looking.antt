@@ -1,17 +1,15 @@
--- Calls that look: their rules, and what they answer.
-use Rattle.std.specs.Prelude.{Bool, List, Option, [], length, not, ℕ, ◌∷◌}
-use Rattle.vt_spec.specs.declared.attributes.Kind.TheVariants.{File, Link, White}
-use Rattle.vt_spec.specs.declared.errors.Rule.TheVariants.{B1, C1, E2, E5, E8, E9, F3}
+-- Calls that look: their rules in a world (`Rules/Looking.antt`), and what they answer.
+use Rattle.std.specs.Prelude.{Bool, List, Option, length, ℕ}
 use Rattle.vt_spec.specs.Errors.{Rules}
 use Rattle.vt_spec.specs.Machine.FileTree.{attr_in, is_opaque_in, kind_in}
 use Rattle.vt_spec.specs.Machine.Mounts.{Location}
 use Rattle.vt_spec.specs.Machine.Outcomes.{Outcome, StatLine, after, granted, judged}
 use Rattle.vt_spec.specs.Machine.Outcomes.Answer.{Bytes, Done, Names, Told}
-use Rattle.vt_spec.specs.Rights.{execute_right, read_right}
-use Rattle.vt_spec.specs.Machine.Rows.{kind_at, may_not, mounter_may_not}
 use Rattle.vt_spec.specs.Tree.{Node, bytes_in, names_in}
 use Rattle.vt_spec.specs.Machine.Walk.{directory_walk, link_walk, object_walk, walk_end}
-use Rattle.vt_spec.specs.Machine.World.{Task, World, is_directory_at, mount_at, node_at}
+use Rattle.vt_spec.specs.Machine.World.{Task, World, node_at}
+use Rattle.vt_spec.specs.Machine.Looks.{looks_of}
+use Rattle.vt_spec.specs.Machine.Rules.Looking
 
 module _ {N : Type 0} where
   -- what stat(2) tells
@@ -24,34 +22,17 @@ module _ {N : Type 0} where
   }
 
 module _ {N : Type 0} (eq : N → N → Bool) where
-  -- getdents(2) after open(2): EACCES
   abbrev pub list_rules : World N → Task N → Location N → Rules
-  list_rules world task directory =
-      (may_not eq world task directory read_right, C1)
-      ∷ (mounter_may_not eq world directory read_right, B1)
-      ∷ []
+  list_rules world task = Looking.list_rules (looks_of eq world) task
 
-  -- open(2) for reading: EISDIR, ENXIO, EACCES
   abbrev pub read_rules : World N → Task N → Location N → Rules
-  read_rules world task file =
-      (is_directory_at eq world file, E2)
-      ∷ (kind_at eq world file White, E9)
-      ∷ (may_not eq world task file read_right, C1)
-      ∷ (mounter_may_not eq world file read_right, B1)
-      ∷ []
+  read_rules world task = Looking.read_rules (looks_of eq world) task
 
-  -- execve(2): EACCES
   abbrev pub exec_rules : World N → Task N → Location N → Rules
-  exec_rules world task file =
-      (not (kind_at eq world file File), E8)
-      ∷ ((mount_at eq world file).flags.noexec, F3)
-      ∷ (may_not eq world task file execute_right, C1)
-      ∷ (mounter_may_not eq world file execute_right, B1)
-      ∷ []
+  exec_rules world task = Looking.exec_rules (looks_of eq world) task
 
-  -- readlink(2): EINVAL
   abbrev pub readlink_rules : World N → Location N → Rules
-  readlink_rules world object = (not (kind_at eq world object Link), E5) ∷ []
+  readlink_rules world = Looking.readlink_rules (looks_of eq world)
 
   unfoldable pub list_outcome : World N → Task N → List ℕ → Outcome N
   list_outcome world task path =

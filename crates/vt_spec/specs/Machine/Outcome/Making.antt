@@ -1,27 +1,22 @@
--- Calls that make a name, and write: their rules, and what they change.
-use Rattle.std.specs.Prelude.{Bool, List, None, Option, Some, [], is_some, length, nat_lt, not, unwrap_or, ℕ, ◌++◌, ◌||◌, ◌∷◌}
-use Rattle.vt_spec.specs.declared.attributes.Kind.TheVariants.{White}
-use Rattle.vt_spec.specs.declared.errors.Rule.TheVariants.{B1, C1, E1, E2, E6, E7, E9, F1, F2, L1, O4, P2, W1, W2}
+-- Calls that make a name, and write: their rules in a world (`Rules/Making.antt`), and what they change.
+use Rattle.std.specs.Prelude.{Bool, List, None, Option, Some, [], length, nat_lt, unwrap_or, ℕ, ◌++◌, ◌∷◌}
+use Rattle.vt_spec.specs.declared.errors.Rule.TheVariants.{E1, E6}
 use Rattle.vt_spec.specs.Machine.Changes.{Change}
 use Rattle.vt_spec.specs.Machine.Changes.Change.{AddName, SetBytes}
 use Rattle.vt_spec.specs.Errors.{Rules}
-use Rattle.vt_spec.specs.Machine.Filesystems.{mounter_rules, with_change}
+use Rattle.vt_spec.specs.Machine.Filesystems.{with_change}
 use Rattle.vt_spec.specs.Machine.Lists.{Fresh, evens, odds}
-use Rattle.vt_spec.specs.Machine.Locked.{is_locked_at}
 use Rattle.vt_spec.specs.Machine.Mounts.{Location}
 use Rattle.vt_spec.specs.Machine.Outcomes.{Outcome, after, granted, judged}
 use Rattle.vt_spec.specs.Machine.Outcomes.Answer.{Done}
-use Rattle.vt_spec.specs.PathText.{is_empty, longest_path}
-use Rattle.vt_spec.specs.Rights.{write_right}
-use Rattle.vt_spec.specs.Machine.Rows.{exact_attr, has_no_upper, is_read_only, kind_at, making, may_not, mounter_may_not, new_attr}
+use Rattle.vt_spec.specs.Machine.Rows.{exact_attr, making, new_attr}
 use Rattle.vt_spec.specs.Tree.{Node, new_directory}
 use Rattle.vt_spec.specs.Tree.Content.{Regular, Symlink, Whiteout}
 use Rattle.vt_spec.specs.Machine.Walk.{Place, file_walk, is_special, link_walk, name_of, new_leaf_walk, new_walk, walk_end}
-use Rattle.vt_spec.specs.Machine.World.{Task, World, is_directory_at, is_overlay_at}
-
--- the most bytes of a file (profile; RLIMIT_FSIZE of setrlimit(2))
-abbrev pub largest_file : ℕ
-largest_file = 1048576
+use Rattle.vt_spec.specs.Machine.World.{Task, World}
+use Rattle.vt_spec.specs.Machine.Looks.{looks_of}
+use Rattle.vt_spec.specs.Machine.Rules.Making
+pub use Rattle.vt_spec.specs.Machine.Rules.Making.{file_word_rules, largest_file, link_text_rules, new_word_rules}
 
 -- mkdir asks for 0777 where no mode is given: mkdir(1)
 abbrev pub directory_mode : ℕ
@@ -35,41 +30,16 @@ file_mode = 438
 abbrev pub link_mode : ℕ
 link_mode = 511
 
--- W1 and W2 of a link's text as a whole: symlink(2), ENOENT and ENAMETOOLONG
-abbrev pub link_text_rules : List ℕ → Rules
-link_text_rules text =
-    (is_empty text, W1)
-    ∷ (nat_lt longest_path (length text), W2)
-    ∷ []
-
 module _ {N : Type 0} where
-  -- a last word that names nothing new: mkdir(2), EEXIST
-  abbrev pub new_word_rules : Place N → Rules
-  new_word_rules place =
-      (is_special place.last, E1)
-      ∷ (is_some place.object, E1)
-      ∷ []
-
   abbrev pub linking : Location N → Place N → Change N
   linking old place = AddName place.parent.node (name_of place.last) old.node
-
-  -- a last word that names no file, open(2): EISDIR
-  abbrev pub file_word_rules : Place N → Rules
-  file_word_rules place = (is_special place.last || place.slash, E2) ∷ []
 
   abbrev pub new_file : Task N → ℕ → List ℕ → Node N
   new_file task mode bytes = record { attr = new_attr task mode; content = Regular bytes }
 
 module _ {N : Type 0} (eq : N → N → Bool) where
-  -- a name is made in a directory, after the rules on the name itself: EROFS, EACCES
   abbrev pub make_rules : World N → Task N → Place N → Change N → Rules
-  make_rules world task place change =
-      (is_read_only eq world place.parent, F1)
-      ∷ (has_no_upper eq world place.parent, F2)
-      ∷ (is_locked_at eq world place.parent, L1)
-      ∷ (may_not eq world task place.parent write_right, C1)
-      ∷ (mounter_may_not eq world place.parent write_right, B1)
-      ∷ mounter_rules eq world place.parent change
+  make_rules world task = Making.make_rules (looks_of eq world) task
 
   -- the world with a new object at a place
   abbrev pub with_new : Fresh N → World N → Place N → Node N → World N
@@ -98,17 +68,8 @@ module _ {N : Type 0} (eq : N → N → Bool) where
       (after world (walk_end (new_leaf_walk eq world task path)) (λ place.
       made_at fresh world task place (record { attr = exact_attr task link_mode; content = Symlink text })))
 
-  -- mknod(2) of the character device 0/0; not through an overlay (profile)
   abbrev pub whiteout_rules : World N → Task N → Place N → Rules
-  whiteout_rules world task place =
-      (is_special place.last, E1)
-      ∷ (is_some place.object, E1)
-      ∷ (is_read_only eq world place.parent, F1)
-      ∷ (has_no_upper eq world place.parent, F2)
-      ∷ (is_locked_at eq world place.parent, L1)
-      ∷ (may_not eq world task place.parent write_right, C1)
-      ∷ (is_overlay_at eq world place.parent, O4)
-      ∷ []
+  whiteout_rules world task = Making.whiteout_rules (looks_of eq world) task
 
   unfoldable pub whiteout_outcome : Fresh N → World N → Task N → List ℕ → Outcome N
   whiteout_outcome fresh world task path =
@@ -116,18 +77,8 @@ module _ {N : Type 0} (eq : N → N → Bool) where
       judged world (whiteout_rules world task place)
       (granted Done (with_new fresh world place (record { attr = exact_attr task 0; content = Whiteout }))))
 
-  -- link(2): EEXIST, EPERM, EROFS, EXDEV, EACCES
   abbrev pub link_rules : World N → Task N → Location N → Place N → Change N → Rules
-  link_rules world task old place change =
-      (is_some place.object, E1)
-      ∷ (is_directory_at eq world old, E7)
-      ∷ (is_read_only eq world place.parent, F1)
-      ∷ (has_no_upper eq world place.parent, F2)
-      ∷ (is_locked_at eq world old || is_locked_at eq world place.parent, L1)
-      ∷ (not (eq old.mount place.parent.mount), P2)
-      ∷ (may_not eq world task place.parent write_right, C1)
-      ∷ (mounter_may_not eq world place.parent write_right, B1)
-      ∷ mounter_rules eq world place.parent change
+  link_rules world task = Making.link_rules eq (looks_of eq world) task
 
   unfoldable pub link_outcome : Fresh N → World N → Task N → List ℕ → List ℕ → Outcome N
   link_outcome fresh world task old new =
@@ -137,18 +88,8 @@ module _ {N : Type 0} (eq : N → N → Bool) where
       (judged world (link_rules world task from.location place (linking from.location place))
       (granted Done (with_change eq fresh world place.parent (linking from.location place))))))
 
-  -- write(2) after open(2) with O_TRUNC of a file that is there: EISDIR, EFBIG, ENXIO, EROFS, EACCES
   abbrev pub rewrite_rules : World N → Task N → Location N → List ℕ → Rules
-  rewrite_rules world task file bytes =
-      (is_directory_at eq world file, E2)
-      ∷ (nat_lt largest_file (length bytes), E6)
-      ∷ (kind_at eq world file White, E9)
-      ∷ (is_read_only eq world file, F1)
-      ∷ (has_no_upper eq world file, F2)
-      ∷ (is_locked_at eq world file, L1)
-      ∷ (may_not eq world task file write_right, C1)
-      ∷ (mounter_may_not eq world file write_right, B1)
-      ∷ mounter_rules eq world file (SetBytes file.node bytes)
+  rewrite_rules world task = Making.rewrite_rules (looks_of eq world) task
 
   -- the bytes become the whole content of the file, or of a new one
   abbrev pub written : Fresh N → World N → Task N → Place N → List ℕ → Option (Location N) → Outcome N

@@ -1,57 +1,26 @@
--- Mount calls: their rules, and what they change.
-use Rattle.std.specs.Prelude.{Bool, List, None, Ok, Option, Result, Some, [], false, if◌then◌else◌, is_some, length, map, nat_lt, not, option_map, option_to_list, sum, true, ℕ, ◌&&◌, ◌++◌, ◌||◌, ◌∷◌}
-use Rattle.std.specs.List.{list_any}
+-- Mount calls: their walks and rules in a world (`Rules/Mounting.antt`), and what they change.
+use Rattle.std.specs.Prelude.{Bool, List, None, Option, Result, Some, [], false, is_some, length, map, sum, true, ℕ, ◌++◌, ◌∷◌}
 use Rattle.vt_spec.specs.declared.errors.Deny.{Deny}
-use Rattle.vt_spec.specs.declared.errors.Rule.TheVariants.{K1, M10, M11, M12, M2, M3, M4, M5, M6, M7, M8, M9, O2, O3, O5, W8}
+use Rattle.vt_spec.specs.declared.errors.Rule.TheVariants.{O2}
 use Rattle.vt_spec.specs.Machine.Attach.{attach, bind_tree, has_too_many}
 use Rattle.vt_spec.specs.Machine.Calls.{OverlayWords, TypeWord}
-use Rattle.vt_spec.specs.Machine.Detach.{is_busy, lazily_unmounted, unmounted}
-use Rattle.vt_spec.specs.Errors.{Rules, and_then, denial}
-use Rattle.vt_spec.specs.Machine.FileTree.{is_directory_under}
-use Rattle.vt_spec.specs.Machine.Lists.{Fresh, any_pair, chain, evens, holds_of, is_empty_list, odds, rest_of}
-use Rattle.vt_spec.specs.Machine.Locked.{in_use, one_under_another, overlaps_one_of, upper_and_work}
+use Rattle.vt_spec.specs.Machine.Detach.{lazily_unmounted, unmounted}
+use Rattle.vt_spec.specs.Errors.{Rules, denial}
+use Rattle.vt_spec.specs.Machine.Lists.{Fresh, evens, odds}
 use Rattle.vt_spec.specs.Machine.Merging.{MergedInode, merged_inodes, merged_objects, real_of, tree_of}
-use Rattle.vt_spec.specs.Machine.Mounts.{Location, Mount, MountFlags, is_shared, is_unbindable, mount_tree, topmost, with_mount}
+use Rattle.vt_spec.specs.Machine.Mounts.{Location, Mount, MountFlags, mount_tree, with_mount}
 use Rattle.vt_spec.specs.Machine.Mounts.Propagation.{Private}
 use Rattle.vt_spec.specs.Machine.Namespaces.{pivoted}
 use Rattle.vt_spec.specs.Machine.Outcomes.{Outcome, after, denied, granted, judged}
 use Rattle.vt_spec.specs.Machine.Outcomes.Answer.{Done}
-use Rattle.vt_spec.specs.Rights.{cap_sys_admin}
-use Rattle.vt_spec.specs.Machine.Rows.{is_elsewhere, is_no_root, is_read_only, lacks}
 use Rattle.vt_spec.specs.Machine.Types.{with_type}
-use Rattle.vt_spec.specs.Machine.Walk.{Here, Stop, directory_walk, then_walk, walk_end, walk_unless}
-use Rattle.vt_spec.specs.Machine.World.{Filesystem, Layer, Overlay, Task, World, files_at, is_overlay_at, is_removed_at, mount_at, new_plain, open_layer, shown_layers, with_mounts}
-
--- the most lower layers of an overlay (profile)
-abbrev pub most_lowers : ℕ
-most_lowers = 128
-
--- a work directory without an upper one is not walked (profile)
-abbrev pub work_walked : OverlayWords → Option (List ℕ)
-work_walked words = if is_some words.upper then words.work else None
-
--- where the layers of an overlay were reached
-pub record LayerPlaces (N : Type 0) : Type 0 where
-  pub lowers : List (Location N)
-  pub upper : Option (Location N)
-  pub work : Option (Location N)
+use Rattle.vt_spec.specs.Machine.Walk.{Here, Stop, directory_walk, walk_end}
+use Rattle.vt_spec.specs.Machine.World.{Filesystem, Overlay, Task, World, mount_at, new_plain, open_layer, shown_layers, with_mounts}
+use Rattle.vt_spec.specs.Machine.Looks.{looks_of}
+use Rattle.vt_spec.specs.Machine.Rules.Mounting
+pub use Rattle.vt_spec.specs.Machine.Rules.Mounting.{LayerPlaces, admin_rules, all_places, change_places, has_single_lower, most_lowers, work_walked}
 
 module _ {N : Type 0} where
-  abbrev pub all_places : LayerPlaces N → List (Location N)
-  all_places places = places.lowers ++ option_to_list places.upper ++ option_to_list places.work
-
-  abbrev pub change_places : LayerPlaces N → List (Location N)
-  change_places places = option_to_list places.upper ++ option_to_list places.work
-
-  abbrev pub has_single_lower : List (Location N) → Bool
-  has_single_lower [] = false
-  has_single_lower (lower ∷ []) = true
-  has_single_lower (lower ∷ other ∷ rest) = false
-
-  -- K1: CAP_SYS_ADMIN, mount(2)
-  abbrev pub admin_rules : Task N → Rules
-  admin_rules task = (lacks task cap_sys_admin, K1) ∷ []
-
   -- A new mount of a filesystem from its root on
   abbrev pub new_mount : N → N → MountFlags → Mount N
   new_mount filesystem root flags =
@@ -65,32 +34,20 @@ module _ {N : Type 0} where
   inode_count world = sum (map (λ filesystem. length filesystem.files.numbers) world.filesystems)
 
 module _ {N : Type 0} (eq : N → N → Bool) where
-  -- a source, or a layer: a directory that is not removed (profile)
   abbrev pub source_walk : World N → Task N → List ℕ → Result (Here N) (Stop N)
-  source_walk world task path =
-      then_walk (directory_walk eq world task path) (λ here.
-      walk_unless here.steps ((is_removed_at eq world here.location, W8) ∷ []) here)
-
-  -- a destination: the place reached, and then the root of the topmost mount over it
-  abbrev pub at_topmost : World N → Here N → Here N
-  at_topmost world here = record here { location = topmost eq world.mounts here.location }
+  source_walk world task = Mounting.source_walk eq (looks_of eq world) task
 
   abbrev pub destination_walk : World N → Task N → List ℕ → Result (Here N) (Stop N)
-  destination_walk world task path =
-      then_walk (source_walk world task path) (λ here.
-      walk_unless here.steps ((is_removed_at eq world (topmost eq world.mounts here.location), W8) ∷ []) (at_topmost world here))
+  destination_walk world task = Mounting.destination_walk eq (looks_of eq world) task
 
   abbrev pub mounted : Fresh N → World N → Location N → Filesystem N → MountFlags → World N
   mounted fresh world place filesystem flags =
       attach eq (with_new_filesystem world filesystem) fresh place false
       (new_mount filesystem.number filesystem.files.tree.root flags ∷ [])
 
-  -- a new mount: EINVAL, ENOSPC of mount(2)
   abbrev pub new_mount_rules : World N → Task N → Location N → World N → Rules
   new_mount_rules world task place result =
-      (is_elsewhere eq world task place, M2)
-      ∷ (has_too_many eq result, M9)
-      ∷ []
+      Mounting.new_mount_rules eq (looks_of eq world) task place (has_too_many eq result)
 
   -- mount(2) of a tmpfs
   abbrev pub plain_filesystem : Fresh N → Filesystem N
@@ -103,63 +60,20 @@ module _ {N : Type 0} (eq : N → N → Bool) where
       judged world (new_mount_rules world task here.location (mounted (odds fresh) world here.location (plain_filesystem fresh) flags))
       (granted Done (mounted (odds fresh) world here.location (plain_filesystem fresh) flags))))
 
-  -- The layers are walked from the top down, then the upper and the work directory.
   abbrev pub each_walked : World N → Task N → List (List ℕ) → Result (List (Location N)) Deny
-  each_walked world task [] = Ok []
-  each_walked world task (path ∷ paths) =
-      and_then (walk_end (source_walk world task path)) (λ here.
-      and_then (each_walked world task paths) (λ rest. Ok (here.location ∷ rest)))
+  each_walked world task = Mounting.each_walked eq (looks_of eq world) task
 
   abbrev pub walked_if_given : World N → Task N → Option (List ℕ) → Result (Option (Location N)) Deny
-  walked_if_given world task None = Ok None
-  walked_if_given world task (Some path) = and_then (walk_end (source_walk world task path)) (λ here. Ok (Some here.location))
+  walked_if_given world task = Mounting.walked_if_given eq (looks_of eq world) task
 
   abbrev pub layers_walked : World N → Task N → OverlayWords → Result (LayerPlaces N) Deny
-  layers_walked world task words =
-      and_then (each_walked world task words.lowers) (λ lowers.
-      and_then (walked_if_given world task words.upper) (λ upper.
-      and_then (walked_if_given world task (work_walked words)) (λ work.
-      Ok (record { lowers = lowers; upper = upper; work = work }))))
-
-  abbrev pub layer_at : World N → Location N → Layer N
-  layer_at world location = record { filesystem = (mount_at eq world location).filesystem; directory = location.node }
+  layers_walked world task = Mounting.layers_walked eq (looks_of eq world) task
 
   abbrev pub overlay_at : World N → Task N → LayerPlaces N → Overlay N
-  overlay_at world task places = record {
-    upper = option_map (layer_at world) places.upper;
-    work = option_map (layer_at world) places.work;
-    lowers = map (layer_at world) places.lowers;
-    mounter = task.credentials;
-    real = λ number. None;
-  }
+  overlay_at world task = Mounting.overlay_at (looks_of eq world) task
 
-  abbrev pub lie_apart : World N → Overlay N → Bool
-  lie_apart world overlay =
-      any_pair (λ a b. not (eq a.filesystem b.filesystem)) (upper_and_work overlay)
-
-  abbrev pub upper_overlaps_work : World N → Overlay N → Bool
-  upper_overlaps_work world overlay =
-      list_any (overlaps_one_of eq world (option_to_list overlay.work)) (option_to_list overlay.upper)
-
-  abbrev pub overlap_upward : World N → Overlay N → Bool
-  overlap_upward world overlay =
-      list_any (overlaps_one_of eq world overlay.lowers) (upper_and_work overlay)
-
-  -- the kernel's overlayfs document, "multiple lower layers", "sharing and copying layers"; EINVAL, EBUSY, ELOOP
   abbrev pub layer_rules : World N → LayerPlaces N → Overlay N → Rules
-  layer_rules world places overlay =
-      (is_empty_list places.lowers, O2)
-      ∷ (has_single_lower places.lowers && not (is_some places.upper), O2)
-      ∷ (is_some places.upper && not (is_some places.work), O2)
-      ∷ (nat_lt most_lowers (length places.lowers), O2)
-      ∷ (list_any (is_overlay_at eq world) (all_places places), O2)
-      ∷ (lie_apart world overlay, O2)
-      ∷ (upper_overlaps_work world overlay, O2)
-      ∷ (list_any (is_read_only eq world) (change_places places), O2)
-      ∷ (in_use eq world overlay, O3)
-      ∷ (any_pair (one_under_another eq world) overlay.lowers, O5)
-      ∷ (overlap_upward world overlay, O5)
-      ∷ []
+  layer_rules world = Mounting.layer_rules eq (looks_of eq world)
 
   abbrev pub overlay_of_inodes : N → N → Overlay N → List (MergedInode N) → Filesystem N
   overlay_of_inodes number root overlay inodes = record {
@@ -194,13 +108,9 @@ module _ {N : Type 0} (eq : N → N → Bool) where
       (after world (walk_end (destination_walk world task path)) (λ here.
       overlay_by fresh world task here.location options flags))
 
-  -- mount(2) with MS_BIND, and with MS_REC: EINVAL, ENOSPC
   abbrev pub bind_rules : World N → Task N → Location N → Location N → World N → Rules
   bind_rules world task source place result =
-      (is_elsewhere eq world task source || is_elsewhere eq world task place, M2)
-      ∷ (is_unbindable (mount_at eq world source).propagation, M3)
-      ∷ (has_too_many eq result, M9)
-      ∷ []
+      Mounting.bind_rules eq (looks_of eq world) task source place (has_too_many eq result)
 
   abbrev pub bound_at : Fresh N → World N → Location N → Location N → Bool → World N
   bound_at fresh world source place recursive = attach eq world fresh place false (bind_tree eq world source recursive)
@@ -217,24 +127,9 @@ module _ {N : Type 0} (eq : N → N → Bool) where
   abbrev pub moved_tree : World N → Location N → List (Mount N)
   moved_tree world source = mount_tree eq world.mounts (mount_at eq world source)
 
-  abbrev pub has_shared_parent : World N → Location N → Bool
-  has_shared_parent world source =
-      holds_of (λ place. is_shared (mount_at eq world place).propagation) (mount_at eq world source).place
-
   abbrev pub move_rules : World N → Task N → Location N → Location N → World N → Rules
   move_rules world task source place result =
-      (is_elsewhere eq world task source || is_elsewhere eq world task place, M2)
-      ∷ (has_shared_parent world source, M4)
-      ∷ (
-        is_shared (mount_at eq world place).propagation
-            && list_any (λ mount. is_unbindable mount.propagation) (moved_tree world source),
-        M5,
-      )
-      ∷ (list_any (λ mount. eq mount.number place.mount) (moved_tree world source), M6)
-      ∷ (is_no_root eq world source, M7)
-      ∷ (has_too_many eq result, M9)
-      ∷ (not (is_some (mount_at eq world source).place), M10)
-      ∷ []
+      Mounting.move_rules eq (looks_of eq world) task source place (has_too_many eq result)
 
   abbrev pub moved_to : Fresh N → World N → Location N → Location N → World N
   moved_to fresh world source place = attach eq world fresh place true (moved_tree world source)
@@ -247,14 +142,8 @@ module _ {N : Type 0} (eq : N → N → Bool) where
       judged world (move_rules world task from.location here.location (moved_to fresh world from.location here.location))
       (granted Done (moved_to fresh world from.location here.location)))))
 
-  -- umount(2): EINVAL, EBUSY
   abbrev pub umount_rules : World N → Task N → Location N → Rules
-  umount_rules world task here =
-      (is_elsewhere eq world task here, M2)
-      ∷ (is_no_root eq world here, M7)
-      ∷ (is_busy eq world here.mount, M8)
-      ∷ (not (is_some (mount_at eq world here).place), M10)
-      ∷ []
+  umount_rules world task = Mounting.umount_rules eq (looks_of eq world) task
 
   unfoldable pub umount_outcome : World N → Task N → List ℕ → Outcome N
   umount_outcome world task path =
@@ -263,13 +152,8 @@ module _ {N : Type 0} (eq : N → N → Bool) where
       judged world (umount_rules world task here.location)
       (granted Done (unmounted eq world here.location.mount))))
 
-  -- umount(2) with MNT_DETACH: EINVAL
   abbrev pub lazy_rules : World N → Task N → Location N → Rules
-  lazy_rules world task here =
-      (is_elsewhere eq world task here, M2)
-      ∷ (is_no_root eq world here, M7)
-      ∷ (not (is_some (mount_at eq world here).place), M10)
-      ∷ []
+  lazy_rules world task = Mounting.lazy_rules eq (looks_of eq world) task
 
   unfoldable pub lazy_outcome : World N → Task N → List ℕ → Outcome N
   lazy_outcome world task path =
@@ -278,17 +162,8 @@ module _ {N : Type 0} (eq : N → N → Bool) where
       judged world (lazy_rules world task here.location)
       (granted Done (lazily_unmounted eq world here.location.mount))))
 
-  -- mount(2) with MS_REMOUNT and MS_BIND: EINVAL, EBUSY
-  abbrev pub is_written_through : World N → N → Bool
-  is_written_through world mount =
-      list_any (λ task. list_any (λ descriptor. descriptor.writes && eq mount descriptor.location.mount) task.descriptors) world.tasks
-
   abbrev pub remount_rules : World N → Task N → Location N → MountFlags → Rules
-  remount_rules world task here flags =
-      (is_elsewhere eq world task here, M2)
-      ∷ (is_no_root eq world here, M7)
-      ∷ (flags.read_only && is_written_through world here.mount, M8)
-      ∷ []
+  remount_rules world task = Mounting.remount_rules eq (looks_of eq world) task
 
   abbrev pub with_flags : World N → Location N → MountFlags → World N
   with_flags world here flags = with_mounts world (with_mount eq world.mounts (record (mount_at eq world here) { flags = flags }))
@@ -300,12 +175,8 @@ module _ {N : Type 0} (eq : N → N → Bool) where
       judged world (remount_rules world task here.location flags)
       (granted Done (with_flags world here.location flags))))
 
-  -- mount(2) with MS_SHARED, MS_SLAVE, MS_PRIVATE or MS_UNBINDABLE, and with MS_REC: EINVAL
   abbrev pub type_rules : World N → Task N → Location N → Rules
-  type_rules world task here =
-      (is_elsewhere eq world task here, M2)
-      ∷ (is_no_root eq world here, M7)
-      ∷ []
+  type_rules world task = Mounting.type_rules eq (looks_of eq world) task
 
   unfoldable pub type_outcome : Fresh N → World N → Task N → List ℕ → TypeWord → Bool → Outcome N
   type_outcome fresh world task path word recursive =
@@ -314,28 +185,8 @@ module _ {N : Type 0} (eq : N → N → Bool) where
       judged world (type_rules world task here.location)
       (granted Done (with_type eq fresh world here.location.mount word recursive))))
 
-  -- pivot_root(2): EINVAL, EBUSY. The mount of the caller's root leaves its place to that of the new root.
-  abbrev pub lies_under_place : World N → Location N → Location N → Bool
-  lies_under_place world top here =
-      list_any (λ place. eq top.mount place.mount && is_directory_under eq (files_at eq world top) top.node place.node)
-      (chain (length world.mounts) (λ place. (mount_at eq world place).place) here)
-
-  abbrev pub is_below_mount : World N → N → Location N → Bool
-  is_below_mount world mount here =
-      list_any (λ place. eq mount place.mount) (rest_of (chain (length world.mounts) (λ place. (mount_at eq world place).place) here))
-
   abbrev pub pivot_rules : World N → Task N → Location N → Location N → Rules
-  pivot_rules world task new put =
-      (list_any (is_elsewhere eq world task) (task.root ∷ new ∷ put ∷ []), M2)
-      ∷ (is_no_root eq world new || is_no_root eq world task.root, M7)
-      ∷ (eq new.mount task.root.mount || eq put.mount task.root.mount, M11)
-      ∷ (
-        not (is_below_mount world task.root.mount new) || not (lies_under_place world new put)
-            || has_shared_parent world new || has_shared_parent world task.root
-            || is_shared (mount_at eq world put).propagation,
-        M12,
-      )
-      ∷ []
+  pivot_rules world task = Mounting.pivot_rules eq (looks_of eq world) task
 
   unfoldable pub pivot_outcome : World N → Task N → List ℕ → List ℕ → Outcome N
   pivot_outcome world task new put =

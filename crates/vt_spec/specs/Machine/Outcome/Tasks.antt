@@ -1,7 +1,6 @@
--- Calls on tasks and namespaces: their rules, and what they change.
-use Rattle.std.specs.Prelude.{Bool, List, None, Option, Some, [], length, map, nat_le, not, ok_or, ℕ, ◌%◌, ◌&&◌, ◌++◌, ◌+◌, ◌==◌, ◌||◌, ◌∷◌}
-use Rattle.std.specs.Str.{bytes_eq}
-use Rattle.vt_spec.specs.declared.errors.Rule.TheVariants.{B1, C1, K1, S2, S6}
+-- Calls on tasks and namespaces: their rules in a world (`Rules/Tasks.antt`), and what they change.
+use Rattle.std.specs.Prelude.{Bool, List, None, Option, Some, [], map, ok_or, ℕ, ◌%◌, ◌++◌, ◌+◌, ◌||◌, ◌∷◌}
+use Rattle.vt_spec.specs.declared.errors.Rule.TheVariants.{K1, S2}
 use Rattle.vt_spec.specs.Machine.Calls.{CapabilityWord, ForkWords}
 use Rattle.vt_spec.specs.Machine.Calls.CapabilityWord.{Held, These}
 use Rattle.vt_spec.specs.Errors.{Rules, denial}
@@ -11,17 +10,13 @@ use Rattle.vt_spec.specs.Machine.Namespaces.{namespace_entered, namespaces_ended
 use Rattle.vt_spec.specs.Machine.Outcomes.{Outcome, after, granted, judged}
 use Rattle.vt_spec.specs.Machine.Outcomes.Answer.{Child, Done}
 use Rattle.vt_spec.specs.PathText.{words}
-use Rattle.vt_spec.specs.Rights.{Credentials, cap_setgid, cap_setuid, cap_sys_admin, cap_sys_chroot, execute_right, without}
-use Rattle.vt_spec.specs.Machine.Rows.{lacks, may_not, mounter_may_not}
+use Rattle.vt_spec.specs.Rights.{Credentials, cap_sys_admin, cap_sys_chroot, without}
+use Rattle.vt_spec.specs.Machine.Rows.{lacks}
 use Rattle.vt_spec.specs.Machine.Walk.{directory_walk, walk_end}
 use Rattle.vt_spec.specs.Machine.World.{Task, TaskName, World, replaced_if_called, task_called, with_task, without_task}
-
--- the most forks of a task, and the most numbers in a name (profile; RLIMIT_NPROC of setrlimit(2))
-abbrev pub most_forks : ℕ
-most_forks = 64
-
-abbrev pub deepest_name : ℕ
-deepest_name = 8
+use Rattle.vt_spec.specs.Machine.Looks.{looks_of}
+use Rattle.vt_spec.specs.Machine.Rules.Tasks
+pub use Rattle.vt_spec.specs.Machine.Rules.Tasks.{deepest_name, fork_rules, most_forks}
 
 -- the nine permission bits: umask(2)
 abbrev pub permission_bits : ℕ → ℕ
@@ -46,15 +41,6 @@ abbrev pub with_dropped : Credentials → ℕ → Credentials
 with_dropped who dropped = record who { capabilities = without who.capabilities dropped }
 
 module _ {N : Type 0} where
-  -- EAGAIN of fork(2) is the profile's ENOSPC; EPERM of setuid(2), setgid(2), setgroups(2) and capset(2)
-  abbrev pub fork_rules : Task N → Credentials → Rules
-  fork_rules task child =
-      (nat_le most_forks task.forks || nat_le deepest_name (length task.name), S6)
-      ∷ (not (child.uid == task.credentials.uid) && lacks task cap_setuid, K1)
-      ∷ (not (child.gid == task.credentials.gid && bytes_eq child.groups task.credentials.groups) && lacks task cap_setgid, K1)
-      ∷ (lacks task child.capabilities, K1)
-      ∷ []
-
   abbrev pub child_name : Task N → TaskName
   child_name task = task.name ++ ((task.forks + 1) ∷ [])
 
@@ -83,12 +69,8 @@ module _ {N : Type 0} where
       }))
 
 module _ {N : Type 0} (eq : N → N → Bool) where
-  -- chdir(2), chroot(2): EACCES
   abbrev pub enter_rules : World N → Task N → Location N → Rules
-  enter_rules world task directory =
-      (may_not eq world task directory execute_right, C1)
-      ∷ (mounter_may_not eq world directory execute_right, B1)
-      ∷ []
+  enter_rules world task = Tasks.enter_rules (looks_of eq world) task
 
   unfoldable pub chdir_outcome : World N → Task N → List ℕ → Outcome N
   chdir_outcome world task path =

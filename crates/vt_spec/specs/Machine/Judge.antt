@@ -1,0 +1,380 @@
+-- Each call is judged by its walks and its tables of rules over what a world shows: it gets a permit, or is refused by
+-- the first rule that fails.
+use Rattle.std.specs.Prelude.{Bool, Err, List, None, Ok, Option, Result, Some, [], false, length, nat_lt, ok_or, true, unwrap_or, ℕ, ◌++◌, ◌||◌, ◌∷◌}
+use Rattle.vt_spec.specs.declared.attributes.Attr.{Attr}
+use Rattle.vt_spec.specs.declared.errors.Deny.{Deny}
+use Rattle.vt_spec.specs.declared.errors.Rule.TheVariants.{E1, E2, E6, K1, O2, S2}
+use Rattle.vt_spec.specs.Errors.{Rules, and_then, denial, unless}
+use Rattle.vt_spec.specs.Machine.Apply.{overfills}
+use Rattle.vt_spec.specs.Machine.Calls.{Access, Call, Creation, ForkWords, OverlayWords, TypeWord}
+use Rattle.vt_spec.specs.Machine.Calls.Call.{Bind, Chdir, Chmod, Chown, Chroot, Close, Drop, Exec, Exit, Fork, Lazy, LinkTo, ListMounts, Ls, Lstat, MakeWhiteout, Mkdir, MountOverlay, MountPlain, MoveMount, Opaque, OpenFile, PivotRoot, Pread, Pwrite, Read, Readlink, Remount, Rename, Rmdir, SetType, Setns, Stat, SymlinkAt, Umask, Umount, Unlink, Unshare, Write}
+use Rattle.vt_spec.specs.Machine.Calls.Creation.{Exclusive, NoCreation, OrCreate}
+use Rattle.vt_spec.specs.Machine.Changes.{Change}
+use Rattle.vt_spec.specs.Machine.Changes.Change.{SetAttr, SetBytes, SetMark}
+use Rattle.vt_spec.specs.Machine.Lists.{Fresh}
+use Rattle.vt_spec.specs.Machine.Looks.{Looks, looks_of}
+use Rattle.vt_spec.specs.Machine.Mounts.{Location, MountFlags}
+use Rattle.vt_spec.specs.Machine.Outcome.Attributes.{attr_with_mode, attr_with_owner, may_chown}
+use Rattle.vt_spec.specs.Machine.Outcome.Making.{directory_mode, file_mode, link_mode, linking, new_file}
+use Rattle.vt_spec.specs.Machine.Outcome.Tasks.{capabilities_of, child_credentials, permission_bits, with_dropped}
+use Rattle.vt_spec.specs.Machine.Permits.{Permit}
+use Rattle.vt_spec.specs.Machine.Permits.Permit.{Allowed, ToBind, ToChange, ToClose, ToEnterNamespace, ToExit, ToFork, ToList, ToListMounts, ToMake, ToMountOverlay, ToMountPlain, ToMove, ToOpen, ToOpenNew, ToPivot, ToRead, ToReadPart, ToRemoveDirectory, ToRename, ToSetCredentials, ToSetDirectory, ToSetFlags, ToSetRoot, ToSetType, ToSetUmask, ToStat, ToUnmount, ToUnmountLazily, ToUnshare, ToWritePart}
+use Rattle.vt_spec.specs.Machine.Rows.{exact_attr, making, new_attr}
+use Rattle.vt_spec.specs.Machine.Rules.Attributes.{attr_at, attr_rules, opaque_rules}
+use Rattle.vt_spec.specs.Machine.Rules.Conditions.{lacks}
+use Rattle.vt_spec.specs.Machine.Rules.Descriptors.{descriptor_at, descriptor_rules, exclusive_word_rules, open_rules, pwrite_rules}
+use Rattle.vt_spec.specs.Machine.Rules.Looking.{exec_rules, list_rules, read_rules, readlink_rules}
+use Rattle.vt_spec.specs.Machine.Rules.Making.{file_word_rules, largest_file, link_rules, link_text_rules, make_rules, new_word_rules, rewrite_rules, whiteout_rules}
+use Rattle.vt_spec.specs.Machine.Rules.Mounting.{admin_rules, bind_rules, destination_walk, layer_rules, layers_walked, lazy_rules, move_rules, new_mount_rules, overlay_at, pivot_rules, remount_rules, source_walk, type_rules, umount_rules}
+use Rattle.vt_spec.specs.Machine.Rules.Removing.{is_one_object, object_there, old_word_rules, removing, rename_new_walk, rename_rules, rmdir_rules, rmdir_word_rules, same_object_rules, unlink_rules}
+use Rattle.vt_spec.specs.Machine.Rules.Tasks.{enter_rules, fork_rules}
+use Rattle.vt_spec.specs.Machine.Walking.{Place, directory_walk, file_walk, is_directory_there, is_special, link_walk, name_of, new_leaf_walk, new_walk, object_walk, old_leaf_walk, old_walk, walk_end}
+use Rattle.vt_spec.specs.Machine.World.{Task, TaskName, World}
+use Rattle.vt_spec.specs.Rights.{cap_sys_admin, cap_sys_chroot, owns}
+use Rattle.vt_spec.specs.Tree.{Node, new_directory}
+use Rattle.vt_spec.specs.Tree.Content.{Symlink, Whiteout}
+
+-- a permit, or the refusal by the first rule that fails
+abbrev pub Judgement : Type 0 → Type 0
+Judgement N = Result (Permit N) Deny
+
+module _ {N : Type 0} where
+  -- the change that a new inode is asked for: its number, for which any stands here, is not asked for
+  abbrev pub unnumbered : Place N → Node N → Change N
+  unnumbered place node = making place place.parent.node node
+
+  abbrev pub make_permit : Place N → Node N → Permit N
+  make_permit place node = ToMake place.parent (name_of place.last) node
+
+  abbrev pub open_new_permit : Task N → Place N → Access → ℕ → Permit N
+  open_new_permit task place access mode = ToOpenNew place.parent (name_of place.last) (new_file task mode []) access
+
+  -- what attaches mounts is granted if no namespace gets too many: ENOSPC of mount(2)
+  abbrev pub attach_permit : (Bool → Rules) → (Permit N → Bool) → Permit N → Judgement N
+  attach_permit rules overfills permit = unless (rules (overfills permit)) (Ok permit)
+
+  -- fork(2)
+  unfoldable pub fork_permit : Task N → Option ForkWords → Judgement N
+  fork_permit task words =
+      unless (fork_rules task (child_credentials task.credentials words))
+      (Ok (ToFork (child_credentials task.credentials words)))
+
+  -- pread(2), close(2)
+  unfoldable pub pread_permit : Task N → ℕ → ℕ → ℕ → Judgement N
+  pread_permit task number offset size =
+      and_then (descriptor_at task number (λ descriptor. descriptor.reads)) (λ descriptor.
+      Ok (ToReadPart descriptor.location offset size))
+
+  unfoldable pub close_permit : Task N → ℕ → Judgement N
+  close_permit task number =
+      and_then (descriptor_at task number (λ descriptor. true)) (λ descriptor. Ok (ToClose number))
+
+  -- pwrite(2)
+  unfoldable pub pwrite_permit : Looks N → Task N → ℕ → ℕ → List ℕ → Judgement N
+  pwrite_permit looks task number offset bytes =
+      and_then (descriptor_at task number (λ descriptor. descriptor.writes)) (λ descriptor.
+      unless (pwrite_rules looks descriptor.location offset bytes)
+      (Ok (ToWritePart descriptor.location offset bytes)))
+
+  -- unshare(2)
+  unfoldable pub unshare_permit : Task N → Judgement N
+  unshare_permit task = unless (admin_rules task) (Ok ToUnshare)
+
+  -- setns(2)
+  unfoldable pub setns_permit : Looks N → Task N → TaskName → Judgement N
+  setns_permit looks task name =
+      and_then (ok_or (looks.task_called name) (denial S2)) (λ target.
+      unless ((lacks task cap_sys_admin || lacks task cap_sys_chroot, K1) ∷ [])
+      (Ok (ToEnterNamespace target.namespace)))
+
+module _ {N : Type 0} (eq : N → N → Bool) where
+  -- Calls that look
+
+  unfoldable pub list_permit : Looks N → Task N → List ℕ → Judgement N
+  list_permit looks task path =
+      and_then (walk_end (directory_walk eq looks task path)) (λ here.
+      unless (list_rules looks task here.location) (Ok (ToList here.location)))
+
+  unfoldable pub stat_permit : Looks N → Task N → List ℕ → Judgement N
+  stat_permit looks task path =
+      and_then (walk_end (object_walk eq looks task path)) (λ here. Ok (ToStat here.location))
+
+  unfoldable pub lstat_permit : Looks N → Task N → List ℕ → Judgement N
+  lstat_permit looks task path =
+      and_then (walk_end (link_walk eq looks task path)) (λ here. Ok (ToStat here.location))
+
+  unfoldable pub readlink_permit : Looks N → Task N → List ℕ → Judgement N
+  readlink_permit looks task path =
+      and_then (walk_end (link_walk eq looks task path)) (λ here.
+      unless (readlink_rules looks here.location) (Ok (ToRead here.location)))
+
+  unfoldable pub read_permit : Looks N → Task N → List ℕ → Judgement N
+  read_permit looks task path =
+      and_then (walk_end (object_walk eq looks task path)) (λ here.
+      unless (read_rules looks task here.location) (Ok (ToRead here.location)))
+
+  unfoldable pub exec_permit : Looks N → Task N → List ℕ → Judgement N
+  exec_permit looks task path =
+      and_then (walk_end (object_walk eq looks task path)) (λ here.
+      unless (exec_rules looks task here.location) (Ok Allowed))
+
+  -- Calls that make a name, and write
+
+  abbrev pub made_permit : Looks N → Task N → Place N → Node N → Judgement N
+  made_permit looks task place node =
+      unless (new_word_rules place ++ make_rules looks task place (unnumbered place node)) (Ok (make_permit place node))
+
+  unfoldable pub mkdir_permit : Looks N → Task N → List ℕ → Option ℕ → Judgement N
+  mkdir_permit looks task path mode =
+      and_then (walk_end (new_walk eq looks task path)) (λ place.
+      made_permit looks task place
+      (record { attr = new_attr task (unwrap_or mode directory_mode); content = new_directory place.parent.node }))
+
+  unfoldable pub symlink_permit : Looks N → Task N → List ℕ → List ℕ → Judgement N
+  symlink_permit looks task text path =
+      unless (link_text_rules text)
+      (and_then (walk_end (new_leaf_walk eq looks task path)) (λ place.
+      made_permit looks task place (record { attr = exact_attr task link_mode; content = Symlink text })))
+
+  unfoldable pub whiteout_permit : Looks N → Task N → List ℕ → Judgement N
+  whiteout_permit looks task path =
+      and_then (walk_end (new_leaf_walk eq looks task path)) (λ place.
+      unless (whiteout_rules looks task place)
+      (Ok (make_permit place (record { attr = exact_attr task 0; content = Whiteout }))))
+
+  unfoldable pub link_permit : Looks N → Task N → List ℕ → List ℕ → Judgement N
+  link_permit looks task old new =
+      and_then (walk_end (link_walk eq looks task old)) (λ from.
+      and_then (walk_end (new_leaf_walk eq looks task new)) (λ place.
+      unless ((is_special place.last, E1) ∷ [])
+      (unless (link_rules eq looks task from.location place (linking from.location place))
+      (Ok (ToChange place.parent (linking from.location place))))))
+
+  -- the whole content of a file that is there, or of a new one
+  abbrev pub written_permit : Looks N → Task N → Place N → List ℕ → Option (Location N) → Judgement N
+  written_permit looks task place bytes (Some file) =
+      unless (rewrite_rules looks task file bytes) (Ok (ToChange file (SetBytes file.node bytes)))
+  written_permit looks task place bytes None =
+      unless ((nat_lt largest_file (length bytes), E6) ∷ [])
+      (unless (make_rules looks task place (unnumbered place (new_file task file_mode bytes)))
+      (Ok (make_permit place (new_file task file_mode bytes))))
+
+  unfoldable pub write_permit : Looks N → Task N → List ℕ → List ℕ → Judgement N
+  write_permit looks task path bytes =
+      and_then (walk_end (file_walk eq looks task path)) (λ place.
+      unless (file_word_rules place) (written_permit looks task place bytes place.object))
+
+  -- Calls that remove and rename
+
+  unfoldable pub unlink_permit : Looks N → Task N → List ℕ → Judgement N
+  unlink_permit looks task path =
+      and_then (walk_end (old_leaf_walk eq looks task path)) (λ place.
+      unless ((is_special place.last, E2) ∷ [])
+      (unless (unlink_rules looks task place (object_there place))
+      (Ok (ToChange place.parent (removing place (object_there place))))))
+
+  unfoldable pub rmdir_permit : Looks N → Task N → List ℕ → Judgement N
+  rmdir_permit looks task path =
+      and_then (walk_end (old_walk eq looks task path)) (λ place.
+      unless (rmdir_word_rules place)
+      (unless (rmdir_rules eq looks task place (object_there place))
+      (Ok (ToRemoveDirectory place.parent (name_of place.last) (object_there place)))))
+
+  abbrev pub renamed_permit : Bool → Looks N → Task N → Place N → Place N → Location N → Judgement N
+  renamed_permit true looks task from to old = unless (same_object_rules eq looks from to) (Ok Allowed)
+  renamed_permit false looks task from to old =
+      unless (rename_rules eq looks task from to old)
+      (Ok (ToRename from.parent (name_of from.last) to.parent (name_of to.last) old to.object))
+
+  unfoldable pub rename_permit : Looks N → Task N → List ℕ → List ℕ → Judgement N
+  rename_permit looks task old new =
+      and_then (walk_end (old_leaf_walk eq looks task old)) (λ from.
+      unless (old_word_rules from)
+      (and_then (walk_end (rename_new_walk eq looks task new (is_directory_there eq looks from))) (λ to.
+      unless (old_word_rules to)
+      (renamed_permit (is_one_object eq looks (object_there from) to.object) looks task from to (object_there from)))))
+
+  -- Calls that change owner, mode and mark
+
+  abbrev pub attr_permit : Looks N → Location N → Bool → Attr → Judgement N
+  attr_permit looks object allowed attr =
+      unless (attr_rules looks object allowed attr) (Ok (ToChange object (SetAttr object.node attr)))
+
+  unfoldable pub chmod_permit : Looks N → Task N → List ℕ → ℕ → Judgement N
+  chmod_permit looks task path mode =
+      and_then (walk_end (object_walk eq looks task path)) (λ here.
+      attr_permit looks here.location (owns task.credentials (attr_at looks here.location))
+      (attr_with_mode (attr_at looks here.location) mode))
+
+  unfoldable pub chown_permit : Looks N → Task N → List ℕ → Option ℕ → Option ℕ → Judgement N
+  chown_permit looks task path uid gid =
+      and_then (walk_end (object_walk eq looks task path)) (λ here.
+      attr_permit looks here.location
+      (may_chown task.credentials (attr_at looks here.location) (attr_with_owner (attr_at looks here.location) uid gid))
+      (attr_with_owner (attr_at looks here.location) uid gid))
+
+  unfoldable pub opaque_permit : Looks N → Task N → List ℕ → Bool → Judgement N
+  opaque_permit looks task path mark =
+      unless (admin_rules task)
+      (and_then (walk_end (directory_walk eq looks task path)) (λ here.
+      unless (opaque_rules looks here.location) (Ok (ToChange here.location (SetMark here.location.node mark)))))
+
+  -- Calls on open files
+
+  abbrev pub open_file_permit : Looks N → Task N → Location N → Access → Judgement N
+  open_file_permit looks task file access = unless (open_rules looks task file access) (Ok (ToOpen file access))
+
+  abbrev pub create_file_permit : Looks N → Task N → Place N → Access → ℕ → Judgement N
+  create_file_permit looks task place access mode =
+      unless (make_rules looks task place (unnumbered place (new_file task mode [])))
+      (Ok (open_new_permit task place access mode))
+
+  abbrev pub opened_or_created_permit : Looks N → Task N → Place N → Access → ℕ → Option (Location N) → Judgement N
+  opened_or_created_permit looks task place access mode (Some file) = open_file_permit looks task file access
+  opened_or_created_permit looks task place access mode None = create_file_permit looks task place access mode
+
+  abbrev pub open_by_permit : Looks N → Task N → List ℕ → Access → Creation → Judgement N
+  open_by_permit looks task path access NoCreation =
+      and_then (walk_end (object_walk eq looks task path)) (λ here. open_file_permit looks task here.location access)
+  open_by_permit looks task path access (OrCreate mode) =
+      and_then (walk_end (file_walk eq looks task path)) (λ place.
+      unless (file_word_rules place) (opened_or_created_permit looks task place access mode place.object))
+  open_by_permit looks task path access (Exclusive mode) =
+      and_then (walk_end (new_walk eq looks task path)) (λ place.
+      unless (exclusive_word_rules place) (create_file_permit looks task place access mode))
+
+  unfoldable pub open_permit : Looks N → Task N → List ℕ → Access → Creation → Judgement N
+  open_permit looks task path access creation =
+      unless (descriptor_rules task) (open_by_permit looks task path access creation)
+
+  -- Calls on tasks
+
+  unfoldable pub chdir_permit : Looks N → Task N → List ℕ → Judgement N
+  chdir_permit looks task path =
+      and_then (walk_end (directory_walk eq looks task path)) (λ here.
+      unless (enter_rules looks task here.location) (Ok (ToSetDirectory here.location)))
+
+  unfoldable pub chroot_permit : Looks N → Task N → List ℕ → Judgement N
+  chroot_permit looks task path =
+      unless ((lacks task cap_sys_chroot, K1) ∷ [])
+      (and_then (walk_end (directory_walk eq looks task path)) (λ here.
+      unless (enter_rules looks task here.location) (Ok (ToSetRoot here.location))))
+
+  -- Mount calls; of what attaches mounts it is given whether it leaves a namespace with too many
+
+  unfoldable pub mount_plain_permit : Looks N → (Permit N → Bool) → Task N → List ℕ → MountFlags → Judgement N
+  mount_plain_permit looks overfills task path flags =
+      unless (admin_rules task)
+      (and_then (walk_end (destination_walk eq looks task path)) (λ here.
+      attach_permit (new_mount_rules eq looks task here.location) overfills (ToMountPlain here.location flags)))
+
+  abbrev pub overlay_permit_by : Looks N → (Permit N → Bool) → Task N → Location N → Option OverlayWords → MountFlags
+      → Judgement N
+  overlay_permit_by looks overfills task place None flags = Err (denial O2)
+  overlay_permit_by looks overfills task place (Some words) flags =
+      and_then (layers_walked eq looks task words) (λ places.
+      unless (layer_rules eq looks places (overlay_at looks task places))
+      (attach_permit (new_mount_rules eq looks task place) overfills
+      (ToMountOverlay place (overlay_at looks task places) flags)))
+
+  unfoldable pub mount_overlay_permit : Looks N → (Permit N → Bool) → Task N → List ℕ → Option OverlayWords → MountFlags
+      → Judgement N
+  mount_overlay_permit looks overfills task path options flags =
+      unless (admin_rules task)
+      (and_then (walk_end (destination_walk eq looks task path)) (λ here.
+      overlay_permit_by looks overfills task here.location options flags))
+
+  unfoldable pub bind_permit : Looks N → (Permit N → Bool) → Task N → List ℕ → List ℕ → Bool → Judgement N
+  bind_permit looks overfills task source path recursive =
+      unless (admin_rules task)
+      (and_then (walk_end (source_walk eq looks task source)) (λ from.
+      and_then (walk_end (destination_walk eq looks task path)) (λ here.
+      attach_permit (bind_rules eq looks task from.location here.location) overfills
+      (ToBind from.location here.location recursive))))
+
+  unfoldable pub move_permit : Looks N → (Permit N → Bool) → Task N → List ℕ → List ℕ → Judgement N
+  move_permit looks overfills task source path =
+      unless (admin_rules task)
+      (and_then (walk_end (source_walk eq looks task source)) (λ from.
+      and_then (walk_end (destination_walk eq looks task path)) (λ here.
+      attach_permit (move_rules eq looks task from.location here.location) overfills
+      (ToMove from.location.mount here.location))))
+
+  unfoldable pub umount_permit : Looks N → Task N → List ℕ → Judgement N
+  umount_permit looks task path =
+      unless (admin_rules task)
+      (and_then (walk_end (directory_walk eq looks task path)) (λ here.
+      unless (umount_rules eq looks task here.location) (Ok (ToUnmount here.location.mount))))
+
+  unfoldable pub lazy_permit : Looks N → Task N → List ℕ → Judgement N
+  lazy_permit looks task path =
+      unless (admin_rules task)
+      (and_then (walk_end (directory_walk eq looks task path)) (λ here.
+      unless (lazy_rules eq looks task here.location) (Ok (ToUnmountLazily here.location.mount))))
+
+  unfoldable pub remount_permit : Looks N → Task N → List ℕ → MountFlags → Judgement N
+  remount_permit looks task path flags =
+      unless (admin_rules task)
+      (and_then (walk_end (directory_walk eq looks task path)) (λ here.
+      unless (remount_rules eq looks task here.location flags) (Ok (ToSetFlags here.location.mount flags))))
+
+  unfoldable pub type_permit : Looks N → Task N → List ℕ → TypeWord → Bool → Judgement N
+  type_permit looks task path word recursive =
+      unless (admin_rules task)
+      (and_then (walk_end (directory_walk eq looks task path)) (λ here.
+      unless (type_rules eq looks task here.location) (Ok (ToSetType here.location.mount word recursive))))
+
+  unfoldable pub pivot_permit : Looks N → Task N → List ℕ → List ℕ → Judgement N
+  pivot_permit looks task new put =
+      unless (admin_rules task)
+      (and_then (walk_end (source_walk eq looks task new)) (λ root.
+      and_then (walk_end (destination_walk eq looks task put)) (λ here.
+      unless (pivot_rules eq looks task root.location here.location) (Ok (ToPivot root.location.mount here.location)))))
+
+  -- the permit of a call, or the first rule that refuses it
+  abbrev pub judge : Looks N → (Permit N → Bool) → Task N → Call → Judgement N
+  judge looks overfills task (Ls path) = list_permit looks task path
+  judge looks overfills task (Stat path) = stat_permit looks task path
+  judge looks overfills task (Lstat path) = lstat_permit looks task path
+  judge looks overfills task (Readlink path) = readlink_permit looks task path
+  judge looks overfills task (Read path) = read_permit looks task path
+  judge looks overfills task (Write path bytes) = write_permit looks task path bytes
+  judge looks overfills task (Exec path) = exec_permit looks task path
+  judge looks overfills task (Mkdir path mode) = mkdir_permit looks task path mode
+  judge looks overfills task (SymlinkAt text path) = symlink_permit looks task text path
+  judge looks overfills task (MakeWhiteout path) = whiteout_permit looks task path
+  judge looks overfills task (LinkTo old new) = link_permit looks task old new
+  judge looks overfills task (Unlink path) = unlink_permit looks task path
+  judge looks overfills task (Rmdir path) = rmdir_permit looks task path
+  judge looks overfills task (Rename old new) = rename_permit looks task old new
+  judge looks overfills task (Chmod path mode) = chmod_permit looks task path mode
+  judge looks overfills task (Chown path uid gid) = chown_permit looks task path uid gid
+  judge looks overfills task (Opaque path mark) = opaque_permit looks task path mark
+  judge looks overfills task (OpenFile path access creation) = open_permit looks task path access creation
+  judge looks overfills task (Pread descriptor offset size) = pread_permit task descriptor offset size
+  judge looks overfills task (Pwrite descriptor offset bytes) = pwrite_permit looks task descriptor offset bytes
+  judge looks overfills task (Close descriptor) = close_permit task descriptor
+  judge looks overfills task (Chdir path) = chdir_permit looks task path
+  judge looks overfills task (Chroot path) = chroot_permit looks task path
+  judge looks overfills task (Umask mode) = Ok (ToSetUmask (permission_bits mode))
+  judge looks overfills task (Drop which) =
+      Ok (ToSetCredentials (with_dropped task.credentials (capabilities_of which task.credentials)))
+  judge looks overfills task (Fork words) = fork_permit task words
+  judge looks overfills task Exit = Ok ToExit
+  judge looks overfills task Unshare = unshare_permit task
+  judge looks overfills task (Setns name) = setns_permit looks task name
+  judge looks overfills task (MountPlain path flags) = mount_plain_permit looks overfills task path flags
+  judge looks overfills task (MountOverlay path options flags) =
+      mount_overlay_permit looks overfills task path options flags
+  judge looks overfills task (Bind source path recursive) = bind_permit looks overfills task source path recursive
+  judge looks overfills task (MoveMount source path) = move_permit looks overfills task source path
+  judge looks overfills task (Umount path) = umount_permit looks task path
+  judge looks overfills task (Lazy path) = lazy_permit looks task path
+  judge looks overfills task (Remount path flags) = remount_permit looks task path flags
+  judge looks overfills task (SetType path word recursive) = type_permit looks task path word recursive
+  judge looks overfills task (PivotRoot new put) = pivot_permit looks task new put
+  judge looks overfills task ListMounts = Ok ToListMounts
+
+  -- a call judged in a world
+  abbrev pub judge_in : Fresh N → World N → Task N → Call → Judgement N
+  judge_in fresh world task call = judge (looks_of eq world) (overfills eq fresh world task) task call

@@ -1,0 +1,216 @@
+-- The walks and rules of mount calls.
+use Rattle.std.specs.List.{list_any}
+use Rattle.std.specs.Prelude.{Bool, List, None, Ok, Option, Result, Some, [], false, if◌then◌else◌, is_some, length, map, nat_lt, not, option_map, option_to_list, true, ℕ, ◌&&◌, ◌++◌, ◌||◌, ◌∷◌}
+use Rattle.vt_spec.specs.Errors.{Rules, and_then}
+use Rattle.vt_spec.specs.Machine.Calls.{OverlayWords}
+use Rattle.vt_spec.specs.Machine.Lists.{any_pair, chain, holds_of, is_empty_list, rest_of}
+use Rattle.vt_spec.specs.Machine.Locked.{upper_and_work}
+use Rattle.vt_spec.specs.Machine.Looks.{Looks, mount_at, topmost}
+use Rattle.vt_spec.specs.Machine.Mounts.{Location, MountFlags, is_shared, is_unbindable}
+use Rattle.vt_spec.specs.Machine.Rules.Conditions.{is_elsewhere, is_no_root, is_overlay_at, is_read_only, lacks}
+use Rattle.vt_spec.specs.Machine.Walking.{Here, Stop, directory_walk, then_walk, walk_end, walk_unless}
+use Rattle.vt_spec.specs.Machine.World.{Layer, Overlay, Task}
+use Rattle.vt_spec.specs.Rights.{cap_sys_admin}
+use Rattle.vt_spec.specs.declared.errors.Deny.{Deny}
+use Rattle.vt_spec.specs.declared.errors.Rule.TheVariants.{K1, M10, M11, M12, M2, M3, M4, M5, M6, M7, M8, M9, O2, O3, O5, W8}
+
+-- the most lower layers of an overlay (profile)
+abbrev pub most_lowers : ℕ
+most_lowers = 128
+
+-- a work directory without an upper one is not walked (profile)
+abbrev pub work_walked : OverlayWords → Option (List ℕ)
+work_walked words = if is_some words.upper then words.work else None
+
+-- where the layers of an overlay were reached
+pub record LayerPlaces (N : Type 0) : Type 0 where
+  pub lowers : List (Location N)
+  pub upper : Option (Location N)
+  pub work : Option (Location N)
+
+module _ {N : Type 0} where
+  abbrev pub all_places : LayerPlaces N → List (Location N)
+  all_places places = places.lowers ++ option_to_list places.upper ++ option_to_list places.work
+
+  abbrev pub change_places : LayerPlaces N → List (Location N)
+  change_places places = option_to_list places.upper ++ option_to_list places.work
+
+  abbrev pub has_single_lower : List (Location N) → Bool
+  has_single_lower [] = false
+  has_single_lower (lower ∷ []) = true
+  has_single_lower (lower ∷ other ∷ rest) = false
+
+  -- K1: CAP_SYS_ADMIN, mount(2)
+  abbrev pub admin_rules : Task N → Rules
+  admin_rules task = (lacks task cap_sys_admin, K1) ∷ []
+
+  -- a destination: the place reached, and then the root of the topmost mount over it
+  abbrev pub at_topmost : Looks N → Here N → Here N
+  at_topmost looks here = record here { location = topmost looks here.location }
+
+  abbrev pub layer_at : Looks N → Location N → Layer N
+  layer_at looks location = record { filesystem = (mount_at looks location).filesystem; directory = location.node }
+
+  abbrev pub overlay_at : Looks N → Task N → LayerPlaces N → Overlay N
+  overlay_at looks task places = record {
+    upper = option_map (layer_at looks) places.upper;
+    work = option_map (layer_at looks) places.work;
+    lowers = map (layer_at looks) places.lowers;
+    mounter = task.credentials;
+    real = λ number. None;
+  }
+
+  abbrev pub upper_overlaps_work : Looks N → Overlay N → Bool
+  upper_overlaps_work looks overlay =
+      list_any (looks.overlaps_one_of (option_to_list overlay.work)) (option_to_list overlay.upper)
+
+  abbrev pub overlap_upward : Looks N → Overlay N → Bool
+  overlap_upward looks overlay =
+      list_any (looks.overlaps_one_of overlay.lowers) (upper_and_work overlay)
+
+  abbrev pub has_shared_parent : Looks N → Location N → Bool
+  has_shared_parent looks source =
+      holds_of (λ place. is_shared (mount_at looks place).propagation) (mount_at looks source).place
+
+module _ {N : Type 0} (eq : N → N → Bool) where
+  -- a source, or a layer: a directory that is not removed (profile)
+  abbrev pub source_walk : Looks N → Task N → List ℕ → Result (Here N) (Stop N)
+  source_walk looks task path =
+      then_walk (directory_walk eq looks task path) (λ here.
+      walk_unless here.steps ((looks.is_removed here.location, W8) ∷ []) here)
+
+  abbrev pub destination_walk : Looks N → Task N → List ℕ → Result (Here N) (Stop N)
+  destination_walk looks task path =
+      then_walk (source_walk looks task path) (λ here.
+      walk_unless here.steps ((looks.is_removed (topmost looks here.location), W8) ∷ []) (at_topmost looks here))
+
+  -- a new mount: EINVAL, ENOSPC of mount(2)
+  abbrev pub new_mount_rules : Looks N → Task N → Location N → Bool → Rules
+  new_mount_rules looks task place overfull =
+      (is_elsewhere eq looks task place, M2)
+      ∷ (overfull, M9)
+      ∷ []
+
+  -- The layers are walked from the top down, then the upper and the work directory.
+  abbrev pub each_walked : Looks N → Task N → List (List ℕ) → Result (List (Location N)) Deny
+  each_walked looks task [] = Ok []
+  each_walked looks task (path ∷ paths) =
+      and_then (walk_end (source_walk looks task path)) (λ here.
+      and_then (each_walked looks task paths) (λ rest. Ok (here.location ∷ rest)))
+
+  abbrev pub walked_if_given : Looks N → Task N → Option (List ℕ) → Result (Option (Location N)) Deny
+  walked_if_given looks task None = Ok None
+  walked_if_given looks task (Some path) =
+      and_then (walk_end (source_walk looks task path)) (λ here. Ok (Some here.location))
+
+  abbrev pub layers_walked : Looks N → Task N → OverlayWords → Result (LayerPlaces N) Deny
+  layers_walked looks task words =
+      and_then (each_walked looks task words.lowers) (λ lowers.
+      and_then (walked_if_given looks task words.upper) (λ upper.
+      and_then (walked_if_given looks task (work_walked words)) (λ work.
+      Ok (record { lowers = lowers; upper = upper; work = work }))))
+
+  abbrev pub lie_apart : Looks N → Overlay N → Bool
+  lie_apart looks overlay =
+      any_pair (λ a b. not (eq a.filesystem b.filesystem)) (upper_and_work overlay)
+
+  -- one directory is at or under another
+  abbrev pub one_under_another : Looks N → Layer N → Layer N → Bool
+  one_under_another looks a b =
+      eq a.filesystem b.filesystem
+      && (looks.is_under a.filesystem a.directory b.directory || looks.is_under a.filesystem b.directory a.directory)
+
+  -- the kernel's overlayfs document, "multiple lower layers", "sharing and copying layers"; EINVAL, EBUSY, ELOOP
+  abbrev pub layer_rules : Looks N → LayerPlaces N → Overlay N → Rules
+  layer_rules looks places overlay =
+      (is_empty_list places.lowers, O2)
+      ∷ (has_single_lower places.lowers && not (is_some places.upper), O2)
+      ∷ (is_some places.upper && not (is_some places.work), O2)
+      ∷ (nat_lt most_lowers (length places.lowers), O2)
+      ∷ (list_any (is_overlay_at looks) (all_places places), O2)
+      ∷ (lie_apart looks overlay, O2)
+      ∷ (upper_overlaps_work looks overlay, O2)
+      ∷ (list_any (is_read_only looks) (change_places places), O2)
+      ∷ (looks.is_in_use overlay, O3)
+      ∷ (any_pair (one_under_another looks) overlay.lowers, O5)
+      ∷ (overlap_upward looks overlay, O5)
+      ∷ []
+
+  -- mount(2) with MS_BIND, and with MS_REC: EINVAL, ENOSPC
+  abbrev pub bind_rules : Looks N → Task N → Location N → Location N → Bool → Rules
+  bind_rules looks task source place overfull =
+      (is_elsewhere eq looks task source || is_elsewhere eq looks task place, M2)
+      ∷ (is_unbindable (mount_at looks source).propagation, M3)
+      ∷ (overfull, M9)
+      ∷ []
+
+  abbrev pub move_rules : Looks N → Task N → Location N → Location N → Bool → Rules
+  move_rules looks task source place overfull =
+      (is_elsewhere eq looks task source || is_elsewhere eq looks task place, M2)
+      ∷ (has_shared_parent looks source, M4)
+      ∷ (
+        is_shared (mount_at looks place).propagation
+            && list_any (λ mount. is_unbindable mount.propagation) (looks.mount_tree source.mount),
+        M5,
+      )
+      ∷ (list_any (λ mount. eq mount.number place.mount) (looks.mount_tree source.mount), M6)
+      ∷ (is_no_root eq looks source, M7)
+      ∷ (overfull, M9)
+      ∷ (not (is_some (mount_at looks source).place), M10)
+      ∷ []
+
+  -- umount(2): EINVAL, EBUSY
+  abbrev pub umount_rules : Looks N → Task N → Location N → Rules
+  umount_rules looks task here =
+      (is_elsewhere eq looks task here, M2)
+      ∷ (is_no_root eq looks here, M7)
+      ∷ (looks.is_busy here.mount, M8)
+      ∷ (not (is_some (mount_at looks here).place), M10)
+      ∷ []
+
+  -- umount(2) with MNT_DETACH: EINVAL
+  abbrev pub lazy_rules : Looks N → Task N → Location N → Rules
+  lazy_rules looks task here =
+      (is_elsewhere eq looks task here, M2)
+      ∷ (is_no_root eq looks here, M7)
+      ∷ (not (is_some (mount_at looks here).place), M10)
+      ∷ []
+
+  -- mount(2) with MS_REMOUNT and MS_BIND: EINVAL, EBUSY
+  abbrev pub remount_rules : Looks N → Task N → Location N → MountFlags → Rules
+  remount_rules looks task here flags =
+      (is_elsewhere eq looks task here, M2)
+      ∷ (is_no_root eq looks here, M7)
+      ∷ (flags.read_only && looks.is_written_through here.mount, M8)
+      ∷ []
+
+  -- mount(2) with MS_SHARED, MS_SLAVE, MS_PRIVATE or MS_UNBINDABLE, and with MS_REC: EINVAL
+  abbrev pub type_rules : Looks N → Task N → Location N → Rules
+  type_rules looks task here =
+      (is_elsewhere eq looks task here, M2)
+      ∷ (is_no_root eq looks here, M7)
+      ∷ []
+
+  -- pivot_root(2): EINVAL, EBUSY. The mount of the caller's root leaves its place to that of the new root.
+  abbrev pub lies_under_place : Looks N → Location N → Location N → Bool
+  lies_under_place looks top here =
+      list_any (λ place. eq top.mount place.mount && looks.is_under (mount_at looks top).filesystem top.node place.node)
+      (chain looks.mount_count (λ place. (mount_at looks place).place) here)
+
+  abbrev pub is_below_mount : Looks N → N → Location N → Bool
+  is_below_mount looks mount here =
+      list_any (λ place. eq mount place.mount)
+      (rest_of (chain looks.mount_count (λ place. (mount_at looks place).place) here))
+
+  abbrev pub pivot_rules : Looks N → Task N → Location N → Location N → Rules
+  pivot_rules looks task new put =
+      (list_any (is_elsewhere eq looks task) (task.root ∷ new ∷ put ∷ []), M2)
+      ∷ (is_no_root eq looks new || is_no_root eq looks task.root, M7)
+      ∷ (eq new.mount task.root.mount || eq put.mount task.root.mount, M11)
+      ∷ (
+        not (is_below_mount looks task.root.mount new) || not (lies_under_place looks new put)
+            || has_shared_parent looks new || has_shared_parent looks task.root
+            || is_shared (mount_at looks put).propagation,
+        M12,
+      )
+      ∷ []
