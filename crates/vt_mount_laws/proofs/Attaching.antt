@@ -34,7 +34,7 @@ hanging mounts number (from_top first rest e) = (first, subst (Among first) (sym
 hanging mounts number (from_parent origin place m e later) = (origin, m, refl)
 
 -- what is found in a list
-found_in : (test : Mount ℕ → Bool) (mounts : List (Mount ℕ)) (found : Mount ℕ) → find test mounts ≡ Some found → Among found mounts × (test found ≡ true)
+pub found_in : (test : Mount ℕ → Bool) (mounts : List (Mount ℕ)) (found : Mount ℕ) → find test mounts ≡ Some found → Among found mounts × (test found ≡ true)
 found_in test [] found e = absurd (true≢false (sym (ap is_some e)))
 found_in test (first ∷ rest) found e = by (test first) refl (found_in test rest found)
   where
@@ -47,7 +47,7 @@ found_in test (first ∷ rest) found e = by (test first) refl (found_in test res
         (inr t.0, t.1)
 
 -- a number of the list finds a mount of it
-found_there : (mounts : List (Mount ℕ)) (number : ℕ) → is_among nat_eq number (numbers_of mounts) ≡ true → Among (mount_in nat_eq mounts number) mounts
+pub found_there : (mounts : List (Mount ℕ)) (number : ℕ) → is_among nat_eq number (numbers_of mounts) ≡ true → Among (mount_in nat_eq mounts number) mounts
 found_there [] number h = absurd (true≢false (sym h))
 found_there (first ∷ rest) number h = by (nat_eq number first.number) refl (found_there rest number)
   where
@@ -62,7 +62,7 @@ found_there (first ∷ rest) number h = by (nat_eq number first.number) refl (fo
 
 -- mounts over a place are some of the list
 module _ (mounts : List (Mount ℕ)) where
-  abbrev cover : Location ℕ → Option (Location ℕ)
+  abbrev pub cover : Location ℕ → Option (Location ℕ)
   cover place = option_map root_of (child_at nat_eq mounts place)
 
   over_among : (n : ℕ) (here : Location ℕ) (x : Mount ℕ) → Among x mounts → here.mount ≡ x.number
@@ -85,10 +85,22 @@ module _ (mounts : List (Mount ℕ)) where
           )
 
 -- what stands at a receiver goes onto a copy
-top_among : (copies : List (Mount ℕ)) (place : Location ℕ) (copy : Mount ℕ) → Among copy copies
+pub top_among : (copies : List (Mount ℕ)) (place : Location ℕ) (copy : Mount ℕ) → Among copy copies
     → (y : Mount ℕ) × Among y copies × ((top_of_copies nat_eq copies place).mount ≡ y.number)
 top_among [] place copy m = absurd m
 top_among (first ∷ rest) place copy m = over_among (first ∷ rest) (length (first ∷ rest)) (root_of first) first (inl refl) refl
+
+-- a receiver that takes part is one of the world's mounts
+pub taker_there : (world : World ℕ) (place : Location ℕ) (mount : Mount ℕ) → Among mount (rest_of (parts_of nat_eq world place)) → Among mount world.mounts
+taker_there world place mount m =
+    by (group_of destination.propagation) (among-from_filter (takes_part nat_eq world place) (receivers_of nat_eq world destination) mount m).0
+  where
+    destination : Mount ℕ
+    destination = mount_at nat_eq world place
+
+    by : (group : Option ℕ) → Among mount (unwrap_or (option_map (receivers nat_eq world) group) []) → Among mount world.mounts
+    by None l = absurd l
+    by (Some group) l = (among-from_filter (receives nat_eq world group) world.mounts mount l).0
 
 module _ (world : World ℕ) (new : Copies ℕ) (place : Location ℕ) (mounts : List (Mount ℕ))
     (serve : ServeAsCopies world (parts_of nat_eq world place) mounts new) (own : OneNumberAMount mounts) (one : OneNumberAMount world.mounts)
@@ -188,18 +200,13 @@ module _ (world : World ℕ) (new : Copies ℕ) (place : Location ℕ) (mounts :
 
   -- what was there goes on standing
   is_taker : (mount : Mount ℕ) → Among mount (rest_of parts) → Among mount world.mounts
-  is_taker mount m =
-      by (group_of destination.propagation) (among-from_filter (takes_part nat_eq world place) (receivers_of nat_eq world destination) mount m).0
-    where
-      by : (group : Option ℕ) → Among mount (unwrap_or (option_map (receivers nat_eq world) group) []) → Among mount world.mounts
-      by None l = absurd l
-      by (Some group) l = (among-from_filter (receives nat_eq world group) world.mounts mount l).0
+  is_taker mount m = taker_there world place mount m
 
   push_namespace : (mount : Mount ℕ) → (push mount).namespace ≡ mount.namespace
   push_namespace mount = (push_keeps world new tree parts mount).namespace
 
   -- its parent is there, where mounts outside every namespace have no place
-  parent_there : NowhereOrAttached world → (number : ℕ) (on : Location ℕ) → (mount_numbered nat_eq world number).place ≡ Some on
+  pub parent_there : NowhereOrAttached world → (number : ℕ) (on : Location ℕ) → (mount_numbered nat_eq world number).place ≡ Some on
       → (mount_numbered nat_eq world number).namespace ≡ (mount_numbered nat_eq world on.mount).namespace
       → is_mount world on.mount ≡ true
   parent_there nowhere number on e f =

@@ -1,5 +1,5 @@
 -- Binds, new mounts and moves: each mount goes on standing, with a number of its own.
-use Rattle.std.proofs.Common.{◌≡◌, refl, sym, ap, subst, ◌∙◌, true, false, nat_eq, ℕ, Bool, List, None, Option, Some, [], eqb-true, filter, flat_map, inl, inr, length, map, not, suc, true≢false, zero, ⊎_elim, ◌++◌, ◌∷◌}
+use Rattle.std.proofs.Common.{◌≡◌, refl, sym, ap, subst, ◌∙◌, true, false, nat_eq, ℕ, Bool, List, None, Option, Some, [], eq-eqb, eqb-true, filter, flat_map, inl, inr, length, map, not, suc, true≢false, zero, ⊎_elim, ◌++◌, ◌∷◌, ◌⊎◌}
 use Rattle.std.specs.Prelude.{All}
 use Rattle.vt_spec.proofs.Lists.{Among, all_from_among, among-flat_map, among-from_filter, among-from_flat_map, among_from_all}
 use Rattle.vt_spec.specs.Machine.Attach.{bind_tree, bindable_children, bindable_tree, bound, parts_of, stands_under}
@@ -10,9 +10,10 @@ use Rattle.vt_spec.specs.Machine.World.{Filesystem, World, mount_at, mount_numbe
 use Rattle.vt_spec.specs.Machine.WorldLaws.{Stands}
 use Rattle.vt_spec.specs.Machine.WorldLaws.Stands.{at_root, on_parent}
 use Rattle.vt_mount_laws.specs.Mounts.Attaching.{OneNumberAMount}
-use Rattle.vt_mount_laws.specs.Mounts.Standing.{AllStand, BindsKeepNumbers, BindsKeepStanding, MovesKeepNumbers, NewMountsKeepNumbers, NewMountsKeepStanding}
+use Rattle.vt_mount_laws.specs.Mounts.Standing.{AllStand, BindsKeepNumbers, BindsKeepPlaces, BindsKeepStanding, MovesKeepNumbers, NewMountsKeepNumbers, NewMountsKeepPlaces, NewMountsKeepStanding}
 use Rattle.vt_mount_laws.proofs.Attaching.{Hangs, all_stand_after}
 use Rattle.vt_mount_laws.proofs.Attaching.Hangs.{from_parent, from_top}
+use Rattle.vt_mount_laws.proofs.AttachingPlaces.{places_after, two_of}
 use Rattle.vt_mount_laws.proofs.MountsAttached.{supplied}
 use Rattle.vt_mount_laws.proofs.MountsFound.{number_found}
 use Rattle.vt_mount_laws.proofs.MountsNumbered.{attach_keeps_numbers, supplies_serve_as_copies}
@@ -126,3 +127,58 @@ new_mounts_keep_standing world fresh place filesystem flags serves one nowhere a
 pub new_mounts_keep_numbers : NewMountsKeepNumbers
 new_mounts_keep_numbers world fresh place filesystem flags serves one =
     attach_keeps_numbers (with_new_filesystem world filesystem) fresh place false (new_mount filesystem.number filesystem.files.tree.root flags ∷ []) serves refl one
+
+-- What a bind takes but for its top are mounts of the world
+bindable_there : (world : World ℕ) (fuel : ℕ) (mount x : Mount ℕ) → Among x (bindable_tree nat_eq fuel world.mounts mount)
+    → (x ≡ mount) ⊎ Among x world.mounts
+bindable_there world zero mount x m = ⊎_elim inl (λ none. absurd none) m
+bindable_there world (suc fuel) mount x m =
+    ⊎_elim inl
+    (λ later.
+    let from = among-from_flat_map (bindable_tree nat_eq fuel world.mounts) (bindable_children nat_eq world.mounts mount.number) x later in
+    let child = among-from_filter (λ (y : Mount ℕ). not (is_unbindable y.propagation)) (children nat_eq world.mounts mount.number) from.0 from.1 in
+    let there = (among-from_filter (stands_on nat_eq mount.number) world.mounts from.0 child.0).0 in
+    inr (⊎_elim (λ e. subst (λ y. Among y world.mounts) (sym e) there) (λ l. l) (bindable_there world fuel from.0 x from.2)))
+    m
+
+bind_there : (world : World ℕ) (source : Location ℕ) (recursive : Bool) (x : Mount ℕ) → Among x (bind_tree nat_eq world source recursive)
+    → nat_eq x.number (bound nat_eq world source).number ≡ false → Among x world.mounts
+bind_there world source false x m differ =
+    ⊎_elim (λ e. absurd (true≢false (sym (eq-eqb x.number (bound nat_eq world source).number (ap (λ (y : Mount ℕ). y.number) e)) ∙ differ))) (λ none. absurd none) m
+bind_there world source true x m differ =
+    ⊎_elim
+    (λ e. absurd (true≢false (sym (eq-eqb x.number (bound nat_eq world source).number (ap (λ (y : Mount ℕ). y.number) e)) ∙ differ)))
+    (λ later.
+    let under = bindable_children nat_eq world.mounts source.mount in
+    let from = among-from_flat_map (bindable_tree nat_eq (length world.mounts) world.mounts) (filter (stands_under nat_eq world source) under) x later in
+    let child = (among-from_filter (stands_under nat_eq world source) under from.0 from.1).0 in
+    let kept = (among-from_filter (λ (y : Mount ℕ). not (is_unbindable y.propagation)) (children nat_eq world.mounts source.mount) from.0 child).0 in
+    let there = (among-from_filter (stands_on nat_eq source.mount) world.mounts from.0 kept).0 in
+    ⊎_elim (λ e. subst (λ y. Among y world.mounts) (sym e) there) (λ l. l) (bindable_there world (length world.mounts) from.0 x from.2))
+    m
+
+pub binds_keep_places : BindsKeepPlaces
+binds_keep_places world fresh source place recursive serves one nowhere all there free places =
+    let mounts = bind_tree nat_eq world source recursive in
+    let top = bind_top world source recursive in
+    places_after world (supplied world fresh place mounts) place mounts
+    (supplies_serve_as_copies world fresh (parts_of nat_eq world place) mounts serves)
+    (binds_take_each_once world source recursive one all) one there (bind_hangs world source recursive)
+    (bound nat_eq world source) top.0 top.1 nowhere all
+    (λ a b m n not_top nor_top differ.
+    two_of world.mounts places a b (bind_there world source recursive a m not_top) (bind_there world source recursive b n nor_top) differ)
+    places free
+
+pub new_mounts_keep_places : NewMountsKeepPlaces
+new_mounts_keep_places world fresh place filesystem flags serves one nowhere all there free places =
+    let larger = with_new_filesystem world filesystem in
+    let mount = new_mount filesystem.number filesystem.files.tree.root flags in
+    places_after larger (supplied larger fresh place (mount ∷ [])) place (mount ∷ [])
+    (supplies_serve_as_copies larger fresh (parts_of nat_eq larger place) (mount ∷ []) serves) refl one there
+    (λ x m. ⊎_elim (λ e. subst (λ (y : Mount ℕ). Hangs (mount ∷ []) y.number) (sym e) (from_top mount [] refl)) (λ none. absurd none) m)
+    mount [] refl nowhere
+    (all_from_among (λ (x : Mount ℕ). Stands nat_eq larger x.number) world.mounts (λ x m.
+    stands_with_filesystem world filesystem x.number (among_from_all (λ (y : Mount ℕ). Stands nat_eq world y.number) world.mounts all x m)))
+    (λ a b m n not_top nor_top differ.
+    ⊎_elim (λ e. absurd (true≢false (sym (eq-eqb a.number mount.number (ap (λ (y : Mount ℕ). y.number) e)) ∙ not_top))) (λ none. absurd none) m)
+    places free

@@ -1,4 +1,5 @@
 pub mod Attaching
+pub mod AttachingPlaces
 pub mod BindsStand
 pub mod Groups
 pub mod GroupsKept

@@ -22,7 +22,7 @@ use Rattle.vt_mount_laws.proofs.MountsAttached.{numbers_attached, others}
 use Rattle.std.proofs.lemmas.Option.{same_Some, slice_get_within}
 
 -- lists that are apart, and apart from one another
-pair-append : {A : Type 0} (test : A → A → Bool) (xs ys : List A) → any_pair test xs ≡ false → any_pair test ys ≡ false
+pub pair-append : {A : Type 0} (test : A → A → Bool) (xs ys : List A) → any_pair test xs ≡ false → any_pair test ys ≡ false
     → ((x y : A) → Among x xs → Among y ys → test x y ≡ false) → any_pair test (xs ++ ys) ≡ false
 pair-append test [] ys e f cross = f
 pair-append test (x ∷ xs) ys e f cross =
@@ -33,7 +33,7 @@ pair-append test (x ∷ xs) ys e f cross =
     (pair-append test xs ys parts.1 f (λ a b m n. cross a b (inr m) n))
 
 -- the number of a mount is in use
-number_in_use : (world : World ℕ) (mount : Mount ℕ) → Among mount world.mounts → Among mount.number (numbers_in_use world)
+pub number_in_use : (world : World ℕ) (mount : Mount ℕ) → Among mount world.mounts → Among mount.number (numbers_in_use world)
 number_in_use world mount m =
     among-append_left (flat_map used_by_mount world.mounts ++ flat_map used_by_filesystem world.filesystems) (map (λ (namespace : Namespace ℕ). namespace.number) world.namespaces) mount.number
     (among-append_left (flat_map used_by_mount world.mounts) (flat_map used_by_filesystem world.filesystems) mount.number
@@ -203,7 +203,7 @@ module _ (world : World ℕ) (place : Location ℕ) where
       by true e = absurd (true≢false (sym e))
       by false e = refl
 
-  parts_apart : OneNumberAMount world.mounts → any_pair same_number (parts_of nat_eq world place) ≡ false
+  pub parts_apart : OneNumberAMount world.mounts → any_pair same_number (parts_of nat_eq world place) ≡ false
   parts_apart one =
       let takers = filter (takes_part nat_eq world place) (receivers_of nat_eq world (mount_at nat_eq world place)) in
       or_from (list_any (same_number (mount_at nat_eq world place)) takers) (any_pair same_number takers)

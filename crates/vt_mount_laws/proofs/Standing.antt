@@ -22,7 +22,7 @@ use Rattle.vt_mount_laws.proofs.MountsReplaced.{found_itself}
 use Rattle.vt_mount_laws.proofs.UnmountingNamespaces.{one_namespace, same_namespace}
 
 -- numbers that are each another one and stand in a list are no more than it has
-fewer_numbers : (numbers others : List ℕ) → any_pair nat_eq numbers ≡ false → ((number : ℕ) → Among number numbers → Among number others)
+pub fewer_numbers : (numbers others : List ℕ) → any_pair nat_eq numbers ≡ false → ((number : ℕ) → Among number numbers → Among number others)
     → length numbers ≤ length others
 fewer_numbers [] others distinct all = omega arith
 fewer_numbers (first ∷ rest) others distinct all =
@@ -236,10 +236,10 @@ module _ (world : World ℕ) (one : OneNumberEach world) (all : AllStand world) 
       (λ none. at_root number (ap (λ m. m.place) none))
       (found_or_none world.mounts number)
 
-  rank : ℕ → ℕ
+  pub rank : ℕ → ℕ
   rank number = depth world number (stand number)
 
-  rank_child : (number : ℕ) (place : Location ℕ) → (mount_numbered nat_eq world number).place ≡ Some place → rank number ≡ suc (rank place.mount)
+  pub rank_child : (number : ℕ) (place : Location ℕ) → (mount_numbered nat_eq world number).place ≡ Some place → rank number ≡ suc (rank place.mount)
   unfolding depth rank
   rank_child number place e = same_depth world number (stand number) number (on_parent number place e (by (stand number)) (stand place.mount)) refl
     where

@@ -8,7 +8,7 @@ ghost use Rattle.vt_mount_laws.specs.Mounts.FileCalls.{FileCallsLeaveMounts};
 ghost use Rattle.vt_mount_laws.specs.Mounts.Granted.{BindBinds, MoveMoves, MountMounts, OverlayMounts, LazyUnmounts, RemountSetsFlags, TypeIsSet, PivotPivots, RmdirTakesMounts, RenameReplaces, RenameOfOneObject, ExitEnds, UnshareCopies, SetnsEnters};
 ghost use Rattle.vt_mount_laws.specs.Mounts.Places.{StandsAloneAtItsPlace};
 ghost use Rattle.vt_mount_laws.specs.Mounts.Receivers.{ReceivesIsComputed, ReceiversReceive, ReceiversAreClosed, ReceiversAreLeast, GroupsLive};
-ghost use Rattle.vt_mount_laws.specs.Mounts.Standing.{BindsKeepNumbers, BindsKeepStanding, BindsTakeEachOnce, MovesKeepNumbers, NewMountsKeepNumbers, NewMountsKeepStanding, StandingIsComputed, TreesHaveEachOnce};
+ghost use Rattle.vt_mount_laws.specs.Mounts.Standing.{BindsKeepNumbers, BindsKeepPlaces, BindsKeepStanding, BindsTakeEachOnce, MovesKeepNumbers, NewMountsKeepNumbers, NewMountsKeepPlaces, NewMountsKeepStanding, StandingIsComputed, TreesHaveEachOnce};
 ghost use Rattle.vt_mount_laws.specs.Mounts.Unmounting.{WhatGoesIsNamed, UnmountKeepsTheOrder, WhatGoesIsDetached, WhatStaysKeeps, WhatStaysKeepsItsPlace, RootMountsStay, WhatCoveredFalls, WhatStaysKeepsItsType, SlavesAreInherited, GroupsKeepTheirMasters, UnmountIsOfMounts, UmountUnmounts};
 
 /// At most one mount stands at a place.
@@ -110,14 +110,16 @@ pub fn mounts_stand_on_one_another()
     ensures binds { BindsTakeEachOnce }
 {}
 
-/// A bind and a new mount leave each mount standing, and these and a move leave each mount with a number of its own, the copies at all
-/// receivers included.
+/// A bind and a new mount leave each mount standing and at most one at a place, and these and a move leave each mount with a number of
+/// its own: the copies at all receivers included, and what they push up.
 pub fn attaching_keeps_mounts_standing()
     ensures bind { BindsKeepStanding }
     ensures bind_numbers { BindsKeepNumbers }
     ensures new_mount { NewMountsKeepStanding }
     ensures new_mount_numbers { NewMountsKeepNumbers }
     ensures move_numbers { MovesKeepNumbers }
+    ensures bind_places { BindsKeepPlaces }
+    ensures new_mount_places { NewMountsKeepPlaces }
 {}
 
 /// A mount outside every namespace has no place and is private: changes of mounts keep that.

@@ -1,14 +1,14 @@
 -- Where mounts stand: each on one that stands, down to the root mount of its namespace. mount_namespaces(7).
-use Rattle.std.specs.Prelude.{All, Bool, true, ℕ, nat_eq, ◌↔◌, ◌≡◌}
+use Rattle.std.specs.Prelude.{All, Bool, None, true, ℕ, nat_eq, ◌↔◌, ◌≡◌}
 use Rattle.vt_spec.specs.Machine.Attach.{bind_tree}
 use Rattle.vt_spec.specs.Machine.Lists.{Fresh}
-use Rattle.vt_spec.specs.Machine.Mounts.{Location, MountFlags, mount_tree}
+use Rattle.vt_spec.specs.Machine.Mounts.{Location, MountFlags, child_at, mount_tree}
 use Rattle.vt_spec.specs.Machine.Outcome.Mounting.{bound_at, mounted, moved_to, with_new_filesystem}
 use Rattle.vt_spec.specs.Machine.Run.{Serves}
 use Rattle.vt_spec.specs.Machine.World.{Filesystem, World, mount_numbered}
 use Rattle.vt_spec.specs.Machine.WorldLaws.{Stands}
 use Rattle.vt_mount_laws.specs.Mounts.Attaching.{OneNumberAMount, is_mount}
-use Rattle.vt_mount_laws.specs.Mounts.Conditions.{NowhereOrAttached, OneNumberEach}
+use Rattle.vt_mount_laws.specs.Mounts.Conditions.{NowhereOrAttached, OneMountEachPlace, OneNumberEach}
 use Rattle.vt_mount_laws.specs.Mounts.Unmounting.{PlacesEnd}
 
 -- each mount stands
@@ -61,3 +61,17 @@ abbrev pub MovesKeepNumbers : Type 0
 MovesKeepNumbers =
     (world : World ℕ) (fresh : Fresh ℕ) (source place : Location ℕ) → Serves nat_eq world fresh → OneNumberEach world → AllStand world
     → OneNumberEach (moved_to nat_eq fresh world source place)
+
+-- A bind and a new mount leave at most one mount at a place, where none stands at the destination: that is one over which no mount stands.
+abbrev pub BindsKeepPlaces : Type 0
+BindsKeepPlaces =
+    (world : World ℕ) (fresh : Fresh ℕ) (source place : Location ℕ) (recursive : Bool) → Serves nat_eq world fresh → OneNumberEach world
+    → NowhereOrAttached world → AllStand world → is_mount world place.mount ≡ true → child_at nat_eq world.mounts place ≡ None
+    → OneMountEachPlace world → OneMountEachPlace (bound_at nat_eq fresh world source place recursive)
+
+abbrev pub NewMountsKeepPlaces : Type 0
+NewMountsKeepPlaces =
+    (world : World ℕ) (fresh : Fresh ℕ) (place : Location ℕ) (filesystem : Filesystem ℕ) (flags : MountFlags)
+    → Serves nat_eq (with_new_filesystem world filesystem) fresh → OneNumberEach world → NowhereOrAttached world → AllStand world
+    → is_mount world place.mount ≡ true → child_at nat_eq world.mounts place ≡ None
+    → OneMountEachPlace world → OneMountEachPlace (mounted nat_eq fresh world place filesystem flags)
