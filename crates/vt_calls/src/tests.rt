@@ -7,10 +7,7 @@ use vt_ns::World;
 use vt_request::{Access, Answer, Call, Creation, TaskName};
 use vt_spec::errors::{Deny, Rule};
 
-const READING: Access = Access {
-    reads: true,
-    writes: false,
-};
+const READING: Access = Access::Read;
 
 #[derive(Drop)]
 struct Machine {
@@ -37,7 +34,7 @@ impl Machine {
 
     // The first task's call.
     fn first(&mut self, asked: Call) -> Result<Answer, Deny> {
-        self.world.call(&TaskName::new(Vec::new(self.alloc)), asked)
+        self.world.call(&TaskName::new(self.alloc), asked)
     }
 
     fn write(&mut self, path: &[u8], bytes: &[u8]) -> Result<Answer, Fail> {
@@ -67,7 +64,7 @@ impl Machine {
 
     // The first task's first child.
     fn child(&self) -> Result<TaskName, Fail> {
-        Ok(TaskName::new(Vec::new(self.alloc)).child(1)?)
+        Ok(TaskName::new(self.alloc).child(1)?)
     }
 
     fn child_asks(&mut self, asked: Call) -> Result<Result<Answer, Deny>, Fail> {

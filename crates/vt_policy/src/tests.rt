@@ -81,7 +81,7 @@ impl Asked {
         Ok(Asked {
             alloc,
             tree: made_tree(alloc)?,
-            name: TaskName::new(Vec::new(alloc)),
+            name: TaskName::new(alloc),
             task: Task {
                 cred: Cred::new(7, 7, Vec::new(alloc), Caps::empty()),
                 umask: mode(0o022)?,
@@ -243,10 +243,7 @@ fn other_calls(rt: HostRuntime) -> Result<(), Fail> {
         asked.refusal(Call::Chown { path, uid, gid }),
         Some(Rule::C2)
     );
-    let access = Access {
-        reads: true,
-        writes: false,
-    };
+    let access = Access::Read;
     for (path, creation, wanted) in [
         (b"d/f".as_slice(), Creation::Never, None),
         (b"t/n", Creation::OrCreate(mode), None),

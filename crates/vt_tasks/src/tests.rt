@@ -9,15 +9,12 @@ use vt_spec::errors::Rule;
 fn reading(number: usize) -> OpenFile {
     OpenFile {
         file: NodeId::new(number),
-        access: Access {
-            reads: true,
-            writes: false,
-        },
+        access: Access::Read,
     }
 }
 
 fn first(rt: HostRuntime) -> TaskName {
-    TaskName::new(Vec::new(rt.alloc()))
+    TaskName::new(rt.alloc())
 }
 
 // The first task, with so many open files.
