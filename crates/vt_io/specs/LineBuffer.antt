@@ -1,5 +1,5 @@
 -- The line that is being read, of which only the front is kept.
-use Rattle.std.specs.Prelude.{◌≡◌, ℕ, Bool, true, false, List, [], ◌∷◌, ◌++◌, length, take, nat_lt, if◌then◌else◌}
+use Rattle.std.specs.Prelude.{Bool, List, [], false, length, nat_lt, take, ℕ, ◌≡◌}
 use Rattle.vt_io.specs.declared.line.TheConstants.{LONGEST_LINE}
 
 -- What is kept of a line.
@@ -17,8 +17,3 @@ pub record Holds (line : List ℕ) (kept : LineSoFar) : Type 0 where
 -- Nothing is kept, of an empty line.
 abbrev pub empty_line : LineSoFar
 empty_line = record { bytes = []; overlong = false }
-
--- One more byte of the line is kept, or it is noted that there was one.
-abbrev pub with_byte : LineSoFar → ℕ → LineSoFar
-with_byte kept byte =
-    if nat_lt (length kept.bytes) LONGEST_LINE then record kept { bytes = kept.bytes ++ byte ∷ [] } else record kept { overlong = true }

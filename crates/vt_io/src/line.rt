@@ -1,5 +1,5 @@
 //! The line that is being read.
-ghost use Rattle.std.specs.Prelude.{◌≡◌, ℕ, ◌↔◌, List, [], ◌∷◌, ◌++◌, IfOk, IsTrue};
+ghost use Rattle.std.specs.Prelude.{◌≡◌, ℕ, ◌↔◌, List, [], ◌++◌, take, IfOk, IsTrue};
 
 use std::alloc::{AllocError, Global};
 use std::marker::Model;
@@ -28,8 +28,8 @@ impl Model for LineBuffer {
 }
 
 impl LineBuffer {
-    ghost use Rattle.std.specs.Prelude.{◌≡◌, ℕ, ◌↔◌, List, [], ◌∷◌, ◌++◌, IfOk, IsTrue};
-    ghost use Rattle.vt_io.specs.LineBuffer.{Holds, empty_line, with_byte};
+    ghost use Rattle.std.specs.Prelude.{◌≡◌, ℕ, ◌↔◌, List, [], ◌++◌, take, IfOk, IsTrue};
+    ghost use Rattle.vt_io.specs.LineBuffer.{Holds, empty_line};
 
     /// An empty line, with all the memory that it will ever need.
     pub fn new(alloc: Global) -> Result<Self, AllocError>
@@ -42,16 +42,16 @@ impl LineBuffer {
         })
     }
 
-    /// Goes on with the line by one byte.
-    pub fn push(&mut self, byte: u8)
-        ensures exact { self.new ≡ with_byte self.old byte }
-        ensures holds { (line : List ℕ) → Holds line self.old → Holds (line ++ byte ∷ []) self.new }
+    /// Goes on with the line by these bytes.
+    pub fn extend(&mut self, bytes: &[u8])
+        ensures kept { self.new.bytes ≡ take LONGEST_LINE (self.old.bytes ++ bytes.now) }
+        ensures holds { (line : List ℕ) → Holds line self.old → Holds (line ++ bytes.now) self.new }
     {
-        if self.bytes.len() < LONGEST_LINE {
-            self.bytes.push_reserved(byte);
-        } else {
-            self.overlong = true;
-        }
+        let room = LONGEST_LINE - self.bytes.len();
+        let (kept, over) = bytes.split_at(bytes.len().min(room));
+        // Within the capacity it takes no memory.
+        let _ = self.bytes.extend_from_slice(kept);
+        self.overlong |= !over.is_empty();
     }
 
     /// Begins a new line.

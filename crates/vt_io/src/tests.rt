@@ -101,12 +101,11 @@ fn writes_parts(rt: HostRuntime) -> Result<(), Fail> {
 fn keeps_the_longest_line(rt: HostRuntime) -> Result<(), Fail> {
     let mut line = LineBuffer::new(rt.alloc())?;
     assert!(rt; line.is_empty());
-    for _ in 0..LONGEST_LINE {
-        line.push(b'a');
-    }
+    let longest = vec![in rt.alloc(); b'a'; LONGEST_LINE]?;
+    line.extend(&longest);
     assert!(rt; !line.is_overlong());
     assert_eq!(rt; line.bytes().len(), LONGEST_LINE);
-    line.push(b'b');
+    line.extend(b"b");
     assert!(rt; line.is_overlong());
     assert_eq!(rt; line.bytes().last(), Some(&b'a'));
     line.clear();

@@ -1,6 +1,7 @@
+pub mod CallLemmas
 pub mod NumberLemmas
-pub mod TokenLemmas
-pub mod Splits
-pub mod WordLemmas
-pub mod FileGrammar
 pub mod PrintLemmas
+pub mod RequestLemmas
+pub mod Splits
+pub mod TokenLemmas
+pub mod WordLemmas

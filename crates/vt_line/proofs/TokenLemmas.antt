@@ -1,12 +1,17 @@
 -- Tokens, read from left to right.
-use Rattle.std.proofs.Common.{◌≡◌, ℕ, ◌<◌, eqb, Bool, true, false, not, cond, List, [], ◌∷◌, ◌++◌, length, filter, Option, Some, None, option_map, refl, ap, ◌∙◌, arith}
-use Rattle.std.proofs.lemmas.List.{append_assoc}
+use Rattle.std.proofs.Common.{◌≡◌, ℕ, ◌+◌, ◌≤◌, ◌<◌, eqb, leb, Bool, true, false, not, cond, ◌&&◌, ◌||◌, List, [], ◌∷◌, ◌++◌, codes, length, filter, take, drop, sum, Option, Some, None, option_map, refl, sym, subst, add-zero, zero-add, add_assoc, ap, ◌∙◌, arith, lit≤, length-drop}
+use Rattle.std.proofs.lemmas.List.{append_assoc, take_all, take-append-le, drop-append-le}
+use Rattle.std.proofs.lemmas.Slice.Eq.{bytes_eq-Decides}
 use Rattle.std.proofs.lemmas.Iterator.{YieldsList}
+use Rattle.std.proofs.lemmas.List.Sums.{sum_by-cons}
 use Rattle.std.proofs.lemmas.Bool.Decides.{nat_tests}
 use Rattle.std.specs.Option.{option_map_or}
-use Rattle.std.specs.List.{find, slice_split, onto_first}
+use Rattle.std.specs.List.{find, list_all, slice_split, onto_first, sum_by}
+use Rattle.std.specs.Str.{bytes_eq}
 use Rattle.vt_spec.specs.PathText.{parts, with_byte, is_empty}
-use Rattle.vt_spec.specs.Machine.Script.{is_silent, raw_tokens, is_silent_token, with_first}
+use Rattle.vt_spec.specs.Machine.Script.{each_of, is_plain, is_silent, raw_tokens, is_silent_token, spelled, token_text, with_completed, with_first}
+use Rattle.vt_spec.specs.Machine.Script.Reading.{AfterBackslash, Between, Failed}
+use Rattle.vt_line.specs.Tokens.{cut, few_texts}
 
 -- the parts of a text are those of a split
 with_byte-onto_first : (byte : ℕ) (texts : List (List ℕ)) → with_byte false byte texts ≡ onto_first byte texts
@@ -70,3 +75,138 @@ YieldsList-tokens line road = rw (← filter-same (parts 32 line), parts-split) 
 -- what a test for an empty slice says
 pub some-length : {r : Bool} (n : ℕ) → r ≡ eqb n 0 → r ≡ false → 0 < n
 some-length n e t = grind (arith, nat_tests)
+
+-- tokens are no longer than their line
+with_byte-length : (test : Bool) (byte : ℕ) (texts : List (List ℕ)) →
+    sum_by length (filter (λ part. not (is_empty part)) (with_byte test byte texts))
+    ≤ sum_by length (filter (λ part. not (is_empty part)) texts) + 1
+with_byte-length true byte texts = omega arith
+with_byte-length false byte [] = lit≤ tt
+with_byte-length false byte ([] ∷ rest) =
+    let first = sum_by-cons length (byte ∷ []) (filter (λ part. not (is_empty part)) rest) in
+    omega (arith, first)
+with_byte-length false byte ((first ∷ part) ∷ rest) =
+    let others = filter (λ part. not (is_empty part)) rest in
+    omega (arith, sum_by-cons length (byte ∷ first ∷ part) others, sum_by-cons length (first ∷ part) others)
+
+pub tokens-length : (line : List ℕ) → sum_by length (raw_tokens line) ≤ length line
+tokens-length [] = lit≤ tt
+tokens-length (byte ∷ bytes) =
+    let rest = tokens-length bytes in
+    let first = with_byte-length (eqb byte 32) byte (parts 32 bytes) in
+    omega arith
+
+-- a token without escapes is its own text
+abbrev pub all_plain : List ℕ → Bool
+all_plain text = list_all is_plain text
+
+both : (a b : Bool) → (a && b) ≡ true → (a ≡ true) × (b ≡ true)
+both true b e = (refl, e)
+both false b e = cc
+
+plain-step : (plain escape : Bool) (byte : ℕ) (bytes : List ℕ) → plain ≡ true → escape ≡ false →
+    spelled Between bytes ≡ Some bytes →
+    with_completed (cond plain (Some byte) None) (spelled (cond escape AfterBackslash (cond plain Between Failed)) bytes) ≡ Some (byte ∷ bytes)
+plain-step true false byte bytes e f rest = ap (option_map (λ bytes. byte ∷ bytes)) rest
+plain-step true true byte bytes e f rest = cc
+plain-step false escape byte bytes e f rest = cc
+
+not_escape : (a b escape : Bool) → (a && b && not escape) ≡ true → escape ≡ false
+not_escape a b false e = refl
+not_escape true true true e = cc
+not_escape true false true e = cc
+not_escape false b true e = cc
+
+plain-spelled : (token : List ℕ) → all_plain token ≡ true → spelled Between token ≡ Some token
+plain-spelled [] e = refl
+plain-spelled (byte ∷ bytes) e =
+    let parts = both (is_plain byte) (all_plain bytes) e in
+    plain-step (is_plain byte) (eqb byte 92) byte bytes parts.0 (not_escape (leb 33 byte) (leb byte 126) (eqb byte 92) parts.0) (plain-spelled bytes parts.1)
+
+not_all : false ≡ true → ⊥
+not_all e = cc
+
+plain-text : (token : List ℕ) → all_plain token ≡ true → token_text token ≡ Some token
+plain-text token e = by_test (bytes_eq token (codes "\\e")) refl where
+  by_test : (test : Bool) → bytes_eq token (codes "\\e") ≡ test → cond test (Some []) (spelled Between token) ≡ Some token
+  by_test false f = plain-spelled token e
+  by_test true f = absurd (not_all (subst (λ text. all_plain text ≡ true) ((bytes_eq-Decides token (codes "\\e")).0 f) e))
+
+plain-parts : (is_space : Bool) (byte : ℕ) (texts : List (List ℕ)) → list_all all_plain texts ≡ true → (is_space || is_plain byte) ≡ true
+    → list_all all_plain (with_byte is_space byte texts) ≡ true
+plain-parts true byte texts e f = e
+plain-parts false byte [] e f = ap (λ plain. (plain && true) && true) f
+plain-parts false byte (part ∷ rest) e f =
+    let parts = both (all_plain part) (list_all all_plain rest) e in
+    ap (λ plain. (plain && all_plain part) && list_all all_plain rest) f ∙ ap (λ plain. (true && plain) && list_all all_plain rest) parts.0 ∙ parts.1
+
+line-parts : (line : List ℕ) → list_all (λ byte. eqb byte 32 || is_plain byte) line ≡ true → list_all all_plain (parts 32 line) ≡ true
+line-parts [] e = refl
+line-parts (byte ∷ bytes) e =
+    let halves = both (eqb byte 32 || is_plain byte) (list_all (λ byte. eqb byte 32 || is_plain byte) bytes) e in
+    plain-parts (eqb byte 32) byte (parts 32 bytes) (line-parts bytes halves.1) halves.0
+
+plain-texts : (texts : List (List ℕ)) → list_all all_plain texts ≡ true
+    → each_of token_text (filter (λ part. not (is_empty part)) texts) ≡ Some (filter (λ part. not (is_empty part)) texts)
+plain-texts [] e = refl
+plain-texts ([] ∷ rest) e = plain-texts rest e
+plain-texts ((byte ∷ bytes) ∷ rest) e =
+    let halves = both (all_plain (byte ∷ bytes)) (list_all all_plain rest) e in
+    ap (λ first. with_first first (each_of token_text (filter (λ part. not (is_empty part)) rest))) (plain-text (byte ∷ bytes) halves.0)
+    ∙ ap (with_first (Some (byte ∷ bytes))) (plain-texts rest halves.1)
+
+pub plain-tokens : (line : List ℕ) → list_all (λ byte. eqb byte 32 || is_plain byte) line ≡ true → each_of token_text (raw_tokens line) ≡ Some (raw_tokens line)
+plain-tokens line e = plain-texts (parts 32 line) (line-parts line e)
+
+-- the texts of a line by the number of its tokens
+pub few_texts-few : (line : List ℕ) → length (raw_tokens line) ≤ 6 → few_texts line ≡ each_of token_text (raw_tokens line)
+few_texts-few line few =
+    let test : leb (length (raw_tokens line)) 6 ≡ true = grind (arith, nat_tests) in
+    ap (λ test. cond test (each_of token_text (raw_tokens line)) None) test
+
+pub few_texts-many : (line : List ℕ) → 6 < length (raw_tokens line) → few_texts line ≡ None
+few_texts-many line many =
+    let test : leb (length (raw_tokens line)) 6 ≡ false = grind (arith, nat_tests) in
+    ap (λ test. cond test (each_of token_text (raw_tokens line)) None) test
+
+none-either : {A : Type 0} (test : Bool) (read : Option A) → read ≡ None → cond test read None ≡ None
+none-either true read e = e
+none-either false read e = refl
+
+pub few_texts-wrong : (line : List ℕ) → each_of token_text (raw_tokens line) ≡ None → few_texts line ≡ None
+few_texts-wrong line wrong = none-either (leb (length (raw_tokens line)) 6) (each_of token_text (raw_tokens line)) wrong
+
+-- the sum of sizes
+pub sum-cons : (size : ℕ) (sizes : List ℕ) → sum (size ∷ sizes) ≡ size + sum sizes
+sum-cons size sizes = sum_by-cons (λ size. size) size sizes
+
+pub sum-push : (sizes : List ℕ) (size : ℕ) → sum (sizes ++ size ∷ []) ≡ sum sizes + size
+sum-push [] size = sum-cons size [] ∙ add-zero size ∙ sym (zero-add size)
+sum-push (first ∷ sizes) size = sum-cons first (sizes ++ size ∷ []) ∙ ap (λ rest. first + rest) (sum-push sizes size) ∙ sym (add_assoc first (sum sizes) size) ∙ ap (λ all. all + size) (sym (sum-cons first sizes))
+
+-- one text more behind the others
+pub cut-push : (bytes text sizes : List ℕ) → sum sizes ≡ length bytes → cut (bytes ++ text) (sizes ++ length text ∷ []) ≡ cut bytes sizes ++ text ∷ []
+cut-push [] text [] e = ap (λ front. front ∷ []) (take_all (length text) text (omega arith))
+cut-push (byte ∷ bytes) text [] e = absurd (omega arith)
+cut-push bytes text (size ∷ sizes) e =
+    let whole : size + sum sizes ≡ length bytes = sym (sum-cons size sizes) ∙ e in
+    let within : size ≤ length bytes = omega (arith, whole) in
+    let rest : sum sizes ≡ length (drop size bytes) = omega (arith, whole, length-drop size bytes) in
+    ap (λ first. first ∷ cut (drop size (bytes ++ text)) (sizes ++ length text ∷ [])) (take-append-le size bytes text within)
+    ∙ ap (λ left. take size bytes ∷ cut left (sizes ++ length text ∷ [])) (drop-append-le size bytes text within)
+    ∙ ap (λ others. take size bytes ∷ others) (cut-push (drop size bytes) text sizes rest)
+
+-- a text that was appended
+pub appended : (new old : List ℕ) (text : Option (List ℕ)) → Some new ≡ option_map (λ bytes. old ++ bytes) text
+    → (bytes : List ℕ) × (text ≡ Some bytes) × (new ≡ old ++ bytes)
+appended new old None e = cc
+appended new old (Some bytes) e = (bytes, refl, cc)
+
+pub not_appended : (old : List ℕ) (text : Option (List ℕ)) → None ≡ option_map (λ bytes. old ++ bytes) text → text ≡ None
+not_appended old None e = refl
+not_appended old (Some bytes) e = cc
+
+-- nothing was read yet
+pub read_before-nothing : {A : Type 0} (rest : Option (List A)) → read_before [] rest ≡ rest
+read_before-nothing None = refl
+read_before-nothing (Some rest) = refl

@@ -1,6 +1,8 @@
 -- Task names and capabilities.
-use Rattle.std.proofs.Common.{◌≡◌, ℕ, zero, suc, Bool, true, false, cond, List, [], ◌∷◌, codes, length, Option, Some, None, option_map, refl, sym, ap, ◌∙◌, arith, nat_eq, eqb, leb, ltb, ◌≤◌, ◌<◌, ◌&&◌, subst, lit<}
+use Rattle.std.proofs.Common.{◌≡◌, ℕ, zero, suc, Bool, true, false, cond, List, [], ◌∷◌, codes, drop, is_some, IsSome, length, length-drop, Option, Some, None, option_map, refl, sym, ap, ◌∙◌, arith, nat_eq, eqb, leb, ltb, ◌≤◌, ◌<◌, ◌&&◌, subst, lit<}
 use Rattle.std.proofs.lemmas.Bool.{ltb-true}
+use Rattle.std.proofs.lemmas.List.{drop_all}
+use Rattle.std.specs.Bool.{then_some}
 use Rattle.std.specs.List.{list_all}
 use Rattle.std.specs.Str.{bytes_eq, IsUtf8, IsAscii}
 use Rattle.std.specs.Cmp.Lexicographic.{pointwise}
@@ -21,6 +23,16 @@ task_word-other text first rest e other = ap name_of_parts e ∙ ap (λ same. co
 
 pub task_word-children : (text first : List ℕ) (rest : List (List ℕ)) → parts 46 text ≡ first ∷ rest → bytes_eq first (codes "t") ≡ true → task_word text ≡ each_of child_number rest
 task_word-children text first rest e same = ap name_of_parts e ∙ ap (λ same. cond same (each_of child_number rest) None) same
+
+task_some : (words : List (List ℕ)) → is_some (name_of_parts words) ≡ true → name_of_parts words ≡ each_of child_number (drop 1 words)
+task_some [] e = cc
+task_some (first ∷ rest) e = by_test (bytes_eq first (codes "t")) e where
+  by_test : (test : Bool) → is_some (cond test (each_of child_number rest) None) ≡ true → cond test (each_of child_number rest) None ≡ each_of child_number rest
+  by_test true e = refl
+  by_test false e = cc
+
+pub task_word-some : (text : List ℕ) → is_some (task_word text) ≡ true → task_word text ≡ each_of child_number (drop 1 (parts 46 text))
+task_word-some text e = task_some (parts 46 text) e
 
 -- the sets of bits that a list unites, one after another
 or_assoc : (a b c : ℕ) → bit_or (bit_or a b) c ≡ bit_or a (bit_or b c)
@@ -138,3 +150,19 @@ pub groups_word-wrong : (text : List ℕ) → bytes_eq text (codes "-") ≡ fals
 groups_word-wrong text some wrong =
     groups_word-parts text some
     ∙ none-either (leb (length (parts 44 text)) 32) (each_of identity_word (parts 44 text)) wrong
+
+-- whether words are left
+not_some : false ≡ true → ⊥
+not_some e = cc
+
+pub words_end : {A : Type 0} (all left : List A) (at : ℕ) (size : ℕ) (ended : Option (Unit {0})) → ended ≡ then_some (leb size at) tt → size ≡ length all
+    → drop at all ≡ left → (IsSome ended → left ≡ []) × (left ≡ [] → IsSome ended)
+words_end all left at size ended is count rest = by_test (leb size at) refl is where
+  by_test : (test : Bool) → leb size at ≡ test → ended ≡ then_some test tt → (IsSome ended → left ≡ []) × (left ≡ [] → IsSome ended)
+  by_test true e is =
+      let past : length all ≤ at = grind (arith, nat_tests) in
+      (λ some. sym rest ∙ drop_all at all past, λ none. ap is_some is)
+  by_test false e is =
+      let within : at < length all = grind (arith, nat_tests) in
+      let size = length-drop at all in
+      (λ some. absurd (not_some (ap is_some (sym is) ∙ some)), λ none. absurd (let e = ap length (rest ∙ none) in omega (arith, within, size, e)))

@@ -1,4 +1,5 @@
-pub mod Tokens
-pub mod FileCalls
+pub mod Calls
 pub mod Lines
+pub mod Names
 pub mod Printing
+pub mod Tokens

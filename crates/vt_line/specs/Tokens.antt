@@ -1,9 +1,12 @@
--- The readings of tokens, and the texts that they spell, free of capacities.
-use Rattle.std.specs.Prelude.{ℕ, List, map}
-use Rattle.std.specs.Global.{Vec}
+-- The texts of a line, free of capacities, and how a token's bytes are read.
+use Rattle.std.specs.Prelude.{List, None, Option, [], drop, if◌then◌else◌, length, map, nat_le, option_map, sum, take, ℕ, ◌++◌, ◌∷◌, ◌≡◌}
+use denote.Ref.{Bor}
+use Rattle.arrayvec.specs.ArrayVec.{ArrayVec}
 use Rattle.vt_spec.specs.Machine.Script as spec
+use Rattle.vt_spec.specs.Machine.Script.{each_of, raw_tokens, token_text}
 use Rattle.vt_line.specs.declared.token.Reading.{Reading}
 use Rattle.vt_line.specs.declared.token.Reading.TheVariants.{Between, AfterBackslash, AfterX, AfterHigh, Failed}
+use Rattle.vt_line.specs.declared.token.TheConstants.{MOST_TEXTS}
 
 -- where a reading stands, in the grammar's words
 abbrev pub reading_of : Reading → spec.Reading
@@ -14,5 +17,14 @@ reading_of (AfterHigh digit) = spec.Reading.AfterHigh digit
 reading_of Failed = spec.Reading.Failed
 
 -- the bytes of each text
-abbrev pub texts_of : Vec (Vec ℕ) → List (List ℕ)
-texts_of texts = map (λ text. text.items) texts.items
+abbrev pub texts_of : List (Bor (List ℕ)) → List (List ℕ)
+texts_of texts = map (λ text. text.now) texts
+
+-- the texts of a line, if each token spells one and they are not too many for any call
+abbrev pub few_texts : List ℕ → Option (List (List ℕ))
+few_texts line = if nat_le (length (raw_tokens line)) MOST_TEXTS then each_of token_text (raw_tokens line) else None
+
+-- texts that stand behind one another, by their lengths
+abbrev pub cut : List ℕ → List ℕ → List (List ℕ)
+cut bytes [] = []
+cut bytes (size ∷ sizes) = take size bytes ∷ cut (drop size bytes) sizes

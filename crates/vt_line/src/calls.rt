@@ -1,386 +1,379 @@
-//! The calls of the grammar, read from the texts of a line.
-ghost use Rattle.std.specs.Prelude.{◌≡◌, ◌∷◌, option_map, IfOk};
-ghost use Rattle.vt_spec.specs.Machine.Script.{files, request_of};
-ghost use Rattle.vt_request.specs.Requests.{call_of, creation_of};
-ghost use Rattle.vt_line.specs.FileCalls.{lone_path, path_pair, lone_mode, write_words, mkdir_words, chmod_words, chown_words};
-ghost use Rattle.vt_line.specs.FileCalls.{opening_words, open_words, pread_words, pwrite_words, close_words, drop_words, fork_parts};
-ghost use Rattle.vt_line.specs.FileCalls.{parts_of, forking_words, task_call, descriptor_call, attribute_call, naming_call, file_call};
-ghost use Rattle.vt_line.specs.FileCalls.{texts_left, request_of_pair};
+//! The calls of the grammar, read from the words behind their names.
+ghost use Rattle.std.specs.Prelude.{◌≡◌, option_map};
+ghost use Rattle.std.specs.Global.{Vec};
+ghost use Rattle.vt_spec.specs.Machine.Calls.Call.{Chmod, Chown, Fork, Mkdir, OpenFile, Pwrite, Write};
+ghost use Rattle.vt_spec.specs.Machine.Script.{creation_words, fork_words};
+ghost use Rattle.vt_request.specs.Requests.{access_of, call_of, creation_of};
+ghost use Rattle.vt_line.specs.Calls.{call_named, child_of, lone_path, path_pair, ArePathsRead, IsCallRead};
 
+use crate::names::CallName;
 use crate::number::{descriptor_word, identity_word, mode_word, offset_word};
-use crate::token::texts;
 use crate::words::{
-    access_word, capabilities_word, groups_word, kept_or_identity, path_word, task_word,
+    Groups, Words, access_word, capabilities_word, groups_word, kept_or_identity, path_word,
 };
 use std::alloc::{AllocError, Global};
-use std::vec::IntoIter;
-use vt_request::{Call, CapsWord, Creation, ForkWords, TaskName};
+use vt_request::{Access, Call, CapsWord, Creation, ForkWords};
 use vt_spec::attributes::Mode;
 
+/// Why no call was read.
+#[derive(Clone, Copy, Debug, PartialEq, Eq)]
+pub enum ReadError {
+    /// The words are not of the grammar.
+    Grammar,
+    /// The call would keep what there was no memory for.
+    Memory,
+}
+
+impl From<AllocError> for ReadError {
+    ghost use Rattle.vt_line.specs.declared.calls.ReadError.TheVariants.{Memory};
+
+    ghost from_gives = { λ _ e. e ≡ Memory };
+
+    fn from(_error: AllocError) -> ReadError {
+        ReadError::Memory
+    }
+}
+
+/// The credentials that a child is given, before they are kept.
+#[derive(Drop)]
+pub struct Child {
+    uid: u32,
+    gid: u32,
+    groups: Groups,
+    caps: CapsWord,
+}
+
 /// The words of a call that has a path alone.
-#[tactic(auto, unfolding(crate::specs::FileCalls::lone_path))]
-fn lone_path(mut words: IntoIter<Vec<u8>>) -> Option<Vec<u8>>
-    ensures { option_map (λ path. path.items) result ≡ lone_path (texts_left words) }
+#[tactic(auto, unfolding(crate::specs::Calls::lone_path))]
+fn lone_path(mut words: Words<'_>) -> Option<&[u8]>
+    ensures { option_map (λ path. path.now) result ≡ lone_path words.entry }
 {
     let path = path_word(words.next()?)?;
-    match words.next() {
-        None => Some(path),
-        Some(_) => None,
-    }
+    words.end()?;
+    Some(path)
 }
 
 /// The words of a call that has two paths, or a text and a path.
-#[tactic(auto, unfolding(crate::specs::FileCalls::path_pair))]
-fn path_pair(mut words: IntoIter<Vec<u8>>) -> Option<(Vec<u8>, Vec<u8>)>
-    ensures { option_map (λ paths. (paths.0.items, paths.1.items)) result ≡ path_pair (texts_left words) }
+#[tactic(auto, unfolding(crate::specs::Calls::path_pair))]
+fn path_pair(mut words: Words<'_>) -> Option<(&[u8], &[u8])>
+    ensures { option_map (λ paths. (paths.0.now, paths.1.now)) result ≡ path_pair words.entry }
 {
     let first = path_word(words.next()?)?;
     let second = path_word(words.next()?)?;
-    match words.next() {
-        None => Some((first, second)),
-        Some(_) => None,
-    }
-}
-
-/// The words of a call that has a mode alone.
-#[tactic(auto, unfolding(crate::specs::FileCalls::lone_mode))]
-fn lone_mode(mut words: IntoIter<Vec<u8>>) -> Option<Mode>
-    ensures { result ≡ lone_mode (texts_left words) }
-{
-    let mode = mode_word(&words.next()?)?;
-    match words.next() {
-        None => Some(mode),
-        Some(_) => None,
-    }
+    words.end()?;
+    Some((first, second))
 }
 
 /// The words of `write PATH BYTES`.
-#[tactic(auto, unfolding(crate::specs::FileCalls::write_words))]
-fn write_words(mut words: IntoIter<Vec<u8>>) -> Option<Call>
-    ensures { option_map call_of result ≡ write_words (texts_left words) }
+fn write_words(mut words: Words<'_>) -> Option<(&[u8], &[u8])>
+    ensures { option_map (λ w. Write w.0.now w.1.now) result ≡ call_named CallName.Write words.entry }
 {
     let path = path_word(words.next()?)?;
     let bytes = words.next()?;
-    match words.next() {
-        None => Some(Call::Write { path, bytes }),
-        Some(_) => None,
-    }
+    words.end()?;
+    Some((path, bytes))
 }
 
 /// The words of `mkdir PATH [MODE]`.
-#[tactic(auto, unfolding(crate::specs::FileCalls::mkdir_words))]
-fn mkdir_words(mut words: IntoIter<Vec<u8>>) -> Option<Call>
-    ensures { option_map call_of result ≡ mkdir_words (texts_left words) }
+fn mkdir_words(mut words: Words<'_>) -> Option<(&[u8], Option<Mode>)>
+    ensures { option_map (λ w. Mkdir w.0.now w.1) result ≡ call_named CallName.Mkdir words.entry }
 {
     let path = path_word(words.next()?)?;
-    let mode = match words.next() {
-        None => None,
-        Some(mode) => Some(mode_word(&mode)?),
+    let Some(mode) = words.next() else {
+        return Some((path, None));
     };
-    match words.next() {
-        None => Some(Call::Mkdir { path, mode }),
-        Some(_) => None,
-    }
+    let mode = mode_word(mode)?;
+    words.end()?;
+    Some((path, Some(mode)))
 }
 
 /// The words of `chmod PATH MODE`.
-#[tactic(auto, unfolding(crate::specs::FileCalls::chmod_words))]
-fn chmod_words(mut words: IntoIter<Vec<u8>>) -> Option<Call>
-    ensures { option_map call_of result ≡ chmod_words (texts_left words) }
+fn chmod_words(mut words: Words<'_>) -> Option<(&[u8], Mode)>
+    ensures { option_map (λ w. Chmod w.0.now w.1) result ≡ call_named CallName.Chmod words.entry }
 {
     let path = path_word(words.next()?)?;
-    let mode = mode_word(&words.next()?)?;
-    match words.next() {
-        None => Some(Call::Chmod { path, mode }),
-        Some(_) => None,
-    }
+    let mode = mode_word(words.next()?)?;
+    words.end()?;
+    Some((path, mode))
 }
 
 /// The words of `chown PATH UID GID`, of which one may stay.
-#[tactic(auto, unfolding(crate::specs::FileCalls::chown_words))]
-fn chown_words(mut words: IntoIter<Vec<u8>>) -> Option<Call>
-    ensures { option_map call_of result ≡ chown_words (texts_left words) }
+fn chown_words(mut words: Words<'_>) -> Option<(&[u8], Option<u32>, Option<u32>)>
+    ensures { option_map (λ w. Chown w.0.now w.1 w.2) result ≡ call_named CallName.Chown words.entry }
 {
     let path = path_word(words.next()?)?;
-    let uid = kept_or_identity(&words.next()?)?;
-    let gid = kept_or_identity(&words.next()?)?;
+    let uid = kept_or_identity(words.next()?)?;
+    let gid = kept_or_identity(words.next()?)?;
     if uid.is_none() && gid.is_none() {
         return None;
     }
-    match words.next() {
-        None => Some(Call::Chown { path, uid, gid }),
-        Some(_) => None,
-    }
+    words.end()?;
+    Some((path, uid, gid))
 }
 
 /// The words that follow the path and the access of `open`: `create MODE`, `excl MODE` or none.
-#[tactic(auto, unfolding(crate::specs::FileCalls::opening_words))]
-fn opening_words(mut words: IntoIter<Vec<u8>>) -> Option<Creation>
-    ensures { option_map creation_of result ≡ opening_words (texts_left words) }
+fn creation_words(mut words: Words<'_>) -> Option<Creation>
+    ensures { option_map creation_of result ≡ creation_words words.entry }
 {
     let Some(word) = words.next() else {
         return Some(Creation::Never);
     };
-    if word.as_slice() == b"create".as_slice() {
-        lone_mode(words).map(Creation::OrCreate)
-    } else if word.as_slice() == b"excl".as_slice() {
-        lone_mode(words).map(Creation::Exclusive)
-    } else {
-        None
+    let is_exclusive = word == b"excl".as_slice();
+    if !is_exclusive && word != b"create".as_slice() {
+        return None;
     }
+    let mode = mode_word(words.next()?)?;
+    words.end()?;
+    Some(if is_exclusive {
+        Creation::Exclusive(mode)
+    } else {
+        Creation::OrCreate(mode)
+    })
 }
 
 /// The words of `open PATH ACCESS`, with what is done where the name is missing.
-#[tactic(auto, unfolding(crate::specs::FileCalls::open_words))]
-fn open_words(mut words: IntoIter<Vec<u8>>) -> Option<Call>
-    ensures { option_map call_of result ≡ open_words (texts_left words) }
+fn open_words(mut words: Words<'_>) -> Option<(&[u8], Access, Creation)>
+    ensures { option_map (λ w. OpenFile w.0.now (access_of w.1) (creation_of w.2)) result ≡ call_named CallName.Open words.entry }
 {
     let path = path_word(words.next()?)?;
-    let access = access_word(&words.next()?)?;
-    let creation = opening_words(words)?;
-    Some(Call::OpenFile {
+    let access = access_word(words.next()?)?;
+    let creation = creation_words(words)?;
+    Some((path, access, creation))
+}
+
+/// The words of `pwrite DESCRIPTOR OFFSET BYTES`.
+fn pwrite_words(mut words: Words<'_>) -> Option<(u8, u32, &[u8])>
+    ensures { option_map (λ w. Pwrite w.0 w.1 w.2.now) result ≡ call_named CallName.Pwrite words.entry }
+{
+    let descriptor = descriptor_word(words.next()?)?;
+    let offset = offset_word(words.next()?)?;
+    let bytes = words.next()?;
+    words.end()?;
+    Some((descriptor, offset, bytes))
+}
+
+/// The words of `fork [UID GID GROUPS CAPS]`.
+fn fork_words(mut words: Words<'_>) -> Option<Option<Child>>
+    ensures { option_map (λ child. Fork (option_map child_of child)) result ≡ fork_words words.entry }
+{
+    let Some(uid) = words.next() else {
+        return Some(None);
+    };
+    let uid = identity_word(uid)?;
+    let gid = identity_word(words.next()?)?;
+    let groups = groups_word(words.next()?)?;
+    let caps = capabilities_word(words.next()?)?;
+    words.end()?;
+    Some(Some(Child {
+        uid,
+        gid,
+        groups,
+        caps,
+    }))
+}
+
+/// The words of `pread DESCRIPTOR OFFSET SIZE`.
+fn pread(mut words: Words<'_>) -> Option<Call>
+    ensures { option_map call_of result ≡ call_named CallName.Pread words.entry }
+{
+    let descriptor = descriptor_word(words.next()?)?;
+    let offset = offset_word(words.next()?)?;
+    let size = offset_word(words.next()?)?;
+    words.end()?;
+    Some(Call::Pread {
+        descriptor,
+        offset,
+        size,
+    })
+}
+
+/// The words of `close DESCRIPTOR`.
+fn close(mut words: Words<'_>) -> Option<Call>
+    ensures { option_map call_of result ≡ call_named CallName.Close words.entry }
+{
+    let descriptor = descriptor_word(words.next()?)?;
+    words.end()?;
+    Some(Call::Close { descriptor })
+}
+
+/// The words of `umask MODE`.
+fn umask(mut words: Words<'_>) -> Option<Call>
+    ensures { option_map call_of result ≡ call_named CallName.Umask words.entry }
+{
+    let mode = mode_word(words.next()?)?;
+    words.end()?;
+    Some(Call::Umask { mode })
+}
+
+/// The words of `drop CAPS`.
+fn drop(mut words: Words<'_>) -> Option<Call>
+    ensures { option_map call_of result ≡ call_named CallName.Drop words.entry }
+{
+    let caps = capabilities_word(words.next()?)?;
+    words.end()?;
+    Some(Call::Drop { caps })
+}
+
+/// A path that is kept, and no more.
+fn path(alloc: Global, words: Words<'_>) -> Result<Vec<u8>, ReadError>
+    ensures { ArePathsRead (λ (path : Vec _). path.items) (lone_path words.entry) result }
+{
+    let Some(path) = lone_path(words) else {
+        return Err(ReadError::Grammar);
+    };
+    Ok(path.to_vec(alloc)?)
+}
+
+/// Two paths that are kept, and no more.
+fn paths(alloc: Global, words: Words<'_>) -> Result<(Vec<u8>, Vec<u8>), ReadError>
+    ensures { ArePathsRead (λ (paths : Vec _ × Vec _). (paths.0.items, paths.1.items)) (path_pair words.entry) result }
+{
+    let Some((first, second)) = path_pair(words) else {
+        return Err(ReadError::Grammar);
+    };
+    Ok((first.to_vec(alloc)?, second.to_vec(alloc)?))
+}
+
+fn write(alloc: Global, words: Words<'_>) -> Result<Call, ReadError>
+    ensures { IsCallRead (call_named CallName.Write words.entry) result }
+{
+    let Some((path, bytes)) = write_words(words) else {
+        return Err(ReadError::Grammar);
+    };
+    let path = path.to_vec(alloc)?;
+    let bytes = bytes.to_vec(alloc)?;
+    Ok(Call::Write { path, bytes })
+}
+
+fn mkdir(alloc: Global, words: Words<'_>) -> Result<Call, ReadError>
+    ensures { IsCallRead (call_named CallName.Mkdir words.entry) result }
+{
+    let Some((path, mode)) = mkdir_words(words) else {
+        return Err(ReadError::Grammar);
+    };
+    let path = path.to_vec(alloc)?;
+    Ok(Call::Mkdir { path, mode })
+}
+
+fn chmod(alloc: Global, words: Words<'_>) -> Result<Call, ReadError>
+    ensures { IsCallRead (call_named CallName.Chmod words.entry) result }
+{
+    let Some((path, mode)) = chmod_words(words) else {
+        return Err(ReadError::Grammar);
+    };
+    let path = path.to_vec(alloc)?;
+    Ok(Call::Chmod { path, mode })
+}
+
+fn chown(alloc: Global, words: Words<'_>) -> Result<Call, ReadError>
+    ensures { IsCallRead (call_named CallName.Chown words.entry) result }
+{
+    let Some((path, uid, gid)) = chown_words(words) else {
+        return Err(ReadError::Grammar);
+    };
+    let path = path.to_vec(alloc)?;
+    Ok(Call::Chown { path, uid, gid })
+}
+
+fn open(alloc: Global, words: Words<'_>) -> Result<Call, ReadError>
+    ensures { IsCallRead (call_named CallName.Open words.entry) result }
+{
+    let Some((path, access, creation)) = open_words(words) else {
+        return Err(ReadError::Grammar);
+    };
+    let path = path.to_vec(alloc)?;
+    Ok(Call::OpenFile {
         path,
         access,
         creation,
     })
 }
 
-/// The words of `pread DESCRIPTOR OFFSET SIZE`.
-#[tactic(auto, unfolding(crate::specs::FileCalls::pread_words))]
-fn pread_words(mut words: IntoIter<Vec<u8>>) -> Option<Call>
-    ensures { option_map call_of result ≡ pread_words (texts_left words) }
+fn pwrite(alloc: Global, words: Words<'_>) -> Result<Call, ReadError>
+    ensures { IsCallRead (call_named CallName.Pwrite words.entry) result }
 {
-    let descriptor = descriptor_word(&words.next()?)?;
-    let offset = offset_word(&words.next()?)?;
-    let size = offset_word(&words.next()?)?;
-    match words.next() {
-        None => Some(Call::Pread {
-            descriptor,
-            offset,
-            size,
-        }),
-        Some(_) => None,
-    }
-}
-
-/// The words of `pwrite DESCRIPTOR OFFSET BYTES`.
-#[tactic(auto, unfolding(crate::specs::FileCalls::pwrite_words))]
-fn pwrite_words(mut words: IntoIter<Vec<u8>>) -> Option<Call>
-    ensures { option_map call_of result ≡ pwrite_words (texts_left words) }
-{
-    let descriptor = descriptor_word(&words.next()?)?;
-    let offset = offset_word(&words.next()?)?;
-    let bytes = words.next()?;
-    match words.next() {
-        None => Some(Call::Pwrite {
-            descriptor,
-            offset,
-            bytes,
-        }),
-        Some(_) => None,
-    }
-}
-
-/// The words of `close DESCRIPTOR`.
-#[tactic(auto, unfolding(crate::specs::FileCalls::close_words))]
-fn close_words(mut words: IntoIter<Vec<u8>>) -> Option<Call>
-    ensures { option_map call_of result ≡ close_words (texts_left words) }
-{
-    let descriptor = descriptor_word(&words.next()?)?;
-    match words.next() {
-        None => Some(Call::Close { descriptor }),
-        Some(_) => None,
-    }
-}
-
-/// The words of `drop CAPS`.
-#[tactic(auto, unfolding(crate::specs::FileCalls::drop_words))]
-fn drop_words(mut words: IntoIter<Vec<u8>>) -> Option<Call>
-    ensures { option_map call_of result ≡ drop_words (texts_left words) }
-{
-    let caps = capabilities_word(&words.next()?)?;
-    match words.next() {
-        None => Some(Call::Drop { caps }),
-        Some(_) => None,
-    }
-}
-
-/// The words of a child's credentials, of which the groups are not read yet.
-#[tactic(auto, unfolding(crate::specs::FileCalls::fork_parts))]
-fn fork_parts(uid: &[u8], mut words: IntoIter<Vec<u8>>) -> Option<(u32, u32, Vec<u8>, CapsWord)>
-    ensures { option_map parts_of result ≡ fork_parts (uid.now ∷ texts_left words) }
-{
-    let uid = identity_word(uid)?;
-    let gid = identity_word(&words.next()?)?;
-    let groups = words.next()?;
-    let caps = capabilities_word(&words.next()?)?;
-    match words.next() {
-        None => Some((uid, gid, groups, caps)),
-        Some(_) => None,
-    }
-}
-
-/// The words of `fork [UID GID GROUPS CAPS]`.
-#[tactic(auto, unfolding(crate::specs::FileCalls::forking_words))]
-fn forking_words(alloc: Global, mut words: IntoIter<Vec<u8>>) -> Result<Option<Call>, AllocError>
-    ensures { IfOk result (λ call. option_map call_of call ≡ forking_words (texts_left words)) }
-{
-    let Some(uid) = words.next() else {
-        return Ok(Some(Call::Fork { words: None }));
+    let Some((descriptor, offset, bytes)) = pwrite_words(words) else {
+        return Err(ReadError::Grammar);
     };
-    let Some((uid, gid, groups, caps)) = fork_parts(&uid, words) else {
-        return Ok(None);
+    let bytes = bytes.to_vec(alloc)?;
+    Ok(Call::Pwrite {
+        descriptor,
+        offset,
+        bytes,
+    })
+}
+
+fn fork(alloc: Global, words: Words<'_>) -> Result<Call, ReadError>
+    ensures { IsCallRead (call_named CallName.Fork words.entry) result }
+{
+    let Some(child) = fork_words(words) else {
+        return Err(ReadError::Grammar);
     };
-    let Some(groups) = groups_word(alloc, &groups)? else {
-        return Ok(None);
+    let Some(child) = child else {
+        return Ok(Call::Fork { words: None });
     };
+    let groups = child.groups.as_slice().to_vec(alloc)?;
     let words = Some(ForkWords {
-        uid,
-        gid,
+        uid: child.uid,
+        gid: child.gid,
         groups,
-        caps,
+        caps: child.caps,
     });
-    Ok(Some(Call::Fork { words }))
+    Ok(Call::Fork { words })
 }
 
-/// The call of a task on itself of this name.
-#[tactic(auto, unfolding(crate::specs::FileCalls::task_call))]
-fn task_call(
-    alloc: Global,
-    name: &[u8],
-    mut words: IntoIter<Vec<u8>>,
-) -> Result<Option<Call>, AllocError>
-    ensures { IfOk result (λ call. option_map call_of call ≡ task_call name.now (texts_left words)) }
+/// The call of this name with these words. What it keeps is copied last.
+pub fn call(alloc: Global, name: CallName, words: Words<'_>) -> Result<Call, ReadError>
+    ensures { IsCallRead (call_named name words.entry) result }
 {
-    if name == b"umask".as_slice() {
-        Ok(lone_mode(words).map(|mode| Call::Umask { mode }))
-    } else if name == b"drop".as_slice() {
-        Ok(drop_words(words))
-    } else if name == b"fork".as_slice() {
-        forking_words(alloc, words)
-    } else if name == b"exit".as_slice() {
-        match words.next() {
-            None => Ok(Some(Call::Exit)),
-            Some(_) => Ok(None),
+    match name {
+        CallName::Ls => Ok(Call::Ls {
+            path: path(alloc, words)?,
+        }),
+        CallName::Stat => Ok(Call::Stat {
+            path: path(alloc, words)?,
+        }),
+        CallName::Lstat => Ok(Call::Lstat {
+            path: path(alloc, words)?,
+        }),
+        CallName::Readlink => Ok(Call::Readlink {
+            path: path(alloc, words)?,
+        }),
+        CallName::Read => Ok(Call::Read {
+            path: path(alloc, words)?,
+        }),
+        CallName::Write => write(alloc, words),
+        CallName::Exec => Ok(Call::Exec {
+            path: path(alloc, words)?,
+        }),
+        CallName::Mkdir => mkdir(alloc, words),
+        CallName::Symlink => {
+            let (text, path) = paths(alloc, words)?;
+            Ok(Call::Symlink { text, path })
         }
-    } else {
-        Ok(None)
+        CallName::Link => {
+            let (old, new) = paths(alloc, words)?;
+            Ok(Call::Link { old, new })
+        }
+        CallName::Unlink => Ok(Call::Unlink {
+            path: path(alloc, words)?,
+        }),
+        CallName::Rmdir => Ok(Call::Rmdir {
+            path: path(alloc, words)?,
+        }),
+        CallName::Rename => {
+            let (old, new) = paths(alloc, words)?;
+            Ok(Call::Rename { old, new })
+        }
+        CallName::Chmod => chmod(alloc, words),
+        CallName::Chown => chown(alloc, words),
+        CallName::Open => open(alloc, words),
+        CallName::Pread => pread(words).ok_or(ReadError::Grammar),
+        CallName::Pwrite => pwrite(alloc, words),
+        CallName::Close => close(words).ok_or(ReadError::Grammar),
+        CallName::Umask => umask(words).ok_or(ReadError::Grammar),
+        CallName::Drop => drop(words).ok_or(ReadError::Grammar),
+        CallName::Fork => fork(alloc, words),
+        CallName::Exit => words.end().map(|()| Call::Exit).ok_or(ReadError::Grammar),
     }
-}
-
-/// The call of this name on a descriptor, or one of the task on itself.
-#[tactic(auto, unfolding(crate::specs::FileCalls::descriptor_call))]
-fn descriptor_call(
-    alloc: Global,
-    name: &[u8],
-    words: IntoIter<Vec<u8>>,
-) -> Result<Option<Call>, AllocError>
-    ensures { IfOk result (λ call. option_map call_of call ≡ descriptor_call name.now (texts_left words)) }
-{
-    if name == b"open".as_slice() {
-        Ok(open_words(words))
-    } else if name == b"pread".as_slice() {
-        Ok(pread_words(words))
-    } else if name == b"pwrite".as_slice() {
-        Ok(pwrite_words(words))
-    } else if name == b"close".as_slice() {
-        Ok(close_words(words))
-    } else {
-        task_call(alloc, name, words)
-    }
-}
-
-/// The call of this name that changes an object's owner or mode, or one of those after it.
-#[tactic(auto, unfolding(crate::specs::FileCalls::attribute_call))]
-fn attribute_call(
-    alloc: Global,
-    name: &[u8],
-    words: IntoIter<Vec<u8>>,
-) -> Result<Option<Call>, AllocError>
-    ensures { IfOk result (λ call. option_map call_of call ≡ attribute_call name.now (texts_left words)) }
-{
-    if name == b"chmod".as_slice() {
-        Ok(chmod_words(words))
-    } else if name == b"chown".as_slice() {
-        Ok(chown_words(words))
-    } else {
-        descriptor_call(alloc, name, words)
-    }
-}
-
-/// The call of this name that makes or removes a name, or one of those after it.
-#[tactic(auto, unfolding(crate::specs::FileCalls::naming_call))]
-fn naming_call(
-    alloc: Global,
-    name: &[u8],
-    words: IntoIter<Vec<u8>>,
-) -> Result<Option<Call>, AllocError>
-    ensures { IfOk result (λ call. option_map call_of call ≡ naming_call name.now (texts_left words)) }
-{
-    if name == b"mkdir".as_slice() {
-        Ok(mkdir_words(words))
-    } else if name == b"symlink".as_slice() {
-        Ok(path_pair(words).map(|(text, path)| Call::Symlink { text, path }))
-    } else if name == b"link".as_slice() {
-        Ok(path_pair(words).map(|(old, new)| Call::Link { old, new }))
-    } else if name == b"unlink".as_slice() {
-        Ok(lone_path(words).map(|path| Call::Unlink { path }))
-    } else if name == b"rmdir".as_slice() {
-        Ok(lone_path(words).map(|path| Call::Rmdir { path }))
-    } else if name == b"rename".as_slice() {
-        Ok(path_pair(words).map(|(old, new)| Call::Rename { old, new }))
-    } else {
-        attribute_call(alloc, name, words)
-    }
-}
-
-/// The call of this name: one that asks what is there, or one of those after it.
-#[tactic(auto, unfolding(crate::specs::FileCalls::file_call))]
-fn file_call(
-    alloc: Global,
-    name: &[u8],
-    words: IntoIter<Vec<u8>>,
-) -> Result<Option<Call>, AllocError>
-    ensures { IfOk result (λ call. option_map call_of call ≡ file_call name.now (texts_left words)) }
-{
-    if name == b"ls".as_slice() {
-        Ok(lone_path(words).map(|path| Call::Ls { path }))
-    } else if name == b"stat".as_slice() {
-        Ok(lone_path(words).map(|path| Call::Stat { path }))
-    } else if name == b"lstat".as_slice() {
-        Ok(lone_path(words).map(|path| Call::Lstat { path }))
-    } else if name == b"readlink".as_slice() {
-        Ok(lone_path(words).map(|path| Call::Readlink { path }))
-    } else if name == b"read".as_slice() {
-        Ok(lone_path(words).map(|path| Call::Read { path }))
-    } else if name == b"write".as_slice() {
-        Ok(write_words(words))
-    } else if name == b"exec".as_slice() {
-        Ok(lone_path(words).map(|path| Call::Exec { path }))
-    } else {
-        naming_call(alloc, name, words)
-    }
-}
-
-/// Which task makes which call, if the line is of the grammar.
-pub fn request(alloc: Global, line: &[u8]) -> Result<Option<(TaskName, Call)>, AllocError>
-    ensures { IfOk result (λ request. option_map request_of_pair request ≡ request_of files line.now) }
-{
-    let Some(texts) = texts(alloc, line)? else {
-        return Ok(None);
-    };
-    let mut words = texts.into_iter();
-    let Some(task) = words.next() else {
-        return Ok(None);
-    };
-    let Some(name) = words.next() else {
-        return Ok(None);
-    };
-    let Some(task) = task_word(alloc, &task)? else {
-        return Ok(None);
-    };
-    let Some(call) = file_call(alloc, &name, words)? else {
-        return Ok(None);
-    };
-    Ok(Some((task, call)))
 }

@@ -1,13 +1,17 @@
 //! The lines of a script.
-ghost use Rattle.std.specs.Prelude.{◌≡◌, ◌<◌, ◌↔◌, ◌⊎◌, length, IfOk, IfErr};
+ghost use Rattle.std.specs.Prelude.{◌≡◌, ◌<◌, ◌≤◌, ◌↔◌, ◌⊎◌, None, length, IfOk, IfErr, IsSomeAnd};
 ghost use Rattle.vt_spec.specs.Errors.{denial};
-ghost use Rattle.vt_spec.specs.Machine.Script.{files, longest_line, request_of};
+ghost use Rattle.vt_spec.specs.Machine.Script.{files, longest_line, request_of, request_of_texts};
 ghost use Rattle.vt_spec.specs.declared.errors.Rule.TheVariants.{S1, S5};
+ghost use Rattle.vt_line.specs.Calls.{IsRequestRead, TakesMemory};
 ghost use Rattle.vt_line.specs.Lines.{IsSilent, IsSpoken, IsReadingOf};
+ghost use Rattle.vt_line.specs.Tokens.{texts_of};
 
-use crate::calls::request;
-use crate::token::is_silent;
-use std::alloc::{AllocError, Global};
+use crate::calls::{ReadError, call};
+use crate::names::CallName;
+use crate::token::{Texts, Unescaped, is_silent, is_unescaped, unescaped_texts};
+use crate::words::{Words, is_task, task_name};
+use std::alloc::Global;
 use vt_io::line::LONGEST_LINE;
 use vt_request::{Call, TaskName};
 use vt_spec::errors::{Deny, Rule};
@@ -21,22 +25,65 @@ pub enum Line {
     Call(TaskName, Call),
 }
 
+/// Which task makes which call, by the texts of a line. What is kept of them is copied once all are of the grammar.
+fn texts_request(alloc: Global, texts: Texts<'_>) -> Result<(TaskName, Call), ReadError>
+    ensures { IsRequestRead (request_of_texts files (texts_of texts.entry.items)) result }
+{
+    let mut words = Words::new(texts);
+    let (Some(task), Some(name)) = (words.next(), words.next()) else {
+        return Err(ReadError::Grammar);
+    };
+    let Some(name) = CallName::from_text(name) else {
+        return Err(ReadError::Grammar);
+    };
+    if !is_task(task) {
+        return Err(ReadError::Grammar);
+    }
+    let call = call(alloc, name, words)?;
+    let task = task_name(alloc, task)?;
+    Ok((task, call))
+}
+
+/// Which task makes which call, by a line that has escapes, or bytes that no token has.
+fn escaped_request(alloc: Global, line: &[u8]) -> Result<(TaskName, Call), ReadError>
+    requires { length line.now ≤ longest_line }
+    ensures { IsRequestRead (request_of files line.now) result }
+{
+    let Some(unescaped) = Unescaped::from_line(line) else {
+        return Err(ReadError::Grammar);
+    };
+    texts_request(alloc, unescaped.texts())
+}
+
+/// Which task makes which call, if the line is of the grammar.
+fn request(alloc: Global, line: &[u8]) -> Result<(TaskName, Call), ReadError>
+    requires { length line.now ≤ longest_line }
+    ensures { IsRequestRead (request_of files line.now) result }
+{
+    if !is_unescaped(line) {
+        return escaped_request(alloc, line);
+    }
+    let Some(texts) = unescaped_texts(line) else {
+        return Err(ReadError::Grammar);
+    };
+    texts_request(alloc, texts)
+}
+
 impl Line {
     /// Reads a line, given without its newline.
     ///
-    /// Refused by S1 where it is too long or not of the grammar, and by S5 where memory is refused.
-    /// A line without an answer takes no memory.
+    /// Refused by S1 where it is too long or not of the grammar, whatever memory there is, and by S5 where there is none for
+    /// what the line's request keeps. A line without an answer takes no memory.
     pub fn parse(alloc: Global, line: &[u8]) -> Result<Line, Deny>
-        ensures too_long { longest_line < length line.now → result ≡ Err (denial S1) }
         ensures silent { (result ≡ Ok Line.Silent) ↔ IsSilent line.now }
         ensures reading { IfOk result (IsReadingOf line.now) }
 
         // The two refusals, and what each says of the line.
         ensures refused { IfErr result (λ deny. (deny ≡ denial S1) ⊎ (deny ≡ denial S5)) }
-        ensures no_request { result ≡ Err (denial S1)
-            → (longest_line < length line.now)
-            ⊎ (IsSpoken line.now × (request_of files line.now ≡ None)) }
-        ensures no_memory { result ≡ Err (denial S5) → IsSpoken line.now }
+        ensures no_request { (result ≡ Err (denial S1))
+            ↔ ((longest_line < length line.now) ⊎ (IsSpoken line.now × (request_of files line.now ≡ None))) }
+        ensures no_memory { result ≡ Err (denial S5)
+            → IsSpoken line.now × IsSomeAnd (request_of files line.now) TakesMemory }
     {
         if line.len() > LONGEST_LINE {
             return Err(Rule::S1.denial());
@@ -45,9 +92,9 @@ impl Line {
             return Ok(Line::Silent);
         }
         match request(alloc, line) {
-            Ok(Some((task, call))) => Ok(Line::Call(task, call)),
-            Ok(None) => Err(Rule::S1.denial()),
-            Err(AllocError) => Err(Rule::S5.denial()),
+            Ok((task, call)) => Ok(Line::Call(task, call)),
+            Err(ReadError::Grammar) => Err(Rule::S1.denial()),
+            Err(ReadError::Memory) => Err(Rule::S5.denial()),
         }
     }
 }

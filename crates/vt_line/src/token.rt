@@ -1,10 +1,19 @@
 //! The tokens of a line, and the texts that they spell.
-ghost use Rattle.std.specs.Prelude.{◌≡◌, option_map, IfOk};
-ghost use Rattle.vt_spec.specs.Machine.Script.{is_silent, is_plain, raw_tokens, token_text, each_of, next_reading, completed};
-ghost use Rattle.vt_line.specs.Tokens.{reading_of, texts_of};
+ghost use Rattle.std.specs.Prelude.{◌≡◌, ◌+◌, ◌≤◌, ◌<◌, ◌||◌, ◌==◌, ◌++◌, Some, None, length, option_map, cond, sum, true, false, IfSome};
+ghost use Rattle.std.specs.List.{list_all};
+ghost use Rattle.vt_spec.specs.Machine.Script.{is_silent, is_plain, longest_line, raw_tokens, token_text, each_of, next_reading, completed};
+ghost use Rattle.vt_line.specs.Tokens.{reading_of, texts_of, few_texts, cut};
 
 use crate::hex::HexDigit;
-use std::alloc::{AllocError, Global};
+use arrayvec::ArrayVec;
+use std::marker::Model;
+use vt_io::line::LONGEST_LINE;
+
+/// The most texts that a line of the grammar has: those of `fork` with a child's credentials.
+pub const MOST_TEXTS: usize = 6;
+
+/// The texts of a line.
+pub type Texts<'a> = ArrayVec<&'a [u8], MOST_TEXTS>;
 
 /// Whether a line has no answer: it is spaces alone, or a comment.
 pub fn is_silent(line: &[u8]) -> bool
@@ -66,38 +75,111 @@ impl Reading {
     }
 }
 
-/// The text that a token spells; `\e` is the empty text.
-pub fn token_text(alloc: Global, token: &[u8]) -> Result<Option<Vec<u8>>, AllocError>
-    ensures { IfOk result (λ text. option_map (λ bytes. bytes.items) text ≡ token_text token.now) }
+/// Whether each token of a line is its own text: it has no escape and no byte that a token cannot have.
+pub fn is_unescaped(line: &[u8]) -> bool
+    ensures { result ≡ list_all (λ byte. byte == 32 || is_plain byte) line.now }
 {
-    if token == b"\\e".as_slice() {
-        return Ok(Some(Vec::new(alloc)));
-    }
-    let mut text = Vec::new(alloc);
-    let mut reading = Reading::Between;
-    for byte in token {
-        if let Some(done) = reading.completed(*byte) {
-            text.push(done)?;
-        }
-        reading = reading.after(*byte);
-    }
-    Ok((reading == Reading::Between).then_some(text))
+    line.iter().all(|byte| *byte == b' ' || is_plain(*byte))
 }
 
-/// The texts of a line's tokens, which stand between spaces, if each token spells one.
-pub fn texts(alloc: Global, line: &[u8]) -> Result<Option<Vec<Vec<u8>>>, AllocError>
-    ensures { IfOk result (λ texts.
-        option_map texts_of texts ≡ each_of token_text (raw_tokens line.now)) }
+/// The texts of a line without escapes, which are its tokens: they stand between spaces.
+///
+/// Nothing where there are more than a line of the grammar has.
+pub fn unescaped_texts(line: &[u8]) -> Option<Texts<'_>>
+    requires { list_all (λ byte. byte == 32 || is_plain byte) line.now ≡ true }
+    ensures { option_map (λ texts. texts_of texts.items) result ≡ few_texts line.now }
 {
-    let mut texts = Vec::new(alloc);
+    let mut texts = Texts::new();
     let tokens = line
         .split(|byte| *byte == b' ')
         .filter(|token| !token.is_empty());
     for token in tokens {
-        let Some(text) = token_text(alloc, token)? else {
-            return Ok(None);
-        };
-        texts.push(text)?;
+        if texts.is_full() {
+            return None;
+        }
+        texts.push(token);
     }
-    Ok(Some(texts))
+    Some(texts)
+}
+
+/// The texts of a line that has escapes, one behind the other.
+#[derive(Drop)]
+pub struct Unescaped {
+    bytes: ArrayVec<u8, LONGEST_LINE>,
+    sizes: ArrayVec<usize, MOST_TEXTS>,
+}
+
+impl Model for Unescaped {
+    ghost use Rattle.std.specs.Prelude.{◌≡◌, ℕ, List, length, sum};
+    ghost use Rattle.vt_line.specs.Tokens.{cut};
+
+    ghost Value = { List (List ℕ) };
+
+    ghost view = { λ u. cut u.bytes.items u.sizes.items };
+
+    ghost invariant = { λ u. sum u.sizes.items ≡ length u.bytes.items };
+}
+
+/// Appends the text that a token spells, if it spells one; `\e` is the empty text.
+fn unescape(token: &[u8], text: &mut ArrayVec<u8, LONGEST_LINE>) -> bool
+    requires { length text.old.items + length token.now ≤ LONGEST_LINE }
+    ensures value { cond result (Some text.new.items) None ≡ option_map (λ bytes. text.old.items ++ bytes) (token_text token.now) }
+    ensures size { length text.new.items ≤ length text.old.items + length token.now }
+{
+    if token == b"\\e".as_slice() {
+        return true;
+    }
+    let mut reading = Reading::Between;
+    for byte in token {
+        if let Some(done) = reading.completed(*byte) {
+            text.push(done);
+        }
+        reading = reading.after(*byte);
+    }
+    reading == Reading::Between
+}
+
+impl Unescaped {
+    ghost use Rattle.std.specs.Prelude.{◌≡◌, ◌≤◌, length, option_map};
+    ghost use Rattle.vt_spec.specs.Machine.Script.{longest_line};
+    ghost use Rattle.vt_line.specs.Tokens.{texts_of, few_texts};
+
+    /// The texts that a line's tokens spell.
+    ///
+    /// Nothing where a token spells none, or there are more than a line of the grammar has.
+    pub fn from_line(line: &[u8]) -> Option<Self>
+        requires { length line.now ≤ longest_line }
+        ensures { result ≡ few_texts line.now }
+    {
+        let mut bytes = ArrayVec::new();
+        let mut sizes = ArrayVec::new();
+        let tokens = line
+            .split(|byte| *byte == b' ')
+            .filter(|token| !token.is_empty());
+        for token in tokens {
+            if sizes.is_full() {
+                return None;
+            }
+            let start = bytes.len();
+            if !unescape(token, &mut bytes) {
+                return None;
+            }
+            sizes.push(bytes.len() - start);
+        }
+        Some(Unescaped { bytes, sizes })
+    }
+
+    /// The texts.
+    pub fn texts(&self) -> Texts<'_>
+        ensures { texts_of result.items ≡ self.now }
+    {
+        let mut texts = Texts::new();
+        let mut rest = self.bytes.as_slice();
+        for size in self.sizes.as_slice() {
+            let (text, after) = rest.split_at(*size);
+            texts.push(text);
+            rest = after;
+        }
+        texts
+    }
 }

@@ -1,39 +1,60 @@
 //! The words of a line: its task, its call and what the call is given.
-ghost use Rattle.std.specs.Prelude.{◌≡◌, ◌≤◌, option_map, vec_len, IfOk, IfSome};
+ghost use Rattle.std.specs.Prelude.{◌≡◌, ◌<◌, option_map, length, is_some, true, Some, IfOk, IfSome, OnErr};
 ghost use Rattle.vt_spec.specs.Machine.Script.{task_word, path_word, capability_named, capabilities_word, access_word, kept_or_identity, groups_word};
+ghost use Rattle.vt_request.specs.declared.task.TheConstants.{INLINE_NUMBERS};
 ghost use Rattle.vt_cred.specs.Caps.{capability_bits};
 ghost use Rattle.vt_request.specs.Requests.{access_of, capabilities_of};
 
 use crate::number::{child_number, identity_word};
+use crate::token::Texts;
+use arrayvec::ArrayVec;
 use std::alloc::{AllocError, Global};
+use std::marker::Model;
 use std::str;
 use vt_cred::{Caps, Flags, MAX_GROUPS};
 use vt_request::{Access, CapsWord, TaskName};
 
-/// The task that a word names: `t` and any number of `.k`.
-pub fn task_word(alloc: Global, text: &[u8]) -> Result<Option<TaskName>, AllocError>
-    ensures { IfOk result (λ name. name ≡ task_word text.now) }
+/// The groups of a child, of which none takes memory.
+pub type Groups = ArrayVec<u32, MAX_GROUPS>;
+
+/// Whether a word names a task: `t` and any number of `.k`.
+pub fn is_task(text: &[u8]) -> bool
+    ensures { result ≡ is_some (task_word text.now) }
 {
     let mut parts = text.split(|byte| *byte == b'.');
     let Some(first) = parts.next() else {
-        return Ok(None);
+        return false;
     };
     if first != b"t".as_slice() {
-        return Ok(None);
+        return false;
     }
-    let mut numbers = Vec::new(alloc);
     for part in parts {
-        let Some(number) = child_number(part) else {
-            return Ok(None);
-        };
-        numbers.push(number)?;
+        if child_number(part).is_none() {
+            return false;
+        }
     }
-    Ok(Some(TaskName::new(numbers)))
+    true
+}
+
+/// The task that a word names. Only a name of many numbers can fail.
+pub fn task_name(alloc: Global, text: &[u8]) -> Result<TaskName, AllocError>
+    requires { is_some (task_word text.now) ≡ true }
+    ensures value { IfOk result (λ name. task_word text.now ≡ Some name) }
+    ensures memory { OnErr result (IfSome (task_word text.now) (λ name. INLINE_NUMBERS < length name)) }
+{
+    let mut name = TaskName::new(alloc);
+    for part in text.split(|byte| *byte == b'.').skip(1) {
+        let Some(number) = child_number(part) else {
+            unreachable!()
+        };
+        name = name.into_child(number)?;
+    }
+    Ok(name)
 }
 
 /// A path: any text without byte 0.
-pub fn path_word(text: Vec<u8>) -> Option<Vec<u8>>
-    ensures { option_map (λ path. path.items) result ≡ path_word text.items }
+pub fn path_word(text: &[u8]) -> Option<&[u8]>
+    ensures { option_map (λ path. path.now) result ≡ path_word text.now }
 {
     if text.contains(&0) { None } else { Some(text) }
 }
@@ -70,16 +91,15 @@ pub fn capabilities_word(text: &[u8]) -> Option<CapsWord>
 pub fn access_word(text: &[u8]) -> Option<Access>
     ensures { option_map access_of result ≡ access_word text.now }
 {
-    let (reads, writes) = if text == b"r".as_slice() {
-        (true, false)
+    if text == b"r".as_slice() {
+        Some(Access::Read)
     } else if text == b"w".as_slice() {
-        (false, true)
+        Some(Access::Write)
     } else if text == b"rw".as_slice() {
-        (true, true)
+        Some(Access::ReadWrite)
     } else {
-        return None;
-    };
-    Some(Access { reads, writes })
+        None
+    }
 }
 
 /// A user or group that is given, or `-` for the one that stays.
@@ -93,22 +113,62 @@ pub fn kept_or_identity(text: &[u8]) -> Option<Option<u32>>
 }
 
 /// Groups: `-` for none, or 1 to 32 between commas.
-pub fn groups_word(alloc: Global, text: &[u8]) -> Result<Option<Vec<u32>>, AllocError>
-    ensures value { IfOk result (λ groups. option_map (λ all. all.items) groups ≡ groups_word text.now) }
-    ensures few { IfOk result (λ groups. IfSome groups (λ all. vec_len all ≤ MAX_GROUPS)) }
+pub fn groups_word(text: &[u8]) -> Option<Groups>
+    ensures { option_map (λ groups. groups.items) result ≡ groups_word text.now }
 {
-    let mut groups = Vec::new(alloc);
+    let mut groups = Groups::new();
     if text == b"-".as_slice() {
-        return Ok(Some(groups));
+        return Some(groups);
     }
     for part in text.split(|byte| *byte == b',') {
-        if groups.len() == MAX_GROUPS {
-            return Ok(None);
+        if groups.is_full() {
+            return None;
         }
-        let Some(group) = identity_word(part) else {
-            return Ok(None);
-        };
-        groups.push(group)?;
+        groups.push(identity_word(part)?);
     }
-    Ok(Some(groups))
+    Some(groups)
+}
+
+/// The words of a line behind its call's name, read one after the other.
+#[derive(Drop)]
+pub struct Words<'a> {
+    texts: Texts<'a>,
+    read: usize,
+}
+
+impl<'a> Model for Words<'a> {
+    ghost use Rattle.std.specs.Prelude.{ℕ, List, drop};
+    ghost use Rattle.vt_line.specs.Tokens.{texts_of};
+
+    ghost Value = { List (List ℕ) };
+
+    ghost view = { λ words. drop words.read (texts_of words.texts.items) };
+}
+
+impl<'a> Words<'a> {
+    ghost use Rattle.std.specs.Prelude.{◌≡◌, ◌↔◌, ◌∷◌, [], IsSome, MatchOption};
+    ghost use Rattle.vt_line.specs.Tokens.{texts_of};
+
+    /// The words that these texts are.
+    pub fn new(texts: Texts<'a>) -> Self
+        ensures { result ≡ texts_of texts.entry.items }
+    {
+        Words { texts, read: 0 }
+    }
+
+    /// The next word.
+    pub fn next(&mut self) -> Option<&'a [u8]>
+        ensures { MatchOption result (self.old ≡ []) (λ text. self.old ≡ text.now ∷ self.new) }
+    {
+        let text = *self.texts.as_slice().get(self.read)?;
+        self.read += 1;
+        Some(text)
+    }
+
+    /// That there is no more word.
+    pub fn end(&self) -> Option<()>
+        ensures { IsSome result ↔ (self.now ≡ []) }
+    {
+        (self.texts.len() <= self.read).then_some(())
+    }
 }

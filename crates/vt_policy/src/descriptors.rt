@@ -30,11 +30,10 @@ use vt_walk::Place;
 fn rights_of(access: Access) -> Rights
     ensures { right_bits result ≡ access_rights (access_of access) }
 {
-    match (access.reads, access.writes) {
-        (true, true) => Rights::READ.union(Rights::WRITE),
-        (true, false) => Rights::READ,
-        (false, true) => Rights::WRITE,
-        (false, false) => Rights::empty(),
+    match access {
+        Access::Read => Rights::READ,
+        Access::Write => Rights::WRITE,
+        Access::ReadWrite => Rights::READ.union(Rights::WRITE),
     }
 }
 
@@ -172,7 +171,7 @@ fn readable_file(task: &Task, descriptor: u8) -> Result<NodeId, Deny>
     ensures { result ≡ file_result (descriptor_at (task_of task.now) descriptor (λ d. d.reads)) }
 {
     match task.descriptors.get(descriptor) {
-        Some(held) if held.access.reads => Ok(held.file),
+        Some(held) if held.access.reads() => Ok(held.file),
         _ => Err(Rule::S4.denial()),
     }
 }
@@ -182,7 +181,7 @@ fn writable_file(task: &Task, descriptor: u8) -> Result<NodeId, Deny>
     ensures { result ≡ file_result (descriptor_at (task_of task.now) descriptor (λ d. d.writes)) }
 {
     match task.descriptors.get(descriptor) {
-        Some(held) if held.access.writes => Ok(held.file),
+        Some(held) if held.access.writes() => Ok(held.file),
         _ => Err(Rule::S4.denial()),
     }
 }

@@ -1,10 +1,11 @@
 -- What requests ask for, in the policy's words, free of capacities.
 use Rattle.vt_spec.specs.Machine.Calls as spec
 use Rattle.vt_cred.specs.Caps.{capability_bits}
-use Rattle.std.specs.Prelude.{option_map}
+use Rattle.std.specs.Prelude.{false, option_map, true}
 use Rattle.vt_request.specs.declared.request.CapsWord.{CapsWord}
 use Rattle.vt_request.specs.declared.request.CapsWord.TheVariants.{Held, Named}
 use Rattle.vt_request.specs.declared.request.Access.{Access}
+use Rattle.vt_request.specs.declared.request.Access.TheVariants.{Read, Write, ReadWrite}
 use Rattle.vt_request.specs.declared.request.Creation.{Creation}
 use Rattle.vt_request.specs.declared.request.Creation.TheVariants.{Never, OrCreate, Exclusive}
 use Rattle.vt_request.specs.declared.request.ForkWords.{ForkWords}
@@ -18,7 +19,9 @@ capabilities_of (Named caps) = spec.CapabilityWord.These (capability_bits caps)
 
 -- what a file is opened for
 abbrev pub access_of : Access → spec.Access
-access_of access = record { reads = access.reads; writes = access.writes }
+access_of Read = record { reads = true; writes = false }
+access_of Write = record { reads = false; writes = true }
+access_of ReadWrite = record { reads = true; writes = true }
 
 -- what is done where the name is missing
 abbrev pub creation_of : Creation → spec.Creation

@@ -15,9 +15,29 @@ pub enum CapsWord {
 
 /// What a file is opened for: `O_RDONLY`, `O_WRONLY` or `O_RDWR` of open(2).
 #[derive(Clone, Copy, Debug, PartialEq, Eq)]
-pub struct Access {
-    pub reads: bool,
-    pub writes: bool,
+pub enum Access {
+    Read,
+    Write,
+    ReadWrite,
+}
+
+impl Access {
+    ghost use Rattle.std.specs.Prelude.{◌≡◌};
+    ghost use Rattle.vt_request.specs.Requests.{access_of};
+
+    /// Whether the file may be read.
+    pub fn reads(self) -> bool
+        ensures { result ≡ (access_of self).reads }
+    {
+        self != Access::Write
+    }
+
+    /// Whether the file may be written.
+    pub fn writes(self) -> bool
+        ensures { result ≡ (access_of self).writes }
+    {
+        self != Access::Read
+    }
 }
 
 /// What open(2) does where the name is missing.

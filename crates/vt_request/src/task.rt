@@ -1,36 +1,43 @@
 //! The names of tasks.
-ghost use Rattle.std.specs.Prelude.{◌≡◌, ◌≤◌, ◌++◌, ◌∷◌, [], nat_eq, All, IfOk};
+ghost use Rattle.std.specs.Prelude.{◌≡◌, ◌≤◌, ◌<◌, ◌++◌, ◌∷◌, [], length, nat_eq, All, IfOk, IsOk};
 ghost use Rattle.std.specs.Cmp.{partial_equiv_from_equiv};
 ghost use Rattle.std.specs.Cmp.Lexicographic.{pointwise, nat_list_eq_equiv};
+ghost use Rattle.vt_request.specs.declared.task.TheConstants.{INLINE_NUMBERS};
 
-use std::alloc::AllocError;
+use smallvec::SmallVec;
+use std::alloc::{AllocError, Global};
 use std::marker::Model;
+
+/// How many numbers a name may have and take no memory. No task has a name of more.
+pub const INLINE_NUMBERS: usize = 8;
 
 /// The name of a task: the numbers of its line of descent, each from 1 to 64.
 ///
-/// The first task has none.
+/// The first task has none. A name of at most [`INLINE_NUMBERS`] takes no memory.
 #[derive(Debug, Drop)]
 pub struct TaskName {
-    numbers: Vec<u8>,
+    numbers: SmallVec<u8, INLINE_NUMBERS>,
 }
 
 impl Model for TaskName {
     ghost use Rattle.std.specs.Prelude.{ℕ, ◌≤◌, List, All};
+    ghost use Rattle.vt_request.specs.declared.task.TheConstants.{INLINE_NUMBERS};
 
     ghost Value = { List ℕ };
 
     ghost view = { λ name. name.numbers.items };
 
-    ghost invariant = { λ name. All (λ k. (1 ≤ k) × (k ≤ 64)) name.numbers.items };
+    ghost invariant = { λ name. All (λ k. (1 ≤ k) × (k ≤ 64)) name.numbers.items × (INLINE_NUMBERS ≤ name.numbers.capacity) };
 }
 
 impl TaskName {
-    /// A name of these numbers.
-    pub fn new(numbers: Vec<u8>) -> Self
-        requires { All (λ k. (1 ≤ k) × (k ≤ 64)) numbers.items }
-        ensures { result ≡ numbers.items }
+    /// The first task's name, which has no number.
+    pub fn new(alloc: Global) -> Self
+        ensures { result ≡ [] }
     {
-        TaskName { numbers }
+        TaskName {
+            numbers: SmallVec::new(alloc),
+        }
     }
 
     /// The numbers, from the first task's child down.
@@ -38,7 +45,18 @@ impl TaskName {
         ensures value { result.now ≡ self.now }
         ensures limits { All (λ k. (1 ≤ k) × (k ≤ 64)) result.now }
     {
-        &self.numbers
+        self.numbers.as_slice()
+    }
+
+    /// The name of this task's child of a number. Only one of more than [`INLINE_NUMBERS`] can fail.
+    pub fn into_child(mut self, number: u8) -> Result<TaskName, AllocError>
+        requires some_child { 1 ≤ number }
+        requires limit { number ≤ 64 }
+        ensures ok { IfOk result (λ name. name ≡ self ++ number ∷ []) }
+        ensures inline { length self < INLINE_NUMBERS → IsOk result }
+    {
+        self.numbers.push(number)?;
+        Ok(self)
     }
 
     /// The name of this task's child of a number.
@@ -47,9 +65,7 @@ impl TaskName {
         requires limit { number ≤ 64 }
         ensures { IfOk result (λ name. name ≡ self.now ++ number ∷ []) }
     {
-        let mut numbers = self.numbers.clone()?;
-        numbers.push(number)?;
-        Ok(TaskName::new(numbers))
+        self.clone()?.into_child(number)
     }
 }
 
@@ -57,8 +73,9 @@ impl Clone for TaskName {
     ghost is_clone = { λ name copy. copy ≡ name };
 
     fn clone(&self) -> Result<TaskName, AllocError> {
+        let alloc = *self.numbers.allocator();
         Ok(TaskName {
-            numbers: self.numbers.clone()?,
+            numbers: SmallVec::from_slice(alloc, self.numbers.as_slice())?,
         })
     }
 }
@@ -69,7 +86,7 @@ impl PartialEq for TaskName {
     ghost laws = { partial_equiv_from_equiv nat_list_eq_equiv };
 
     fn eq(&self, other: &TaskName) -> bool {
-        self.numbers == other.numbers
+        self.numbers() == other.numbers()
     }
 }
 

@@ -5,7 +5,7 @@ use std::test::Fail;
 
 #[test]
 fn names_children(rt: HostRuntime) -> Result<(), Fail> {
-    let first = TaskName::new(Vec::new(rt.alloc()));
+    let first = TaskName::new(rt.alloc());
     let child = first.child(64)?;
     let grandchild = child.child(1)?;
     assert_eq!(rt; grandchild.numbers(), [64, 1].as_slice());

@@ -1,6 +1,7 @@
 -- Moments of a run, one after another.
-use Rattle.std.proofs.Common.{◌≡◌, ◌≢◌, ℕ, ◌+◌, ◌==◌, Bool, true, false, List, [], ◌∷◌, ◌++◌, Some, None, refl, sym, ap, ◌∙◌, subst, append_assoc, nat_eq}
-use Rattle.std.proofs.lemmas.List.{append-nil}
+use Rattle.std.proofs.Common.{◌≡◌, ◌≢◌, ◌<◌, ◌-◌, ℕ, zero, suc, ◌+◌, ◌==◌, arith, drop, get_or, length, length-take, take, Bool, true, false, List, [], ◌∷◌, ◌++◌, Some, None, refl, sym, ap, ◌∙◌, subst, append_assoc, nat_eq}
+use Rattle.std.proofs.lemmas.Bool.Decides.{nat_tests}
+use Rattle.std.proofs.lemmas.List.{append-nil, drop_more, get_or-take, take-append-drop, take_rest}
 use Rattle.vt_spec.specs.OneTree.World.{World}
 use Rattle.vt_spec.specs.Machine.Script.{lines_of, with_line_byte}
 use Rattle.vt_spec.specs.OneTree.Run.{Tells, line_step, step_text, step_world, text_from, handed, later}
@@ -20,9 +21,32 @@ lines_of-last byte (next ∷ line) whole =
     ap (λ b. with_line_byte b byte (lines_of (next ∷ line))) whole.0
     ∙ ap (with_line_byte false byte) (lines_of-last next line whole.1)
 
-pub HasNoNewline-push : (line : List ℕ) (byte : ℕ) → HasNoNewline line → (byte == 10) ≡ false → HasNoNewline (line ++ byte ∷ [])
-HasNoNewline-push [] byte whole other = (other, tt)
-HasNoNewline-push (first ∷ line) byte whole other = (whole.0, HasNoNewline-push line byte whole.1 other)
+not_newline : (byte : ℕ) → byte ≢ 10 → (byte == 10) ≡ false
+not_newline byte other = grind (arith, nat_tests)
+
+-- what has no newline at any index
+pub HasNoNewline-each : (bytes : List ℕ) → ((k : ℕ) → k < length bytes → get_or bytes k 0 ≢ 10) → HasNoNewline bytes
+HasNoNewline-each [] other = tt
+HasNoNewline-each (byte ∷ bytes) other =
+    (not_newline byte (other 0 (omega arith)), HasNoNewline-each bytes (λ k within. other (suc k) (omega arith)))
+
+-- a text cut at its first newline
+pub cut_at_newline : (bytes front back rest : List ℕ) (n : ℕ) → n < length bytes → get_or bytes n 0 ≡ 10 → ((k : ℕ) → k < n → get_or bytes k 0 ≢ 10) →
+    front ≡ take n bytes → back ≡ drop n bytes → rest ≡ take (length back - 1) (drop 1 back) → (bytes ≡ front ++ 10 ∷ rest) × HasNoNewline front
+cut_at_newline bytes front back rest n within newline before is_front is_back is_rest =
+    let at : drop n bytes ≡ 10 ∷ drop (n + 1) bytes = drop_more bytes n 0 within ∙ ap (λ byte. byte ∷ drop (n + 1) bytes) newline in
+    let whole : rest ≡ drop (n + 1) bytes = is_rest ∙ take_rest back 1 ∙ ap (drop 1) (is_back ∙ at) in
+    let other : (k : ℕ) → k < length (take n bytes) → get_or (take n bytes) k 0 ≢ 10 = λ k below.
+    let low : k < n = omega (arith, below, length-take n bytes) in
+    λ e. before k low (sym (get_or-take n bytes k 0 low) ∙ e) in (
+      sym (take-append-drop n bytes) ∙ ap (λ back. take n bytes ++ back) at ∙ ap (λ rest. take n bytes ++ 10 ∷ rest) (sym whole)
+          ∙ ap (λ front. front ++ 10 ∷ rest) (sym is_front),
+      subst HasNoNewline (sym is_front) (HasNoNewline-each (take n bytes) other),
+    )
+
+pub HasNoNewline-append : (line more : List ℕ) → HasNoNewline line → HasNoNewline more → HasNoNewline (line ++ more)
+HasNoNewline-append [] more whole others = others
+HasNoNewline-append (first ∷ line) more whole others = (whole.0, HasNoNewline-append line more whole.1 others)
 
 -- what has no newline has no whole line
 whole_lines-none : (line : List ℕ) → HasNoNewline line → whole_lines line ≡ []
@@ -72,9 +96,9 @@ runs_then a b c read more_read text more_text first second = record {
       (first.goes_on (second.ended ++ more) (second.refused ++ later) (more_text ++ rest) (second.goes_on more later rest told));
 }
 
--- a byte that is read belongs to the line
-pub runs_byte : (moment : Moment) (byte : ℕ) → Runs moment (byte ∷ []) [] (record moment { line = moment.line ++ byte ∷ [] })
-runs_byte moment byte = record { ended = []; split = refl; whole = refl; refused = []; goes_on = λ more later rest told. told }
+-- bytes that are read belong to the line
+pub runs_bytes : (moment : Moment) (bytes : List ℕ) → Runs moment bytes [] (record moment { line = moment.line ++ bytes })
+runs_bytes moment bytes = record { ended = []; split = refl; whole = refl; refused = []; goes_on = λ more later rest told. told }
 
 line_then : (line more : List ℕ) → HasNoNewline line → lines_of ((line ++ 10 ∷ []) ++ more) ≡ line ∷ lines_of more
 line_then line more none = ap lines_of (append_assoc line (10 ∷ []) more) ∙ lines_of-newline line more none

@@ -1,5 +1,5 @@
 -- How the steps of a session follow one another.
-use Rattle.std.proofs.Common.{◌≡◌, ◌≢◌, ℕ, ◌+◌, ◌==◌, true, false, List, [], ◌∷◌, ◌++◌, length, take, drop, get_or, ◌<◌, Option, Some, None, Result, Ok, Err, refl, sym, ap, ◌∙◌, subst, append_assoc, nat_eq}
+use Rattle.std.proofs.Common.{◌≡◌, ◌≢◌, ℕ, ◌+◌, ◌==◌, true, false, List, [], ◌∷◌, ◌++◌, length, take, drop, get_or, ◌<◌, Option, Some, None, Result, Ok, Err, refl, sym, ap, ◌∙◌, subst, append_assoc, arith, length-append, length-take, nat_eq, ◌≤◌}
 use Rattle.std.proofs.lemmas.List.{append-nil, take-append-drop, take_more}
 use Rattle.vt_io.specs.declared.output.Sink.{Ghosts}
 use Rattle.vt_io.specs.LineBuffer.{Holds}
@@ -8,8 +8,8 @@ use Rattle.vt_spec.specs.OneTree.World.{World}
 use Rattle.vt_spec.specs.OneTree.Run.{Tells, line_step, step_text}
 use Rattle.vt_spec.specs.Machine.Script.{lines_of}
 use Rattle.vt_script.specs.Progress.{Moment, Runs, HasNoNewline, after_line}
-use Rattle.vt_script.specs.Session.{State, moment, IsReading, IsHanded, Fed, Broke, IsLast, Closed, BrokeLast, Closes, Replied, BrokeReply, Replies}
-use Rattle.vt_script.proofs.RunLemmas.{stays, runs_then, runs_byte, runs_refused, runs_spoken, lines_of-last, HasNoNewline-push}
+use Rattle.vt_script.specs.Session.{State, moment, IsReading, IsHanded, Fed, Feeds, Broke, begun, lines_begun, IsLast, Closed, BrokeLast, Closes, Replied, BrokeReply, Replies}
+use Rattle.vt_script.proofs.RunLemmas.{stays, runs_then, runs_bytes, runs_refused, runs_spoken, lines_of-last, HasNoNewline-append}
 
 same_moment : {a b : Moment} → a.world ≡ b.world → a.answered ≡ b.answered → a.line ≡ b.line → a ≡ b
 same_moment {a} {b} w n l = λ i. record { world = w i; answered = n i; line = l i }
@@ -59,16 +59,16 @@ module _ {W : Type 0} (sink : Ghosts W) where
     wrote = broke.wrote;
   }
 
-  -- a byte that goes onto the line
-  pub fed_byte : (old new : State) (line : List ℕ) (byte : ℕ) (x : W) → IsReading old line → (byte == 10) ≡ false → new.world ≡ old.world → new.answered ≡ old.answered → Holds (line ++ byte ∷ []) new.kept →
-      Fed sink (moment old line) (byte ∷ []) new x x
-  fed_byte old new line byte x reading other world answered held =
-      let same : moment new (line ++ byte ∷ []) ≡ record (moment old line) { line = line ++ byte ∷ [] } = cc in
+  -- bytes that go onto the line
+  pub fed_bytes : (old new : State) (line bytes : List ℕ) (x : W) → IsReading old line → HasNoNewline bytes → new.world ≡ old.world → new.answered ≡ old.answered → Holds (line ++ bytes) new.kept →
+      Fed sink (moment old line) bytes new x x
+  fed_bytes old new line bytes x reading others world answered held =
+      let same : moment new (line ++ bytes) ≡ record (moment old line) { line = line ++ bytes } = cc in
       record {
-        line = line ++ byte ∷ [];
+        line = line ++ bytes;
         text = [];
-        reading = record { held = held; whole = HasNoNewline-push line byte reading.whole other };
-        runs = subst (λ m. Runs (moment old line) (byte ∷ []) [] m) (sym same) (runs_byte (moment old line) byte);
+        reading = record { held = held; whole = HasNoNewline-append line bytes reading.whole others };
+        runs = subst (λ m. Runs (moment old line) bytes [] m) (sym same) (runs_bytes (moment old line) bytes);
         wrote = Wrote-nothing sink x;
       }
 
@@ -153,16 +153,21 @@ module _ {W : Type 0} (sink : Ghosts W) where
   closes_reply state line new x y (Ok t) some reading replied = closed_reply state line new x y some reading replied
   closes_reply state line new x y (Err fault) some reading broke = broke_last state line x y some reading broke
 
-  -- the loop's bytes up to an index, and then one more
-  pub fed_more : (old : Moment) (bytes : List ℕ) (i byte : ℕ) (middle new : State) (x y z : W) → i < length bytes → byte ≡ get_or bytes i 0 → (first : Fed sink old (take i bytes) middle x y) → Fed sink (moment middle first.line) (byte ∷ []) new y z → Fed sink old (take (i + 1) bytes) new x z
-  fed_more old bytes i byte middle new x y z within is first second =
-      subst (λ xs. Fed sink old xs new x z) (ap (λ b. take i bytes ++ b ∷ []) is ∙ sym (take_more bytes i 0 within))
-      (fed_then sink old (take i bytes) (byte ∷ []) middle new x y z first second)
+  -- what was fed first, and then what a call did with more bytes
+  pub feeds_then : {T E : Type 0} (old : Moment) (read more : List ℕ) (middle new : State) (x y z : W) (r : Result T E) (first : Fed sink old read middle x y) →
+      Feeds sink (moment middle first.line) more r new y z → Feeds sink old (read ++ more) r new x z
+  feeds_then old read more middle new x y z (Ok t) first second = fed_then sink old read more middle new x y z first second
+  feeds_then old read more middle new x y z (Err fault) first broke = broke_then sink old read more middle x y z first broke
 
-  -- the loop's bytes up to an index, and then a write failed
-  pub broke_more : (old : Moment) (bytes : List ℕ) (i byte : ℕ) (middle : State) (x y z : W) → i < length bytes → byte ≡ get_or bytes i 0 → (first : Fed sink old (take i bytes) middle x y) → Broke sink (moment middle first.line) (byte ∷ []) y z → Broke sink old bytes x z
-  broke_more old bytes i byte middle x y z within is first second =
-      let all : (take i bytes ++ byte ∷ []) ++ drop (i + 1) bytes ≡ bytes =
-      ap (λ b. (take i bytes ++ b ∷ []) ++ drop (i + 1) bytes) is ∙ ap (λ xs. xs ++ drop (i + 1) bytes) (sym (take_more bytes i 0 within)) ∙ take-append-drop (i + 1) bytes in
-      subst (λ xs. Broke sink old xs x z) all
-      (broke_before sink old (take i bytes ++ byte ∷ []) (drop (i + 1) bytes) x z (broke_then sink old (take i bytes) (byte ∷ []) middle x y z first second))
+-- a line is begun at its first byte
+begun-grows : (old new : List ℕ) (size : ℕ) → length new ≤ length old + size → begun new ≤ begun old + size
+begun-grows old [] size longer = omega arith
+begun-grows [] (byte ∷ new) size longer = omega arith
+begun-grows (first ∷ old) (byte ∷ new) size longer = omega arith
+
+pub lines_begun-grows : (old new : State) (bytes : List ℕ) → new.answered ≡ old.answered → new.kept.bytes ≡ take 8192 (old.kept.bytes ++ bytes)
+    → lines_begun new ≤ lines_begun old + length bytes
+lines_begun-grows old new bytes answered kept =
+    let longer : length new.kept.bytes ≤ length old.kept.bytes + length bytes =
+    omega (arith, ap length kept, length-take 8192 (old.kept.bytes ++ bytes), length-append old.kept.bytes bytes) in
+    omega (arith, answered, begun-grows old.kept.bytes new.kept.bytes (length bytes) longer)

@@ -1,8 +1,8 @@
 //! What is kept from one byte of a script to the next.
-ghost use Rattle.std.specs.Prelude.{◌≡◌, ◌+◌, ◌<◌, ◌≤◌, ◌^◌, ◌∷◌, [], List, ℕ, length, IfOk, IfErr, OnOk, OnErr};
+ghost use Rattle.std.specs.Prelude.{◌≡◌, ◌+◌, ◌<◌, ◌≤◌, ◌^◌, ◌++◌, ◌∷◌, [], List, ℕ, length, IfOk, IfErr, MatchOption, OnOk, OnErr};
 ghost use Rattle.vt_io.specs.LineBuffer.{Holds};
 ghost use Rattle.vt_ns.specs.WorldValue.{world_of};
-ghost use Rattle.vt_script.specs.Progress.{opening_moment};
+ghost use Rattle.vt_script.specs.Progress.{opening_moment, HasNoNewline};
 ghost use Rattle.vt_script.specs.Session.{moment, lines_begun, IsReading, Feeds, Closes, Replies};
 ghost use Rattle.vt_script.specs.SessionValue.{state_of};
 
@@ -25,6 +25,16 @@ pub struct Session {
     /// What was read of the next line.
     pub line: LineBuffer,
     pub alloc: Global,
+}
+
+// The bytes before the first newline, and those after it.
+fn split_line(bytes: &[u8]) -> Option<(&[u8], &[u8])>
+    ensures { MatchOption result (HasNoNewline bytes.now)
+        (λ parts. (bytes.now ≡ parts.0.now ++ 10 ∷ parts.1.now) × HasNoNewline parts.0.now) }
+{
+    let newline = bytes.iter().position(|byte| *byte == b'\n')?;
+    let (line, after) = bytes.split_at(newline);
+    Some((line, &after[1..]))
 }
 
 // Answers the line of this number.
@@ -97,22 +107,20 @@ impl Session {
         Ok(())
     }
 
-    // Takes the next byte.
-    fn take<W: Sink>(&mut self, byte: u8, sink: &mut W) -> Result<(), RunFault>
+    // Takes the rest of a line, without its newline, and answers the line.
+    fn take_line<W: Sink>(&mut self, rest: &[u8], sink: &mut W) -> Result<(), RunFault>
         requires countable { W.failures sink.old + 1 < 2 ^ 64 }
-        requires lines { lines_begun (state_of self.old) + 1 < 2 ^ 64 }
+        requires lines { lines_begun (state_of self.old) + length rest.now + 1 < 2 ^ 64 }
+        requires one { HasNoNewline rest.now }
         ensures feeds { (line : List ℕ) → IsReading (state_of self.old) line
-            → Feeds W.Sink (moment (state_of self.old) line) (byte ∷ []) result (state_of self.new) sink.old sink.new }
-        ensures begun { OnOk result (lines_begun (state_of self.new) ≤ lines_begun (state_of self.old) + 1) }
+            → Feeds W.Sink (moment (state_of self.old) line) (rest.now ++ 10 ∷ []) result (state_of self.new) sink.old sink.new }
+        ensures begun { OnOk result (lines_begun (state_of self.new) ≤ lines_begun (state_of self.old) + length rest.now + 1) }
         ensures kept { OnOk result (W.failures sink.new ≡ W.failures sink.old) }
         ensures counted { OnErr result (W.failures sink.new ≡ W.failures sink.old + 1) }
         ensures fault { IfErr result (λ fault. fault ≡ RunFault.Write) }
     {
-        if byte == b'\n' {
-            return self.end_line(sink);
-        }
-        self.line.push(byte);
-        Ok(())
+        self.line.extend(rest);
+        self.end_line(sink)
     }
 
     /// Takes the next bytes of the script, and answers each line that ends among them. `Write`: the sink failed.
@@ -126,9 +134,12 @@ impl Session {
         ensures counted { OnErr result (W.failures sink.new ≡ W.failures sink.old + 1) }
         ensures fault { IfErr result (λ fault. fault ≡ RunFault.Write) }
     {
-        for byte in bytes {
-            self.take(*byte, sink)?;
+        let mut rest = bytes;
+        while let Some((line, after)) = split_line(rest) {
+            self.take_line(line, sink)?;
+            rest = after;
         }
+        self.line.extend(rest);
         Ok(())
     }
 

@@ -1,11 +1,12 @@
 -- What contracts see of a task's open files.
 use Rattle.std.specs.Prelude.{Bool, List, [], ℕ, true, ◌&&◌, ◌∷◌, ◌+◌, nat_le}
 use Rattle.vt_spec.specs.OneTree.World.{Descriptor}
+use Rattle.vt_request.specs.Requests.{access_of}
 use Rattle.vt_tasks.specs.declared.descriptors.OpenFile.{OpenFile}
 
 -- an open file under its number
 abbrev pub numbered : ℕ → OpenFile → Descriptor ℕ
-numbered number held = record { number = number; file = held.file; reads = held.access.reads; writes = held.access.writes }
+numbered number held = record { number = number; file = held.file; reads = (access_of held.access).reads; writes = (access_of held.access).writes }
 
 abbrev pub descriptor_of : ℕ × OpenFile → Descriptor ℕ
 descriptor_of entry = numbered entry.0 entry.1

@@ -8,15 +8,12 @@ use vt_request::{Access, TaskName};
 fn reading(number: usize) -> OpenFile {
     OpenFile {
         file: NodeId::new(number),
-        access: Access {
-            reads: true,
-            writes: false,
-        },
+        access: Access::Read,
     }
 }
 
 fn first(rt: HostRuntime) -> TaskName {
-    TaskName::new(Vec::new(rt.alloc()))
+    TaskName::new(rt.alloc())
 }
 
 #[test]

@@ -23,6 +23,6 @@ pub returns-in-Err-clause-replies : goal.returns-in-Err-clause-replies
 returns-in-Err-clause-replies g c = λ text held.
     let whole : c.bytes.result.now ≡ text = c.bytes.ensures ∙ kept_whole text c.args.line.now held (sym c.is_overlong.ensures ∙ c.if-is_overlong.false) in
     replies_unread g.W.Sink c.write_reply-in-Err.result _ text c.args.number c.next_number-fresh.result c.in-Err.deny _ _ (not_there _ c.next_number-fresh.ensures.vacant) c.in-Err.ensures.refused
-    (λ is. subst (λ l. (longest_line < length l) ⊎ (IsSpoken l × (request_of files l ≡ None))) whole (c.in-Err.ensures.no_request (ap Err is)))
-    (λ is. subst IsSpoken whole (c.in-Err.ensures.no_memory (ap Err is)))
+    (λ is. subst (λ l. (longest_line < length l) ⊎ (IsSpoken l × (request_of files l ≡ None))) whole (c.in-Err.ensures.no_request.0 (ap Err is)))
+    (λ is. subst IsSpoken whole (c.in-Err.ensures.no_memory (ap Err is)).0)
     c.write_reply-in-Err.ensures.printed

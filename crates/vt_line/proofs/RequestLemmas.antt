@@ -1,0 +1,282 @@
+-- What a line asks for, by its texts.
+use Rattle.std.proofs.Common.{inl, inr, IfSome, is_some, Bool, List, None, Option, Some, Err, [], ap, arith, codes, cond, false, length, lit≤, option_map, refl, subst, suc, sym, true, unwrap_or, zero, ℕ, ◌<◌, ◌≡◌, ◌≤◌, ◌∙◌, ◌∷◌, leb, IsSomeAnd}
+use Rattle.std.specs.List.{list_any}
+use Rattle.std.specs.Str.{bytes_eq}
+use Rattle.std.proofs.lemmas.Bool.Decides.{nat_tests}
+use Rattle.std.proofs.lemmas.Slice.Eq.{bytes_eq-Decides}
+use Rattle.vt_spec.specs.Machine.Calls.{Call}
+use Rattle.vt_spec.specs.Machine.Calls as asked
+use Rattle.vt_spec.specs.Machine.Calls.Call.{MountOverlay, MountPlain}
+use Rattle.vt_spec.specs.Machine.Lists.{then_some}
+use Rattle.vt_spec.specs.Machine.Mounts.{plain_flags}
+use Rattle.vt_spec.specs.Machine.Script.{Request, access_word, asked_by, attribute_words, bytes_word, call_asked, call_words, capabilities_word, chown_call, creation_words, descriptor_word, descriptor_words, directive_asked, each_of, file_call_names, files, flags_or_plain, flags_word, fork_words, groups_word, identity_word, kept_or_identity, may_have, mode_word, mount_words, mounting_words, naming_words, no_more, offset_word, options_of, path_alone, path_word, raw_tokens, request_of, request_of_texts, task_word, task_words, token_text, two_paths, type_word, who_of, with_first, word_then, yes_or_no_word}
+use Rattle.vt_spec.specs.Machine.Script.Request.{Calling}
+use Rattle.vt_spec.specs.Machine.Script.Version.{One}
+use Rattle.vt_spec.specs.Machine.Script.Who.{Nobody, Someone}
+use Rattle.vt_line.specs.declared.calls.ReadError.{ReadError}
+use Rattle.vt_line.specs.declared.calls.ReadError.TheVariants.{Grammar, Memory}
+use Rattle.vt_line.specs.declared.names.CallName.{CallName}
+use Rattle.vt_line.specs.declared.names.CallName.TheVariants.{Chmod, Chown, Close, Drop, Exec, Exit, Fork, Link, Ls, Lstat, Mkdir, Open, Pread, Pwrite, Read, Readlink, Rename, Rmdir, Stat, Symlink, Umask, Unlink, Write}
+use Rattle.vt_line.specs.Calls.{IsCallRead, IsRequestRead, KeepsWords, TakesMemory, call_named}
+use Rattle.vt_line.specs.Names.{name_text}
+use Rattle.vt_line.specs.Tokens.{few_texts}
+use Rattle.vt_line.proofs.Splits.{each_of-length}
+
+-- What reads at most so many words answers nothing to more.
+abbrev Stops : {B : Type 0} → ℕ → (List (List ℕ) → Option B) → Type 0
+Stops most read = (words : List (List ℕ)) → most < length words → read words ≡ None
+
+none_then : {A B : Type 0} (a : Option A) (next : A → Option B) → ((x : A) → next x ≡ None) → then_some a next ≡ None
+none_then None next none = refl
+none_then (Some a) next none = none a
+
+no_more-stops : {B : Type 0} (b : B) → Stops 0 (no_more b)
+no_more-stops b [] h = absurd (omega arith)
+no_more-stops b (word ∷ rest) h = refl
+
+word_then-stops : {A B : Type 0} (most : ℕ) (read : List ℕ → Option A) (next : A → List (List ℕ) → Option B)
+    → ((a : A) → Stops most (next a)) → Stops (suc most) (word_then read next)
+word_then-stops most read next stops [] h = refl
+word_then-stops most read next stops (word ∷ rest) h = none_then (read word) (λ a. next a rest) (λ a. stops a rest (omega arith))
+
+may_have-stops : {A B : Type 0} (read : List ℕ → Option A) (b : Option A → B) → Stops 1 (may_have read b)
+may_have-stops read b [] h = absurd (omega arith)
+may_have-stops read b (word ∷ rest) h = none_then (read word) (λ a. no_more (b (Some a)) rest) (λ a. no_more-stops (b (Some a)) rest (omega arith))
+
+module _ (words : List (List ℕ)) (many : 4 < length words) where
+  -- a branch of the grammar, and those after it
+  neither : {B : Type 0} (test : Bool) (this others : Option B) → this ≡ None → others ≡ None → cond test this others ≡ None
+  neither true this others e f = e
+  neither false this others e f = f
+
+  by : {B : Type 0} (most : ℕ) (read : List (List ℕ) → Option B) → Stops most read → most ≤ 4 → read words ≡ None
+  by most read stops few = stops words (omega arith)
+
+  one_path : (call : List ℕ → Call) → path_alone call words ≡ None
+  one_path call = by 1 (path_alone call) (word_then-stops 0 path_word (λ path. no_more (call path)) (λ path. no_more-stops (call path))) (lit≤ tt)
+
+  a_pair : (call : List ℕ → List ℕ → Call) → two_paths call words ≡ None
+  a_pair call =
+      by 2 (two_paths call) (word_then-stops 1 path_word (λ first. word_then path_word (λ second. no_more (call first second)))
+      (λ first. word_then-stops 0 path_word (λ second. no_more (call first second)) (λ second. no_more-stops (call first second)))) (lit≤ tt)
+
+  mounted : (kind : List ℕ) (rest : List (List ℕ)) → 3 < length rest → mount_words One kind rest ≡ None
+  mounted kind rest h =
+      neither (bytes_eq kind (codes "plain")) _ _
+      (word_then-stops 1 path_word (λ path. flags_or_plain One (λ given. MountPlain path given))
+      (λ path. may_have-stops (flags_word One) (λ given. MountPlain path (unwrap_or given plain_flags))) rest (omega arith))
+      (neither (bytes_eq kind (codes "overlay")) _ _
+      (word_then-stops 2 path_word (λ path. word_then bytes_word (λ options. flags_or_plain One (λ given. MountOverlay path (options_of options) given)))
+      (λ path. word_then-stops 1 bytes_word (λ options. flags_or_plain One (λ given. MountOverlay path (options_of options) given))
+      (λ options. may_have-stops (flags_word One) (λ given. MountOverlay path (options_of options) (unwrap_or given plain_flags)))) rest (omega arith))
+      refl)
+
+  mounting-none : (name : List ℕ) → mounting_words One name words ≡ None
+  mounting-none name =
+      neither (bytes_eq name (codes "mount")) _ _ (by 4 _ (word_then-stops 3 bytes_word _ mounted) (lit≤ tt))
+      (neither (bytes_eq name (codes "bind")) _ _ (a_pair _)
+      (neither (bytes_eq name (codes "rbind")) _ _ (a_pair _)
+      (neither (bytes_eq name (codes "move")) _ _ (a_pair _)
+      (neither (bytes_eq name (codes "umount")) _ _ (one_path _)
+      (neither (bytes_eq name (codes "lazy")) _ _ (one_path _)
+      (neither (bytes_eq name (codes "remount")) _ _
+      (by 2 _ (word_then-stops 1 path_word _ (λ path. word_then-stops 0 (flags_word One) _ (λ given. no_more-stops _))) (lit≤ tt))
+      (neither (bytes_eq name (codes "type")) _ _
+      (by 2 _ (word_then-stops 1 path_word _ (λ path. word_then-stops 0 type_word _ (λ word. no_more-stops _))) (lit≤ tt))
+      (neither (bytes_eq name (codes "rtype")) _ _
+      (by 2 _ (word_then-stops 1 path_word _ (λ path. word_then-stops 0 type_word _ (λ word. no_more-stops _))) (lit≤ tt))
+      (neither (bytes_eq name (codes "mounts")) _ _ (by 0 _ (no_more-stops _) (lit≤ tt)) refl)))))))))
+
+  forked : Stops 4 fork_words
+  forked [] h = absurd (omega arith)
+  forked (word ∷ rest) h =
+      word_then-stops 3 identity_word _ (λ uid. word_then-stops 2 identity_word _ (λ gid. word_then-stops 1 groups_word _ (λ groups.
+      word_then-stops 0 capabilities_word _ (λ capabilities. no_more-stops _)))) (word ∷ rest) h
+
+  task-none : (name : List ℕ) → task_words One name words ≡ None
+  task-none name =
+      neither (bytes_eq name (codes "chdir")) _ _ (one_path _)
+      (neither (bytes_eq name (codes "chroot")) _ _ (one_path _)
+      (neither (bytes_eq name (codes "umask")) _ _ (by 1 _ (word_then-stops 0 mode_word _ (λ mode. no_more-stops _)) (lit≤ tt))
+      (neither (bytes_eq name (codes "drop")) _ _ (by 1 _ (word_then-stops 0 capabilities_word _ (λ which. no_more-stops _)) (lit≤ tt))
+      (neither (bytes_eq name (codes "fork")) _ _ (by 4 _ forked (lit≤ tt))
+      (neither (bytes_eq name (codes "exit")) _ _ (by 0 _ (no_more-stops _) (lit≤ tt))
+      (neither (bytes_eq name (codes "unshare")) _ _ (by 0 _ (no_more-stops _) (lit≤ tt))
+      (neither (bytes_eq name (codes "setns")) _ _ (by 1 _ (word_then-stops 0 task_word _ (λ task. no_more-stops _)) (lit≤ tt))
+      (mounting-none name))))))))
+
+  created : Stops 2 creation_words
+  created [] h = absurd (omega arith)
+  created (word ∷ rest) h =
+      neither (bytes_eq word (codes "create")) _ _ (word_then-stops 0 mode_word _ (λ mode. no_more-stops _) rest (omega arith))
+      (neither (bytes_eq word (codes "excl")) _ _ (word_then-stops 0 mode_word _ (λ mode. no_more-stops _) rest (omega arith)) refl)
+
+  descriptor-none : (name : List ℕ) → descriptor_words One name words ≡ None
+  descriptor-none name =
+      neither (bytes_eq name (codes "open")) _ _
+      (by 4 _ (word_then-stops 3 path_word _ (λ path. word_then-stops 2 access_word _
+      (λ access rest h. ap (option_map _) (created rest h)))) (lit≤ tt))
+      (neither (bytes_eq name (codes "pread")) _ _
+      (by 3 _ (word_then-stops 2 descriptor_word _ (λ number. word_then-stops 1 offset_word _ (λ offset.
+      word_then-stops 0 offset_word _ (λ size. no_more-stops _)))) (lit≤ tt))
+      (neither (bytes_eq name (codes "pwrite")) _ _
+      (by 3 _ (word_then-stops 2 descriptor_word _ (λ number. word_then-stops 1 offset_word _ (λ offset.
+      word_then-stops 0 bytes_word _ (λ bytes. no_more-stops _)))) (lit≤ tt))
+      (neither (bytes_eq name (codes "close")) _ _ (by 1 _ (word_then-stops 0 descriptor_word _ (λ number. no_more-stops _)) (lit≤ tt))
+      (task-none name))))
+
+  chown-stops : (path : List ℕ) (uid gid : Option ℕ) → Stops 0 (chown_call path uid gid)
+  chown-stops path None None rest h = refl
+  chown-stops path None (Some gid) rest h = no_more-stops _ rest h
+  chown-stops path (Some uid) gid rest h = no_more-stops _ rest h
+
+  attribute-none : (name : List ℕ) → attribute_words One name words ≡ None
+  attribute-none name =
+      neither (bytes_eq name (codes "chmod")) _ _
+      (by 2 _ (word_then-stops 1 path_word _ (λ path. word_then-stops 0 mode_word _ (λ mode. no_more-stops _))) (lit≤ tt))
+      (neither (bytes_eq name (codes "chown")) _ _
+      (by 3 _ (word_then-stops 2 path_word _ (λ path. word_then-stops 1 kept_or_identity _ (λ uid.
+      word_then-stops 0 kept_or_identity _ (λ gid. chown-stops path uid gid)))) (lit≤ tt))
+      (neither (bytes_eq name (codes "opaque")) _ _
+      (by 2 _ (word_then-stops 1 path_word _ (λ path. word_then-stops 0 yes_or_no_word _ (λ mark. no_more-stops _))) (lit≤ tt))
+      (descriptor-none name)))
+
+  naming-none : (name : List ℕ) → naming_words One name words ≡ None
+  naming-none name =
+      neither (bytes_eq name (codes "mkdir")) _ _
+      (by 2 _ (word_then-stops 1 path_word _ (λ path. may_have-stops mode_word (asked.Call.Mkdir path))) (lit≤ tt))
+      (neither (bytes_eq name (codes "symlink")) _ _ (a_pair asked.Call.SymlinkAt)
+      (neither (bytes_eq name (codes "whiteout")) _ _ (one_path asked.Call.MakeWhiteout)
+      (neither (bytes_eq name (codes "link")) _ _ (a_pair asked.Call.LinkTo)
+      (neither (bytes_eq name (codes "unlink")) _ _ (one_path asked.Call.Unlink)
+      (neither (bytes_eq name (codes "rmdir")) _ _ (one_path asked.Call.Rmdir)
+      (neither (bytes_eq name (codes "rename")) _ _ (a_pair asked.Call.Rename) (attribute-none name)))))))
+
+  -- no call has more than four words
+  call-none : (name : List ℕ) → call_words One name words ≡ None
+  call-none name =
+      neither (bytes_eq name (codes "ls")) _ _ (one_path asked.Call.Ls)
+      (neither (bytes_eq name (codes "stat")) _ _ (one_path asked.Call.Stat)
+      (neither (bytes_eq name (codes "lstat")) _ _ (one_path asked.Call.Lstat)
+      (neither (bytes_eq name (codes "readlink")) _ _ (one_path asked.Call.Readlink)
+      (neither (bytes_eq name (codes "read")) _ _ (one_path asked.Call.Read)
+      (neither (bytes_eq name (codes "write")) _ _
+      (by 2 _ (word_then-stops 1 path_word _ (λ path. word_then-stops 0 bytes_word _ (λ bytes. no_more-stops _))) (lit≤ tt))
+      (neither (bytes_eq name (codes "exec")) _ _ (one_path asked.Call.Exec) (naming-none name)))))))
+
+-- A line that is a task's
+directive-none : (words : List (List ℕ)) → directive_asked files words ≡ None
+directive-none [] = refl
+directive-none (name ∷ words) = refl
+
+someone-asked : (task : Option (List ℕ)) (words : List (List ℕ)) →
+    asked_by files (option_map Someone task) words ≡ then_some task (λ task. call_asked files task words)
+someone-asked None words = refl
+someone-asked (Some task) words = refl
+
+no_task : (text : List ℕ) → bytes_eq text (codes "!") ≡ true → task_word text ≡ None
+no_task text same = subst (λ text. task_word text ≡ None) (sym ((bytes_eq-Decides text (codes "!")).0 same)) refl
+
+pub texts-asked : (text : List ℕ) (words : List (List ℕ)) →
+    request_of_texts files (text ∷ words) ≡ then_some (task_word text) (λ task. call_asked files task words)
+texts-asked text words = by_test (bytes_eq text (codes "!")) refl where
+  by_test : (test : Bool) → bytes_eq text (codes "!") ≡ test →
+      asked_by files (cond test (Some Nobody) (option_map Someone (task_word text))) words
+      ≡ then_some (task_word text) (λ task. call_asked files task words)
+  by_test true e = directive-none words ∙ sym (ap (λ task. then_some task (λ task. call_asked files task words)) (no_task text e))
+  by_test false e = someone-asked (task_word text) words
+
+-- the names of the product's calls are known
+name-known : (name : CallName) → list_any (bytes_eq (name_text name)) file_call_names ≡ true
+name-known Ls = refl
+name-known Stat = refl
+name-known Lstat = refl
+name-known Readlink = refl
+name-known Read = refl
+name-known Write = refl
+name-known Exec = refl
+name-known Mkdir = refl
+name-known Symlink = refl
+name-known Link = refl
+name-known Unlink = refl
+name-known Rmdir = refl
+name-known Rename = refl
+name-known Chmod = refl
+name-known Chown = refl
+name-known Open = refl
+name-known Pread = refl
+name-known Pwrite = refl
+name-known Close = refl
+name-known Umask = refl
+name-known Drop = refl
+name-known Fork = refl
+name-known Exit = refl
+
+then_some-some : {A : Type 0} (a : Option A) → then_some a (λ x. Some x) ≡ a
+then_some-some None = refl
+then_some-some (Some a) = refl
+
+call-asked : (task : List ℕ) (name : CallName) (words : List (List ℕ)) →
+    call_asked files task (name_text name ∷ words) ≡ option_map (Calling task) (call_named name words)
+call-asked task name words =
+    ap (λ known. cond known (option_map (Calling task) (then_some (call_named name words) (λ call. Some call))) None) (name-known name)
+    ∙ ap (option_map (Calling task)) (then_some-some (call_named name words))
+
+-- what a line's texts ask for, once its task and its call are known
+pub request-named : (first second : List ℕ) (words : List (List ℕ)) (task : List ℕ) (name : CallName) → task_word first ≡ Some task → second ≡ name_text name
+    → request_of_texts files (first ∷ second ∷ words) ≡ option_map (Calling task) (call_named name words)
+request-named first second words task name e f =
+    texts-asked first (second ∷ words) ∙ ap (λ task. then_some task (λ task. call_asked files task (second ∷ words))) e
+    ∙ ap (λ second. call_asked files task (second ∷ words)) f ∙ call-asked task name words
+
+asked-none : (test : Bool) (task : List ℕ) (call : Option Call) → call ≡ None
+    → cond test (option_map (Calling task) (then_some call (λ call. Some call))) None ≡ None
+asked-none true task call e = ap (λ call. option_map (Calling task) (then_some call (λ call. Some call))) e
+asked-none false task call e = refl
+
+request-many : (texts : List (List ℕ)) → 6 < length texts → request_of_texts files texts ≡ None
+request-many [] h = absurd (omega arith)
+request-many (first ∷ []) h = absurd (omega arith)
+request-many (first ∷ name ∷ words) h =
+    texts-asked first (name ∷ words)
+    ∙ none_then (task_word first) (λ task. call_asked files task (name ∷ words))
+    (λ task. asked-none (list_any (bytes_eq name) file_call_names) task (call_words One name words) (call-none words (omega arith) name))
+
+-- the texts are as many as the tokens
+many_texts : (texts : Option (List (List ℕ))) → ((all : List (List ℕ)) → texts ≡ Some all → 6 < length all) → then_some texts (request_of_texts files) ≡ None
+many_texts None many = refl
+many_texts (Some all) many = request-many all (many all refl)
+
+pub request-few : (line : List ℕ) → request_of files line ≡ then_some (few_texts line) (request_of_texts files)
+unfolding request_of
+request-few line = by_test (leb (length (raw_tokens line)) 6) refl where
+  by_test : (test : Bool) → leb (length (raw_tokens line)) 6 ≡ test →
+      then_some (each_of token_text (raw_tokens line)) (request_of_texts files)
+      ≡ then_some (cond test (each_of token_text (raw_tokens line)) None) (request_of_texts files)
+  by_test true e = refl
+  by_test false e =
+      let many : 6 < length (raw_tokens line) = grind (arith, nat_tests) in
+      many_texts (each_of token_text (raw_tokens line))
+      (λ all is. let same = each_of-length token_text (raw_tokens line) all is in omega arith)
+
+-- how a call was read is how the request was
+some_takes : (task : List ℕ) (call : Option Call) → IsSomeAnd call KeepsWords → IsSomeAnd (option_map (Calling task) call) TakesMemory
+some_takes task None keeps = keeps
+some_takes task (Some call) keeps = inl keeps
+
+pub some_value : {A : Type 0} (a : Option A) → is_some a ≡ true → (x : A) × (a ≡ Some x)
+some_value None e = cc
+some_value (Some x) e = (x, refl)
+
+pub request-long : (asked : Option Request) (task : List ℕ) (call : Option Call) (c : Call) → asked ≡ option_map (Calling task) call → call ≡ Some c
+    → 8 < length task → IsRequestRead asked (Err Memory)
+request-long asked task call c is there long =
+    subst (λ asked. IsSomeAnd asked TakesMemory) (sym (is ∙ ap (option_map (Calling task)) there)) (inr long)
+
+pub if_some : {A : Type 0} (P : A → Type 0) (a : Option A) (x : A) → a ≡ Some x → IfSome a P → P x
+if_some P a x e h = subst (λ a. IfSome a P) e h
+
+pub request-refused : (asked : Option Request) (task : List ℕ) (call : Option Call) (e : ReadError) → asked ≡ option_map (Calling task) call
+    → IsCallRead call (Err e) → IsRequestRead asked (Err e)
+request-refused asked task call Grammar is none = is ∙ ap (option_map (Calling task)) none
+request-refused asked task call Memory is some = subst (λ asked. IsSomeAnd asked TakesMemory) (sym is) (some_takes task call some)

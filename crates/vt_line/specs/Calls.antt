@@ -1,0 +1,72 @@
+-- Calls as their words are read, and what becomes of a line that asks for one.
+use Rattle.std.specs.Prelude.{List, None, Option, Some, [], codes, if◌then◌else◌, length, option_map, ℕ, ◌<◌, ◌≡◌, ◌⊎◌, ◌∷◌, IsSome, IsSomeAnd, Result, Ok, Err}
+use Rattle.std.specs.Str.{bytes_eq}
+use Rattle.arrayvec.specs.ArrayVec.{ArrayVec}
+use Rattle.vt_spec.specs.Machine.Calls as spec
+use Rattle.vt_spec.specs.Machine.Calls.Call.{Chmod, Chown, Close, Drop, Exec, Exit, Fork, LinkTo, Ls, Lstat, Mkdir, OpenFile, Pread, Pwrite, Read, Readlink, Rename, Rmdir, Stat, SymlinkAt, Umask, Unlink, Write}
+use Rattle.vt_spec.specs.Machine.Script.{Request, call_words, mode_word, no_more, path_word, word_then}
+use Rattle.vt_spec.specs.Machine.Script.Request.{Asking, Calling}
+use Rattle.vt_spec.specs.Machine.Script.Version.{One}
+use Rattle.vt_request.specs.declared.request.Call.{Call}
+use Rattle.vt_request.specs.declared.request.CapsWord.{CapsWord}
+use Rattle.vt_request.specs.declared.task.TaskName.{TaskName}
+use Rattle.vt_request.specs.declared.task.TheConstants.{INLINE_NUMBERS}
+use Rattle.vt_request.specs.Requests.{call_of, capabilities_of}
+use Rattle.vt_line.specs.Names.{name_text}
+use Rattle.vt_line.specs.declared.names.CallName.{CallName}
+use Rattle.vt_line.specs.declared.calls.Child.{Child}
+use Rattle.vt_line.specs.declared.calls.ReadError.{ReadError}
+use Rattle.vt_line.specs.declared.calls.ReadError.TheVariants.{Grammar, Memory}
+
+-- A call that keeps a text of its line, or a list of groups, takes memory for it. The others take none.
+abbrev pub KeepsWords : spec.Call → Type 0
+KeepsWords (Pread descriptor offset size) = ⊥
+KeepsWords (Close descriptor) = ⊥
+KeepsWords (Umask mode) = ⊥
+KeepsWords (Drop which) = ⊥
+KeepsWords (Fork None) = ⊥
+KeepsWords Exit = ⊥
+KeepsWords call = Unit {0}
+
+-- A request takes memory for what its call keeps, and for a task's name of many numbers.
+abbrev pub TakesMemory : Request → Type 0
+TakesMemory (Calling task call) = KeepsWords call ⊎ (INLINE_NUMBERS < length task)
+TakesMemory (Asking directive) = ⊥
+
+-- the call that the grammar has for a name and words
+abbrev pub call_named : CallName → List (List ℕ) → Option spec.Call
+call_named name words = call_words One (name_text name) words
+
+-- a call was read, or why none was
+abbrev pub IsCallRead : Option spec.Call → Result Call ReadError → Type 0
+IsCallRead asked (Ok call) = asked ≡ Some (call_of call)
+IsCallRead asked (Err Grammar) = asked ≡ None
+IsCallRead asked (Err Memory) = IsSomeAnd asked KeepsWords
+
+-- the paths of a call were read, or why none were
+abbrev pub ArePathsRead : {A B : Type 0} → (B → A) → Option A → Result B ReadError → Type 0
+ArePathsRead of asked (Ok paths) = asked ≡ Some (of paths)
+ArePathsRead of asked (Err Grammar) = asked ≡ None
+ArePathsRead of asked (Err Memory) = IsSome asked
+
+-- a request was read, or why none was
+abbrev pub IsRequestRead : Option Request → Result (TaskName × Call) ReadError → Type 0
+IsRequestRead asked (Ok (task, call)) = asked ≡ Some (Calling task (call_of call))
+IsRequestRead asked (Err Grammar) = asked ≡ None
+IsRequestRead asked (Err Memory) = IsSomeAnd asked TakesMemory
+
+-- a path, and no more
+unfoldable pub lone_path : List (List ℕ) → Option (List ℕ)
+lone_path words = word_then path_word no_more words
+
+-- two paths, and no more
+unfoldable pub path_pair : List (List ℕ) → Option (List ℕ × List ℕ)
+path_pair words = word_then path_word (λ first. word_then path_word (λ second. no_more (first, second))) words
+
+-- a child's credentials
+abbrev pub child_of : Child → spec.ForkWords
+child_of child = record { uid = child.uid; gid = child.gid; groups = child.groups.items; capabilities = capabilities_of child.caps }
+
+-- two paths as a call
+abbrev pub with_pair : (List ℕ → List ℕ → spec.Call) → List ℕ × List ℕ → spec.Call
+with_pair call (first, second) = call first second

@@ -1,0 +1,13 @@
+use Rattle.std.proofs.Common.{[], ◌∷◌, ◌++◌, refl}
+use Rattle.vt_script.specs.Session.{moment}
+use Rattle.vt_script.specs.SessionValue.{state_of}
+use Rattle.vt_script.proofs.SessionLemmas.{fed_bytes, feeds_then}
+use Rattle.vt_script.proofs.session.Session.take_line.Goals as goal
+
+pub returns-clause-feeds : goal.returns-clause-feeds
+returns-clause-feeds g c = λ line reading.
+    let old = state_of c.args.self.now in
+    let middle = state_of (record c.args.self.now { line = c.extend.new.self }) in
+    let first = fed_bytes g.W.Sink old middle line c.args.rest.now c.args.sink.now reading c.requires.one refl refl (c.extend.ensures.holds line reading.held) in
+    feeds_then g.W.Sink (moment old line) c.args.rest.now (10 ∷ []) middle _ _ _ _ c.end_line.result first
+    (c.end_line.ensures.feeds first.line first.reading)
