@@ -48,17 +48,21 @@ same_names : (xs ys : List (List ℕ)) → T (is_sorted name_cmp (marked xs)) �
     → ((q : List ℕ) → list_any (eq_by_cmp name_cmp q) xs ≡ list_any (eq_by_cmp name_cmp q) ys) → xs ≡ ys
 same_names xs ys p q alike =
     sym (names-marked xs)
-    ∙ ap (map (λ e. e.0)) (same_entries name_cmp nat_list_cmp_total same_name (marked xs) (marked ys) p q (λ name. same_presence _ _ (found name)))
+    ∙ ap (map (λ e. e.0))
+    (same_entries name_cmp nat_list_cmp_total same_name (marked xs) (marked ys) p q (λ name. same_presence _ _ (found name)))
     ∙ names-marked ys
   where
-    among : (name : List ℕ) (names : List (List ℕ)) → is_some (find name_cmp name (marked names)) ≡ list_any (eq_by_cmp name_cmp name) names
-    among name names = is_some-find name_cmp name (marked names) ∙ ap (list_any (eq_by_cmp name_cmp name)) (names-marked names)
+    among : (name : List ℕ) (names : List (List ℕ))
+        → is_some (find name_cmp name (marked names)) ≡ list_any (eq_by_cmp name_cmp name) names
+    among name names =
+        is_some-find name_cmp name (marked names) ∙ ap (list_any (eq_by_cmp name_cmp name)) (names-marked names)
 
     found : (name : List ℕ) → is_some (find name_cmp name (marked xs)) ≡ is_some (find name_cmp name (marked ys))
     found name = among name xs ∙ alike name ∙ sym (among name ys)
 
 -- the order of entries is that of their names
-below_all-marked : (x : List ℕ) (es : Entries ℕ) → below_all name_cmp x (marked (map (λ e. e.0) es)) ≡ below_all name_cmp x es
+below_all-marked : (x : List ℕ) (es : Entries ℕ)
+    → below_all name_cmp x (marked (map (λ e. e.0) es)) ≡ below_all name_cmp x es
 below_all-marked x [] = refl
 below_all-marked x (e ∷ es) = ap (λ b. is_lt (name_cmp x e.0) && b) (below_all-marked x es)
 
@@ -82,7 +86,8 @@ module _ {A : Type 0} where
 
   -- keys differ where their bytes do
   all_differ : (x : Vec ℕ A) (keys : List (Vec ℕ A))
-      → AllByRecursion (λ y. pointwise nat_eq x.items y ≡ false) (bytes_of keys) ≡ AllByRecursion (λ y. key_eq x y ≡ false) keys
+      → AllByRecursion (λ y. pointwise nat_eq x.items y ≡ false) (bytes_of keys)
+      ≡ AllByRecursion (λ y. key_eq x y ≡ false) keys
   all_differ x [] = refl
   all_differ x (key ∷ keys) = ap (λ rest. (key_eq x key ≡ false) × rest) (all_differ x keys)
 
@@ -92,7 +97,8 @@ module _ {A : Type 0} where
   IsDistinct-bytes_of (key ∷ keys) = λ i. all_differ key keys i × IsDistinct-bytes_of keys i
 
   -- sorted keys that differ rise strictly
-  strictly_sorted : (keys : List (Vec ℕ A)) → IsSorted key_cmp keys → IsDistinct key_eq keys → IsStrictlySortedBy key_cmp keys
+  strictly_sorted : (keys : List (Vec ℕ A)) → IsSorted key_cmp keys → IsDistinct key_eq keys
+      → IsStrictlySortedBy key_cmp keys
   unfolding IsStrictlySortedBy
   strictly_sorted [] sorted distinct = tt
   strictly_sorted (key ∷ keys) sorted distinct =
@@ -100,23 +106,29 @@ module _ {A : Type 0} where
       let here = get_or (key ∷ keys) k key in
       let next = get_or (key ∷ keys) (k + 1) key in
       is_less _ _ (key_cmp_total.antisymm here next) (sorted k key (omega arith) within)
-      (sym (texts_ties here.items next.items) ∙ apart_from_distinct key_eq (key ∷ keys) k (k + 1) key distinct (omega arith) within))
+      (sym (texts_ties here.items next.items)
+      ∙ apart_from_distinct key_eq (key ∷ keys) k (k + 1) key distinct (omega arith) within))
 
   below_all-bytes_of : (x : Vec ℕ A) (keys : List (Vec ℕ A)) → AllByRecursion (λ y. key_cmp x y ≡ Less) keys
       → T (below_all name_cmp x.items (marked (bytes_of keys)))
   below_all-bytes_of x [] h = tt
-  below_all-bytes_of x (key ∷ keys) h = both _ _ (subst (λ r. T (is_lt r)) (sym h.0) tt) (below_all-bytes_of x keys h.1)
+  below_all-bytes_of x (key ∷ keys) h =
+      both _ _ (subst (λ r. T (is_lt r)) (sym h.0) tt) (below_all-bytes_of x keys h.1)
 
-  is_sorted-bytes_of : (keys : List (Vec ℕ A)) → IsStrictlySortedBy key_cmp keys → T (is_sorted name_cmp (marked (bytes_of keys)))
+  is_sorted-bytes_of : (keys : List (Vec ℕ A)) → IsStrictlySortedBy key_cmp keys
+      → T (is_sorted name_cmp (marked (bytes_of keys)))
   is_sorted-bytes_of [] h = tt
   is_sorted-bytes_of (key ∷ keys) h =
-      both _ _ (below_all-bytes_of key keys (sorted_head key_cmp key keys h)) (is_sorted-bytes_of keys (sorted_tail key_cmp key keys h))
+      both _ _ (below_all-bytes_of key keys (sorted_head key_cmp key keys h))
+      (is_sorted-bytes_of keys (sorted_tail key_cmp key keys h))
 
   -- a look-up finds the names of the keys
-  list_any-bytes_of : (q : List ℕ) (es : List (Vec ℕ A × ℕ)) → list_any (eq_by_cmp name_cmp q) (bytes_of (keys_of es)) ≡ is_some (lookup (is_name q) es)
+  list_any-bytes_of : (q : List ℕ) (es : List (Vec ℕ A × ℕ))
+      → list_any (eq_by_cmp name_cmp q) (bytes_of (keys_of es)) ≡ is_some (lookup (is_name q) es)
   list_any-bytes_of q [] = refl
   list_any-bytes_of q (e ∷ es) =
-      (λ i. sym (texts_ties q e.0.items) i || list_any-bytes_of q es i) ∙ found (is_name q e.0) e.1 (lookup (is_name q) es)
+      (λ i. sym (texts_ties q e.0.items) i || list_any-bytes_of q es i)
+      ∙ found (is_name q e.0) e.1 (lookup (is_name q) es)
     where
       found : (b : Bool) (id : ℕ) (rest : Option ℕ) → (b || is_some rest) ≡ is_some (cond b (Some id) rest)
       found true id rest = refl
@@ -124,7 +136,8 @@ module _ {A : Type 0} where
 
   -- copies of the keys' names, sorted, are the names of the entries in their order
   pub sorted_names : (es : List (Vec ℕ A × ℕ)) (copies sorted : List (Vec ℕ A))
-      → bytes_of copies ≡ bytes_of (keys_of es) → IsPermutation copies sorted → IsSorted key_cmp sorted → IsDistinct key_eq (keys_of es)
+      → bytes_of copies ≡ bytes_of (keys_of es)
+      → IsPermutation copies sorted → IsSorted key_cmp sorted → IsDistinct key_eq (keys_of es)
       → bytes_of sorted ≡ map (λ e. e.0) (listed es)
   sorted_names es copies sorted copied permuted in_order distinct =
       same_names (bytes_of sorted) (map (λ e. e.0) (listed es))
@@ -136,10 +149,13 @@ module _ {A : Type 0} where
       ∙ is_some-find name_cmp q (listed es))
     where
       moved : IsPermutation (bytes_of (keys_of es)) (bytes_of sorted)
-      moved = subst (λ names. IsPermutation names (bytes_of sorted)) copied (IsPermutation-map (λ key. key.items) copies sorted permuted)
+      moved =
+          subst (λ names. IsPermutation names (bytes_of sorted)) copied
+          (IsPermutation-map (λ key. key.items) copies sorted permuted)
 
       apart : IsDistinct key_eq sorted
       apart =
           subst (λ (X : Type 0). X) (IsDistinct-bytes_of sorted)
-          (IsDistinct-IsPermutation (pointwise nat_eq) nat_list_eq_equiv.symm (bytes_of (keys_of es)) (bytes_of sorted) moved
+          (IsDistinct-IsPermutation (pointwise nat_eq) nat_list_eq_equiv.symm
+          (bytes_of (keys_of es)) (bytes_of sorted) moved
           (subst (λ (X : Type 0). X) (sym (IsDistinct-bytes_of (keys_of es))) distinct))

@@ -8,7 +8,8 @@ use Rattle.vt_node.proofs.entries.DirectoryEntries.insert.Goals as goal
 pub returns-clause-ok : goal.returns-clause-ok
 returns-clause-ok c =
     let facts = c.in_ok-insert.ensures in
-    listed-insert c.self.inside.by_name.entries c.insert.new.self.entries c.args.name.items c.args.id facts.updates.1 facts.updates.3
+    listed-insert c.self.inside.by_name.entries c.insert.new.self.entries c.args.name.items c.args.id
+    facts.updates.1 facts.updates.3
     ∙ ap (with_entry c.args.name.items c.args.id) c.self.view_is
 
 -- only a name that was not there can fail
@@ -20,7 +21,9 @@ returns-in_err-insert-clause-present c = λ there.
     absurd (true≢false (sym there ∙ ap is_some (sym here ∙ lookup_here ∙ absent)))
 
 pub returns-clause-in_order : goal.returns-clause-in_order
-returns-clause-in_order c = ap (is_sorted name_cmp) (sym c.self.view_is) ∙ holds _ (is_sorted-listed c.self.inside.by_name.entries)
+returns-clause-in_order c =
+    ap (is_sorted name_cmp) (sym c.self.view_is) ∙ holds _ (is_sorted-listed c.self.inside.by_name.entries)
 
 pub returns-in_err-insert-clause-in_order : goal.returns-in_err-insert-clause-in_order
-returns-in_err-insert-clause-in_order c = ap (is_sorted name_cmp) (sym c.self.view_is) ∙ holds _ (is_sorted-listed c.self.inside.by_name.entries)
+returns-in_err-insert-clause-in_order c =
+    ap (is_sorted name_cmp) (sym c.self.view_is) ∙ holds _ (is_sorted-listed c.self.inside.by_name.entries)

@@ -16,5 +16,6 @@ returns-clause-ok c =
 -- where nothing is listed nothing is kept, and copied
 pub returns-in_err-names-clause-empty : goal.returns-in_err-names-clause-empty
 returns-in_err-names-clause-empty c = λ none.
-    let keys = c.as_slice.ensures ∙ c.keys.ensures.rest ∙ ap keys_of (none-listed c.self.inside.by_name.entries (c.self.view_is ∙ none)) in
+    let kept = none-listed c.self.inside.by_name.entries (c.self.view_is ∙ none) in
+    let keys = c.as_slice.ensures ∙ c.keys.ensures.rest ∙ ap keys_of kept in
     absurd (true≢false (sym (c.in_err-names.ensures.empty keys)))

@@ -5,5 +5,6 @@ use Rattle.vt_node.proofs.entries.DirectoryEntries.remove.Goals as goal
 
 pub returns : goal.returns
 returns c =
-    listed-remove c.self.inside.by_name.entries c.swap_remove.new.self.entries c.args.name.now c.swap_remove.ensures.updates.1 c.swap_remove.ensures.updates.3
+    let updates = c.swap_remove.ensures.updates in
+    listed-remove c.self.inside.by_name.entries c.swap_remove.new.self.entries c.args.name.now updates.1 updates.3
     ∙ ap (without_entry c.args.name.now) c.self.view_is
