@@ -50,6 +50,7 @@ pub mod MountsPlaces
 pub mod MountsReplaced
 pub mod MountsRetyped
 pub mod NamedWorlds
+pub mod NumbersRaised
 pub mod OneTreeChanges
 pub mod OneTreeCounts
 pub mod OneTreeDescriptors
