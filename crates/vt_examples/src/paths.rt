@@ -39,8 +39,8 @@ pub fn last_word_of_write()
     ensures trailing_slash_in_a_file { script_text [] (codes "t write /f x\nt write /f/g/ y\n") ≡ codes "1 ok\n2 deny 20 ENOTDIR W3\n" }
 {}
 
-/// The last word of `rename`: `.`, `..` and no word of either path name no entry. A trailing slash asks that a directory is renamed;
-/// the slashes of a path without words stand behind no word, and ask for nothing.
+/// The last word of `rename`: `.`, `..` and no word of either path name no entry. A trailing slash asks that a
+/// directory is renamed; the slashes of a path without words stand behind no word, and ask for nothing.
 #[tactic(auto, unfolding(crate::specs::Opened::computed))]
 pub fn last_word_of_rename()
     ensures dot { script_text [] (codes "t write /f x\nt rename /f /.\n") ≡ codes "1 ok\n2 deny 16 EBUSY P1\n" }

@@ -111,8 +111,8 @@ pub fn a_second_name_outside_a_layer()
         ++ codes "16 ok\n17 ok y\n" }
 {}
 
-/// An open file of an overlay whose last name there went counts as under the upper directory: a directory that has another name of it
-/// overlaps that one (O2 before O3, and O3 alone where the two are of different mounts), and it stays locked (L1).
+/// An open file of an overlay that has no name there any more counts as under the upper directory, as long as it is
+/// open: a directory that has another name of it overlaps that one (of one mount O2, else O3), and it is locked (L1).
 pub fn an_unlinked_object_counts_as_under_its_upper_directory()
     ensures { machine_text One [] (codes "t mkdir /l\nt mkdir /u\nt mkdir /w\nt mkdir /z\nt mkdir /y\nt mkdir /m\nt write /u/f x\n"
         ++ codes "t link /u/f /z/f\nt mount overlay /m lowerdir=/l,upperdir=/u,workdir=/w\nt open /m/f r\nt unlink /m/f\n"

@@ -421,8 +421,8 @@ directive_words name words =
     else if bytes_eq name (codes "sealed") then some_tasks words
     else None
 
--- What of the language is there: calls by their names, of those the calls with such words, and directives by their names. A
--- line with anything else is not of the grammar.
+-- What of the language is there. A call is there by its name and with its words, since of the calls by one name some may be
+-- there and others not; a directive is there by its name. A line with anything else is not of the grammar.
 pub record Grammar : Type 0 where
   pub version : Version
   pub knows : List ℕ → Bool
