@@ -1,6 +1,29 @@
 -- Endless rows of numbers: each number stands at one place of one row.
-use Rattle.std.proofs.Common.{◌≡◌, refl, ap, ◌∙◌, ℕ, zero, suc, ◌+◌, ◌≤◌, arith}
-use Rattle.vt_laws.specs.Numbers.{number_in_row, numbers_before}
+use Rattle.std.proofs.Common.{◌≡◌, refl, ap, ◌∙◌, ℕ, zero, suc, ◌+◌, ◌*◌, ◌/◌, ◌≤◌, arith}
+use Rattle.std.proofs.Math.Nat.{mul-suc, suc-mul}
+
+-- how many numbers stand before a diagonal, and the number at a place of a row
+numbers_before : ℕ → ℕ
+numbers_before zero = 0
+numbers_before (suc diagonal) = numbers_before diagonal + suc diagonal
+
+unfoldable pub number_in_row : ℕ → ℕ → ℕ
+unfolding numbers_before
+number_in_row row place = numbers_before (row + place) + row
+
+-- Gauss's sum
+pub numbers_before-sum : (row place : ℕ) → ((row + place) * (row + place + 1)) / 2 + row ≡ number_in_row row place
+unfolding numbers_before number_in_row
+numbers_before-sum row place = ap (λ n. n + row) (sum (row + place))
+  where
+    sum : (diagonal : ℕ) → (diagonal * (diagonal + 1)) / 2 ≡ numbers_before diagonal
+    sum zero = refl
+    sum (suc diagonal) =
+        let earlier : (diagonal * (diagonal + 1)) / 2 ≡ numbers_before diagonal = sum diagonal in
+        let longer : suc diagonal * (suc diagonal + 1) ≡ diagonal * (suc diagonal + 1) + (suc diagonal + 1) = suc-mul diagonal (suc diagonal + 1) in
+        let wider : diagonal * (suc diagonal + 1) ≡ diagonal * (diagonal + 1) + diagonal =
+        ap (λ n. diagonal * n) (let more : suc diagonal + 1 ≡ suc (diagonal + 1) = omega arith in more) ∙ mul-suc diagonal (diagonal + 1) in
+        omega arith
 
 next : ℕ → ℕ → ℕ × ℕ
 next a zero = (zero, suc a)

@@ -1,155 +1,117 @@
--- Rows of which the first begin with a block each: the numbers that are counted on from line to line. Behind its block a
--- row goes on above all blocks.
-use Rattle.std.proofs.Common.{◌≡◌, refl, ap, ◌∙◌, ℕ, ◌+◌, ◌-◌, ◌*◌, ◌/◌, ◌%◌, ◌<◌, ◌≤◌, Bool, true, false, nat_lt, arith}
+-- Rows of numbers, each number at one place of one row: the first four stand first in the first row, and all others along the
+-- diagonals.
+use Rattle.std.proofs.Common.{◌≡◌, refl, sym, ap, ◌∙◌, ℕ, zero, suc, ◌+◌, ◌-◌, ◌<◌, ◌≤◌, Bool, true, false, nat_lt, arith}
 use Rattle.std.proofs.lemmas.Bool.{le-ltb, lt-ltb, ltb-false, ltb-true}
-use Rattle.vt_laws.proofs.Cells.{cell, cell-number_in_row, number_in_row-cell}
-use Rattle.vt_laws.specs.Numbers.{completed, completed_by, number_in_row}
-use Rattle.vt_spec.specs.Machine.Run.{counted_on}
+use Rattle.vt_laws.proofs.Cells.{cell, cell-number_in_row, number_in_row, number_in_row-cell, numbers_before-sum}
+use Rattle.vt_spec.specs.Machine.Run.{numbers_for}
 
-abbrev pub size : ℕ
-size = 18446744073709551616
+-- the number at a place of a row
+first_row : Bool → ℕ → ℕ
+first_row true place = place
+first_row false place = 4 + number_in_row 0 (place - 4)
 
-module _ (blocks : ℕ) where
-  above : ℕ
-  above = counted_on blocks 0
+pub spread : ℕ → ℕ → ℕ
+spread zero place = first_row (nat_lt place 4) place
+spread (suc row) place = 4 + number_in_row (suc row) place
 
-  row_by : Bool → ℕ → ℕ
-  row_by true number = number / size
-  row_by false number = (cell (number - above)).0
+-- the row in which a number stands, and its place there
+row_by : Bool → ℕ → ℕ
+row_by true number = 0
+row_by false number = (cell (number - 4)).0
 
-  col_above : Bool → ℕ → ℕ
-  col_above true k = size + k
-  col_above false k = k
+pub row : ℕ → ℕ
+row number = row_by (nat_lt number 4) number
 
-  col_by : Bool → ℕ → ℕ
-  col_by true number = number % size
-  col_by false number = col_above (nat_lt (cell (number - above)).0 blocks) (cell (number - above)).1
+place_in : ℕ → ℕ → ℕ
+place_in zero place = 4 + place
+place_in (suc row) place = place
 
-  -- the row in which a number stands, its place there, and the number at a place of a row
-  pub row : ℕ → ℕ
-  row number = row_by (nat_lt number above) number
+col_by : Bool → ℕ → ℕ
+col_by true number = number
+col_by false number = place_in (cell (number - 4)).0 (cell (number - 4)).1
 
-  pub col : ℕ → ℕ
-  col number = col_by (nat_lt number above) number
+pub col : ℕ → ℕ
+col number = col_by (nat_lt number 4) number
 
-  abbrev pub spread : ℕ → ℕ → ℕ
-  spread n k = completed blocks n k
+-- the first four
+pub row_first : (number : ℕ) → number < 4 → row number ≡ 0
+unfolding row row_by
+row_first number low = ap (λ t. row_by t number) (lt-ltb number 4 low)
 
-  row_low : (number : ℕ) → number < above → row number ≡ number / size
-  unfolding row row_by
-  row_low number low = ap (λ t. row_by t number) (lt-ltb number above low)
+col_first : (number : ℕ) → number < 4 → col number ≡ number
+unfolding col col_by
+col_first number low = ap (λ t. col_by t number) (lt-ltb number 4 low)
 
-  row_high : (number : ℕ) → above ≤ number → row number ≡ (cell (number - above)).0
-  unfolding row row_by
-  row_high number high = ap (λ t. row_by t number) (le-ltb number above high)
+spread_first : (place : ℕ) → place < 4 → spread 0 place ≡ place
+unfolding spread first_row
+spread_first place low = ap (λ t. first_row t place) (lt-ltb place 4 low)
 
-  col_low : (number : ℕ) → number < above → col number ≡ number % size
-  unfolding col col_by
-  col_low number low = ap (λ t. col_by t number) (lt-ltb number above low)
+-- the others
+cell_above : (number a b : ℕ) → number ≡ 4 + number_in_row a b → cell (number - 4) ≡ (a, b)
+cell_above number a b e =
+    let rest : number - 4 ≡ number_in_row a b = omega arith in
+    ap cell rest ∙ cell-number_in_row a b
 
-  col_high : (number : ℕ) → above ≤ number → col number ≡ col_above (nat_lt (cell (number - above)).0 blocks) (cell (number - above)).1
-  unfolding col col_by
-  col_high number high = ap (λ t. col_by t number) (le-ltb number above high)
+row_above : (number a b : ℕ) → number ≡ 4 + number_in_row a b → row number ≡ a
+unfolding row row_by
+row_above number a b e =
+    ap (λ t. row_by t number) (le-ltb number 4 (omega arith)) ∙ ap (λ c. c.0) (cell_above number a b e)
 
-  pub spread_low : (n k : ℕ) → n < blocks → k < size → spread n k ≡ size * n + k
-  unfolding completed completed_by above
-  spread_low n k near short = λ i. completed_by (lt-ltb n blocks near i) (lt-ltb k size short i) blocks n k
+col_above : (number a b : ℕ) → number ≡ 4 + number_in_row a b → col number ≡ place_in a b
+unfolding col col_by
+col_above number a b e =
+    ap (λ t. col_by t number) (le-ltb number 4 (omega arith)) ∙ ap (λ (c : ℕ × ℕ). place_in c.0 c.1) (cell_above number a b e)
 
-  spread_tail : (n k : ℕ) → n < blocks → size ≤ k → spread n k ≡ above + number_in_row n (k - size)
-  unfolding completed completed_by above
-  spread_tail n k near long = λ i. completed_by (lt-ltb n blocks near i) (le-ltb k size long i) blocks n k
+spread_later : (place : ℕ) → 4 ≤ place → spread 0 place ≡ 4 + number_in_row 0 (place - 4)
+unfolding spread first_row
+spread_later place high = ap (λ t. first_row t place) (le-ltb place 4 high)
 
-  spread_far : (n k : ℕ) → blocks ≤ n → spread n k ≡ above + number_in_row n k
-  unfolding completed completed_by above
-  spread_far n k far = λ i. completed_by (le-ltb n blocks far i) (nat_lt k size) blocks n k
+spread_above : (a b : ℕ) → spread a (place_in a b) ≡ 4 + number_in_row a b
+unfolding spread place_in
+spread_above zero b =
+    let again : (4 + b) - 4 ≡ b = omega arith in
+    spread_later (4 + b) (omega arith) ∙ ap (λ n. 4 + number_in_row 0 n) again
+spread_above (suc a) b = refl
 
-  -- what stands above the blocks
-  cell_above : (number a b : ℕ) → number ≡ above + number_in_row a b → cell (number - above) ≡ (a, b)
-  cell_above number a b e =
-      let rest : number - above ≡ number_in_row a b = omega arith in
-      ap cell rest ∙ cell-number_in_row a b
+pub row-spread : (n k : ℕ) → row (spread n k) ≡ n
+unfolding spread
+row-spread zero k = by (nat_lt k 4) refl
+  where
+    by : (low : Bool) → nat_lt k 4 ≡ low → row (spread 0 k) ≡ 0
+    by true low = let first : k < 4 = ltb-true k 4 low in ap row (spread_first k first) ∙ row_first k first
+    by false high = row_above (spread 0 k) 0 (k - 4) (spread_later k (ltb-false k 4 high))
+row-spread (suc n) k = row_above (spread (suc n) k) (suc n) k refl
 
-  row_above : (number a b : ℕ) → number ≡ above + number_in_row a b → row number ≡ a
-  row_above number a b e = row_high number (omega arith) ∙ ap (λ c. c.0) (cell_above number a b e)
+pub col-spread : (n k : ℕ) → col (spread n k) ≡ k
+unfolding spread place_in
+col-spread zero k = by (nat_lt k 4) refl
+  where
+    by : (low : Bool) → nat_lt k 4 ≡ low → col (spread 0 k) ≡ k
+    by true low = let first : k < 4 = ltb-true k 4 low in ap col (spread_first k first) ∙ col_first k first
+    by false high =
+        let later : 4 ≤ k = ltb-false k 4 high in
+        let again : 4 + (k - 4) ≡ k = omega arith in
+        col_above (spread 0 k) 0 (k - 4) (spread_later k later) ∙ again
+col-spread (suc n) k = col_above (spread (suc n) k) (suc n) k refl
 
-  col_of_above : (number a b : ℕ) → number ≡ above + number_in_row a b → col number ≡ col_above (nat_lt a blocks) b
-  col_of_above number a b e = col_high number (omega arith) ∙ ap (λ (c : ℕ × ℕ). col_above (nat_lt c.0 blocks) c.1) (cell_above number a b e)
+pub spread-row : (number : ℕ) → spread (row number) (col number) ≡ number
+spread-row number = by (nat_lt number 4) refl
+  where
+    by : (low : Bool) → nat_lt number 4 ≡ low → spread (row number) (col number) ≡ number
+    by true low =
+        let first : number < 4 = ltb-true number 4 low in
+        (λ i. spread (row_first number first i) (col_first number first i)) ∙ spread_first number first
+    by false high =
+        let later : 4 ≤ number = ltb-false number 4 high in
+        let a = (cell (number - 4)).0 in
+        let b = (cell (number - 4)).1 in
+        let same = number_in_row-cell (number - 4) in
+        let whole : number ≡ 4 + number_in_row a b = omega arith in
+        (λ i. spread (row_above number a b whole i) (col_above number a b whole i)) ∙ spread_above a b ∙ sym whole
 
-  -- a block's numbers
-  block_low : (n k : ℕ) → n < blocks → k < size → size * n + k < above
-  unfolding above
-  block_low n k near short = omega arith
-
-  block_row : (n k : ℕ) → k < size → (size * n + k) / size ≡ n
-  block_row n k short = omega arith
-
-  block_col : (n k : ℕ) → k < size → (size * n + k) % size ≡ k
-  block_col n k short = omega arith
-
-  pub row-spread : (n k : ℕ) → row (spread n k) ≡ n
-  row-spread n k = by (nat_lt n blocks) refl (nat_lt k size) refl
-    where
-      by : (near : Bool) → nat_lt n blocks ≡ near → (short : Bool) → nat_lt k size ≡ short → row (spread n k) ≡ n
-      by true near true short =
-          let in_blocks : n < blocks = ltb-true n blocks near in
-          let in_block : k < size = ltb-true k size short in
-          ap row (spread_low n k in_blocks in_block) ∙ row_low (size * n + k) (block_low n k in_blocks in_block) ∙ block_row n k in_block
-      by true near false short = row_above (spread n k) n (k - size) (spread_tail n k (ltb-true n blocks near) (ltb-false k size short))
-      by false far short e = row_above (spread n k) n k (spread_far n k (ltb-false n blocks far))
-
-  pub col-spread : (n k : ℕ) → col (spread n k) ≡ k
-  unfolding col_above
-  col-spread n k = by (nat_lt n blocks) refl (nat_lt k size) refl
-    where
-      by : (near : Bool) → nat_lt n blocks ≡ near → (short : Bool) → nat_lt k size ≡ short → col (spread n k) ≡ k
-      by true near true short =
-          let in_blocks : n < blocks = ltb-true n blocks near in
-          let in_block : k < size = ltb-true k size short in
-          ap col (spread_low n k in_blocks in_block) ∙ col_low (size * n + k) (block_low n k in_blocks in_block) ∙ block_col n k in_block
-      by true near false short =
-          let long : size ≤ k = ltb-false k size short in
-          let again : size + (k - size) ≡ k = omega arith in
-          col_of_above (spread n k) n (k - size) (spread_tail n k (ltb-true n blocks near) long) ∙ ap (λ t. col_above t (k - size)) near ∙ again
-      by false far short e = col_of_above (spread n k) n k (spread_far n k (ltb-false n blocks far)) ∙ ap (λ t. col_above t k) far
-
-  row_near : (number : ℕ) → number < above → number / size < blocks
-  unfolding above
-  row_near number low = omega arith
-
-  whole : (number : ℕ) → above ≤ number → above + number_in_row (cell (number - above)).0 (cell (number - above)).1 ≡ number
-  whole number high =
-      let same = number_in_row-cell (number - above) in
-      omega arith
-
-  pub spread-row : (number : ℕ) → spread (row number) (col number) ≡ number
-  unfolding col_above
-  spread-row number = by (nat_lt number above) refl (nat_lt (cell (number - above)).0 blocks) refl
-    where
-      by : (low : Bool) → nat_lt number above ≡ low → (near : Bool) → nat_lt (cell (number - above)).0 blocks ≡ near → spread (row number) (col number) ≡ number
-      by true low near e =
-          let is_low : number < above = ltb-true number above low in
-          (λ i. spread (row_low number is_low i) (col_low number is_low i))
-          ∙ spread_low (number / size) (number % size) (row_near number is_low) (omega arith) ∙ omega arith
-      by false high true near =
-          let is_high : above ≤ number = ltb-false number above high in
-          let a = (cell (number - above)).0 in
-          let b = (cell (number - above)).1 in
-          let b_again : (size + b) - size ≡ b = omega arith in
-          (λ i. spread (row_high number is_high i) (col_high number is_high i))
-          ∙ ap (λ t. spread a (col_above t b)) near
-          ∙ spread_tail a (size + b) (ltb-true a blocks near) (omega arith)
-          ∙ ap (λ k. above + number_in_row a k) b_again ∙ whole number is_high
-      by false high false far =
-          let is_high : above ≤ number = ltb-false number above high in
-          let a = (cell (number - above)).0 in
-          let b = (cell (number - above)).1 in
-          (λ i. spread (row_high number is_high i) (col_high number is_high i))
-          ∙ ap (λ t. spread a (col_above t b)) far
-          ∙ spread_far a b (ltb-false a blocks far) ∙ whole number is_high
-
-  -- the first row has the first numbers
-  pub row_first : (number : ℕ) → 0 < blocks → number < size → row number ≡ 0
-  unfolding above
-  row_first number some small =
-      let low : number < counted_on blocks 0 = omega arith in
-      row_low number low ∙ omega arith
+-- what a line is handed is the row of its number
+pub spread_for : (row place : ℕ) → numbers_for (suc row) place ≡ spread (suc row) place
+unfolding spread
+spread_for row place =
+    let same = numbers_before-sum (suc row) place in
+    omega arith

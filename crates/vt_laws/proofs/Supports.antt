@@ -1,5 +1,5 @@
 -- Which numbers a world has in it.
-use Rattle.std.proofs.Common.{◌≡◌, ◌≢◌, refl, sym, ap, ◌∙◌, true≢false, ℕ, nat_eq, eq-eqb, ne_eqb, Bool, true, false, cond, List, [], ◌∷◌, ⊎_elim, Some}
+use Rattle.std.proofs.Common.{◌≡◌, ◌≢◌, refl, sym, ap, ◌∙◌, true≢false, ℕ, nat_eq, Bool, true, false, cond, List, [], ◌∷◌, ⊎_elim, Some}
 use Rattle.std.proofs.lemmas.Bool.Decides.{eqb_tells}
 use Rattle.std.specs.Prelude.{map, ◌||◌}
 use Rattle.vt_spec.specs.Machine.Lists.{Fresh, is_among}
@@ -8,8 +8,11 @@ use Rattle.vt_spec.specs.Machine.Renaming.{renamed}
 use Rattle.vt_spec.specs.Machine.Run.{Step, line_step, numbers_in_use, step_world}
 use Rattle.vt_spec.specs.Machine.Run.Step.{Answered, Silent}
 use Rattle.vt_spec.specs.Machine.World.{World, opening}
-use Rattle.vt_laws.specs.Numbers.{CallsKeepToNumbers, Leaves, LeavesOutTwo, LinesKeepToNumbers, OpeningKeepsToFour, Renaming, UsedNumbersAreNamed, renamed_step}
-use Rattle.vt_laws.proofs.Renamings.{Named, calls_renamed, commutes_nat, lines_renamed, map_itself, named_world}
+use Rattle.vt_laws.specs.Numbers.{CallsKeepToNumbers, LeavesOutTwo, LinesKeepToNumbers, OpeningKeepsToFour, UsedNumbersAreNamed, renamed_step}
+use Rattle.vt_one_text.specs.Renaming.{Renaming}
+use Rattle.vt_one_text.proofs.Commuting.{Named, commutes_nat, map_itself}
+use Rattle.vt_one_text.proofs.Exchanges.{exchange, exchange_leaves, swapped, swapped_first}
+use Rattle.vt_laws.proofs.Renamings.{calls_renamed, lines_renamed, named_world}
 
 -- The world after a call, and after a line
 
@@ -72,43 +75,6 @@ member_itself f (first ∷ rest) same number among =
     (λ t. ap f t.1 ∙ same_first (f first) first (map f rest) rest same ∙ sym t.1)
     (λ t. member_itself f rest (same_rest (f first) first (map f rest) rest same) number (sym (ap (λ b. b || is_among nat_eq number rest) t.0) ∙ among))
     (eqb_tells number first)
-
--- Two numbers exchanged
-abbrev pub swapped : ℕ → ℕ → ℕ → ℕ
-swapped a b k = cond (nat_eq k a) b (cond (nat_eq k b) a k)
-
-pub swapped_first : (a b : ℕ) → swapped a b a ≡ b
-swapped_first a b = ap (λ t. cond t b (cond (nat_eq a b) a a)) (eq-eqb a a refl)
-
-swapped_second : (a b : ℕ) → swapped a b b ≡ a
-swapped_second a b =
-    ⊎_elim
-    (λ t. ap (λ x. cond x b (cond (nat_eq b b) a b)) t.0 ∙ t.1)
-    (λ t. ap (λ x. cond x b (cond (nat_eq b b) a b)) t.0 ∙ ap (λ x. cond x a b) (eq-eqb b b refl))
-    (eqb_tells b a)
-
-pub swapped_other : (a b k : ℕ) → k ≢ a → k ≢ b → swapped a b k ≡ k
-swapped_other a b k first second = ap (λ t. cond t b (cond (nat_eq k b) a k)) (ne_eqb k a first) ∙ ap (λ t. cond t a k) (ne_eqb k b second)
-
-pub swapped_twice : (a b k : ℕ) → swapped a b (swapped a b k) ≡ k
-swapped_twice a b k =
-    ⊎_elim
-    (λ t. ap (λ n. swapped a b (swapped a b n)) t.1 ∙ ap (swapped a b) (swapped_first a b) ∙ swapped_second a b ∙ sym t.1)
-    (λ t. ⊎_elim
-    (λ s. ap (λ n. swapped a b (swapped a b n)) s.1 ∙ ap (swapped a b) (swapped_second a b) ∙ swapped_first a b ∙ sym s.1)
-    (λ s. ap (swapped a b) (swapped_other a b k t.1 s.1) ∙ swapped_other a b k t.1 s.1)
-    (eqb_tells k b))
-    (eqb_tells k a)
-
-abbrev pub exchange : ℕ → ℕ → Renaming ℕ ℕ
-exchange a b = record { there = swapped a b; back = swapped a b; there_back = swapped_twice a b; back_there = swapped_twice a b }
-
--- an exchange of two numbers that are left out leaves the others where they are
-pub exchange_leaves : (named : ℕ → Bool) (a b : ℕ) → named a ≡ false → named b ≡ false → Leaves (exchange a b) named
-exchange_leaves named a b no_a no_b number is =
-    swapped_other a b number
-    (λ e. true≢false (sym is ∙ ap named e ∙ no_a))
-    (λ e. true≢false (sym is ∙ ap named e ∙ no_b))
 
 -- Of two numbers that are left out one is another than the number given
 other_left : (named : ℕ → Bool) → LeavesOutTwo named → (number : ℕ) → (other : ℕ) × (other ≢ number) × (named other ≡ false)

@@ -1,16 +1,17 @@
 -- A script has one text, whatever unused numbers are handed in.
 use Rattle.vt_spec.specs.Machine.Policy.{policy}
-use Rattle.std.proofs.Common.{◌≡◌, refl, sym, ap, ◌∙◌, true≢false, ℕ, suc, nat_eq, ◌+◌, ◌≤◌, Bool, true, false, List, [], ◌∷◌, ◌++◌, length, Some, None, arith, ◌<◌, ltb-true, subst, eqb-true}
+use Rattle.std.proofs.Common.{◌≡◌, refl, sym, ap, ◌∙◌, true≢false, ℕ, suc, nat_eq, ◌+◌, ◌≤◌, Bool, true, false, List, [], ◌∷◌, ◌++◌, length, Some, None, arith, ltb-true, subst, eqb-true}
 use Rattle.vt_spec.specs.Machine.Lists.{Fresh, is_among}
 use Rattle.vt_spec.specs.Machine.Renaming.{renamed, SameWorld}
-use Rattle.vt_spec.specs.Machine.Run.{Step, line_step, step_text, step_world, first_world, text_from, counted_on, Tells, numbers_in_use, handed, later}
+use Rattle.vt_spec.specs.Machine.Run.{Step, line_step, step_text, step_world, first_world, text_from, text_of, numbers_for, Tells, numbers_in_use}
 use Rattle.vt_spec.specs.Machine.Run.Step.{Answered, Silent}
 use Rattle.vt_spec.specs.Machine.Script.{Grammar, lines_of}
 use Rattle.vt_spec.specs.Machine.World.{World}
-use Rattle.vt_laws.specs.Numbers.{KeepsTo, Renaming, ServesWithRoom, Lot, Allotment, TellsWithRoom, WorldsKeepToHand, is_in_hand, is_in_hand_lot, is_kept, is_kept_lot, renamed_step, first_four, AnyTwoTextsAreOne, SomeTextIsThere, SuppliesDoNotMatter, EachTakesFew, MayBeText, WholeMachineHasOneText, RoomServes, TextsAreTold, LeavesOutTwo, completed_from, completed_text, CountedTextIsTheText, TakesFew, completed_for, completed}
+use Rattle.vt_one_text.specs.Renaming.{Renaming}
+use Rattle.vt_laws.specs.Numbers.{KeepsTo, ServesWithRoom, Lot, Allotment, TellsWithRoom, WorldsKeepToHand, is_in_hand, is_in_hand_lot, is_kept, is_kept_lot, renamed_step, first_four, AnyTwoTextsAreOne, SomeTextIsThere, SuppliesDoNotMatter, MayBeText, WholeMachineHasOneText, RoomServes, TextsAreTold, LeavesOutTwo}
 use Rattle.vt_laws.specs.Numbers.Lot.{Kept, LeftOver, New}
 use Rattle.vt_laws.proofs.Renamings.{lines_renamed, renamed_itself, same_worlds_answer_alike}
-use Rattle.vt_laws.proofs.Rows.{row, row-spread, spread, row_first, spread_low}
+use Rattle.vt_laws.proofs.Rows.{row, row-spread, row_first, spread, spread_for}
 use Rattle.vt_laws.proofs.Allotments.{agree, joined, kept_lot, allotted_kept, allotted_new}
 use Rattle.vt_laws.proofs.Stages.{stage, stage_keeps, stage_new, stage_rows}
 use Rattle.vt_laws.proofs.Supports.{used_numbers_are_named, lines_keep_to_numbers, step_world-renamed, opening_keeps_to_four}
@@ -77,7 +78,7 @@ supplies_do_not_matter world other same first second name call keeps kept =
     × SameWorld (policy nat_eq first.new world name call).world (policy nat_eq new other name call).world in
     subst P (λ i k. supplied k i) (same_worlds_answer_alike world other again first.new name call)
 
-module _ (blocks : ℕ) (grammar : Grammar) where
+module _ (grammar : Grammar) where
   -- the text where each line is handed the next row
   rows_text : ℕ → World ℕ → ℕ → List (List ℕ) → List Bool → List ℕ
   rows_text m world number [] refused = []
@@ -86,60 +87,60 @@ module _ (blocks : ℕ) (grammar : Grammar) where
       step_text number (line_step nat_eq grammar world line None)
       ++ rows_text (suc m) (step_world world (line_step nat_eq grammar world line None)) (number + 1) lines refused
   rows_text m world number (line ∷ lines) (false ∷ refused) =
-      step_text number (line_step nat_eq grammar world line (Some (spread blocks (suc m))))
-      ++ rows_text (suc m) (step_world world (line_step nat_eq grammar world line (Some (spread blocks (suc m))))) (number + 1) lines refused
+      step_text number (line_step nat_eq grammar world line (Some (spread (suc m))))
+      ++ rows_text (suc m) (step_world world (line_step nat_eq grammar world line (Some (spread (suc m))))) (number + 1) lines refused
 
   -- the numbers in hand are renamed to numbers of the rows so far
   AreEarly : (ℕ → Bool) → (ℕ → ℕ) → ℕ → Type 0
-  AreEarly in_hand rename m = (number : ℕ) → in_hand number ≡ true → row blocks (rename number) ≤ m
+  AreEarly in_hand rename m = (number : ℕ) → in_hand number ≡ true → row (rename number) ≤ m
 
   -- A line that is handed some supply, and the same line in the renamed world that is handed the next row
   module _ (m : ℕ) (renaming : Renaming ℕ ℕ) (in_hand : ℕ → Bool) (world other : World ℕ) (same : renamed renaming.there renaming.back world ≡ other)
-      (early : (number : ℕ) → in_hand number ≡ true → row blocks (renaming.there number) ≤ m) (allotment : Allotment) (serves : ServesWithRoom in_hand world allotment) where
+      (early : (number : ℕ) → in_hand number ≡ true → row (renaming.there number) ≤ m) (allotment : Allotment) (serves : ServesWithRoom in_hand world allotment) where
     is_kept_there : ℕ → Bool
     is_kept_there number = is_kept allotment (renaming.back number)
 
-    keeps_early : (number : ℕ) → is_kept_there number ≡ true → row blocks number ≤ m
+    keeps_early : (number : ℕ) → is_kept_there number ≡ true → row number ≤ m
     unfolding is_kept_there
     keeps_early number is =
         let low = early (renaming.back number) (serves.from_hand (renaming.back number) is) in
-        let there : row blocks (renaming.there (renaming.back number)) ≡ row blocks number = ap (row blocks) (renaming.there_back number) in
+        let there : row (renaming.there (renaming.back number)) ≡ row number = ap (row) (renaming.there_back number) in
         omega arith
 
     next_row : Allotment
-    next_row = stage blocks m is_kept_there keeps_early
+    next_row = stage m is_kept_there keeps_early
 
     next : Renaming ℕ ℕ
     unfolding is_kept_there next_row
-    next = joined allotment next_row renaming (λ number. stage_keeps blocks m is_kept_there keeps_early number)
+    next = joined allotment next_row renaming (λ number. stage_keeps m is_kept_there keeps_early number)
 
     next_kept : (number : ℕ) → is_kept allotment number ≡ true → next.there number ≡ renaming.there number
     unfolding next joined
     next_kept number is = allotted_kept allotment next_row renaming.there number (kept_lot (allotment.lot number) is)
 
-    next_new : (number k : ℕ) → allotment.lot number ≡ New k → next.there number ≡ spread blocks (suc m) k
+    next_new : (number k : ℕ) → allotment.lot number ≡ New k → next.there number ≡ spread (suc m) k
     unfolding next next_row joined
-    next_new number k e = allotted_new allotment next_row renaming.there number k e ∙ stage_new blocks m is_kept_there keeps_early k
+    next_new number k e = allotted_new allotment next_row renaming.there number k e ∙ stage_new m is_kept_there keeps_early k
 
     next_same : renamed next.there next.back world ≡ other
     next_same = agree (is_kept allotment) world renaming next serves.keeps next_kept ∙ same
 
-    next_early : (number : ℕ) → is_in_hand allotment number ≡ true → row blocks (next.there number) ≤ suc m
+    next_early : (number : ℕ) → is_in_hand allotment number ≡ true → row (next.there number) ≤ suc m
     next_early number = by (allotment.lot number) refl
       where
-        by : (lot : Lot) → allotment.lot number ≡ lot → is_in_hand_lot lot ≡ true → row blocks (next.there number) ≤ suc m
+        by : (lot : Lot) → allotment.lot number ≡ lot → is_in_hand_lot lot ≡ true → row (next.there number) ≤ suc m
         by Kept e is =
             let kept : is_kept allotment number ≡ true = ap is_kept_lot e in
             let low = early number (serves.from_hand number kept) in
-            let there : row blocks (next.there number) ≡ row blocks (renaming.there number) = ap (row blocks) (next_kept number kept) in
+            let there : row (next.there number) ≡ row (renaming.there number) = ap (row) (next_kept number kept) in
             omega arith
         by (New k) e is =
-            let there : row blocks (next.there number) ≡ suc m = ap (row blocks) (next_new number k e) ∙ row-spread blocks (suc m) k in
+            let there : row (next.there number) ≡ suc m = ap (row) (next_new number k e) ∙ row-spread (suc m) k in
             omega arith
         by (LeftOver k) e is = absurd (true≢false (sym is))
 
   texts_alike : (lines : List (List ℕ)) (refused : List Bool) (m number : ℕ) (renaming : Renaming ℕ ℕ) (in_hand : ℕ → Bool) (world other : World ℕ)
-      → renamed renaming.there renaming.back world ≡ other → ((number : ℕ) → in_hand number ≡ true → row blocks (renaming.there number) ≤ m)
+      → renamed renaming.there renaming.back world ≡ other → ((number : ℕ) → in_hand number ≡ true → row (renaming.there number) ≤ m)
       → (text : List ℕ) → TellsWithRoom grammar in_hand world number lines refused text → text ≡ rows_text m other number lines refused
   unfolding rows_text
   texts_alike [] refused m number renaming in_hand world other same early text tells = tells
@@ -154,25 +155,25 @@ module _ (blocks : ℕ) (grammar : Grammar) where
       let joint_same = next_same m renaming in_hand world other same early allotment tells.1 in
       let supplied = λ (k : ℕ). next_new m renaming in_hand world other same early allotment tells.1 (allotment.new k) k (allotment.new_lot k) in
       let rest = texts_alike lines refused (suc m) (number + 1) joint (is_in_hand allotment) _ _
-      (line_leads joint grammar world other joint_same line allotment.new (spread blocks (suc m)) supplied)
+      (line_leads joint grammar world other joint_same line allotment.new (spread (suc m)) supplied)
       (next_early m renaming in_hand world other same early allotment tells.1) tells.2 tells.4 in
-      tells.3 ∙ (λ i. line_alike joint grammar world other joint_same line allotment.new (spread blocks (suc m)) supplied number i ++ rest i)
+      tells.3 ∙ (λ i. line_alike joint grammar world other joint_same line allotment.new (spread (suc m)) supplied number i ++ rest i)
 
   -- a line that was refused memory changes nothing
   refused_keeps : (in_hand : ℕ → Bool) (world : World ℕ) (line : List ℕ) → KeepsTo in_hand world → KeepsTo in_hand (step_world world (line_step nat_eq grammar world line None))
   refused_keeps in_hand world line keeps renaming leaves =
       refused_leads renaming grammar world world (keeps renaming leaves) line
 
-  stage_serves : (m : ℕ) (in_hand : ℕ → Bool) (world : World ℕ) → KeepsTo in_hand world → (early : (number : ℕ) → in_hand number ≡ true → row blocks number ≤ m)
-      → ServesWithRoom in_hand world (stage blocks m in_hand early)
+  stage_serves : (m : ℕ) (in_hand : ℕ → Bool) (world : World ℕ) → KeepsTo in_hand world → (early : (number : ℕ) → in_hand number ≡ true → row number ≤ m)
+      → ServesWithRoom in_hand world (stage m in_hand early)
   stage_serves m in_hand world keeps early = record {
-    from_hand = λ number is. sym (stage_keeps blocks m in_hand early number) ∙ is;
-    keeps = more in_hand (is_kept (stage blocks m in_hand early)) world (λ number is. stage_keeps blocks m in_hand early number ∙ is) keeps;
+    from_hand = λ number is. sym (stage_keeps m in_hand early number) ∙ is;
+    keeps = more in_hand (is_kept (stage m in_hand early)) world (λ number is. stage_keeps m in_hand early number ∙ is) keeps;
   }
 
   -- and that text may be told
   rows_told : (lines : List (List ℕ)) (refused : List Bool) (m number : ℕ) (in_hand : ℕ → Bool) (world : World ℕ)
-      → KeepsTo in_hand world → ((number : ℕ) → in_hand number ≡ true → row blocks number ≤ m) → length refused ≡ length lines
+      → KeepsTo in_hand world → ((number : ℕ) → in_hand number ≡ true → row number ≤ m) → length refused ≡ length lines
       → TellsWithRoom grammar in_hand world number lines refused (rows_text m world number lines refused)
   unfolding rows_text stage
   rows_told [] refused m number in_hand world keeps early long = refl
@@ -185,13 +186,13 @@ module _ (blocks : ℕ) (grammar : Grammar) where
   )
   rows_told (line ∷ lines) (false ∷ refused) m number in_hand world keeps early long =
       let serves = stage_serves m in_hand world keeps early in (
-        stage blocks m in_hand early,
+        stage m in_hand early,
         serves,
         _,
         refl,
-        rows_told lines refused (suc m) (number + 1) (is_in_hand (stage blocks m in_hand early)) _
-            (worlds_keep_to_hand grammar in_hand world (stage blocks m in_hand early) line serves)
-            (stage_rows blocks m in_hand early) cc,
+        rows_told lines refused (suc m) (number + 1) (is_in_hand (stage m in_hand early)) _
+            (worlds_keep_to_hand grammar in_hand world (stage m in_hand early) line serves)
+            (stage_rows m in_hand early) cc,
       )
 
 -- nothing renamed
@@ -199,51 +200,53 @@ abbrev nothing_renamed : Renaming ℕ ℕ
 nothing_renamed = record { there = λ n. n; back = λ n. n; there_back = λ n. refl; back_there = λ n. refl }
 
 -- the opening world keeps to the first four numbers, which stand in the first row
-first_early : (blocks : ℕ) → 0 < blocks → (number : ℕ) → first_four number ≡ true → row blocks number ≤ 0
-first_early blocks some number is =
-    let small : number < 4 = ltb-true number 4 is in
-    let first : row blocks number ≡ 0 = row_first blocks number some (omega arith) in
+first_early : (number : ℕ) → first_four number ≡ true → row number ≤ 0
+first_early number is =
+    let first : row number ≡ 0 = row_first number (ltb-true number 4 is) in
     omega arith
 
 first_keeps : KeepsTo first_four first_world
-first_keeps = opening_keeps_to_four first_four (counted_on 0) refl refl refl refl
+first_keeps = opening_keeps_to_four first_four (λ place. place) refl refl refl refl
 
-the_text : (blocks : ℕ) → 0 < blocks → (grammar : Grammar) (refused : List Bool) (script text : List ℕ)
-    → MayBeText grammar refused script text → text ≡ rows_text blocks grammar 0 first_world 1 (lines_of script) refused
-the_text blocks some grammar refused script text tells =
-    texts_alike blocks grammar (lines_of script) refused 0 1 nothing_renamed first_four first_world first_world
-    (renamed_itself first_world) (first_early blocks some) text tells
+the_text : (grammar : Grammar) (refused : List Bool) (script text : List ℕ)
+    → MayBeText grammar refused script text → text ≡ rows_text grammar 0 first_world 1 (lines_of script) refused
+the_text grammar refused script text tells =
+    texts_alike grammar (lines_of script) refused 0 1 nothing_renamed first_four first_world first_world
+    (renamed_itself first_world) first_early text tells
 
 pub any_two_texts_are_one : AnyTwoTextsAreOne
 any_two_texts_are_one grammar refused script text other tells tells_other =
-    the_text 1 (omega arith) grammar refused script text tells ∙ sym (the_text 1 (omega arith) grammar refused script other tells_other)
+    the_text grammar refused script text tells ∙ sym (the_text grammar refused script other tells_other)
 
--- The text as it is computed is that of the rows, where no line lacks its chance.
-completed_alike : (blocks : ℕ) (grammar : Grammar) (lines : List (List ℕ)) (refused : List Bool) (m number : ℕ) (world : World ℕ)
+-- what the next line is handed is the next row
+numbers_for_next : (m number : ℕ) → number ≡ suc m → numbers_for number ≡ spread (suc m)
+numbers_for_next m number here = ap numbers_for here ∙ (λ i place. spread_for m place i)
+
+-- The text as it is computed is that of the rows, where it is said of each line whether it was refused memory.
+text_alike : (grammar : Grammar) (lines : List (List ℕ)) (refused : List Bool) (m number : ℕ) (world : World ℕ)
     → number ≡ suc m → length lines ≤ length refused
-    → completed_from blocks grammar world number lines refused ≡ rows_text blocks grammar m world number lines refused
+    → text_from grammar world number lines refused ≡ rows_text grammar m world number lines refused
 unfolding rows_text
-completed_alike blocks grammar [] refused m number world here long = refl
-completed_alike blocks grammar (line ∷ lines) [] m number world here long = absurd (omega arith)
-completed_alike blocks grammar (line ∷ lines) (true ∷ refused) m number world here long =
+text_alike grammar [] refused m number world here long = refl
+text_alike grammar (line ∷ lines) [] m number world here long = absurd (omega arith)
+text_alike grammar (line ∷ lines) (true ∷ refused) m number world here long =
     ap (λ rest. step_text number (line_step nat_eq grammar world line None) ++ rest)
-    (completed_alike blocks grammar lines refused (suc m) (number + 1) _ (omega arith) (omega arith))
-completed_alike blocks grammar (line ∷ lines) (false ∷ refused) m number world here long =
-    ap (λ rest. step_text number (line_step nat_eq grammar world line (Some (spread blocks number))) ++ rest)
-    (completed_alike blocks grammar lines refused (suc m) (number + 1) _ (omega arith) (omega arith))
-    ∙ (λ i. step_text number (line_step nat_eq grammar world line (Some (spread blocks (here i))))
-    ++ rows_text blocks grammar (suc m) (step_world world (line_step nat_eq grammar world line (Some (spread blocks (here i))))) (number + 1) lines refused)
+    (text_alike grammar lines refused (suc m) (number + 1) _ (omega arith) (omega arith))
+text_alike grammar (line ∷ lines) (false ∷ refused) m number world here long =
+    let row_here = numbers_for_next m number here in
+    ap (λ rest. step_text number (line_step nat_eq grammar world line (Some (numbers_for number))) ++ rest)
+    (text_alike grammar lines refused (suc m) (number + 1) _ (omega arith) (omega arith))
+    ∙ (λ i. step_text number (line_step nat_eq grammar world line (Some (row_here i)))
+    ++ rows_text grammar (suc m) (step_world world (line_step nat_eq grammar world line (Some (row_here i)))) (number + 1) lines refused)
 
-completed_rows : (grammar : Grammar) (refused : List Bool) (script : List ℕ) → length (lines_of script) ≤ length refused
-    → completed_text grammar refused script ≡ rows_text (length (lines_of script) + 1) grammar 0 first_world 1 (lines_of script) refused
-completed_rows grammar refused script long =
-    completed_alike (length (lines_of script) + 1) grammar (lines_of script) refused 0 1 first_world (omega arith) long
+text_of_rows : (grammar : Grammar) (refused : List Bool) (script : List ℕ) → length (lines_of script) ≤ length refused
+    → text_of grammar refused script ≡ rows_text grammar 0 first_world 1 (lines_of script) refused
+text_of_rows grammar refused script long = text_alike grammar (lines_of script) refused 0 1 first_world (omega arith) long
 
 pub some_text_is_there : SomeTextIsThere
 some_text_is_there grammar refused script long =
-    subst (MayBeText grammar refused script) (sym (completed_rows grammar refused script (omega arith)))
-    (rows_told (length (lines_of script) + 1) grammar (lines_of script) refused 0 1 first_four first_world first_keeps
-    (first_early (length (lines_of script) + 1) (omega arith)) long)
+    subst (MayBeText grammar refused script) (sym (text_of_rows grammar refused script (omega arith)))
+    (rows_told grammar (lines_of script) refused 0 1 first_four first_world first_keeps first_early long)
 
 -- a text that may be told has a chance for each line
 told_long : (grammar : Grammar) (lines : List (List ℕ)) (refused : List Bool) (in_hand : ℕ → Bool) (world : World ℕ) (number : ℕ) (text : List ℕ)
@@ -257,30 +260,8 @@ told_long grammar (line ∷ lines) (false ∷ refused) in_hand world number text
 
 pub whole_machine_has_one_text : WholeMachineHasOneText
 whole_machine_has_one_text grammar refused script text tells =
-    the_text (length (lines_of script) + 1) (omega arith) grammar refused script text tells
-    ∙ sym (completed_rows grammar refused script (told_long grammar (lines_of script) refused first_four first_world 1 text tells))
-
--- Where each line takes few numbers, those that are counted on lead to the same.
-counted_handed : (all number : ℕ) (refused : List Bool) (grammar : Grammar) (world : World ℕ) (line : List ℕ) → number < all
-    → (handed number refused ≡ Some (counted_on number) → TakesFew grammar world number line)
-    → line_step nat_eq grammar world line (handed number refused) ≡ line_step nat_eq grammar world line (completed_for all number refused)
-counted_handed all number [] grammar world line near few = sym (few refl (completed all number) (λ k short. spread_low all number k near short))
-counted_handed all number (true ∷ refused) grammar world line near few = refl
-counted_handed all number (false ∷ refused) grammar world line near few = sym (few refl (completed all number) (λ k short. spread_low all number k near short))
-
-counted_alike : (all : ℕ) (grammar : Grammar) (lines : List (List ℕ)) (refused : List Bool) (number : ℕ) (world : World ℕ)
-    → number + length lines ≤ all → EachTakesFew grammar world number lines refused
-    → text_from grammar world number lines refused ≡ completed_from all grammar world number lines refused
-counted_alike all grammar [] refused number world few fews = refl
-counted_alike all grammar (line ∷ lines) refused number world few fews =
-    let same = counted_handed all number refused grammar world line (omega arith) fews.0 in
-    let rest = counted_alike all grammar lines (later refused) (number + 1) _ (omega arith) fews.1 in
-    ap (λ rest. step_text number (line_step nat_eq grammar world line (handed number refused)) ++ rest) rest
-    ∙ (λ i. step_text number (same i) ++ completed_from all grammar (step_world world (same i)) (number + 1) lines (later refused))
-
-pub counted_text_is_the_text : CountedTextIsTheText
-counted_text_is_the_text grammar refused script fews =
-    counted_alike (length (lines_of script) + 1) grammar (lines_of script) refused 1 first_world (omega arith) fews
+    the_text grammar refused script text tells
+    ∙ sym (text_of_rows grammar refused script (told_long grammar (lines_of script) refused first_four first_world 1 text tells))
 
 -- Supplies with room serve, so each text that is told with them is told.
 pub room_serves : RoomServes

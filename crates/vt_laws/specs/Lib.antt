@@ -1,14 +1,7 @@
 pub mod Asked
 pub mod Denials
 pub mod Judged
-pub mod Layers
-pub mod Mounts
 pub mod Numbers
-pub mod OneTree
-pub mod OneTreeLater
-pub mod OneTreeCalls
-pub mod OneTreeNumbers
-pub mod OneTreeTexts
 pub mod RuleOrder
 pub mod RuleRanks
-pub mod Trees
+pub mod SameTexts

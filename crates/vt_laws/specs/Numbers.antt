@@ -1,6 +1,6 @@
 -- Numbers of inodes, mounts, groups, filesystems and namespaces do not matter: no call tells them, and all that is done
 -- with them is to compare them (profile).
-use Rattle.std.specs.Prelude.{All, Bool, List, None, Option, Some, [], codes, false, length, map, nat_eq, nat_lt, option_map, suc, true, zero, ℕ, ⊤, ◌&&◌, ◌++◌, ◌+◌, ◌-◌, ◌<◌, ◌∷◌, ◌≡◌, ◌≢◌}
+use Rattle.std.specs.Prelude.{All, Bool, List, None, Option, Some, [], false, length, map, nat_eq, nat_lt, option_map, true, ℕ, ⊤, ◌&&◌, ◌++◌, ◌+◌, ◌∷◌, ◌≡◌, ◌≢◌}
 use Rattle.std.specs.List.{list_all}
 use Rattle.vt_spec.specs.Machine.Calls.{Call, Directive}
 use Rattle.vt_spec.specs.Machine.Lists.{Fresh, is_among}
@@ -9,23 +9,16 @@ use Rattle.vt_spec.specs.Machine.Mounts.Propagation.{Private, Shared, Slave, Unb
 use Rattle.vt_spec.specs.Machine.Outcomes.{Outcome}
 use Rattle.vt_spec.specs.Machine.Policy.{policy}
 use Rattle.vt_spec.specs.Machine.Renaming.{SameWorld, renamed}
-use Rattle.vt_spec.specs.Machine.Run.{Serves, Step, Tells, counted_on, first_world, handed, later, line_step, numbers_in_use, step_text, step_world, text_of}
+use Rattle.vt_spec.specs.Machine.Run.{Serves, Step, Tells, first_world, line_step, numbers_in_use, step_text, step_world, text_of}
 use Rattle.vt_spec.specs.Machine.Run.Step.{Answered, Silent}
-use Rattle.vt_spec.specs.Machine.Script.{Grammar, Who, lines_of, whole}
-use Rattle.vt_spec.specs.Machine.Script.Version.{Two}
+use Rattle.vt_spec.specs.Machine.Script.{Grammar, Who, lines_of}
 use Rattle.vt_spec.specs.Machine.Sealed.{directed}
 use Rattle.vt_spec.specs.Machine.Turns.{Progress, Sched, Turned, turn}
 use Rattle.vt_spec.specs.Machine.World.{Descriptor, Filesystem, Layer, Namespace, Overlay, Real, Task, TaskName, World, opening}
 use Rattle.vt_spec.specs.Machine.World.Real.{Below, Upper}
 use Rattle.vt_spec.specs.Tree.{Content, Node}
+use Rattle.vt_one_text.specs.Renaming.{Leaves, Renaming}
 use Rattle.vt_spec.specs.Tree.Content.{Directory, Regular, Symlink, Whiteout}
-
--- each number gets a number of its own, and none is left out
-pub record Renaming (N M : Type 0) : Type 0 where
-  pub there : N → M
-  pub back : M → N
-  pub there_back : (number : M) → there (back number) ≡ number
-  pub back_there : (number : N) → back (there number) ≡ number
 
 module _ {N M : Type 0} (there : N → M) (back : M → N) where
   abbrev pub renamed_supply : Fresh N → Fresh M
@@ -97,10 +90,6 @@ SameWorldsAnswerAlike =
     × SameWorld (policy nat_eq fresh world name call).world (policy nat_eq (renamed_supply same.there same.back fresh) other name call).world
 
 -- A call changes no number but those that are handed in and those that it names.
-
--- the renaming leaves these numbers where they are
-abbrev pub Leaves : Renaming ℕ ℕ → (ℕ → Bool) → Type 0
-Leaves renaming named = (number : ℕ) → named number ≡ true → renaming.there number ≡ number
 
 -- A world keeps to some numbers where it has no others in it: whoever renames only others leaves it as it is.
 abbrev pub KeepsTo : (ℕ → Bool) → World ℕ → Type 0
@@ -325,78 +314,14 @@ TextsAreTold =
     (grammar : Grammar) (refused : List Bool) (script text : List ℕ)
     → MayBeText grammar refused script text → Tells nat_eq grammar first_world 1 (lines_of script) refused text
 
--- The text as a function that computes
-
--- endless rows of numbers, along the diagonals: each number stands at one place of one row
-unfoldable pub numbers_before : ℕ → ℕ
-numbers_before zero = 0
-numbers_before (suc diagonal) = numbers_before diagonal + suc diagonal
-
-unfoldable pub number_in_row : ℕ → ℕ → ℕ
-number_in_row row place = numbers_before (row + place) + row
-
--- What is handed to one of so many lines: 2^64 numbers that are counted on from line to line, and behind these the numbers
--- of a row above those of all lines.
-unfoldable pub completed_by : Bool → Bool → ℕ → ℕ → ℕ → ℕ
-completed_by true true lines number k = counted_on number k
-completed_by true false lines number k = counted_on lines 0 + number_in_row number (k - 18446744073709551616)
-completed_by false near lines number k = counted_on lines 0 + number_in_row number k
-
-unfoldable pub completed : ℕ → ℕ → Fresh ℕ
-completed lines number k = completed_by (nat_lt number lines) (nat_lt k 18446744073709551616) lines number k
-
--- what the line of this number is handed, if it was not refused memory
-abbrev pub completed_for : ℕ → ℕ → List Bool → Option (Fresh ℕ)
-completed_for lines number [] = Some (completed lines number)
-completed_for lines number (true ∷ refused) = None
-completed_for lines number (false ∷ refused) = Some (completed lines number)
-
-abbrev pub completed_from : ℕ → Grammar → World ℕ → ℕ → List (List ℕ) → List Bool → List ℕ
-completed_from all grammar world number [] refused = []
-completed_from all grammar world number (line ∷ lines) refused =
-    step_text number (line_step nat_eq grammar world line (completed_for all number refused))
-    ++ completed_from all grammar (step_world world (line_step nat_eq grammar world line (completed_for all number refused)))
-    (number + 1) lines (later refused)
-
-abbrev pub completed_text : Grammar → List Bool → List ℕ → List ℕ
-completed_text grammar refused script =
-    completed_from (length (lines_of script) + 1) grammar first_world 1 (lines_of script) refused
-
--- This is a text of the script,
+-- The text that is computed, with a row of numbers for each line, is a text of the script,
 abbrev pub SomeTextIsThere : Type 0
 SomeTextIsThere =
     (grammar : Grammar) (refused : List Bool) (script : List ℕ) → length refused ≡ length (lines_of script)
-    → MayBeText grammar refused script (completed_text grammar refused script)
+    → MayBeText grammar refused script (text_of grammar refused script)
 
 -- and whatever numbers are handed in, it is the text.
 abbrev pub WholeMachineHasOneText : Type 0
 WholeMachineHasOneText =
     (grammar : Grammar) (refused : List Bool) (script text : List ℕ)
-    → MayBeText grammar refused script text → text ≡ completed_text grammar refused script
-
--- a line takes fewer than 2^64 of the numbers that it is handed, so that others may stand behind those
-abbrev pub TakesFew : Grammar → World ℕ → ℕ → List ℕ → Type 0
-TakesFew grammar world number line =
-    (fresh : Fresh ℕ) → ((k : ℕ) → k < 18446744073709551616 → fresh k ≡ counted_on number k)
-    → line_step nat_eq grammar world line (Some fresh) ≡ line_step nat_eq grammar world line (Some (counted_on number))
-
--- and so does each line that is not refused memory
-abbrev pub EachTakesFew : Grammar → World ℕ → ℕ → List (List ℕ) → List Bool → Type 0
-EachTakesFew grammar world number [] refused = ⊤
-EachTakesFew grammar world number (line ∷ lines) refused =
-    (handed number refused ≡ Some (counted_on number) → TakesFew grammar world number line)
-    × EachTakesFew grammar (step_world world (line_step nat_eq grammar world line (handed number refused))) (number + 1) lines (later refused)
-
--- Then the text is the one of the written policy, where nothing stands behind the numbers that are counted on.
-abbrev pub CountedTextIsTheText : Type 0
-CountedTextIsTheText =
-    (grammar : Grammar) (refused : List Bool) (script : List ℕ)
-    → EachTakesFew grammar first_world 1 (lines_of script) refused
-    → text_of grammar refused script ≡ completed_text grammar refused script
-
--- a script of which each line takes few: a directory, a mount on it, a file in that, and its names
-abbrev pub four_lines : List ℕ
-four_lines = codes "t mkdir /a\nt mount plain /a\nt write /a/f x\nt ls /a\n"
-
-abbrev pub FourLinesTakeFew : Type 0
-FourLinesTakeFew = EachTakesFew (whole Two) first_world 1 (lines_of four_lines) []
+    → MayBeText grammar refused script text → text ≡ text_of grammar refused script

@@ -15,7 +15,7 @@ use Rattle.vt_spec.specs.OneTree.World.{World, denied}
 use Rattle.vt_spec.specs.OneTree.Policy.{policy}
 use Rattle.vt_spec.specs.OneTree.Run.{line_step, line_step_by, requested, step_text, step_world}
 use Rattle.vt_spec.specs.OneTree.Run.Step.{Silent, Answered}
-use Rattle.vt_laws.proofs.OneTreeRefusals.{one_tree_denial_changes_nothing}
+use Rattle.vt_one_text.proofs.OneTreeRefusals.{one_tree_denial_changes_nothing}
 use Rattle.vt_io.specs.declared.output.Sink.{Ghosts}
 use Rattle.vt_io.specs.Sink.{Wrote, WroteFront, Prints}
 use Rattle.vt_io.specs.LineBuffer.{LineSoFar, Holds}

@@ -7,7 +7,7 @@ use Rattle.vt_spec.specs.OneTree.World.{opening}
 use Rattle.vt_spec.specs.Machine.Script.{lines_of}
 use Rattle.vt_spec.specs.OneTree.Run.{Tells, text_from, script_text}
 use Rattle.std.specs.Prelude.{OnOk, IsErrOf}
-use Rattle.vt_laws.proofs.OneTreeTexts.{one_tree_has_one_text}
+use Rattle.vt_one_text.proofs.OneTreeTexts.{one_tree_has_one_text}
 use Rattle.vt_io.specs.declared.output.Sink.{Ghosts}
 use Rattle.vt_io.specs.Sink.{WroteFront}
 use Rattle.vt_io.proofs.Printing.{Wrote-append, WroteFront-append}

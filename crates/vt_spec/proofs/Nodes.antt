@@ -1,9 +1,11 @@
 -- What the nodes and entries of a tree are after each change of it.
-use Rattle.std.proofs.Common.{◌≡◌, ◌≢◌, refl, sym, ap, ◌∙◌, true≢false, ℕ, nat_eq, eq-eqb, ne_eqb, Bool, true, false, cond, List, ⊎_elim, Option, Some, None, is_some, T}
+use Rattle.std.proofs.Common.{◌≡◌, ◌≢◌, refl, sym, ap, ◌∙◌, true≢false, ℕ, nat_eq, eq-eqb, ne_eqb, Bool, true, false, not, cond, List, ⊎_elim, Option, Some, None, is_some, T}
 use Rattle.std.proofs.lemmas.Bool.Decides.{eqb_tells}
-use Rattle.std.specs.Ordering.{eq_by_cmp}
+use Rattle.std.specs.Ordering.{eq_by_cmp, is_eq}
 use Rattle.std.specs.Cmp.Lexicographic.{nat_list_cmp_total, texts_ties, bytes_decides}
-use Rattle.std.specs.FinMap.Entries.{find-put}
+use Rattle.std.specs.Str.{bytes_eq}
+use Rattle.std.specs.FinMap.Entries.{find-put, find-where_key}
+use Rattle.vt_spec.specs.Machine.Changes.{without_entry}
 use Rattle.vt_spec.specs.Rights.{is_directory}
 use Rattle.vt_spec.specs.Tree.{Tree, Node, Content, Entries, name_cmp, kind_of, entry_named, with_entry, entries_of, with_entries, with_bytes, is_directory_node, entries_in, parent_of, parent_in, node_with_entry, node_with_bytes, with_node}
 use Rattle.vt_spec.specs.Tree.Content.{Directory, Regular, Symlink, Whiteout}
@@ -29,6 +31,12 @@ passes false t = absurd t
 -- a name added to entries leads to its number, and the other names lead to where they led
 pub entry_named-with_entry : (q name : List ℕ) (number : ℕ) (entries : Entries ℕ) → entry_named q (with_entry name number entries) ≡ cond (eq_by_cmp name_cmp q name) (Some number) (entry_named q entries)
 entry_named-with_entry q name number entries = find-put name_cmp nat_list_cmp_total q name number entries
+
+-- entries without a name lead by the others where they led
+pub entry_named-without_entry : (q name : List ℕ) (entries : Entries ℕ)
+    → entry_named q (without_entry name entries) ≡ cond (not (bytes_eq q name)) (entry_named q entries) None
+entry_named-without_entry q name entries =
+    find-where_key name_cmp (λ x. not (bytes_eq x name)) q (λ x tied. ap (λ y. not (bytes_eq y name)) (sym (same_name q x (ap is_eq tied)))) entries
 
 -- a directory is there
 pub directory_used : (tree : Tree ℕ) (number : ℕ) → IsDirectory tree number → is_some (tree.node number) ≡ true

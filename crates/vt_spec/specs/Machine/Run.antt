@@ -1,5 +1,5 @@
 -- A script's answers: the policy folded over its lines (profile).
-use Rattle.std.specs.Prelude.{Bool, List, None, Option, Some, [], false, flat_map, length, map, nat_eq, nat_lt, option_to_list, true, ℕ, ◌*◌, ◌++◌, ◌+◌, ◌∷◌, ◌≡◌}
+use Rattle.std.specs.Prelude.{Bool, List, None, Option, Some, [], false, flat_map, length, map, nat_eq, nat_lt, option_to_list, true, ℕ, ◌*◌, ◌++◌, ◌+◌, ◌/◌, ◌∷◌, ◌≡◌}
 use Rattle.std.specs.Fmt.{digits}
 use Rattle.vt_spec.specs.declared.errors.Rule.TheVariants.{S1, S5}
 use Rattle.vt_spec.specs.Errors.{denial}
@@ -89,18 +89,19 @@ module _ {N : Type 0} (eq : N → N → Bool) where
       × (rest : List ℕ) × (text ≡ step_text number (line_step grammar world line (Some fresh)) ++ rest)
       × Tells grammar (step_world world (line_step grammar world line (Some fresh))) (number + 1) lines refused rest
 
--- Numbers for a line, counted on from those of the line before: a line makes fewer than 2^64 things
-abbrev pub counted_on : ℕ → Fresh ℕ
-counted_on number k = 18446744073709551616 * number + k
-
+-- The opening world has the first four numbers. All others stand in endless rows, one for each line, along the diagonals:
+-- Cantor's pairing. So no two lines share a number, however many each takes.
 abbrev pub first_world : World ℕ
-first_world = opening nat_eq (counted_on 0)
+first_world = opening nat_eq (λ place. place)
+
+abbrev pub numbers_for : ℕ → Fresh ℕ
+numbers_for line place = 4 + ((line + place) * (line + place + 1)) / 2 + line
 
 -- what the line of this number is handed, if it was not refused memory
 abbrev pub handed : ℕ → List Bool → Option (Fresh ℕ)
-handed number [] = Some (counted_on number)
+handed number [] = Some (numbers_for number)
 handed number (true ∷ refused) = None
-handed number (false ∷ refused) = Some (counted_on number)
+handed number (false ∷ refused) = Some (numbers_for number)
 
 abbrev pub later : List Bool → List Bool
 later [] = []

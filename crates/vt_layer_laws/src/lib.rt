@@ -1,0 +1,6 @@
+//! Laws of overlays: what their layers show, and what a change leaves as it was.
+//!
+//! Each public function is a theorem of the written policy, and does nothing.
+#![tactic(auto)]
+
+pub mod layers;

@@ -1,0 +1,158 @@
+-- Conditions of a world that changes of mounts keep: mount_namespaces(7), sharedsubtree.
+use Rattle.std.specs.List.{list_all}
+use Rattle.std.specs.Prelude.{Bool, List, false, true, ℕ, nat_eq, ◌≡◌}
+use Rattle.vt_spec.specs.Machine.Attach.{attach}
+use Rattle.vt_spec.specs.Machine.Calls.{TypeWord}
+use Rattle.vt_spec.specs.Machine.Detach.{has_child, taken_away, trees_taken_away, unmounted, lazily_unmounted}
+use Rattle.vt_spec.specs.Machine.Lists.{Fresh}
+use Rattle.vt_spec.specs.Machine.Mounts.{Location, Mount, MountFlags}
+use Rattle.vt_spec.specs.Machine.Namespaces.{namespaces_ended, pivoted, unshared}
+use Rattle.vt_spec.specs.Machine.Outcome.Mounting.{with_flags}
+use Rattle.vt_spec.specs.Machine.Receives.{regrouped}
+use Rattle.vt_spec.specs.Machine.Run.{Serves}
+use Rattle.vt_spec.specs.Machine.Settled.{settled}
+use Rattle.vt_spec.specs.Machine.Types.{with_type}
+use Rattle.vt_spec.specs.Machine.World.{World, Task}
+use Rattle.vt_spec.specs.Machine.WorldLaws.{is_nowhere_or_attached}
+use Rattle.vt_mount_laws.specs.Mounts.Attaching.{OneNumberAMount}
+use Rattle.vt_mount_laws.specs.Mounts.Places.{OneMountAPlace}
+use Rattle.vt_mount_laws.specs.Mounts.Receivers.{GroupsLive}
+use Rattle.vt_mount_laws.specs.Mounts.Unmounting.{PlacesEnd}
+
+-- The conditions
+
+-- each mount has a number of its own
+abbrev pub OneNumberEach : World ℕ → Type 0
+OneNumberEach world = OneNumberAMount world.mounts
+
+-- at most one mount stands at a place
+abbrev pub OneMountEachPlace : World ℕ → Type 0
+OneMountEachPlace world = OneMountAPlace world.mounts
+
+-- both
+pub record AreApart (world : World ℕ) : Type 0 where
+  pub by_number : OneNumberEach world
+  pub by_place : OneMountEachPlace world
+
+-- a mount outside every namespace has no place and is private
+abbrev pub NowhereOrAttached : World ℕ → Type 0
+NowhereOrAttached world = list_all is_nowhere_or_attached world.mounts ≡ true
+
+-- The changes, each of which keeps a condition
+
+-- an unmount: umount(2)
+abbrev pub KeptByUnmount : (World ℕ → Type 0) → Type 0
+KeptByUnmount Condition = (world : World ℕ) (one : ℕ) → Condition world → Condition (unmounted nat_eq world one)
+
+-- a lazy unmount: umount(2) with MNT_DETACH
+abbrev pub KeptByLazyUnmount : (World ℕ → Type 0) → Type 0
+KeptByLazyUnmount Condition = (world : World ℕ) (one : ℕ) → Condition world → Condition (lazily_unmounted nat_eq world one)
+
+-- the end of any mounts: of those of an unmount, of those on a removed directory, of those of a namespace that ends
+abbrev pub KeptByTakingAway : (World ℕ → Type 0) → Type 0
+KeptByTakingAway Condition = (world : World ℕ) (gone : List ℕ) → Condition world → Condition (taken_away nat_eq world gone)
+
+-- a namespace's end
+abbrev pub KeptByEndedNamespaces : (World ℕ → Type 0) → Type 0
+KeptByEndedNamespaces Condition = (world : World ℕ) → Condition world → Condition (namespaces_ended nat_eq world)
+
+-- the inheritance of groups without members
+abbrev pub KeptByInheritance : (World ℕ → Type 0) → Type 0
+KeptByInheritance Condition = (world : World ℕ) → Condition world → Condition (regrouped nat_eq world)
+
+-- a change of type, of one mount or of a tree
+abbrev pub KeptByType : (World ℕ → Type 0) → Type 0
+KeptByType Condition =
+    (world : World ℕ) (fresh : Fresh ℕ) (one : ℕ) (word : TypeWord) (recursive : Bool) → Condition world
+    → Condition (with_type nat_eq fresh world one word recursive)
+
+-- a change of flags
+abbrev pub KeptByFlags : (World ℕ → Type 0) → Type 0
+KeptByFlags Condition = (world : World ℕ) (here : Location ℕ) (flags : MountFlags) → Condition world → Condition (with_flags nat_eq world here flags)
+
+-- a pivot of the root: pivot_root(2)
+abbrev pub KeptByPivot : (World ℕ → Type 0) → Type 0
+KeptByPivot Condition =
+    (world : World ℕ) (namespace : ℕ) (root new : Mount ℕ) (put : Location ℕ) → Condition world
+    → Condition (pivoted nat_eq world namespace root new put)
+
+-- a copy of a namespace: unshare(2)
+abbrev pub KeptByUnshare : (World ℕ → Type 0) → Type 0
+KeptByUnshare Condition = (world : World ℕ) (fresh : Fresh ℕ) (task : Task ℕ) → Condition world → Condition (unshared nat_eq world fresh task)
+
+-- the end of what nothing uses
+abbrev pub KeptBySettling : (World ℕ → Type 0) → Type 0
+KeptBySettling Condition = (world : World ℕ) → Condition world → Condition (settled nat_eq world)
+
+-- Mounts outside every namespace
+
+-- A change of flags leaves them nowhere, where each mount has a number of its own.
+abbrev pub FlagsKeepNowhere : Type 0
+FlagsKeepNowhere =
+    (world : World ℕ) (here : Location ℕ) (flags : MountFlags) → OneNumberEach world → NowhereOrAttached world
+    → NowhereOrAttached (with_flags nat_eq world here flags)
+
+-- Numbers
+
+-- What is attached has numbers of its own, where those that are handed in are not in use,
+abbrev pub AttachKeepsNumbers : Type 0
+AttachKeepsNumbers =
+    (world : World ℕ) (fresh : Fresh ℕ) (place : Location ℕ) (moves : Bool) (mounts : List (Mount ℕ))
+    → Serves nat_eq world fresh → OneNumberEach world → OneNumberEach (attach nat_eq world fresh place moves mounts)
+
+-- and so have the copies of a namespace's mounts.
+abbrev pub UnshareKeepsNumbers : Type 0
+UnshareKeepsNumbers =
+    (world : World ℕ) (fresh : Fresh ℕ) (task : Task ℕ) → Serves nat_eq world fresh → OneNumberEach world
+    → OneNumberEach (unshared nat_eq world fresh task)
+
+-- Places
+
+-- An unmount of a mount on which no other stands leaves at most one mount at a place: what covered a mount that goes takes a
+-- place that is free.
+abbrev pub UnmountLeavesOneMountAPlace : Type 0
+UnmountLeavesOneMountAPlace =
+    (world : World ℕ) (one : ℕ) → AreApart world → has_child nat_eq world one ≡ false → AreApart (unmounted nat_eq world one)
+
+-- So does the end of whole trees of mounts, as of those on a removed directory: mount_namespaces(7).
+abbrev pub TreesLeaveOneMountAPlace : Type 0
+TreesLeaveOneMountAPlace =
+    (world : World ℕ) (mounts : List (Mount ℕ)) → PlacesEnd world → AreApart world → AreApart (trees_taken_away nat_eq world mounts)
+
+-- And so does the end of namespaces: mount_namespaces(7).
+abbrev pub EndedNamespacesLeaveOneMountAPlace : Type 0
+EndedNamespacesLeaveOneMountAPlace = (world : World ℕ) → PlacesEnd world → AreApart world → AreApart (namespaces_ended nat_eq world)
+
+-- Where each mount has a number of its own, the places below places come to an end in one namespace also after a change of type,
+abbrev pub TypeKeepsPlacesEnding : Type 0
+TypeKeepsPlacesEnding =
+    (world : World ℕ) (fresh : Fresh ℕ) (one : ℕ) (word : TypeWord) (recursive : Bool)
+    → OneNumberEach world → PlacesEnd world → PlacesEnd (with_type nat_eq fresh world one word recursive)
+
+-- a change of flags,
+abbrev pub FlagsKeepPlacesEnding : Type 0
+FlagsKeepPlacesEnding =
+    (world : World ℕ) (here : Location ℕ) (flags : MountFlags) → OneNumberEach world → PlacesEnd world
+    → PlacesEnd (with_flags nat_eq world here flags)
+
+-- and the inheritance of groups.
+abbrev pub InheritanceKeepsPlacesEnding : Type 0
+InheritanceKeepsPlacesEnding = (world : World ℕ) → OneNumberEach world → PlacesEnd world → PlacesEnd (regrouped nat_eq world)
+
+-- Groups
+
+-- Groups live on through a change of type whose new groups are not in use.
+abbrev pub TypeKeepsGroups : Type 0
+TypeKeepsGroups =
+    (world : World ℕ) (fresh : Fresh ℕ) (one : ℕ) (word : TypeWord) (recursive : Bool) → Serves nat_eq world fresh → GroupsLive world
+    → GroupsLive (with_type nat_eq fresh world one word recursive)
+
+-- and through a change of flags.
+abbrev pub FlagsKeepGroups : Type 0
+FlagsKeepGroups =
+    (world : World ℕ) (here : Location ℕ) (flags : MountFlags) → OneNumberEach world → GroupsLive world
+    → GroupsLive (with_flags nat_eq world here flags)
+
+-- What nothing uses is in no group, so groups do not end with it.
+abbrev pub SettlingKeepsGroups : Type 0
+SettlingKeepsGroups = (world : World ℕ) → NowhereOrAttached world → GroupsLive world → GroupsLive (settled nat_eq world)

@@ -1,0 +1,6 @@
+//! Laws of mounts: where they stand, who receives, and what mount calls change.
+//!
+//! Each public function is a theorem of the written policy, and does nothing.
+#![tactic(auto)]
+
+pub mod mounts;

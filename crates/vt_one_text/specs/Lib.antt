@@ -1,0 +1,4 @@
+pub mod OneTree
+pub mod OneTreeNumbers
+pub mod OneTreeTexts
+pub mod Renaming

@@ -1,0 +1,6 @@
+//! Laws of one tree: it is a part of the whole machine, and the answers to a script in it are one text.
+//!
+//! Each public function is a theorem of the written policy, and does nothing.
+#![tactic(auto)]
+
+pub mod one_tree;

@@ -1,0 +1,17 @@
+pub mod OneTreeLater
+pub mod OneTreeLaterCalls
+pub mod OneTreeLaterChanges
+pub mod OneTreeLaterLinked
+pub mod OneTreeLaterNamed
+pub mod OneTreeLaterPlaces
+pub mod OneTreeLaterRemoved
+pub mod OneTreeLaterThrough
+pub mod OneTreeLaterTold
+pub mod OneTreeLaterWritten
+pub mod OneTreeOwnEntries
+pub mod OneTreeOwnInodes
+pub mod OneTreeOwnLooks
+pub mod OneTreeOwnParts
+pub mod OneTreeOwnPaths
+pub mod OneTreeOwnPermits
+pub mod OneTreeOwnRights

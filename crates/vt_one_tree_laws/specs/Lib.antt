@@ -1,0 +1,2 @@
+pub mod OneTreeCalls
+pub mod OneTreeLater

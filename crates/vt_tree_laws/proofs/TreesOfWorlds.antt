@@ -1,0 +1,178 @@
+-- A change of a filesystem in a world of trees leaves a world of trees.
+use Rattle.std.proofs.Common.{eqb-true, ◌≡◌, refl, sym, ap, subst, ◌∙◌, true≢false, ℕ, nat_eq, Bool, true, false, cond, List, [], ◌∷◌, map, ◌⊎◌, inl, inr, ⊎_elim, Some, None, is_some, option_map}
+use Rattle.std.specs.Prelude.{unwrap_or}
+use Rattle.std.specs.List.{All, find}
+use Rattle.std.proofs.lemmas.List.Elements.{All-cons, All-head, All-nil, All-tail}
+use Rattle.vt_spec.specs.Machine.Changes.{Change, changed}
+use Rattle.vt_spec.specs.Machine.Detach.{after_going, place_left, taken_away}
+use Rattle.vt_spec.specs.Machine.Filesystems.{filesystem_changed, with_change, with_files}
+use Rattle.vt_spec.specs.Machine.Lists.{Fresh}
+use Rattle.vt_spec.specs.Machine.Mounts.{Location, Mount, detached, mount_in, no_mount}
+use Rattle.vt_spec.specs.Machine.Receives.{inheriting, regrouped, regrouped_by}
+use Rattle.vt_spec.specs.Machine.World.{Filesystem, World, files_at, filesystem_at, is_overlay, mount_at, no_filesystem, replaced_if_numbered, with_filesystem, with_mounts}
+use Rattle.vt_tree_laws.specs.Trees.{IsFileTree, IsProper}
+use Rattle.vt_tree_laws.specs.Trees.Calls.{AreNew, IsWorldOfTrees}
+use Rattle.vt_tree_laws.proofs.ChangesKeepTrees.{changes_keep_numbers, changes_keep_own_parents, changes_keep_trees}
+use Rattle.vt_tree_laws.proofs.TreesWalked.{no_some}
+
+-- a filesystem of the list, or the one that is not there
+abbrev pub numbered : ℕ → List (Filesystem ℕ) → Filesystem ℕ
+numbered number list = unwrap_or (find (λ filesystem. nat_eq number filesystem.number) list) (no_filesystem number)
+
+-- What holds of all filesystems holds of one by its number, if it is there; and if not, none has its number.
+pub numbered_all : (P : Filesystem ℕ → Type 0) (number : ℕ) (list : List (Filesystem ℕ)) → All P list
+    → P (numbered number list) ⊎ ((numbered number list ≡ no_filesystem number) × All (λ filesystem. nat_eq number filesystem.number ≡ false) list)
+numbered_all P number [] h = inr (refl, All-nil (λ filesystem. nat_eq number filesystem.number ≡ false))
+numbered_all P number (filesystem ∷ list) h =
+    by (nat_eq number filesystem.number) refl (numbered_all P number list (All-tail P filesystem list h))
+  where
+    by : (b : Bool) → nat_eq number filesystem.number ≡ b
+        → P (numbered number list) ⊎ ((numbered number list ≡ no_filesystem number) × All (λ other. nat_eq number other.number ≡ false) list)
+        → P (unwrap_or (cond b (Some filesystem) (find (λ other. nat_eq number other.number) list)) (no_filesystem number))
+        ⊎ ((unwrap_or (cond b (Some filesystem) (find (λ other. nat_eq number other.number) list)) (no_filesystem number) ≡ no_filesystem number)
+        × All (λ other. nat_eq number other.number ≡ false) (filesystem ∷ list))
+    by true e rest = inl (All-head P filesystem list h)
+    by false e rest = ⊎_elim inl
+        (λ none. inr (none.0, All-cons (λ other. nat_eq number other.number ≡ false) filesystem list e none.1)) rest
+
+-- what holds of a filesystem by its number in any case
+pub numbered_anyhow : (P : Filesystem ℕ → Type 0) (number : ℕ) (list : List (Filesystem ℕ)) → All P list → P (no_filesystem number)
+    → P (numbered number list)
+numbered_anyhow P number list h none = ⊎_elim (λ is. is) (λ missing. subst P (sym missing.0) none) (numbered_all P number list h)
+
+-- its number is the one it is found by
+pub number_numbered : (number : ℕ) (list : List (Filesystem ℕ)) → (numbered number list).number ≡ number
+number_numbered number [] = refl
+number_numbered number (filesystem ∷ list) = by (nat_eq number filesystem.number) refl (number_numbered number list)
+  where
+    by : (b : Bool) → nat_eq number filesystem.number ≡ b → (numbered number list).number ≡ number
+        → (unwrap_or (cond b (Some filesystem) (find (λ other. nat_eq number other.number) list)) (no_filesystem number)).number ≡ number
+    by true e rest = sym (eqb-true number filesystem.number e)
+    by false e rest = rest
+
+-- one filesystem replaced
+pub replaced_all : (P : Filesystem ℕ → Type 0) (new : Filesystem ℕ) (list : List (Filesystem ℕ)) → All P list
+    → P new ⊎ All (λ filesystem. nat_eq new.number filesystem.number ≡ false) list → All P (map (replaced_if_numbered nat_eq new) list)
+replaced_all P new [] h either = All-nil P
+replaced_all P new (filesystem ∷ list) h either =
+    All-cons P (replaced_if_numbered nat_eq new filesystem) (map (replaced_if_numbered nat_eq new) list)
+    (by (nat_eq new.number filesystem.number) refl either)
+    (replaced_all P new list (All-tail P filesystem list h)
+    (⊎_elim inl (λ none. inr (All-tail (λ other. nat_eq new.number other.number ≡ false) filesystem list none)) either))
+  where
+    by : (b : Bool) → nat_eq new.number filesystem.number ≡ b
+        → P new ⊎ All (λ other. nat_eq new.number other.number ≡ false) (filesystem ∷ list) → P (cond b new filesystem)
+    by true e (inl is) = is
+    by true e (inr none) = absurd (true≢false (sym e ∙ All-head (λ other. nat_eq new.number other.number ≡ false) filesystem list none))
+    by false e either = All-head P filesystem list h
+
+-- A change
+module _ (fresh : Fresh ℕ) (world : World ℕ) (location : Location ℕ) (change : Change ℕ) where
+  abbrev old : Filesystem ℕ
+  old = filesystem_at nat_eq world location
+
+  abbrev new : Filesystem ℕ
+  new = with_files old (changed nat_eq old.files change)
+
+  no_overlay : IsWorldOfTrees world → old.overlay ≡ None
+  no_overlay conditions = no_some old.overlay (numbered_anyhow (λ filesystem. is_overlay filesystem ≡ false) (mount_at nat_eq world location).filesystem world.filesystems conditions.plain refl)
+
+  change_of_plain : IsWorldOfTrees world → with_change nat_eq fresh world location change ≡ with_filesystem nat_eq world new
+  change_of_plain conditions = ap (λ o. filesystem_changed nat_eq fresh world old o change) (no_overlay conditions)
+
+  new_is_tree : IsFileTree old.files → IsProper old.files.tree change → IsFileTree new.files
+  new_is_tree conditions proper = record {
+    tree = changes_keep_trees old.files change conditions.tree proper;
+    numbers = changes_keep_numbers old.files change conditions.numbers;
+    own_parents = changes_keep_own_parents old.files change conditions.tree conditions.own_parents proper;
+  }
+
+  pub change_keeps_world : IsWorldOfTrees world
+      → (IsFileTree (files_at nat_eq world location) → IsProper (files_at nat_eq world location).tree change)
+      → IsWorldOfTrees (with_change nat_eq fresh world location change)
+  change_keeps_world conditions proper =
+      subst IsWorldOfTrees (sym (change_of_plain conditions)) (record {
+        plain = replaced_all (λ filesystem. is_overlay filesystem ≡ false) new world.filesystems conditions.plain (inl (ap is_some (no_overlay conditions)));
+        trees = replaced_all (λ filesystem. IsFileTree filesystem.files) new world.filesystems conditions.trees
+            (⊎_elim
+            (λ is. inl (new_is_tree is (proper is)))
+            (λ missing. inr (subst (λ n. All (λ filesystem. nat_eq n filesystem.number ≡ false) world.filesystems)
+            (sym (number_numbered (mount_at nat_eq world location).filesystem world.filesystems)) missing.1))
+            (numbered_all (λ filesystem. IsFileTree filesystem.files) (mount_at nat_eq world location).filesystem world.filesystems conditions.trees));
+      })
+
+-- a number that is handed in is new wherever it is used
+pub new_at : (fresh : Fresh ℕ) (world : World ℕ) (location : Location ℕ) → AreNew fresh world → (k : ℕ)
+    → (files_at nat_eq world location).tree.node (fresh k) ≡ None
+new_at fresh world location new k =
+    numbered_anyhow (λ filesystem. (j : ℕ) → filesystem.files.tree.node (fresh j) ≡ None) (mount_at nat_eq world location).filesystem world.filesystems new (λ j. refl) k
+
+-- Mounts taken away: the filesystems stay, and each mount shows the one that it showed
+going_number : (world : World ℕ) (gone : List ℕ) (mount : Mount ℕ) → (after_going nat_eq world gone mount).number ≡ mount.number
+going_number world gone mount = by _
+  where
+    by : (b : Bool)
+        → (cond b (detached mount) (record mount { place = option_map (place_left nat_eq world gone) mount.place })).number ≡ mount.number
+    by true = refl
+    by false = refl
+
+going_filesystem : (world : World ℕ) (gone : List ℕ) (mount : Mount ℕ) → (after_going nat_eq world gone mount).filesystem ≡ mount.filesystem
+going_filesystem world gone mount = by _
+  where
+    by : (b : Bool)
+        → (cond b (detached mount) (record mount { place = option_map (place_left nat_eq world gone) mount.place })).filesystem ≡ mount.filesystem
+    by true = refl
+    by false = refl
+
+-- a change of mounts that keeps their numbers and filesystems
+mapped_filesystem : (f : Mount ℕ → Mount ℕ) → ((mount : Mount ℕ) → (f mount).number ≡ mount.number)
+    → ((mount : Mount ℕ) → (f mount).filesystem ≡ mount.filesystem)
+    → (mounts : List (Mount ℕ)) (number : ℕ)
+    → (mount_in nat_eq (map f mounts) number).filesystem ≡ (mount_in nat_eq mounts number).filesystem
+mapped_filesystem f same_number same_filesystem [] number = refl
+mapped_filesystem f same_number same_filesystem (mount ∷ mounts) number =
+    ap (λ n. (unwrap_or (cond (nat_eq number n) (Some (f mount)) (find (λ m. nat_eq number m.number) (map f mounts))) (no_mount number)).filesystem) (same_number mount)
+    ∙ by (nat_eq number mount.number) (mapped_filesystem f same_number same_filesystem mounts number)
+  where
+    by : (b : Bool) → (mount_in nat_eq (map f mounts) number).filesystem ≡ (mount_in nat_eq mounts number).filesystem
+        → (unwrap_or (cond b (Some (f mount)) (find (λ m. nat_eq number m.number) (map f mounts))) (no_mount number)).filesystem
+        ≡ (unwrap_or (cond b (Some mount) (find (λ m. nat_eq number m.number) mounts)) (no_mount number)).filesystem
+    by true rest = same_filesystem mount
+    by false rest = rest
+
+pub regrouped_filesystems : (world : World ℕ) → (regrouped nat_eq world).filesystems ≡ world.filesystems
+regrouped_filesystems world = by _
+  where
+    by : (b : Bool) → (regrouped_by nat_eq b world).filesystems ≡ world.filesystems
+    by true = refl
+    by false = refl
+
+regrouped_shows : (world : World ℕ) (number : ℕ)
+    → (mount_in nat_eq (regrouped nat_eq world).mounts number).filesystem ≡ (mount_in nat_eq world.mounts number).filesystem
+regrouped_shows world number = by _
+  where
+    by : (b : Bool)
+        → (mount_in nat_eq (regrouped_by nat_eq b world).mounts number).filesystem ≡ (mount_in nat_eq world.mounts number).filesystem
+    by true = mapped_filesystem (inheriting nat_eq world) (λ mount. refl) (λ mount. refl) world.mounts number
+    by false = refl
+
+pub taken_filesystems : (world : World ℕ) (gone : List ℕ) → (taken_away nat_eq world gone).filesystems ≡ world.filesystems
+taken_filesystems world gone = regrouped_filesystems (with_mounts world (map (after_going nat_eq world gone) world.mounts))
+
+pub taken_shows : (world : World ℕ) (gone : List ℕ) (location : Location ℕ)
+    → (mount_at nat_eq (taken_away nat_eq world gone) location).filesystem ≡ (mount_at nat_eq world location).filesystem
+taken_shows world gone location =
+    regrouped_shows (with_mounts world (map (after_going nat_eq world gone) world.mounts)) location.mount
+    ∙ mapped_filesystem (after_going nat_eq world gone) (going_number world gone) (going_filesystem world gone) world.mounts location.mount
+
+-- so the trees seen at each location stay
+pub taken_files : (world : World ℕ) (gone : List ℕ) (location : Location ℕ)
+    → files_at nat_eq (taken_away nat_eq world gone) location ≡ files_at nat_eq world location
+taken_files world gone location = λ i. (numbered (taken_shows world gone location i) (taken_filesystems world gone i)).files
+
+-- a world with the filesystems of a world of trees is one
+pub same_filesystems : (a b : World ℕ) → a.filesystems ≡ b.filesystems → IsWorldOfTrees b → IsWorldOfTrees a
+same_filesystems a b same conditions = record {
+  plain = subst (All (λ filesystem. is_overlay filesystem ≡ false)) (sym same) conditions.plain;
+  trees = subst (All (λ filesystem. IsFileTree filesystem.files)) (sym same) conditions.trees;
+}
