@@ -417,9 +417,9 @@ policy_judges_then_applies fresh world name call = by (task_called world name)
   where
     by : (found : Option (Task ℕ))
         → after world (ok_or found (denial S2)) (λ task.
-          finished nat_eq world name call (call_outcome nat_eq fresh world task call))
+        finished nat_eq world name call (call_outcome nat_eq fresh world task call))
         ≡ after world (ok_or found (denial S2)) (λ task.
-          finished nat_eq world name call
-          (after world (judge_in nat_eq fresh world task call) (apply nat_eq fresh world task)))
+        finished nat_eq world name call
+        (after world (judge_in nat_eq fresh world task call) (apply nat_eq fresh world task)))
     by None = refl
     by (Some task) = ap (finished nat_eq world name call) (call_judged fresh world task call)

@@ -6,6 +6,7 @@ pub mod LeastAnswers
 pub mod LeastRule
 pub mod LooksAlike
 pub mod NamedWorlds
+pub mod NumbersRaised
 pub mod Outcomes
 pub mod OwnLines
 pub mod OwnRules

@@ -2,9 +2,10 @@
 use Rattle.std.specs.Prelude.{Bool, List, nat_eq, ok_or, ◌≡◌, ℕ}
 use Rattle.vt_spec.specs.declared.errors.Rule.TheVariants.{S2}
 use Rattle.vt_spec.specs.Errors.{denial}
-use Rattle.vt_spec.specs.Machine.Apply.{apply}
+use Rattle.vt_spec.specs.Machine.Apply.{apply, apply_unraised, filesystems_changed}
 use Rattle.vt_spec.specs.Machine.Calls.{Call}
 use Rattle.vt_spec.specs.Machine.Changes.{Change}
+use Rattle.vt_spec.specs.Machine.Filesystems.{filesystems_raised}
 use Rattle.vt_spec.specs.Machine.Judge.{judge, judge_in}
 use Rattle.vt_spec.specs.Machine.Lists.{Fresh}
 use Rattle.vt_spec.specs.Machine.Looks.{Looks}
@@ -29,8 +30,8 @@ PolicyJudgesThenApplies =
     (fresh : Fresh ℕ) (world : World ℕ) (name : TaskName) (call : Call)
     → policy nat_eq fresh world name call
     ≡ after world (ok_or (task_called world name) (denial S2)) (λ task.
-      finished nat_eq world name call
-      (after world (judge_in nat_eq fresh world task call) (apply nat_eq fresh world task)))
+    finished nat_eq world name call
+    (after world (judge_in nat_eq fresh world task call) (apply nat_eq fresh world task)))
 
 -- two worlds look alike: whatever is looked at, they show the same
 pub record LookAlike (one other : Looks ℕ) : Type 0 where
@@ -79,3 +80,13 @@ AlikeAreJudgedAlike =
     (one other : Looks ℕ) → LookAlike one other
     → (overfills : Permit ℕ → Bool) (task : Task ℕ) (call : Call)
     → judge nat_eq one overfills task call ≡ judge nat_eq other overfills task call
+
+-- The change numbers of filesystems are raised last: a permit is applied without them, and then those of the
+-- filesystems that it changes are raised, by one each (profile).
+abbrev pub NumbersAreRaisedLast : Type 0
+NumbersAreRaisedLast =
+    (fresh : Fresh ℕ) (world : World ℕ) (task : Task ℕ) (permit : Permit ℕ)
+    → ((apply nat_eq fresh world task permit).answer ≡ (apply_unraised nat_eq fresh world task permit).answer)
+    × ((apply nat_eq fresh world task permit).world
+    ≡ filesystems_raised nat_eq (filesystems_changed nat_eq world permit)
+    (apply_unraised nat_eq fresh world task permit).world)

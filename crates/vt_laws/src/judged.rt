@@ -1,5 +1,5 @@
 //! A call is judged by what a world shows, and what it is permitted is then applied.
-ghost use Rattle.vt_laws.specs.Judged.{AlikeAreJudgedAlike, AlikeAreWalkedAlike, CallIsJudgedThenApplied, PolicyJudgesThenApplies};
+ghost use Rattle.vt_laws.specs.Judged.{AlikeAreJudgedAlike, AlikeAreWalkedAlike, CallIsJudgedThenApplied, NumbersAreRaisedLast, PolicyJudgesThenApplies};
 
 /// The outcome of each of the 38 calls is its judgement, then its permit applied: it is refused by the rule that
 /// `judge` gives, and the world stays, or it has the answer of `apply`, and leaves the world of `apply`.
@@ -10,8 +10,14 @@ pub fn calls_are_judged_then_applied()
     ensures policy { PolicyJudgesThenApplies }
 {}
 
-/// Walks and rules look at a world through `Looks` alone: two worlds that show the same are walked alike, and every call
-/// is judged alike in both, however they are kept.
+/// A permit is applied without raising a change number of a filesystem (`apply_unraised`), and then those of the
+/// filesystems that it changes are raised, by one each.
+pub fn change_numbers_are_raised_last()
+    ensures { NumbersAreRaisedLast }
+{}
+
+/// Walks and rules look at a world through `Looks` alone: two worlds that show the same are walked alike, and every
+/// call is judged alike in both, however they are kept.
 ///
 /// Whether a permit that attaches mounts leaves a namespace with too many of them is given beside it.
 pub fn what_looks_alike_is_judged_alike()

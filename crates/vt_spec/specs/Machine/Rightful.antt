@@ -1,10 +1,9 @@
--- Who may do what at a location: the caller on the object, and on an overlay the mounter on the real one, which has the
+-- Who may do what to an inode: the caller to the object, and on an overlay the mounter to the real one, which has the
 -- attributes of the object shown (the kernel's overlayfs document, "permission model").
 use Rattle.std.specs.Prelude.{Bool, None, Option, Some, false, true, ℕ}
-use Rattle.vt_spec.specs.Machine.Mounts.{Location}
 use Rattle.vt_spec.specs.Rights.{Credentials, allows}
 use Rattle.vt_spec.specs.Tree.{Node, kind_of}
-use Rattle.vt_spec.specs.Machine.World.{Overlay, Task, World, filesystem_at, node_at}
+use Rattle.vt_spec.specs.Machine.World.{Overlay}
 
 module _ {N : Type 0} where
   abbrev pub node_allows : Credentials → ℕ → Option (Node N) → Bool
@@ -15,11 +14,3 @@ module _ {N : Type 0} where
   abbrev pub mounter_allows : Option (Overlay N) → ℕ → Option (Node N) → Bool
   mounter_allows None wanted object = true
   mounter_allows (Some overlay) wanted object = node_allows overlay.mounter wanted object
-
-module _ {N : Type 0} (eq : N → N → Bool) where
-  abbrev pub may : World N → Task N → Location N → ℕ → Bool
-  may world task location wanted = node_allows task.credentials wanted (node_at eq world location)
-
-  abbrev pub mounter_may : World N → Location N → ℕ → Bool
-  mounter_may world location wanted =
-      mounter_allows (filesystem_at eq world location).overlay wanted (node_at eq world location)

@@ -127,4 +127,3 @@ module _ {N : Type 0} (eq : N → N → Bool) where
 
   abbrev pub file_walk : World N → Task N → List ℕ → Result (Place N) (Stop N)
   file_walk world task = Walking.file_walk eq (looks_of eq world) task
-

@@ -157,9 +157,6 @@ module _ {N : Type 0} (eq : N → N → Bool) where
   abbrev pub is_removed_at : World N → Location N → Bool
   is_removed_at world location = is_removed eq (files_at world location).tree location.node
 
-  abbrev pub is_overlay_at : World N → Location N → Bool
-  is_overlay_at world location = is_overlay (filesystem_at world location)
-
   -- the mounts attached in a namespace
   abbrev pub mounts_of : World N → N → List (Mount N)
   mounts_of world namespace = filter (λ mount. holds_of (eq namespace) mount.namespace) world.mounts
@@ -167,9 +164,6 @@ module _ {N : Type 0} (eq : N → N → Bool) where
   -- the root mount of a namespace
   abbrev pub root_mount : World N → N → Option (Mount N)
   root_mount world namespace = find (λ mount. not (is_some mount.place)) (mounts_of world namespace)
-
-  abbrev pub tasks_in : World N → N → List (Task N)
-  tasks_in world namespace = filter (λ task. eq namespace task.namespace) world.tasks
 
   abbrev pub open_layer : World N → Layer N → OpenLayer N
   open_layer world layer =
