@@ -1,4 +1,4 @@
-use Rattle.std.proofs.Common.{◌-◌, ◌<◌, Ok, ap, arith, length, refl, reverse}
+use Rattle.std.proofs.Common.{◌-◌, ◌<◌, ap, arith, length, refl, reverse}
 use Rattle.std.proofs.lemmas.Result.{err_from_is_err_and}
 use Rattle.vt_tree.specs.TreeValue.{tree_of}
 use Rattle.vt_walk.proofs.PendingWalked.{first-begun, first-denied, link-begun, link-denied, link_passed-as, slash-denied, top-ended, top-refused}
