@@ -30,7 +30,8 @@ not_walkable text too_long walkable =
     too_long
 
 -- a text within the limit of a word has no word over it
-pub no_long_word : (text : List ℕ) → length text ≤ longest_name → list_any (λ word. nat_lt longest_name (length word)) (words text) ≡ false
+pub no_long_word : (text : List ℕ) → length text ≤ longest_name
+    → list_any (λ word. nat_lt longest_name (length word)) (words text) ≡ false
 no_long_word text short =
     list_any_none (λ word. nat_lt longest_name (length word)) (words text)
     (All-weaker (λ word. length word ≤ length text) (λ word. nat_lt longest_name (length word) ≡ false)

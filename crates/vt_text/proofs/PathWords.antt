@@ -1,9 +1,9 @@
 -- What the words between separators are, read from the left and from the right. Those of a path are `words_between 47`.
 use Rattle.std.proofs.Common.{◌≡◌, ◌≢◌, ℕ, ◌+◌, ◌-◌, ◌<◌, ◌≤◌, Bool, true, false, not, ◌==◌, List, [], ◌∷◌, ◌++◌, length, filter, get_or, take, drop, refl, sym, ap, ◌∙◌, subst, ⊎_elim, arith, length-drop, length-take, take-append-drop, get_or-take, get_or-drop}
-use Rattle.std.specs.List.{All, Contains}
-use Rattle.std.proofs.lemmas.Bool.{eq-eqb, ne_eqb, eqb-false, cases_lt}
+use Rattle.std.specs.List.{All}
+use Rattle.std.proofs.lemmas.Bool.{eq-eqb, ne_eqb, cases_lt}
 use Rattle.std.proofs.lemmas.List.{append-nil, drop_more, take_more, take_all, drop_all}
-use Rattle.std.proofs.lemmas.List.Elements.{All-nil, All-cons, All-head, All-tail, All-weaker, All-filter, All-contains, Contains-push, All-from_get_or, filter-append, filter_passes}
+use Rattle.std.proofs.lemmas.List.Elements.{All-nil, All-cons, All-head, All-tail, All-weaker, All-filter, All-from_get_or, filter-append}
 use Rattle.vt_spec.specs.PathText.{with_byte, parts, is_empty, words_between, ends_in_slash}
 
 with_byte_some : (b : Bool) (byte : ℕ) (ps : List (List ℕ)) → with_byte b byte ps ≢ []
@@ -82,25 +82,31 @@ pub length-words_between : (s : ℕ) (xs : List ℕ) → length (words_between s
 length-words_between s [] = omega arith
 length-words_between s (x ∷ xs) = omega (arith, count_with_byte (x == s) x (parts s xs), length-words_between s xs)
 
-with_byte_within : (b : Bool) (byte n : ℕ) (ps : List (List ℕ)) → All (λ part. length part ≤ n) ps → All (λ part. length part ≤ n + 1) (with_byte b byte ps)
-with_byte_within true byte n ps within =
-    All-cons (λ part. length part ≤ n + 1) [] ps (omega arith) (All-weaker (λ part. length part ≤ n) (λ part. length part ≤ n + 1) (λ part h. omega arith) ps within)
-with_byte_within false byte n [] within =
-    All-cons (λ part. length part ≤ n + 1) (byte ∷ []) [] (omega arith) (All-nil (λ part. length part ≤ n + 1))
-with_byte_within false byte n (p ∷ ps) within =
-    let first = All-head (λ part. length part ≤ n) p ps within in
-    All-cons (λ part. length part ≤ n + 1) (byte ∷ p) ps (omega arith)
-    (All-weaker (λ part. length part ≤ n) (λ part. length part ≤ n + 1) (λ part h. omega arith) ps (All-tail (λ part. length part ≤ n) p ps within))
+abbrev IsWithin : ℕ → List ℕ → Type 0
+IsWithin most part = length part ≤ most
 
-parts_within : (s : ℕ) (xs : List ℕ) → All (λ part. length part ≤ length xs) (parts s xs)
-parts_within s [] = All-cons (λ part. length part ≤ 0) [] [] (omega arith) (All-nil (λ part. length part ≤ 0))
+within_more : (n : ℕ) (ps : List (List ℕ)) → All (IsWithin n) ps → All (IsWithin (n + 1)) ps
+within_more n ps within = All-weaker (IsWithin n) (IsWithin (n + 1)) (λ part h. omega arith) ps within
+
+with_byte_within : (b : Bool) (byte n : ℕ) (ps : List (List ℕ)) → All (IsWithin n) ps
+    → All (IsWithin (n + 1)) (with_byte b byte ps)
+with_byte_within true byte n ps within = All-cons (IsWithin (n + 1)) [] ps (omega arith) (within_more n ps within)
+with_byte_within false byte n [] within =
+    All-cons (IsWithin (n + 1)) (byte ∷ []) [] (omega arith) (All-nil (IsWithin (n + 1)))
+with_byte_within false byte n (p ∷ ps) within =
+    let first = All-head (IsWithin n) p ps within in
+    All-cons (IsWithin (n + 1)) (byte ∷ p) ps (omega arith) (within_more n ps (All-tail (IsWithin n) p ps within))
+
+parts_within : (s : ℕ) (xs : List ℕ) → All (IsWithin (length xs)) (parts s xs)
+parts_within s [] = All-cons (IsWithin 0) [] [] (omega arith) (All-nil (IsWithin 0))
 parts_within s (x ∷ xs) =
-    All-weaker (λ part. length part ≤ length xs + 1) (λ part. length part ≤ length (x ∷ xs)) (λ part h. omega arith)
+    All-weaker (IsWithin (length xs + 1)) (IsWithin (length (x ∷ xs))) (λ part h. omega arith)
     (with_byte (x == s) x (parts s xs)) (with_byte_within (x == s) x (length xs) (parts s xs) (parts_within s xs))
 
 -- no word is longer than the text
 pub words_between_within : (s : ℕ) (xs : List ℕ) → All (λ word. length word ≤ length xs) (words_between s xs)
-words_between_within s xs = All-filter (λ part. not (is_empty part)) (λ word. length word ≤ length xs) (parts s xs) (parts_within s xs)
+words_between_within s xs =
+    All-filter (λ part. not (is_empty part)) (λ word. length word ≤ length xs) (parts s xs) (parts_within s xs)
 
 -- ---- the same by index
 

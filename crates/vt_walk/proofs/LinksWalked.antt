@@ -60,16 +60,20 @@ module _ (tree : Tree ℕ) (who : Credentials) where
         ∙ sym (unless-passed (follow_rules link text) (link_start tree directory link text) start _ (sym begun))
         ∙ sym (link_walked-deep depth directory link text deep)
 
+    -- the words behind the link
+    abbrev pub behind_walked : List (List ℕ) → Here ℕ → Result (Here ℕ) Deny
+    behind_walked behind next = words_walked tree who (links_within depth tree who) next (reverse behind)
+
     -- a link that is followed, then the words behind it, and then what comes after them
     pub begun-walked : (start : Here ℕ) →
         Ok start ≡ unless (follow_rules link text) (Ok (link_start tree directory link text))
         → (behind : List (List ℕ)) (after : Here ℕ → Result (Here ℕ) Deny)
         → and_then (inside_walked (depth - 1) start (words text)) (λ reached.
-        unless (slash_rules tree text reached.node) (and_then (words_walked tree who (links_within depth tree who) reached (reverse behind)) after))
-        ≡ and_then (link_walked depth tree who directory link text)
-        (λ next. and_then (words_walked tree who (links_within depth tree who) next (reverse behind)) after)
+        unless (slash_rules tree text reached.node) (and_then (behind_walked behind reached) after))
+        ≡ and_then (link_walked depth tree who directory link text) (λ next. and_then (behind_walked behind next) after)
     begun-walked start begun behind after =
-        let rest : Here ℕ → Result (Here ℕ) Deny = λ next. and_then (words_walked tree who (links_within depth tree who) next (reverse behind)) after in
-        (λ i. and_then (inside_walked (depth - 1) start (words text)) (λ reached. unless-and_then (slash_rules tree text reached.node) reached rest i))
+        let rest : Here ℕ → Result (Here ℕ) Deny = λ next. and_then (behind_walked behind next) after in
+        (λ i. and_then (inside_walked (depth - 1) start (words text))
+        (λ reached. unless-and_then (slash_rules tree text reached.node) reached rest i))
         ∙ sym (and_then-and_then (inside_walked (depth - 1) start (words text)) (slash_checked text) rest)
         ∙ ap (λ r. and_then r rest) (follow-begun start begun)

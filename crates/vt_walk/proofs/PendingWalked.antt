@@ -22,14 +22,17 @@ pub link_passed-as : (tree : Tree ℕ) (who : Credentials) (follow : Follow ℕ)
 link_passed-as tree who follow here link as_met walked same e = ap (link_passed tree who follow here) (sym same) ∙ e
 
 -- a link that is met while nothing waits: its text stands above the words behind it
-pub first-begun : (tree : Tree ℕ) (who : Credentials) (directory : ℕ) (link : Here ℕ) (inner : List ℕ) (behind : List (List ℕ)) (next : Here ℕ)
+pub first-begun : (tree : Tree ℕ) (who : Credentials) (directory : ℕ) (link : Here ℕ) (inner : List ℕ)
+    (behind : List (List ℕ)) (next : Here ℕ)
     → Ok next ≡ unless (follow_rules link inner) (Ok (link_start tree directory link inner))
     → (left above : Pending) (once twice : List Pending) → once ≡ [] ++ left ∷ [] → twice ≡ once ++ above ∷ []
     → left.text.now ≡ [] → left.words ≡ behind → above.text.now ≡ inner → above.words ≡ words inner
     → texts_walked tree who next (reverse twice)
-    ≡ and_then (link_walked 41 tree who directory link inner) (λ there. words_walked tree who (links_within 41 tree who) there (reverse behind))
+    ≡ and_then (link_walked 41 tree who directory link inner)
+    (λ there. words_walked tree who (links_within 41 tree who) there (reverse behind))
 first-begun tree who directory link inner behind next begun left above once twice first second text rest inside all =
-    ap (texts_walked tree who next) (reverse-push twice once above second ∙ ap (λ ts. above ∷ ts) (reverse-push once [] left first))
+    ap (texts_walked tree who next)
+    (reverse-push twice once above second ∙ ap (λ ts. above ∷ ts) (reverse-push once [] left first))
     ∙ (λ i. and_then (words_walked tree who (links_within 40 tree who) next (reverse (all i)))
     (λ reached. unless (slash_rules tree (inside i) reached.node)
     (and_then (words_walked tree who (links_within 41 tree who) reached (reverse (rest i)))
@@ -39,9 +42,11 @@ first-begun tree who directory link inner behind next begun left above once twic
     (λ there. and_then-ok (words_walked tree who (links_within 41 tree who) there (reverse behind)) i))
 
 -- and where it is not followed
-pub first-denied : (tree : Tree ℕ) (who : Credentials) (directory : ℕ) (link : Here ℕ) (inner : List ℕ) (behind : List (List ℕ)) (deny : Deny)
+pub first-denied : (tree : Tree ℕ) (who : Credentials) (directory : ℕ) (link : Here ℕ) (inner : List ℕ)
+    (behind : List (List ℕ)) (deny : Deny)
     → Err deny ≡ unless (follow_rules link inner) (Ok (link_start tree directory link inner))
-    → Err deny ≡ and_then (link_walked 41 tree who directory link inner) (λ there. words_walked tree who (links_within 41 tree who) there (reverse behind))
+    → Err deny ≡ and_then (link_walked 41 tree who directory link inner)
+    (λ there. words_walked tree who (links_within 41 tree who) there (reverse behind))
 first-denied tree who directory link inner behind deny refused =
     ap (λ r. and_then r (λ there. words_walked tree who (links_within 41 tree who) there (reverse behind)))
     (follow-refused tree who 41 directory link inner (omega arith) deny refused)
@@ -110,7 +115,8 @@ module _ (tree : Tree ℕ) (who : Credentials) (whole : Result (Here ℕ) Deny) 
             (λ reached. unless (slash_rules tree (inside i) reached.node)
             (and_then (words_walked tree who (links_within (41 - length (reverse others)) tree who) reached (reverse (rest i)))
             (λ there. unless (slash_rules tree (text i) there.node) (texts_walked tree who there (reverse others))))))
-            ∙ by-link _ (begun-walked tree who (41 - length (reverse others)) directory link inner deep next begun behind others_walked)
+            ∙ by-link _
+            (begun-walked tree who (41 - length (reverse others)) directory link inner deep next begun behind others_walked)
           where
             less : 41 - length (left ∷ reverse others) ≡ 41 - length (reverse others) - 1
             less = omega arith

@@ -223,8 +223,8 @@ pub(crate) fn words_walked<'a>(
     }
 }
 
-// The place that a link and the words behind it lead to, every link followed. What is left behind a link waits on a stack while
-// the link's text is walked; a walk that comes to no link needs no stack.
+// The place that a link and the words behind it lead to, every link followed. What is left behind a link waits on
+// a stack while the link's text is walked; a walk that comes to no link needs no stack.
 fn link_walked<'a>(tree: &'a Tree, who: &Cred, met: Here, link: LinkMet<'a>) -> Result<Here, Deny>
     ensures { here_result result ≡ link_passed (tree_of tree.now) who.now
         (followed (tree_of tree.now) who.now) (here_of met) (Some link.entry) }

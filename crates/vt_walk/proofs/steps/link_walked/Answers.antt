@@ -1,4 +1,4 @@
-use Rattle.std.proofs.Common.{◌-◌, ◌<◌, Ok, ap, arith, length, refl, reverse}
+use Rattle.std.proofs.Common.{◌-◌, ◌<◌, ap, arith, length, refl, reverse}
 use Rattle.std.proofs.lemmas.Result.{err_from_is_err_and}
 use Rattle.vt_tree.specs.TreeValue.{tree_of}
 use Rattle.vt_walk.proofs.PendingWalked.{first-begun, first-denied, link-begun, link-denied, link_passed-as, slash-denied, top-ended, top-refused}
@@ -10,14 +10,16 @@ use Rattle.vt_walk.proofs.steps.link_walked.Goals as goal
 pub returns-in_err-here : goal.returns-in_err-here
 returns-in_err-here c =
     let p = err_from_is_err_and c.from_residual.result c.from_residual.ensures.1 in
-    rw (p.1, p.2) (first-denied (tree_of c.args.tree.now) c.args.who.now c.args.link.directory (here_of c.args.met) c.args.link.text.now c.args.link.behind _
-    c.in_err-here.ensures.value)
+    rw (p.1, p.2)
+    (first-denied (tree_of c.args.tree.now) c.args.who.now c.args.link.directory (here_of c.args.met)
+    c.args.link.text.now c.args.link.behind _ c.in_err-here.ensures.value)
 
 pub loop-text-init : goal.loop-text-init
 loop-text-init c =
     let tree = tree_of c.args.tree.now in
     let once = rw c.new-pending.ensures at c.push.ensures.items in
-    let taken = begun-left tree c.args.link.directory (here_of c.args.met) (here_of c.in_ok-here.here) c.args.link.text.now c.in_ok-here.ensures.value in
+    let taken = begun-left tree c.args.link.directory (here_of c.args.met) (here_of c.in_ok-here.here)
+    c.args.link.text.now c.in_ok-here.ensures.value in
     let none = ap length c.new-pending.ensures in
     let longer = c.push.ensures.len in
     let longest = c.push-2.ensures.len in

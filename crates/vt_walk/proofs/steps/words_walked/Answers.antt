@@ -14,24 +14,36 @@ returns-in_err-here-clause-value c =
 
 pub returns-in-Some-clause-value : goal.returns-in-Some-clause-value
 returns-in-Some-clause-value c =
-    let follow = followed (tree_of c.args.tree.now) c.args.who.now in
+    let tree = tree_of c.args.tree.now in
+    let who = c.args.who.now in
+    let follow = followed tree who in
     c.link_walked.ensures
-    ∙ link_passed-as (tree_of c.args.tree.now) c.args.who.now follow (here_of c.in_ok-here.field-0.here) _ _ _ c.in-Some.is (c.in_ok-here.ensures.value follow)
+    ∙ link_passed-as tree who follow (here_of c.in_ok-here.field-0.here) _ _ _
+    c.in-Some.is (c.in_ok-here.ensures.value follow)
 
 pub returns-in-Some-clause-there : goal.returns-in-Some-clause-there
 returns-in-Some-clause-there c whole start =
-    let follow = followed (tree_of c.args.tree.now) c.args.who.now in
-    walked-there (tree_of c.args.tree.now) whole c.args.who.now (here_of c.args.start) (reverse c.args.words) c.link_walked.result start
+    let tree = tree_of c.args.tree.now in
+    let who = c.args.who.now in
+    let follow = followed tree who in
+    walked-there tree whole who (here_of c.args.start) (reverse c.args.words) c.link_walked.result start
     (c.link_walked.ensures
-    ∙ link_passed-as (tree_of c.args.tree.now) c.args.who.now follow (here_of c.in_ok-here.field-0.here) _ _ _ c.in-Some.is (c.in_ok-here.ensures.value follow))
+    ∙ link_passed-as tree who follow (here_of c.in_ok-here.field-0.here) _ _ _
+    c.in-Some.is (c.in_ok-here.ensures.value follow))
 
 pub returns-in-None-clause-value : goal.returns-in-None-clause-value
 returns-in-None-clause-value c =
-    let follow = followed (tree_of c.args.tree.now) c.args.who.now in
-    link_passed-as (tree_of c.args.tree.now) c.args.who.now follow (here_of c.in_ok-here.field-0.here) _ _ _ c.in-None.is (c.in_ok-here.ensures.value follow)
+    let tree = tree_of c.args.tree.now in
+    let who = c.args.who.now in
+    let follow = followed tree who in
+    link_passed-as tree who follow (here_of c.in_ok-here.field-0.here) _ _ _
+    c.in-None.is (c.in_ok-here.ensures.value follow)
 
 pub returns-in-None-clause-there : goal.returns-in-None-clause-there
 returns-in-None-clause-there c whole start =
-    let follow = followed (tree_of c.args.tree.now) c.args.who.now in
-    walked-there (tree_of c.args.tree.now) whole c.args.who.now (here_of c.args.start) (reverse c.args.words) (Ok c.in_ok-here.field-0.here) start
-    (link_passed-as (tree_of c.args.tree.now) c.args.who.now follow (here_of c.in_ok-here.field-0.here) _ _ _ c.in-None.is (c.in_ok-here.ensures.value follow))
+    let tree = tree_of c.args.tree.now in
+    let who = c.args.who.now in
+    let follow = followed tree who in
+    walked-there tree whole who (here_of c.args.start) (reverse c.args.words) (Ok c.in_ok-here.field-0.here) start
+    (link_passed-as tree who follow (here_of c.in_ok-here.field-0.here) _ _ _
+    c.in-None.is (c.in_ok-here.ensures.value follow))
