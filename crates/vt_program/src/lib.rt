@@ -7,4 +7,4 @@ mod order;
 
 pub use command::{VERSION, words};
 pub use fault::{Fault, status};
-pub use order::obey;
+pub use order::{Stopped, answer, obey};

@@ -1,7 +1,8 @@
 //! The command is carried out: the script is opened, read and answered.
-ghost use Rattle.std.specs.Prelude.{◌≡◌, Some, None, IfErr, OnOk, true, false};
-ghost use Rattle.std.specs.Io.{ReadsAtMost, WritesAtMost};
-ghost use Rattle.std.specs.Io.KnownBytes.{Keeps, ReadConsumes, WriteAppends};
+ghost use Rattle.std.specs.Prelude.{◌≡◌, Some, None, IfErr, IfOk, OnOk, true, false};
+ghost use Rattle.std.specs.Io.{ReadsAtMost};
+ghost use Rattle.std.specs.Io.KnownBytes.{ReadConsumes};
+ghost use Rattle.vt_program.specs.Answered.{AnswersKnown};
 ghost use Rattle.vt_program.specs.Status.{comes_before_output};
 
 use crate::command::{out_of_memory, script_named};
@@ -12,7 +13,7 @@ use std::io::{self, BufWriter, Read, Write};
 use std::rt::Files;
 use vt_script::{ReadSource, RunFault, WriteSink, run};
 
-// A reader or a writer, with the error of its last call.
+// A reader, with the error of its last call.
 #[derive(Drop)]
 struct Watched<D> {
     device: D,
@@ -20,7 +21,9 @@ struct Watched<D> {
 }
 
 impl<D> Watched<D> {
-    fn new(device: D) -> Self {
+    fn new(device: D) -> Self
+        ensures { result.device ≡ device }
+    {
         Watched {
             device,
             error: None,
@@ -43,79 +46,76 @@ impl<D: Read> Read for Watched<D> {
     }
 }
 
-impl<D: Write> Write for Watched<D> {
-    ghost contents = { λ w. D.contents w.device };
-
-    fn write(&mut self, buf: &[u8]) -> io::Result<usize>
-        ensures bound { WritesAtMost result buf.now }
-        ensures bytes { WriteAppends (D.contents self.old.device) (D.contents self.new.device) result buf.now }
-        ensures error { IfErr result (λ e. self.new.error ≡ Some e) }
-        ensures no_error { OnOk result (self.new.error ≡ None) }
-    {
-        let count = self.device.write(buf);
-        self.error = count.err();
-        count
-    }
-
-    fn flush(&mut self) -> io::Result<()>
-        ensures bytes { Keeps (D.contents self.old.device) (D.contents self.new.device) }
-        ensures error { IfErr result (λ e. self.new.error ≡ Some e) }
-        ensures no_error { OnOk result (self.new.error ≡ None) }
-    {
-        let flushed = self.device.flush();
-        self.error = flushed.err();
-        flushed
-    }
+/// Why a run stopped, with what the system said of it, if it did.
+#[derive(Debug, Drop)]
+pub struct Stopped {
+    pub fault: RunFault,
+    pub cause: Option<io::Error>,
 }
 
-// Answers the script that the reader gives. What was answered is handed on to the writer, also before a fault.
-fn answer<R: Read, W: Write>(
+/// Answers the script that the reader gives, and hands all answers on to the writer.
+///
+/// Where the run stopped, what was answered before was handed on too, as far as the writer took it.
+pub fn answer<R: Read + Drop, W: Write + Drop>(
     alloc: Global,
-    reader: &mut Watched<R>,
-    writer: &mut Watched<W>,
-) -> Result<(), RunFault> {
-    let Ok(buffered) = BufWriter::new(alloc, writer) else {
-        return Err(RunFault::Memory);
+    script: R,
+    output: W,
+) -> Result<W, Stopped>
+    ensures { IfOk result (λ w. AnswersKnown (R.remaining script) (W.contents output) (W.contents w)) }
+{
+    let Ok(buffered) = BufWriter::new(alloc, output) else {
+        return Err(Stopped {
+            fault: RunFault::Memory,
+            cause: None,
+        });
     };
-    let mut source = ReadSource::new(reader);
     let mut sink = WriteSink::new(buffered);
+    let mut reader = Watched::new(script);
+    let mut source = ReadSource::new(&mut reader);
     let outcome = run(alloc, &mut source, &mut sink);
-    let flushed = sink.flush();
-    match outcome {
-        Ok(()) => flushed.map_err(|_| RunFault::Write),
-        Err(fault) => Err(fault),
+    let handed_on = sink.into_inner().into_inner();
+    let cause = match (&outcome, &handed_on) {
+        (Err(RunFault::Read), _) => reader.error,
+        (_, Err(error)) => Some(*error.error()),
+        _ => None,
+    };
+    match (outcome, handed_on) {
+        (Ok(()), Ok(writer)) => Ok(writer),
+        (Err(fault), _) => Err(Stopped { fault, cause }),
+        (Ok(()), Err(_)) => Err(Stopped {
+            fault: RunFault::Write,
+            cause,
+        }),
     }
 }
 
-// The same, with what the system says where a device fails.
-fn answer_named<R: Read + Drop, W: Write>(
+// The same, with the fault that the program tells.
+fn answer_named<R: Read + Drop, W: Write + Drop>(
     alloc: Global,
     name: &str,
     script: R,
-    output: &mut W,
+    output: W,
 ) -> Result<(), Fault>
     ensures { IfErr result (λ fault. comes_before_output fault ≡ false) }
 {
-    let mut reader = Watched::new(script);
-    let mut writer = Watched::new(output);
-    let fault = match answer(alloc, &mut reader, &mut writer) {
-        Ok(()) => return Ok(()),
-        Err(fault) => fault,
+    let stopped = match answer(alloc, script, output) {
+        Ok(_) => return Ok(()),
+        Err(stopped) => stopped,
     };
-    Err(match (fault, reader.error, writer.error) {
-        (RunFault::Read, Some(cause), _) => Fault::Read {
+    Err(match (stopped.fault, stopped.cause) {
+        (RunFault::Read, Some(cause)) => Fault::Read {
             name: String::from_str(alloc, name).map_err(out_of_memory)?,
             cause,
         },
-        (RunFault::Write, _, Some(cause)) => Fault::Write { cause },
-        (fault, _, _) => Fault::Run(fault),
+        (RunFault::Write, Some(cause)) => Fault::Write { cause },
+        (fault, _) => Fault::Run(fault),
     })
 }
 
 /// Does what the words say: `run FILE` answers the script in that file, or on the standard input where FILE is `-`.
 ///
 /// The words are read first, and then the file is opened. What was answered is handed on to the output, also
-/// before a fault. What a file holds no clause can say: that FILE is read, and that its answers come out, tests show.
+/// before a fault. What a file holds no clause can say: that FILE is what is read, tests show.
 pub fn obey<R: Files + Input + AllocGlobal, W: Write>(
     rt: &R,
     words: &[String],
