@@ -1,5 +1,5 @@
 -- Moments of a run, one after another.
-use Rattle.std.proofs.Common.{◌≡◌, ◌≢◌, ◌<◌, ◌-◌, ℕ, zero, suc, ◌+◌, ◌==◌, arith, drop, get_or, length, length-take, take, Bool, true, false, List, [], ◌∷◌, ◌++◌, Some, None, refl, sym, ap, ◌∙◌, subst, append_assoc, nat_eq}
+use Rattle.std.proofs.Common.{◌≡◌, ◌≢◌, ◌<◌, ◌-◌, ℕ, zero, suc, ◌+◌, ◌==◌, arith, drop, get_or, length, length-append, length-take, take, Bool, true, false, List, [], ◌∷◌, ◌++◌, Some, None, refl, sym, ap, ◌∙◌, subst, append_assoc, nat_eq}
 use Rattle.std.proofs.lemmas.Bool.Decides.{nat_tests}
 use Rattle.std.proofs.lemmas.List.{append-nil, drop_more, get_or-take, take-append-drop, take_rest}
 use Rattle.vt_spec.specs.OneTree.World.{World}
@@ -79,75 +79,6 @@ whole_lines-append a (next ∷ rest) first second = whole_lines-before a next re
 whole_lines-newline : (line : List ℕ) → whole_lines (line ++ 10 ∷ []) ≡ line ++ 10 ∷ []
 whole_lines-newline line = whole_lines-before line 10 [] refl
 
--- nothing read, nothing written
-pub stays : (moment : Moment) → Runs moment [] [] moment
-stays moment = record { ended = []; split = append-nil moment.line; whole = refl; refused = []; goes_on = λ more later rest told. told }
-
--- what is read one after another is written one after another
-pub runs_then : (a b c : Moment) (read more_read text more_text : List ℕ) → Runs a read text b → Runs b more_read more_text c → Runs a (read ++ more_read) (text ++ more_text) c
-runs_then a b c read more_read text more_text first second = record {
-  ended = first.ended ++ second.ended;
-  split = sym (append_assoc a.line read more_read) ∙ ap (λ xs. xs ++ more_read) first.split
-      ∙ append_assoc first.ended b.line more_read ∙ ap (λ xs. first.ended ++ xs) second.split ∙ sym (append_assoc first.ended second.ended c.line);
-  whole = whole_lines-append first.ended second.ended first.whole second.whole;
-  refused = first.refused ++ second.refused;
-  goes_on = λ more later rest told.
-      rw (append_assoc first.ended second.ended more, append_assoc first.refused second.refused later, append_assoc text more_text rest)
-      (first.goes_on (second.ended ++ more) (second.refused ++ later) (more_text ++ rest) (second.goes_on more later rest told));
-}
-
--- bytes that are read belong to the line
-pub runs_bytes : (moment : Moment) (bytes : List ℕ) → Runs moment bytes [] (record moment { line = moment.line ++ bytes })
-runs_bytes moment bytes = record { ended = []; split = refl; whole = refl; refused = []; goes_on = λ more later rest told. told }
-
-line_then : (line more : List ℕ) → HasNoNewline line → lines_of ((line ++ 10 ∷ []) ++ more) ≡ line ∷ lines_of more
-line_then line more none = ap lines_of (append_assoc line (10 ∷ []) more) ∙ lines_of-newline line more none
-
--- a newline answers the line, which was refused memory
-pub runs_refused : (moment : Moment) → HasNoNewline moment.line →
-    let step = line_step nat_eq moment.world moment.line None in
-    Runs moment (10 ∷ []) (step_text (moment.answered + 1) step) (after_line moment step)
-runs_refused moment none = record {
-  ended = moment.line ++ 10 ∷ [];
-  split = sym (append-nil (moment.line ++ 10 ∷ []));
-  whole = whole_lines-newline moment.line;
-  refused = true ∷ [];
-  goes_on = λ more later rest told.
-      subst (λ lines. Tells nat_eq moment.world (moment.answered + 1) lines (true ∷ later) (step_text (moment.answered + 1) (line_step nat_eq moment.world moment.line None) ++ rest))
-      (sym (line_then moment.line more none))
-      (rest, refl, told);
-}
-
--- a newline answers the line, to which a number was handed that is not in use
-pub runs_spoken : (moment : Moment) (fresh : ℕ) → moment.world.inodes.inode fresh ≡ None → HasNoNewline moment.line →
-    let step = line_step nat_eq moment.world moment.line (Some fresh) in
-    Runs moment (10 ∷ []) (step_text (moment.answered + 1) step) (after_line moment step)
-runs_spoken moment fresh unused none = record {
-  ended = moment.line ++ 10 ∷ [];
-  split = sym (append-nil (moment.line ++ 10 ∷ []));
-  whole = whole_lines-newline moment.line;
-  refused = false ∷ [];
-  goes_on = λ more later rest told.
-      subst (λ lines. Tells nat_eq moment.world (moment.answered + 1) lines (false ∷ later) (step_text (moment.answered + 1) (line_step nat_eq moment.world moment.line (Some fresh)) ++ rest))
-      (sym (line_then moment.line more none))
-      (fresh, unused, rest, refl, told);
-}
-
--- the text of the lines that ended
-pub told_whole : (old : Moment) (bytes text : List ℕ) (new : Moment) (runs : Runs old bytes text new) → Tells nat_eq old.world (old.answered + 1) (lines_of runs.ended) runs.refused text
-told_whole old bytes text new runs =
-    let told : Tells nat_eq old.world (old.answered + 1) (lines_of (runs.ended ++ [])) (runs.refused ++ []) (text ++ []) = runs.goes_on [] [] [] refl in
-    rw (append-nil runs.ended, append-nil runs.refused, append-nil text) at told
-
--- the text of lines that are not all is a beginning of the text of all
-pub text_from-front : (world : World ℕ) (number : ℕ) (front back : List (List ℕ)) (refused : List Bool) →
-    (more : List ℕ) × (text_from world number (front ++ back) refused ≡ text_from world number front refused ++ more)
-text_from-front world number [] back refused = (text_from world number back refused, refl)
-text_from-front world number (line ∷ front) back refused =
-    let step = line_step nat_eq world line (handed number refused) in
-    let rest = text_from-front (step_world world step) (number + 1) front back (later refused) in
-    (rest.0, ap (λ xs. step_text number step ++ xs) rest.1 ∙ sym (append_assoc (step_text number step) _ rest.0))
-
 whole_tail : (b : Bool) (byte : ℕ) (rest ended : List ℕ) → whole_with b byte rest ≡ byte ∷ ended → rest ≡ ended
 whole_tail true byte [] ended e = cc
 whole_tail false byte [] ended e = cc
@@ -185,3 +116,95 @@ lines_of-whole (byte ∷ ended) more whole =
     ap (with_line_byte (byte == 10) byte) (lines_of-whole ended more rest)
     ∙ with_line_byte-append (byte == 10) byte (lines_of ended) (lines_of more)
     (goes_on_whole (byte == 10) byte ended (ap (whole_with (byte == 10) byte) (sym rest) ∙ whole))
+
+-- nothing read, nothing written
+pub stays : (moment : Moment) → Runs moment [] [] moment
+stays moment = record { ended = []; split = append-nil moment.line; whole = refl; refused = []; counted = refl; goes_on = λ more later rest told. told }
+
+-- what is read one after another is written one after another
+pub runs_then : (a b c : Moment) (read more_read text more_text : List ℕ) → Runs a read text b → Runs b more_read more_text c → Runs a (read ++ more_read) (text ++ more_text) c
+runs_then a b c read more_read text more_text first second = record {
+  ended = first.ended ++ second.ended;
+  split = sym (append_assoc a.line read more_read) ∙ ap (λ xs. xs ++ more_read) first.split
+      ∙ append_assoc first.ended b.line more_read ∙ ap (λ xs. first.ended ++ xs) second.split ∙ sym (append_assoc first.ended second.ended c.line);
+  whole = whole_lines-append first.ended second.ended first.whole second.whole;
+  refused = first.refused ++ second.refused;
+  counted =
+      omega (
+        arith,
+        first.counted,
+        second.counted,
+        length-append first.refused second.refused,
+        ap length (lines_of-whole first.ended second.ended first.whole),
+        length-append (lines_of first.ended) (lines_of second.ended),
+      );
+  goes_on = λ more later rest told.
+      rw (append_assoc first.ended second.ended more, append_assoc first.refused second.refused later, append_assoc text more_text rest)
+      (first.goes_on (second.ended ++ more) (second.refused ++ later) (more_text ++ rest) (second.goes_on more later rest told));
+}
+
+-- bytes that are read belong to the line
+pub runs_bytes : (moment : Moment) (bytes : List ℕ) → Runs moment bytes [] (record moment { line = moment.line ++ bytes })
+runs_bytes moment bytes = record { ended = []; split = refl; whole = refl; refused = []; counted = refl; goes_on = λ more later rest told. told }
+
+line_then : (line more : List ℕ) → HasNoNewline line → lines_of ((line ++ 10 ∷ []) ++ more) ≡ line ∷ lines_of more
+line_then line more none = ap lines_of (append_assoc line (10 ∷ []) more) ∙ lines_of-newline line more none
+
+-- a newline answers the line, which was refused memory
+pub runs_refused : (moment : Moment) → HasNoNewline moment.line →
+    let step = line_step nat_eq moment.world moment.line None in
+    Runs moment (10 ∷ []) (step_text (moment.answered + 1) step) (after_line moment step)
+runs_refused moment none = record {
+  ended = moment.line ++ 10 ∷ [];
+  split = sym (append-nil (moment.line ++ 10 ∷ []));
+  whole = whole_lines-newline moment.line;
+  refused = true ∷ [];
+  counted = sym (ap length (lines_of-newline moment.line [] none));
+  goes_on = λ more later rest told.
+      subst (λ lines. Tells nat_eq moment.world (moment.answered + 1) lines (true ∷ later) (step_text (moment.answered + 1) (line_step nat_eq moment.world moment.line None) ++ rest))
+      (sym (line_then moment.line more none))
+      (rest, refl, told);
+}
+
+-- a newline answers the line, to which a number was handed that is not in use
+pub runs_spoken : (moment : Moment) (fresh : ℕ) → moment.world.inodes.inode fresh ≡ None → HasNoNewline moment.line →
+    let step = line_step nat_eq moment.world moment.line (Some fresh) in
+    Runs moment (10 ∷ []) (step_text (moment.answered + 1) step) (after_line moment step)
+runs_spoken moment fresh unused none = record {
+  ended = moment.line ++ 10 ∷ [];
+  split = sym (append-nil (moment.line ++ 10 ∷ []));
+  whole = whole_lines-newline moment.line;
+  refused = false ∷ [];
+  counted = sym (ap length (lines_of-newline moment.line [] none));
+  goes_on = λ more later rest told.
+      subst (λ lines. Tells nat_eq moment.world (moment.answered + 1) lines (false ∷ later) (step_text (moment.answered + 1) (line_step nat_eq moment.world moment.line (Some fresh)) ++ rest))
+      (sym (line_then moment.line more none))
+      (fresh, unused, rest, refl, told);
+}
+
+-- the text of the lines that ended
+pub told_whole : (old : Moment) (bytes text : List ℕ) (new : Moment) (runs : Runs old bytes text new) → Tells nat_eq old.world (old.answered + 1) (lines_of runs.ended) runs.refused text
+told_whole old bytes text new runs =
+    let told : Tells nat_eq old.world (old.answered + 1) (lines_of (runs.ended ++ [])) (runs.refused ++ []) (text ++ []) = runs.goes_on [] [] [] refl in
+    rw (append-nil runs.ended, append-nil runs.refused, append-nil text) at told
+
+-- the text of lines that are not all is a beginning of the text of all
+pub text_from-front : (world : World ℕ) (number : ℕ) (front back : List (List ℕ)) (refused : List Bool) →
+    (more : List ℕ) × (text_from world number (front ++ back) refused ≡ text_from world number front refused ++ more)
+text_from-front world number [] back refused = (text_from world number back refused, refl)
+text_from-front world number (line ∷ front) back refused =
+    let step = line_step nat_eq world line (handed number refused) in
+    let rest = text_from-front (step_world world step) (number + 1) front back (later refused) in
+    (rest.0, ap (λ xs. step_text number step ++ xs) rest.1 ∙ sym (append_assoc (step_text number step) _ rest.0))
+
+-- what is said of lines that are not there changes no text
+pub text_from-padded : (world : World ℕ) (number : ℕ) (lines : List (List ℕ)) (refused pad : List Bool) → length refused ≡ length lines →
+    text_from world number lines (refused ++ pad) ≡ text_from world number lines refused
+text_from-padded world number [] refused pad e = refl
+text_from-padded world number (line ∷ lines) [] pad e = absurd (omega (arith, e))
+text_from-padded world number (line ∷ lines) (true ∷ refused) pad e =
+    let step = line_step nat_eq world line None in
+    ap (λ rest. step_text number step ++ rest) (text_from-padded (step_world world step) (number + 1) lines refused pad (omega (arith, e)))
+text_from-padded world number (line ∷ lines) (false ∷ refused) pad e =
+    let step = line_step nat_eq world line (Some number) in
+    ap (λ rest. step_text number step ++ rest) (text_from-padded (step_world world step) (number + 1) lines refused pad (omega (arith, e)))

@@ -112,11 +112,13 @@ told_last : (moment : Moment) (handed : Option ℕ) (byte : ℕ) (bytes : List �
     IsLast moment (step_text (moment.answered + 1) (line_step nat_eq moment.world moment.line handed))
 told_last moment None byte bytes some whole handed = record {
   refused = true ∷ [];
+  counted = sym (ap length (last_line moment.line byte bytes some whole));
   tells = subst (λ lines. Tells nat_eq moment.world (moment.answered + 1) lines (true ∷ []) (step_text (moment.answered + 1) (line_step nat_eq moment.world moment.line None)))
       (sym (last_line moment.line byte bytes some whole)) ([], sym (append-nil _), refl);
 }
 told_last moment (Some fresh) byte bytes some whole handed = record {
   refused = false ∷ [];
+  counted = sym (ap length (last_line moment.line byte bytes some whole));
   tells = subst (λ lines. Tells nat_eq moment.world (moment.answered + 1) lines (false ∷ []) (step_text (moment.answered + 1) (line_step nat_eq moment.world moment.line (Some fresh))))
       (sym (last_line moment.line byte bytes some whole)) (fresh, handed, [], sym (append-nil _), refl);
 }
@@ -126,7 +128,7 @@ module _ {W : Type 0} (sink : Ghosts W) where
   pub closed_none : (state : State) (line : List ℕ) (x : W) → line ≡ [] → Closed sink (moment state line) x x
   closed_none state line x none = record {
     text = [];
-    told = record { refused = []; tells = subst (λ l. Tells nat_eq state.world (state.answered + 1) (lines_of l) [] []) (sym none) refl };
+    told = record { refused = []; counted = sym (ap (λ line. length (lines_of line)) none); tells = subst (λ l. Tells nat_eq state.world (state.answered + 1) (lines_of l) [] []) (sym none) refl };
     wrote = Wrote-nothing sink x;
   }
 

@@ -1,7 +1,7 @@
 -- What a run has told, from its opening on.
-use Rattle.std.proofs.Common.{◌≡◌, ℕ, ◌+◌, ◌-◌, ◌≤◌, Bool, List, ◌++◌, length, take, drop, sym, ap, ◌∙◌, append_assoc, nat_eq, subst, Result, Ok, Err, arith}
+use Rattle.std.proofs.Common.{◌≡◌, ℕ, ◌+◌, ◌-◌, ◌≤◌, Bool, List, ◌++◌, length, length-append, map, false, take, drop, sym, ap, ◌∙◌, append_assoc, nat_eq, subst, Result, Ok, Err, arith}
 use Rattle.std.proofs.Math.Seq.{take-append-add}
-use Rattle.std.proofs.lemmas.List.{take-append-drop}
+use Rattle.std.proofs.lemmas.List.{length-map, take-append-drop}
 use Rattle.std.specs.Io.{StartsWith}
 use Rattle.vt_spec.specs.OneTree.World.{opening}
 use Rattle.vt_spec.specs.Machine.Script.{lines_of}
@@ -13,7 +13,7 @@ use Rattle.vt_io.specs.Sink.{WroteFront}
 use Rattle.vt_io.proofs.Printing.{Wrote-append, WroteFront-append}
 use Rattle.vt_script.specs.Session.{State, moment, Fed, Broke, Closed, BrokeLast, Closes, AnswersScript, BeginsToAnswer}
 use Rattle.vt_script.specs.Progress.{Moment, Runs, HasNoNewline, opening_moment, whole_lines}
-use Rattle.vt_script.proofs.RunLemmas.{whole_lines-rest, told_whole, text_from-front, lines_of-whole}
+use Rattle.vt_script.proofs.RunLemmas.{whole_lines-rest, told_whole, text_from-front, text_from-padded, lines_of-whole}
 
 -- what a sink took of a text, where it holds a beginning of all
 pub front_of : (held text new : List ℕ) → length held ≤ length new → StartsWith (held ++ text) new → (front : List ℕ) × (more : List ℕ) × (new ≡ held ++ front) × (text ≡ front ++ more)
@@ -30,30 +30,42 @@ whole_read : (read text : List ℕ) (new : Moment) (runs : Runs opening_moment r
 whole_read read text new runs none = ap whole_lines runs.split ∙ whole_lines-rest runs.ended new.line none ∙ runs.whole
 
 -- the text of the lines that ended is the policy's text of the whole lines
-pub whole_told : (read text : List ℕ) (new : Moment) (runs : Runs opening_moment read text new) → HasNoNewline new.line → (refused : List Bool) × (text ≡ script_text refused (whole_lines read))
-whole_told read text new runs none =
-    (runs.refused, one_tree_has_one_text runs.ended runs.refused 0 text (told_whole opening_moment read text new runs) ∙ ap (script_text runs.refused) (sym (whole_read read text new runs none)))
+pub whole_told : (read text : List ℕ) (new : Moment) (runs : Runs opening_moment read text new) → HasNoNewline new.line → (refused : List Bool) × (length refused ≡ length (lines_of (whole_lines read))) × (text ≡ script_text refused (whole_lines read))
+whole_told read text new runs none = (
+  runs.refused,
+  runs.counted ∙ ap (λ ended. length (lines_of ended)) (sym (whole_read read text new runs none)),
+  one_tree_has_one_text runs.ended runs.refused 0 text (told_whole opening_moment read text new runs) ∙ ap (script_text runs.refused) (sym (whole_read read text new runs none)),
+)
 
 -- the text of all lines is the policy's text
 pub all_told : (script text : List ℕ) (new : Moment) (runs : Runs opening_moment script text new) (refused : List Bool) (last : List ℕ) →
-    Tells nat_eq new.world (new.answered + 1) (lines_of new.line) refused last →
-    (all : List Bool) × (text ++ last ≡ script_text all script)
-all_told script text new runs refused last told =
-    let all : Tells nat_eq (opening nat_eq 0) 1 (lines_of (runs.ended ++ new.line)) (runs.refused ++ refused) (text ++ last) = runs.goes_on new.line refused last told in
-    (runs.refused ++ refused, one_tree_has_one_text (runs.ended ++ new.line) (runs.refused ++ refused) 0 (text ++ last) all ∙ ap (script_text (runs.refused ++ refused)) (sym runs.split))
+    Tells nat_eq new.world (new.answered + 1) (lines_of new.line) refused last → length refused ≡ length (lines_of new.line) →
+    (all : List Bool) × (length all ≡ length (lines_of script)) × (text ++ last ≡ script_text all script)
+all_told script text new runs refused last told counted =
+    let lines = ap lines_of runs.split ∙ lines_of-whole runs.ended new.line runs.whole in
+    let all : Tells nat_eq (opening nat_eq 0) 1 (lines_of (runs.ended ++ new.line)) (runs.refused ++ refused) (text ++ last) = runs.goes_on new.line refused last told in (
+      runs.refused ++ refused,
+      omega (arith, runs.counted, counted, length-append runs.refused refused, ap length lines, length-append (lines_of runs.ended) (lines_of new.line)),
+      one_tree_has_one_text (runs.ended ++ new.line) (runs.refused ++ refused) 0 (text ++ last) all ∙ ap (script_text (runs.refused ++ refused)) (sym runs.split),
+    )
 
 -- the text of the lines that ended is a beginning of the policy's text, whatever follows what was read
 pub front_told : (read unread text : List ℕ) (new : Moment) (runs : Runs opening_moment read text new) →
-    (refused : List Bool) × (more : List ℕ) × (script_text refused (read ++ unread) ≡ text ++ more)
+    (refused : List Bool) × (length refused ≡ length (lines_of (read ++ unread))) × (more : List ℕ)
+    × (script_text refused (read ++ unread) ≡ text ++ more)
 unfolding script_text
 front_told read unread text new runs =
     let lines : lines_of (read ++ unread) ≡ lines_of runs.ended ++ lines_of (new.line ++ unread) =
     ap (λ xs. lines_of (xs ++ unread)) runs.split ∙ ap lines_of (append_assoc runs.ended new.line unread)
     ∙ lines_of-whole runs.ended (new.line ++ unread) runs.whole in
-    let front = text_from-front (opening nat_eq 0) 1 (lines_of runs.ended) (lines_of (new.line ++ unread)) runs.refused in (
-      runs.refused,
+    let others = lines_of (new.line ++ unread) in
+    let pad : List Bool = map (λ line. false) others in
+    let front = text_from-front (opening nat_eq 0) 1 (lines_of runs.ended) others (runs.refused ++ pad) in (
+      runs.refused ++ pad,
+      omega (arith, runs.counted, length-append runs.refused pad, length-map others (λ line. false), ap length lines, length-append (lines_of runs.ended) others),
       front.0,
-      ap (λ xs. text_from (opening nat_eq 0) 1 xs runs.refused) lines ∙ front.1
+      ap (λ xs. text_from (opening nat_eq 0) 1 xs (runs.refused ++ pad)) lines ∙ front.1
+          ∙ ap (λ xs. xs ++ front.0) (text_from-padded (opening nat_eq 0) 1 (lines_of runs.ended) runs.refused pad runs.counted)
           ∙ ap (λ xs. xs ++ front.0) (sym (one_tree_has_one_text runs.ended runs.refused 0 text (told_whole opening_moment read text new runs))),
     )
 
@@ -62,7 +74,7 @@ module _ {W : Type 0} (sink : Ghosts W) where
   pub whole_held : (read : List ℕ) (state : State) (x y : W) → Fed sink opening_moment read state x y → sink.tells x → AnswersScript sink (whole_lines read) x y
   whole_held read state x y fed tells =
       let told = whole_told read fed.text (moment state fed.line) fed.runs fed.reading.whole in
-      (told.0, fed.wrote.appended tells ∙ ap (λ text. sink.written x ++ text) told.1)
+      (told.0, told.1, fed.wrote.appended tells ∙ ap (λ text. sink.written x ++ text) told.2)
 
   -- a beginning of the text of some of the script is one of the policy's text
   front_held : (script read unread text : List ℕ) (new : Moment) (x y : W) → script ≡ read ++ unread → Runs opening_moment read text new → WroteFront sink x y text → sink.tells x → BeginsToAnswer sink script x y
@@ -70,10 +82,11 @@ module _ {W : Type 0} (sink : Ghosts W) where
       let taken = front_of (sink.written x) text (sink.written y) (wrote.no_shorter tells) (wrote.front tells) in
       let told = front_told read unread text new runs in (
         told.0,
+        told.1 ∙ ap (λ script. length (lines_of script)) (sym split),
         taken.0,
-        taken.1 ++ told.1,
+        taken.1 ++ told.2,
         taken.2,
-        ap (script_text told.0) split ∙ told.2 ∙ ap (λ xs. xs ++ told.1) taken.3 ∙ append_assoc taken.0 taken.1 told.1,
+        ap (script_text told.0) split ∙ told.3 ∙ ap (λ xs. xs ++ told.2) taken.3 ∙ append_assoc taken.0 taken.1 told.2,
       )
 
   -- a write failed while more was to come
@@ -87,14 +100,14 @@ module _ {W : Type 0} (sink : Ghosts W) where
   broke_last_held read state x y z fed broke tells =
       let wrote = WroteFront-append sink fed.wrote broke.wrote in
       let taken = front_of (sink.written x) (fed.text ++ broke.text) (sink.written z) (wrote.no_shorter tells) (wrote.front tells) in
-      let told = all_told read fed.text (moment state fed.line) fed.runs broke.told.refused broke.text broke.told.tells in
-      (told.0, taken.0, taken.1, taken.2, sym told.1 ∙ taken.3)
+      let told = all_told read fed.text (moment state fed.line) fed.runs broke.told.refused broke.text broke.told.tells broke.told.counted in
+      (told.0, told.1, taken.0, taken.1, taken.2, sym told.2 ∙ taken.3)
 
   -- all was answered
   closed_held : (read : List ℕ) (state : State) (x y z : W) (fed : Fed sink opening_moment read state x y) → Closed sink (moment state fed.line) y z → sink.tells x → AnswersScript sink read x z
   closed_held read state x y z fed closed tells =
-      let told = all_told read fed.text (moment state fed.line) fed.runs closed.told.refused closed.text closed.told.tells in
-      (told.0, (Wrote-append sink fed.wrote closed.wrote).appended tells ∙ ap (λ text. sink.written x ++ text) told.1)
+      let told = all_told read fed.text (moment state fed.line) fed.runs closed.told.refused closed.text closed.told.tells closed.told.counted in
+      (told.0, told.1, (Wrote-append sink fed.wrote closed.wrote).appended tells ∙ ap (λ text. sink.written x ++ text) told.2)
 
   -- how a run ends that read all of its script
   pub ends_well : {T E A : Type 0} (r : Result T E) (script read : List ℕ) (state : State) (x y z : W) (fed : Fed sink opening_moment read state x y) → Closes sink (moment state fed.line) r y z → (A → script ≡ read) →

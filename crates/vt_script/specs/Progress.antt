@@ -1,5 +1,5 @@
 -- How far a run has come: what was read and written between two moments of it.
-use Rattle.std.specs.Prelude.{◌≡◌, ℕ, ◌+◌, ◌==◌, nat_eq, Bool, true, false, List, [], ◌∷◌, ◌++◌}
+use Rattle.std.specs.Prelude.{◌≡◌, ℕ, ◌+◌, ◌==◌, nat_eq, Bool, true, false, List, [], ◌∷◌, ◌++◌, length}
 use Rattle.vt_spec.specs.OneTree.World.{World, opening}
 use Rattle.vt_spec.specs.Machine.Script.{lines_of}
 use Rattle.vt_spec.specs.OneTree.Run.{Tells, Step, step_world}
@@ -31,6 +31,7 @@ pub record Runs (old : Moment) (bytes text : List ℕ) (new : Moment) : Type 0 w
   pub split : old.line ++ bytes ≡ ended ++ new.line
   pub whole : whole_lines ended ≡ ended
   pub refused : List Bool
+  pub counted : length refused ≡ length (lines_of ended)
   pub goes_on : (more : List ℕ) (later : List Bool) (rest : List ℕ) →
       Tells nat_eq new.world (new.answered + 1) (lines_of more) later rest →
       Tells nat_eq old.world (old.answered + 1) (lines_of (ended ++ more)) (refused ++ later) (text ++ rest)

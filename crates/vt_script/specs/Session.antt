@@ -1,5 +1,5 @@
 -- What a session does between two bytes of a script, and what a run leaves in a sink.
-use Rattle.std.specs.Prelude.{◌≡◌, ℕ, ◌+◌, nat_eq, Bool, List, [], ◌∷◌, ◌++◌, Option, Some, None, Result, Ok, Err}
+use Rattle.std.specs.Prelude.{◌≡◌, ℕ, ◌+◌, nat_eq, Bool, List, [], ◌∷◌, ◌++◌, length, Option, Some, None, Result, Ok, Err}
 use Rattle.vt_io.specs.declared.output.Sink.{Ghosts}
 use Rattle.vt_io.specs.Sink.{Wrote, WroteFront}
 use Rattle.vt_io.specs.LineBuffer.{LineSoFar, Holds}
@@ -40,6 +40,7 @@ IsHanded world (Some fresh) = world.inodes.inode fresh ≡ None
 -- what may be told of the last line
 pub record IsLast (old : Moment) (text : List ℕ) : Type 0 where
   pub refused : List Bool
+  pub counted : length refused ≡ length (lines_of old.line)
   pub tells : Tells nat_eq old.world (old.answered + 1) (lines_of old.line) refused text
 
 module _ {W : Type 0} (sink : Ghosts W) where
@@ -98,9 +99,10 @@ module _ {W : Type 0} (sink : Ghosts W) where
   Replies old line number (Ok t) new before after = Replied old line number new before after
   Replies old line number (Err fault) new before after = BrokeReply old line number before after
 
-  -- the sink was given the policy's answers to the script, some of whose lines may have been refused memory
+  -- the sink was given the policy's answers to the script, of which each line was refused memory or not
   abbrev pub AnswersScript : List ℕ → W → W → Type 0
-  AnswersScript script before after = (refused : List Bool) × (sink.written after ≡ sink.written before ++ script_text refused script)
+  AnswersScript script before after =
+      (refused : List Bool) × (length refused ≡ length (lines_of script)) × (sink.written after ≡ sink.written before ++ script_text refused script)
 
   -- the sink was given the policy's answers to the complete lines of what was read of the script
   abbrev pub AnswersWholeLines : List ℕ → List ℕ → W → W → Type 0
@@ -110,5 +112,5 @@ module _ {W : Type 0} (sink : Ghosts W) where
   -- the sink was given a beginning of the policy's answers to the script
   abbrev pub BeginsToAnswer : List ℕ → W → W → Type 0
   BeginsToAnswer script before after =
-      (refused : List Bool) × (text : List ℕ) × (more : List ℕ)
+      (refused : List Bool) × (length refused ≡ length (lines_of script)) × (text : List ℕ) × (more : List ℕ)
       × (sink.written after ≡ sink.written before ++ text) × (script_text refused script ≡ text ++ more)

@@ -13,6 +13,9 @@ const CHUNK: usize = 8192;
 
 /// Answers a script: reads it from the source, and writes a line for each line that has an answer.
 ///
+/// For every script, what the sink is handed is the text of the policy's answers to the script's calls in their order, each
+/// denial with the error number and the rule that the policy names first; which lines were refused memory is all that is open.
+///
 /// Each line is answered before the next is looked at. A line that was refused memory answers
 /// `deny 12 ENOMEM S5` and counts as no call. `Read` and `Write` come where that device failed, and
 /// `Memory` where the opening world or the line's buffer was refused, before anything was read.

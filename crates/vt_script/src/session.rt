@@ -1,4 +1,4 @@
-//! What is kept from one byte of a script to the next.
+//! What is kept from one piece of a script to the next.
 ghost use Rattle.std.specs.Prelude.{◌≡◌, ◌+◌, ◌<◌, ◌≤◌, ◌^◌, ◌++◌, ◌∷◌, [], List, ℕ, length, IfOk, IfErr, MatchOption, OnOk, OnErr};
 ghost use Rattle.vt_io.specs.LineBuffer.{Holds};
 ghost use Rattle.vt_ns.specs.WorldValue.{world_of};
