@@ -190,7 +190,7 @@ module _ (world : World ℕ) where
   second_leaves filesystem e = ap (λ b. only_used nat_eq first (not b) filesystem) e
 
   -- a plain tree has no objects
-  no_objects : (number : ℕ) (filesystem : Filesystem ℕ) → is_overlay filesystem ≡ false → objects_of_overlay nat_eq number filesystem ≡ []
+  pub no_objects : (number : ℕ) (filesystem : Filesystem ℕ) → is_overlay filesystem ≡ false → objects_of_overlay nat_eq number filesystem ≡ []
   no_objects number filesystem e = by filesystem.overlay e
     where
       by : (o : Option (Overlay ℕ)) → is_some o ≡ false

@@ -1,3 +1,5 @@
 pub mod Lists
 pub mod Trees
 pub mod InUse
+pub mod OneByOne
+pub mod Inodes

@@ -107,6 +107,25 @@ module _ {A : Type 0} where
       ap (λ b. cond b (y ∷ filter p ys) (filter p ys)) (h y (inl refl))
       ∙ ap (λ rest. cond (q y) (y ∷ rest) rest) (filter_alike p q ys (λ x m. h x (inr m)))
 
+  pub filter_twice : (p q r : A → Bool) → ((x : A) → r x ≡ (q x && p x)) → (xs : List A) → filter p (filter q xs) ≡ filter r xs
+  filter_twice p q r h [] = refl
+  filter_twice p q r h (y ∷ ys) = by (q y) refl (h y) (filter_twice p q r h ys)
+    where
+      by : (b : Bool) → q y ≡ b → r y ≡ (q y && p y) → filter p (filter q ys) ≡ filter r ys → filter p (filter q (y ∷ ys)) ≡ filter r (y ∷ ys)
+      by true e f later =
+          ap (filter p) (filter_here q y ys e) ∙ ap (λ rest. cond (p y) (y ∷ rest) rest) later
+          ∙ ap (λ b. cond b (y ∷ filter r ys) (filter r ys)) (sym (f ∙ ap (λ b. b && p y) e))
+      by false e f later = ap (filter p) (filter_skip q y ys e) ∙ later ∙ sym (filter_skip r y ys (f ∙ ap (λ b. b && p y) e))
+
+  -- what does not pass is not missed
+  pub any-filter : (t q : A → Bool) (xs : List A) → ((x : A) → q x ≡ false → t x ≡ false) → list_any t (filter q xs) ≡ list_any t xs
+  any-filter t q [] h = refl
+  any-filter t q (y ∷ ys) h = by (q y) refl (any-filter t q ys h)
+    where
+      by : (b : Bool) → q y ≡ b → list_any t (filter q ys) ≡ list_any t ys → list_any t (filter q (y ∷ ys)) ≡ (t y || list_any t ys)
+      by true e later = ap (list_any t) (filter_here q y ys e) ∙ ap (λ b. t y || b) later
+      by false e later = ap (list_any t) (filter_skip q y ys e) ∙ later ∙ ap (λ b. b || list_any t ys) (sym (h y e))
+
   pub map_same : (f : A → A) (xs : List A) → ((x : A) → Among x xs → f x ≡ x) → map f xs ≡ xs
   map_same f [] h = refl
   map_same f (y ∷ ys) h = ap (λ x. x ∷ map f ys) (h y (inl refl)) ∙ ap (λ rest. y ∷ rest) (map_same f ys (λ x m. h x (inr m)))
@@ -174,6 +193,11 @@ module _ {A B : Type 0} where
   flat_map_alike f g [] h = refl
   flat_map_alike f g (y ∷ ys) h =
       ap (λ l. l ++ flat_map f ys) (h y (inl refl)) ∙ ap (λ l. g y ++ l) (flat_map_alike f g ys (λ x m. h x (inr m)))
+
+module _ {A B C : Type 0} where
+  pub map_twice : (f : B → C) (g : A → B) (xs : List A) → map f (map g xs) ≡ map (λ x. f (g x)) xs
+  map_twice f g [] = refl
+  map_twice f g (y ∷ ys) = ap (λ rest. f (g y) ∷ rest) (map_twice f g ys)
 
 -- a number among numbers
 pub among_numbers : (number : ℕ) (numbers : List ℕ) → is_among nat_eq number numbers ≡ true → Among number numbers

@@ -1,9 +1,22 @@
 //! What the sweep leaves, and what it takes.
 ghost use Rattle.vt_letting_go.specs.InUse.{NothingGoes, WhatIsLeftIsInUse, OneSweepIsEnough};
+ghost use Rattle.vt_letting_go.specs.OneByOne.{AllGoesOneByOne, FilesystemsGoOneByOne, GroupsGoOneByOne, InodesGoOneByOne, MountsGoOneByOne};
 
 /// Where all is in use nothing goes, and what is left is in use: one sweep is enough.
 pub fn one_sweep_is_enough()
     ensures nothing { NothingGoes }
     ensures left { WhatIsLeftIsInUse }
     ensures twice { OneSweepIsEnough }
+{}
+
+/// Where all but some is in use, the sweep is to look at those one by one: a thing goes if nothing uses it.
+///
+/// Mounts go first, then filesystems, then inodes, then the masters of groups. Of inodes this is said of worlds of plain
+/// filesystems.
+pub fn things_go_one_by_one()
+    ensures mounts { MountsGoOneByOne }
+    ensures filesystems { FilesystemsGoOneByOne }
+    ensures inodes { InodesGoOneByOne }
+    ensures groups { GroupsGoOneByOne }
+    ensures all { AllGoesOneByOne }
 {}
