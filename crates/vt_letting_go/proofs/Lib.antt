@@ -3,3 +3,4 @@ pub mod Trees
 pub mod InUse
 pub mod OneByOne
 pub mod Inodes
+pub mod PlacesLeft

@@ -1,7 +1,7 @@
 -- What stands in a list: tests over lists that are shortened or changed.
 use Rattle.std.proofs.Common.{◌≡◌, refl, sym, ap, subst, ◌∙◌, ◌⊎◌, inl, inr, ⊎_elim, ℕ, nat_eq, eqb-true, eq-eqb, Bool, true, false, cond, ◌||◌, ◌&&◌, List, [], ◌∷◌, filter, map, true≢false, flat_map, ◌++◌}
-use Rattle.std.specs.Prelude.{All}
-use Rattle.std.specs.List.{list_all, list_any}
+use Rattle.std.specs.Prelude.{All, Option, None, Some}
+use Rattle.std.specs.List.{cons_option, filter_map, list_all, list_any}
 use Rattle.std.proofs.lemmas.Bool.{and_parts, or_cases, or_parts}
 use Rattle.std.proofs.lemmas.List.Elements.{All-nil, All-cons, All-head, All-tail}
 use Rattle.std.proofs.lemmas.List.Folds.{list_any-append}
@@ -118,13 +118,13 @@ module _ {A : Type 0} where
       by false e f later = ap (filter p) (filter_skip q y ys e) ∙ later ∙ sym (filter_skip r y ys (f ∙ ap (λ b. b && p y) e))
 
   -- what does not pass is not missed
-  pub any-filter : (t q : A → Bool) (xs : List A) → ((x : A) → q x ≡ false → t x ≡ false) → list_any t (filter q xs) ≡ list_any t xs
+  pub any-filter : (t q : A → Bool) (xs : List A) → ((x : A) → Among x xs → q x ≡ false → t x ≡ false) → list_any t (filter q xs) ≡ list_any t xs
   any-filter t q [] h = refl
-  any-filter t q (y ∷ ys) h = by (q y) refl (any-filter t q ys h)
+  any-filter t q (y ∷ ys) h = by (q y) refl (any-filter t q ys (λ x m. h x (inr m)))
     where
       by : (b : Bool) → q y ≡ b → list_any t (filter q ys) ≡ list_any t ys → list_any t (filter q (y ∷ ys)) ≡ (t y || list_any t ys)
       by true e later = ap (list_any t) (filter_here q y ys e) ∙ ap (λ b. t y || b) later
-      by false e later = ap (list_any t) (filter_skip q y ys e) ∙ later ∙ ap (λ b. b || list_any t ys) (sym (h y e))
+      by false e later = ap (list_any t) (filter_skip q y ys e) ∙ later ∙ ap (λ b. b || list_any t ys) (sym (h y (inl refl) e))
 
   pub map_same : (f : A → A) (xs : List A) → ((x : A) → Among x xs → f x ≡ x) → map f xs ≡ xs
   map_same f [] h = refl
@@ -169,6 +169,28 @@ module _ {A B : Type 0} where
       ⊎_elim (λ here. (x, inl refl, here))
       (λ later. let t : (x : A) × Among x xs × Among b (f x) = among-from_flat_map f xs b later in (t.0, inr t.1, t.2))
       (among-append (f x) (flat_map f xs) b m)
+
+  pub among-filter_map : (h : A → Option B) (xs : List A) (x : A) (b : B) → Among x xs → h x ≡ Some b → Among b (filter_map h xs)
+  among-filter_map h [] x b m e = absurd m
+  among-filter_map h (y ∷ ys) x b m e =
+      ⊎_elim
+      (λ same. subst (λ o. Among b (cons_option o (filter_map h ys))) (sym (ap h (sym same) ∙ e)) (inl refl))
+      (λ l. later (h y) (among-filter_map h ys x b l e)) m
+    where
+      later : (o : Option B) → Among b (filter_map h ys) → Among b (cons_option o (filter_map h ys))
+      later None l = l
+      later (Some c) l = inr l
+
+  pub among-from_filter_map : (h : A → Option B) (xs : List A) (b : B) → Among b (filter_map h xs) → (x : A) × Among x xs × (h x ≡ Some b)
+  among-from_filter_map h [] b m = absurd m
+  among-from_filter_map h (y ∷ ys) b m = by (h y) refl m (among-from_filter_map h ys b)
+    where
+      by : (o : Option B) → h y ≡ o → Among b (cons_option o (filter_map h ys))
+          → (Among b (filter_map h ys) → (x : A) × Among x ys × (h x ≡ Some b)) → (x : A) × Among x (y ∷ ys) × (h x ≡ Some b)
+      by None e l next = let t : (x : A) × Among x ys × (h x ≡ Some b) = next l in (t.0, inr t.1, t.2)
+      by (Some c) e l next =
+          ⊎_elim (λ same. (y, inl refl, e ∙ ap Some (sym same)))
+          (λ later. let t : (x : A) × Among x ys × (h x ≡ Some b) = next later in (t.0, inr t.1, t.2)) l
 
   -- lists put together out of what does not change
   pub flat_map-map : (f : A → A) (g : A → List B) (xs : List A) → ((x : A) → g (f x) ≡ g x) → flat_map g (map f xs) ≡ flat_map g xs

@@ -56,7 +56,7 @@ filesystem_by_others world number filesystem =
     ap (λ b. is_mounted nat_eq world filesystem.number || b)
     (any-filter (λ merged. has_layer_on nat_eq filesystem.number merged && is_mounted nat_eq world merged.number)
     (λ other. not (nat_eq other.number number) || filesystem_lives nat_eq world other) world.filesystems
-    (λ other gone. ap (λ b. has_layer_on nat_eq filesystem.number other && b)
+    (λ other m gone. ap (λ b. has_layer_on nat_eq filesystem.number other && b)
     (or_parts (is_mounted nat_eq world other.number) _ (or_parts (not (nat_eq other.number number)) (filesystem_lives nat_eq world other) gone).1).0
     ∙ never (has_layer_on nat_eq filesystem.number other)))
   where

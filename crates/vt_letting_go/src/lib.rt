@@ -2,4 +2,5 @@
 //! and does nothing.
 #![tactic(auto)]
 
+pub mod leaving;
 pub mod sweeps;
