@@ -4,3 +4,4 @@ pub mod InUse
 pub mod OneByOne
 pub mod Inodes
 pub mod PlacesLeft
+pub mod TreesChanged

@@ -111,6 +111,50 @@ is_it list location e =
     let t = one_passes (same_location nat_eq location) list e in
     subst (λ l. Among l list) (sym (one_location location t.0 t.2)) t.1
 
+-- no plain filesystem keeps another
+pub no_layers : (number : ℕ) (other : World ℕ) (filesystems : List (Filesystem ℕ)) → list_any is_overlay filesystems ≡ false
+    → list_any (λ merged. has_layer_on nat_eq number merged && is_mounted nat_eq other merged.number) filesystems ≡ false
+no_layers number other filesystems plain =
+    none_passes (λ merged. has_layer_on nat_eq number merged && is_mounted nat_eq other merged.number) filesystems
+    (λ merged m. by merged (fails is_overlay filesystems plain merged m))
+  where
+    by : (merged : Filesystem ℕ) → is_overlay merged ≡ false → (has_layer_on nat_eq number merged && is_mounted nat_eq other merged.number) ≡ false
+    by merged e = ap (λ b. b && is_mounted nat_eq other merged.number) (none merged.overlay e)
+      where
+        none : (o : Option (Overlay ℕ)) → is_some o ≡ false → overlay_or false (λ overlay. list_any (λ layer. nat_eq number layer.filesystem) (layers_of overlay)) o ≡ false
+        none None f = refl
+        none (Some overlay) f = absurd (true≢false f)
+
+-- In a world of plain filesystems an inode is used as the root, by a name, or at a place.
+pub plain_uses : (world : World ℕ) → IsPlain world → (filesystem : Filesystem ℕ) (number : ℕ) → is_inode_used world filesystem number ≡ true
+    → (number ≡ filesystem.files.tree.root) ⊎ ((is_among nat_eq number (named_in filesystem.files) ≡ true) ⊎ Among number (located_in nat_eq world filesystem.number))
+plain_uses world plain filesystem number is_used =
+    ⊎_elim (λ root. inl (eqb-true number filesystem.files.tree.root root))
+    (λ rest. inr (⊎_elim
+    (λ front. ⊎_elim
+    (λ before. ⊎_elim (λ named. inl (is_among_numbers number (named_in filesystem.files) named)) inr
+    (among-append (named_in filesystem.files) (located_in nat_eq world filesystem.number) number before))
+    (λ layer. absurd (subst (Among number) no_layers_in layer))
+    (among-append (named_in filesystem.files ++ located_in nat_eq world filesystem.number) (layers_in nat_eq world filesystem.number) number front))
+    (λ object. absurd (subst (Among number) no_objects_in object))
+    (among-append (named_in filesystem.files ++ located_in nat_eq world filesystem.number ++ layers_in nat_eq world filesystem.number)
+    (flat_map (objects_of_overlay nat_eq filesystem.number) world.filesystems) number (among_numbers number _ rest))))
+    (or_cases (nat_eq number filesystem.files.tree.root) _ is_used)
+  where
+    no_objects_in : flat_map (objects_of_overlay nat_eq filesystem.number) world.filesystems ≡ []
+    no_objects_in =
+        flat_map_none (objects_of_overlay nat_eq filesystem.number) world.filesystems
+        (λ f m. no_objects world filesystem.number f (fails is_overlay world.filesystems plain f m))
+
+    no_layers_in : layers_in nat_eq world filesystem.number ≡ []
+    no_layers_in =
+        ap (λ layers. map (λ layer. layer.directory) (filter (λ layer. nat_eq filesystem.number layer.filesystem) layers))
+        (flat_map_none (of_overlay [] layers_of) world.filesystems (λ f m. none f.overlay (fails is_overlay world.filesystems plain f m)))
+      where
+        none : (o : Option (Overlay ℕ)) → is_some o ≡ false → overlay_or [] layers_of o ≡ []
+        none None e = refl
+        none (Some overlay) e = absurd (true≢false e)
+
 module _ (world : World ℕ) (tasks : List (Task ℕ)) (left : List (Location ℕ)) (settles : IsSettledPlain world)
     (only : only_these_are_left world tasks left ≡ true) where
   abbrev after : World ℕ
@@ -168,19 +212,6 @@ module _ (world : World ℕ) (tasks : List (Task ℕ)) (left : List (Location �
       → (other : Mount ℕ) → Among other world.mounts → other.number ≡ mount.number → mount_lives nat_eq after other ≡ true
   only_one mount m lives other n e =
       ap (mount_lives nat_eq after) (sym (found_mount other n) ∙ ap (mount_in nat_eq world.mounts) e ∙ found_mount mount m) ∙ lives
-
-  no_layers : (number : ℕ) (other : World ℕ) (filesystems : List (Filesystem ℕ)) → list_any is_overlay filesystems ≡ false
-      → list_any (λ merged. has_layer_on nat_eq number merged && is_mounted nat_eq other merged.number) filesystems ≡ false
-  no_layers number other filesystems plain =
-      none_passes (λ merged. has_layer_on nat_eq number merged && is_mounted nat_eq other merged.number) filesystems
-      (λ merged m. by merged (fails is_overlay filesystems plain merged m))
-    where
-      by : (merged : Filesystem ℕ) → is_overlay merged ≡ false → (has_layer_on nat_eq number merged && is_mounted nat_eq other merged.number) ≡ false
-      by merged e = ap (λ b. b && is_mounted nat_eq other merged.number) (none merged.overlay e)
-        where
-          none : (o : Option (Overlay ℕ)) → is_some o ≡ false → overlay_or false (λ overlay. list_any (λ layer. nat_eq number layer.filesystem) (layers_of overlay)) o ≡ false
-          none None f = refl
-          none (Some overlay) f = absurd (true≢false f)
 
   -- the filesystem of a mount that went was left
   filesystem_left : (mount : Mount ℕ) → Among mount world.mounts → (location : Location ℕ) → Among location left → mount.number ≡ location.mount
@@ -324,40 +355,18 @@ module _ (world : World ℕ) (tasks : List (Task ℕ)) (left : List (Location �
     by_use : (number : ℕ) → is_inode_used world filesystem number ≡ true → is_used_or_among losers.inodes living filesystem number ≡ true
     by_use number is_used =
         ⊎_elim
-        (λ root. or_second (is_inode_among filesystem.number number losers.inodes) _ (or_first (nat_eq number filesystem.files.tree.root) _ root))
+        (λ root. or_second (is_inode_among filesystem.number number losers.inodes) _
+        (or_first (nat_eq number filesystem.files.tree.root) _ (eq-eqb number filesystem.files.tree.root root)))
         (λ rest. ⊎_elim
-        (λ front. ⊎_elim
-        (λ before. ⊎_elim
         (λ named. or_second (is_inode_among filesystem.number number losers.inodes) _
         (or_second (nat_eq number filesystem.files.tree.root) _
         (is_among_left number (named_in filesystem.files ++ located_in nat_eq living filesystem.number ++ layers_in nat_eq living filesystem.number)
         (flat_map (objects_of_overlay nat_eq filesystem.number) living.filesystems)
         (is_among_left number (named_in filesystem.files ++ located_in nat_eq living filesystem.number) (layers_in nat_eq living filesystem.number)
-        (is_among_left number (named_in filesystem.files) (located_in nat_eq living filesystem.number)
-        (is_among_numbers number (named_in filesystem.files) named))))))
-        located
-        (among-append (named_in filesystem.files) (located_in nat_eq world filesystem.number) number before))
-        (λ layer. absurd (subst (Among number) no_layers_in layer))
-        (among-append (named_in filesystem.files ++ located_in nat_eq world filesystem.number) (layers_in nat_eq world filesystem.number) number front))
-        (λ object. absurd (subst (Among number) no_objects_in object))
-        (among-append (named_in filesystem.files ++ located_in nat_eq world filesystem.number ++ layers_in nat_eq world filesystem.number)
-        (flat_map (objects_of_overlay nat_eq filesystem.number) world.filesystems) number (among_numbers number _ rest)))
-        (or_cases (nat_eq number filesystem.files.tree.root) _ is_used)
+        (is_among_left number (named_in filesystem.files) (located_in nat_eq living filesystem.number) named)))))
+        located rest)
+        (plain_uses world settles.plain filesystem number is_used)
       where
-        no_objects_in : flat_map (objects_of_overlay nat_eq filesystem.number) world.filesystems ≡ []
-        no_objects_in =
-            flat_map_none (objects_of_overlay nat_eq filesystem.number) world.filesystems
-            (λ f m. no_objects world filesystem.number f (fails is_overlay world.filesystems settles.plain f m))
-
-        no_layers_in : layers_in nat_eq world filesystem.number ≡ []
-        no_layers_in =
-            ap (λ layers. map (λ layer. layer.directory) (filter (λ layer. nat_eq filesystem.number layer.filesystem) layers))
-            (flat_map_none (of_overlay [] layers_of) world.filesystems (λ f m. none f.overlay (fails is_overlay world.filesystems settles.plain f m)))
-          where
-            none : (o : Option (Overlay ℕ)) → is_some o ≡ false → overlay_or [] layers_of o ≡ []
-            none None e = refl
-            none (Some overlay) e = absurd (true≢false e)
-
         located : Among number (located_in nat_eq world filesystem.number) → is_used_or_among losers.inodes living filesystem number ≡ true
         located m =
             let from = among-from_map (λ l. l.node) (filter (λ l. nat_eq filesystem.number (mount_at nat_eq world l).filesystem)

@@ -1,3 +1,4 @@
 pub mod InUse
 pub mod OneByOne
 pub mod Leaving
+pub mod TreeChanges
