@@ -15,7 +15,7 @@ use Rattle.vt_spec.specs.Machine.WorldLaws.{ListsNumbers}
 use Rattle.vt_letting_go.specs.InUse.{HasTrees, IsListedTree, is_inode_used}
 use Rattle.vt_letting_go.specs.OneByOne.{AllGoesOneByOne, Inode, InodesGoOneByOne, InodesInUseBut, IsPlain, is_inode_among, is_used_or_among, let_go_filesystems, let_go_inode, let_go_inode_of, let_go_inodes, let_go_mounts, let_go_groups}
 use Rattle.vt_letting_go.proofs.InUse.{UnusedAreEmpty, no_objects, unused_are_empty}
-use Rattle.vt_letting_go.proofs.Lists.{Among, among-filter, among-from_filter, among-from_map, among_from_all, among_numbers, decided, fails, filter_alike, filter_all, filter_twice, flat_map-filter, flat_map-map, flat_map_alike, flat_map_none, is_among_numbers, map_alike, map_same, map_twice, none_passes, passes}
+use Rattle.vt_letting_go.proofs.Lists.{Among, among-filter, any-filter, among-from_filter, among-from_map, among_from_all, among_numbers, decided, fails, filter_alike, filter_all, filter_twice, flat_map-filter, flat_map-map, flat_map_alike, flat_map_none, is_among_numbers, map_alike, map_same, map_twice, none_passes, passes}
 use Rattle.vt_letting_go.proofs.OneByOne.{filesystems_go_one_by_one, groups_go_one_by_one, mounts_go_one_by_one}
 
 -- a filesystem without the inodes that a test names
@@ -224,6 +224,121 @@ inodes_folded world (inode ∷ rest) plain empty =
     goes_by : List ℕ → ℕ → List Inode → ℕ → Bool
     goes_by used filesystem losers number = is_inode_among filesystem number losers && not (is_among nat_eq number used)
 
+-- What the sweep leaves of a plain tree
+no_real : (used : List ℕ) (o : Option (Overlay ℕ)) → is_some o ≡ false → option_map (real_among nat_eq used) o ≡ o
+no_real used None e = refl
+no_real used (Some overlay) e = absurd (true≢false e)
+
+-- where all are used, what is not used is not there
+node_kept : (used : List ℕ) (files : FileTree ℕ) → ListsNumbers nat_eq files → list_all (λ number. is_among nat_eq number used) files.numbers ≡ true
+    → (number : ℕ) → files.tree.node number ≡ cond (is_among nat_eq number used) (files.tree.node number) None
+node_kept used files numbers all number = by (is_among nat_eq number used) refl (files.tree.node number) (numbers number)
+  where
+    by : (u : Bool) → is_among nat_eq number used ≡ u → (o : Option (Node ℕ)) → is_among nat_eq number files.numbers ≡ is_some o → o ≡ cond u o None
+    by true f o there = refl
+    by false f None there = refl
+    by false f (Some node) there =
+        absurd (true≢false (sym (passes (λ n. is_among nat_eq n used) files.numbers all number (among_numbers number files.numbers there)) ∙ f))
+
+pub left_of_plain : (used : List ℕ) (filesystem : Filesystem ℕ) → ListsNumbers nat_eq filesystem.files → is_overlay filesystem ≡ false
+    → only_used_of nat_eq used filesystem ≡ without_those (λ number. not (is_among nat_eq number used)) filesystem
+left_of_plain used filesystem numbers plain = by (list_all (λ number. is_among nat_eq number used) filesystem.files.numbers) refl
+  where
+    node : (number : ℕ) (u : Bool) → cond u (filesystem.files.tree.node number) None ≡ cond (not u) None (filesystem.files.tree.node number)
+    node number true = refl
+    node number false = refl
+
+    twice : filter (λ number. is_among nat_eq number used) filesystem.files.numbers
+        ≡ filter (λ number. not (not (is_among nat_eq number used))) filesystem.files.numbers
+    twice = filter_alike (λ number. is_among nat_eq number used) (λ number. not (not (is_among nat_eq number used))) filesystem.files.numbers
+        (λ number m. not_not (is_among nat_eq number used))
+      where
+        not_not : (b : Bool) → b ≡ not (not b)
+        not_not true = refl
+        not_not false = refl
+
+    by : (all : Bool) → list_all (λ number. is_among nat_eq number used) filesystem.files.numbers ≡ all
+        → only_used_by nat_eq all used filesystem ≡ without_those (λ number. not (is_among nat_eq number used)) filesystem
+    by true e = λ i. record filesystem {
+      files = record {
+        tree = record {
+          root = filesystem.files.tree.root;
+          node = λ number. (node_kept used filesystem.files numbers e number ∙ node number (is_among nat_eq number used)) i;
+        };
+        numbers = (sym (filter_all (λ number. is_among nat_eq number used) filesystem.files.numbers
+            (passes (λ number. is_among nat_eq number used) filesystem.files.numbers e)) ∙ twice) i;
+      };
+    }
+    by false e = λ i. record filesystem {
+      files = record {
+        tree = record { root = filesystem.files.tree.root; node = λ number. node number (is_among nat_eq number used) i };
+        numbers = twice i;
+      };
+      overlay = no_real used filesystem.overlay plain i;
+    }
+
+-- without some, and then without more
+pub without_more : (some more : ℕ → Bool) (filesystem : Filesystem ℕ) → ((number : ℕ) → some number ≡ true → more number ≡ true)
+    → without_those more (without_those some filesystem) ≡ without_those more filesystem
+without_more some more filesystem within = λ i. record filesystem {
+  files = record {
+    tree = record {
+      root = filesystem.files.tree.root;
+      node = λ number. node number (some number) refl (more number) refl i;
+    };
+    numbers = filter_twice (λ number. not (more number)) (λ number. not (some number)) (λ number. not (more number))
+        (λ number. by number (some number) refl (more number) refl) filesystem.files.numbers i;
+  };
+}
+  where
+    node : (number : ℕ) (a : Bool) → some number ≡ a → (b : Bool) → more number ≡ b
+        → cond b None (cond a None (filesystem.files.tree.node number)) ≡ cond b None (filesystem.files.tree.node number)
+    node number a e true f = refl
+    node number true e false f = absurd (true≢false (sym (within number e) ∙ f))
+    node number false e false f = refl
+
+    by : (number : ℕ) (a : Bool) → some number ≡ a → (b : Bool) → more number ≡ b → not b ≡ (not a && not b)
+    by number true e true f = refl
+    by number true e false f = absurd (true≢false (sym (within number e) ∙ f))
+    by number false e b f = refl
+
+-- the numbers beside a tree without some
+pub numbers_without : (gone : ℕ → Bool) (filesystem : Filesystem ℕ) → ListsNumbers nat_eq filesystem.files
+    → ListsNumbers nat_eq (without_those gone filesystem).files
+numbers_without gone filesystem numbers number = by (gone number) refl
+  where
+    missing : (b : Bool) → is_among nat_eq number (filter (λ n. not (gone n)) filesystem.files.numbers) ≡ b → gone number ≡ true → b ≡ false
+    missing false e f = refl
+    missing true e f =
+        absurd (true≢false
+        (sym (among-from_filter (λ n. not (gone n)) filesystem.files.numbers number
+        (among_numbers number (filter (λ n. not (gone n)) filesystem.files.numbers) e)).1 ∙ ap not f))
+
+    by : (b : Bool) → gone number ≡ b → is_among nat_eq number (filter (λ n. not (gone n)) filesystem.files.numbers)
+        ≡ is_some (cond b None (filesystem.files.tree.node number))
+    by true f = missing (is_among nat_eq number (filter (λ n. not (gone n)) filesystem.files.numbers)) refl f
+    by false f =
+        any-filter (nat_eq number) (λ n. not (gone n)) filesystem.files.numbers
+        (λ n m skipped. differs n (nat_eq number n) refl skipped)
+        ∙ numbers number
+      where
+        differs : (n : ℕ) (b : Bool) → nat_eq number n ≡ b → not (gone n) ≡ false → b ≡ false
+        differs n false e skipped = refl
+        differs n true e skipped = absurd (true≢false (sym (ap not f) ∙ ap (λ k. not (gone k)) (eqb-true number n e) ∙ skipped))
+
+-- the sweep of a world of plain filesystems
+pub plain_sweep : (world : World ℕ) → IsPlain world
+    → without_dead_inodes nat_eq world ≡ record world { filesystems = map (λ f. only_used_of nat_eq (used_in nat_eq world f) f) world.filesystems }
+plain_sweep world plain =
+    ap (without_dead_in nat_eq (λ filesystem. not (is_overlay filesystem)))
+    (ap (λ filesystems. record world { filesystems = filesystems })
+    (map_same (λ filesystem. only_used nat_eq world (is_overlay filesystem) filesystem) world.filesystems
+    (λ filesystem m. ap (λ b. only_used nat_eq world b filesystem) (fails is_overlay world.filesystems plain filesystem m))))
+    ∙ ap (λ filesystems. record world { filesystems = filesystems })
+    (map_alike (λ filesystem. only_used nat_eq world (not (is_overlay filesystem)) filesystem)
+    (λ filesystem. only_used_of nat_eq (used_in nat_eq world filesystem) filesystem) world.filesystems
+    (λ filesystem m. ap (λ b. only_used nat_eq world (not b) filesystem) (fails is_overlay world.filesystems plain filesystem m)))
+
 -- What the sweep leaves of a plain tree, where all other inodes are used
 module _ (used : List ℕ) (losers : List Inode) (filesystem : Filesystem ℕ) (numbers : ListsNumbers nat_eq filesystem.files)
     (others : list_all (λ number. is_inode_among filesystem.number number losers || is_among nat_eq number used) filesystem.files.numbers ≡ true) where
@@ -247,88 +362,55 @@ module _ (used : List ℕ) (losers : List Inode) (filesystem : Filesystem ℕ) (
   goes : ℕ → Bool
   goes = goes_of used losers filesystem
 
-  numbers_swept : filter (λ number. is_among nat_eq number used) filesystem.files.numbers ≡ filter (λ number. not (goes number)) filesystem.files.numbers
+  -- so what is not used, of those that are there, is among these
+  unused_goes : (number : ℕ) → Among number filesystem.files.numbers → not (not (is_among nat_eq number used)) ≡ not (goes number)
   unfolding goes
-  numbers_swept =
-      filter_alike (λ number. is_among nat_eq number used) (λ number. not (goes number)) filesystem.files.numbers
-      (λ number m. by (is_inode_among filesystem.number number losers) (is_among nat_eq number used)
-      (passes (λ n. is_inode_among filesystem.number n losers || is_among nat_eq n used) filesystem.files.numbers others number m))
+  unused_goes number m =
+      by (is_inode_among filesystem.number number losers) (is_among nat_eq number used)
+      (passes (λ n. is_inode_among filesystem.number n losers || is_among nat_eq n used) filesystem.files.numbers others number m)
     where
-      by : (a u : Bool) → (a || u) ≡ true → u ≡ not (a && not u)
+      by : (a u : Bool) → (a || u) ≡ true → not (not u) ≡ not (a && not u)
       by true true e = refl
       by true false e = refl
       by false true e = refl
       by false false e = absurd (true≢false (sym e))
 
-  node_swept : (number : ℕ) → cond (is_among nat_eq number used) (filesystem.files.tree.node number) None
+  node_swept : (number : ℕ) → cond (not (is_among nat_eq number used)) None (filesystem.files.tree.node number)
       ≡ cond (goes number) None (filesystem.files.tree.node number)
   unfolding goes
   node_swept number = by (is_inode_among filesystem.number number losers) refl (is_among nat_eq number used) refl
     where
       by : (a : Bool) → is_inode_among filesystem.number number losers ≡ a → (u : Bool) → is_among nat_eq number used ≡ u
-          → cond u (filesystem.files.tree.node number) None ≡ cond (a && not u) None (filesystem.files.tree.node number)
+          → cond (not u) None (filesystem.files.tree.node number) ≡ cond (a && not u) None (filesystem.files.tree.node number)
       by true e true f = refl
       by true e false f = refl
       by false e true f = refl
       by false e false f = sym (not_there number f e)
 
-  -- where all are used, what is not used is not there
-  node_kept : list_all (λ number. is_among nat_eq number used) filesystem.files.numbers ≡ true → (number : ℕ)
-      → filesystem.files.tree.node number ≡ cond (is_among nat_eq number used) (filesystem.files.tree.node number) None
-  node_kept all number = by (is_among nat_eq number used) refl (filesystem.files.tree.node number) (numbers number)
-    where
-      by : (u : Bool) → is_among nat_eq number used ≡ u → (o : Option (Node ℕ)) → is_among nat_eq number filesystem.files.numbers ≡ is_some o → o ≡ cond u o None
-      by true f o there = refl
-      by false f None there = refl
-      by false f (Some node) there =
-          absurd (true≢false
-          (sym (passes (λ n. is_among nat_eq n used) filesystem.files.numbers all number (among_numbers number filesystem.files.numbers there)) ∙ f))
-
-  no_real : (o : Option (Overlay ℕ)) → is_some o ≡ false → option_map (real_among nat_eq used) o ≡ o
-  no_real None e = refl
-  no_real (Some overlay) e = absurd (true≢false e)
-
   swept : is_overlay filesystem ≡ false → only_used_of nat_eq used filesystem ≡ without_those goes filesystem
-  swept plain = by (list_all (λ number. is_among nat_eq number used) filesystem.files.numbers) refl
-    where
-      by : (all : Bool) → list_all (λ number. is_among nat_eq number used) filesystem.files.numbers ≡ all
-          → only_used_by nat_eq all used filesystem ≡ without_those goes filesystem
-      by true e = λ i. record filesystem {
-        files = record {
-          tree = record { root = filesystem.files.tree.root; node = λ number. (node_kept e number ∙ node_swept number) i };
-          numbers = (sym (filter_all (λ number. is_among nat_eq number used) filesystem.files.numbers
-              (passes (λ number. is_among nat_eq number used) filesystem.files.numbers e)) ∙ numbers_swept) i;
-        };
-      }
-      by false e = λ i. record filesystem {
+  swept plain =
+      left_of_plain used filesystem numbers plain
+      ∙ (λ i. record filesystem {
         files = record {
           tree = record { root = filesystem.files.tree.root; node = λ number. node_swept number i };
-          numbers = numbers_swept i;
+          numbers = filter_alike (λ number. not (not (is_among nat_eq number used))) (λ number. not (goes number)) filesystem.files.numbers unused_goes i;
         };
-        overlay = no_real filesystem.overlay plain i;
-      }
+      })
 
 pub inodes_go_one_by_one : InodesGoOneByOne
 unfolding AllUnusedAreEmpty goes
 inodes_go_one_by_one world losers plain trees others =
-    ap (without_dead_in nat_eq (λ filesystem. not (is_overlay filesystem))) first_round
+    plain_sweep world plain
     ∙ ap (λ filesystems. record world { filesystems = filesystems })
-    (map_alike (λ filesystem. only_used nat_eq world (not (is_overlay filesystem)) filesystem)
+    (map_alike (λ filesystem. only_used_of nat_eq (used_in nat_eq world filesystem) filesystem)
     (λ filesystem. without_those (goes_of (used_in nat_eq world filesystem) losers filesystem) filesystem) world.filesystems
     (λ filesystem m.
-    let is_plain = fails is_overlay world.filesystems plain filesystem m in
     let tree = among_from_all (λ f. IsListedTree f.files) world.filesystems trees filesystem m in
-    ap (λ b. only_used nat_eq world (not b) filesystem) is_plain
-    ∙ swept (used_in nat_eq world filesystem) losers filesystem tree.numbers
-    (among_from_all (λ f. list_all (is_used_or_among losers world f) f.files.numbers ≡ true) world.filesystems others filesystem m) is_plain))
+    swept (used_in nat_eq world filesystem) losers filesystem tree.numbers
+    (among_from_all (λ f. list_all (is_used_or_among losers world f) f.files.numbers ≡ true) world.filesystems others filesystem m)
+    (fails is_overlay world.filesystems plain filesystem m)))
     ∙ sym (inodes_folded world losers plain
     (λ filesystem m. unused_are_empty world filesystem (among_from_all (λ f. IsListedTree f.files) world.filesystems trees filesystem m)))
-  where
-    first_round : without_dead_in nat_eq is_overlay world ≡ world
-    first_round =
-        ap (λ filesystems. record world { filesystems = filesystems })
-        (map_same (λ filesystem. only_used nat_eq world (is_overlay filesystem) filesystem) world.filesystems
-        (λ filesystem m. ap (λ b. only_used nat_eq world b filesystem) (fails is_overlay world.filesystems plain filesystem m)))
 
 -- The whole sweep
 pub all_goes_one_by_one : AllGoesOneByOne

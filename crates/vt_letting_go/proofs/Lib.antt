@@ -5,3 +5,4 @@ pub mod OneByOne
 pub mod Inodes
 pub mod PlacesLeft
 pub mod TreesChanged
+pub mod LeftOneByOne

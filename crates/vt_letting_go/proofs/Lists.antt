@@ -192,6 +192,17 @@ module _ {A B : Type 0} where
           ⊎_elim (λ same. (y, inl refl, e ∙ ap Some (sym same)))
           (λ later. let t : (x : A) × Among x ys × (h x ≡ Some b) = next later in (t.0, inr t.1, t.2)) l
 
+  pub filter-map : (p : B → Bool) {q : A → Bool} (f : A → B) (xs : List A) → ((x : A) → p (f x) ≡ q x) → filter p (map f xs) ≡ map f (filter q xs)
+  filter-map p f [] h = refl
+  filter-map p {q = q} f (y ∷ ys) h =
+      ap (λ b. cond b (f y ∷ filter p (map f ys)) (filter p (map f ys))) (h y)
+      ∙ ap (λ rest. cond (q y) (f y ∷ rest) rest) (filter-map p f ys h)
+      ∙ by (q y)
+    where
+      by : (b : Bool) → cond b (f y ∷ map f (filter q ys)) (map f (filter q ys)) ≡ map f (cond b (y ∷ filter q ys) (filter q ys))
+      by true = refl
+      by false = refl
+
   -- lists put together out of what does not change
   pub flat_map-map : (f : A → A) (g : A → List B) (xs : List A) → ((x : A) → g (f x) ≡ g x) → flat_map g (map f xs) ≡ flat_map g xs
   flat_map-map f g [] h = refl

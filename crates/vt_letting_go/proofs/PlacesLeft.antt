@@ -106,7 +106,7 @@ one_location a b e =
     let parts = and_parts (nat_eq a.mount b.mount) (nat_eq a.node b.node) e in
     λ i. record { mount = eqb-true a.mount b.mount parts.0 i; node = eqb-true a.node b.node parts.1 i }
 
-is_it : (list : List (Location ℕ)) (location : Location ℕ) → is_location_among list location ≡ true → Among location list
+pub is_it : (list : List (Location ℕ)) (location : Location ℕ) → is_location_among list location ≡ true → Among location list
 is_it list location e =
     let t = one_passes (same_location nat_eq location) list e in
     subst (λ l. Among l list) (sym (one_location location t.0 t.2)) t.1
@@ -125,6 +125,21 @@ no_layers number other filesystems plain =
         none None f = refl
         none (Some overlay) f = absurd (true≢false f)
 
+-- nor has it layers or objects
+pub no_objects_of : (world : World ℕ) → IsPlain world → (number : ℕ) → flat_map (objects_of_overlay nat_eq number) world.filesystems ≡ []
+no_objects_of world plain number =
+    flat_map_none (objects_of_overlay nat_eq number) world.filesystems
+    (λ f m. no_objects world number f (fails is_overlay world.filesystems plain f m))
+
+pub no_layers_of : (world : World ℕ) → IsPlain world → (number : ℕ) → layers_in nat_eq world number ≡ []
+no_layers_of world plain number =
+    ap (λ layers. map (λ layer. layer.directory) (filter (λ layer. nat_eq number layer.filesystem) layers))
+    (flat_map_none (of_overlay [] layers_of) world.filesystems (λ f m. none f.overlay (fails is_overlay world.filesystems plain f m)))
+  where
+    none : (o : Option (Overlay ℕ)) → is_some o ≡ false → overlay_or [] layers_of o ≡ []
+    none None e = refl
+    none (Some overlay) e = absurd (true≢false e)
+
 -- In a world of plain filesystems an inode is used as the root, by a name, or at a place.
 pub plain_uses : (world : World ℕ) → IsPlain world → (filesystem : Filesystem ℕ) (number : ℕ) → is_inode_used world filesystem number ≡ true
     → (number ≡ filesystem.files.tree.root) ⊎ ((is_among nat_eq number (named_in filesystem.files) ≡ true) ⊎ Among number (located_in nat_eq world filesystem.number))
@@ -134,26 +149,12 @@ plain_uses world plain filesystem number is_used =
     (λ front. ⊎_elim
     (λ before. ⊎_elim (λ named. inl (is_among_numbers number (named_in filesystem.files) named)) inr
     (among-append (named_in filesystem.files) (located_in nat_eq world filesystem.number) number before))
-    (λ layer. absurd (subst (Among number) no_layers_in layer))
+    (λ layer. absurd (subst (Among number) (no_layers_of world plain filesystem.number) layer))
     (among-append (named_in filesystem.files ++ located_in nat_eq world filesystem.number) (layers_in nat_eq world filesystem.number) number front))
-    (λ object. absurd (subst (Among number) no_objects_in object))
+    (λ object. absurd (subst (Among number) (no_objects_of world plain filesystem.number) object))
     (among-append (named_in filesystem.files ++ located_in nat_eq world filesystem.number ++ layers_in nat_eq world filesystem.number)
     (flat_map (objects_of_overlay nat_eq filesystem.number) world.filesystems) number (among_numbers number _ rest))))
     (or_cases (nat_eq number filesystem.files.tree.root) _ is_used)
-  where
-    no_objects_in : flat_map (objects_of_overlay nat_eq filesystem.number) world.filesystems ≡ []
-    no_objects_in =
-        flat_map_none (objects_of_overlay nat_eq filesystem.number) world.filesystems
-        (λ f m. no_objects world filesystem.number f (fails is_overlay world.filesystems plain f m))
-
-    no_layers_in : layers_in nat_eq world filesystem.number ≡ []
-    no_layers_in =
-        ap (λ layers. map (λ layer. layer.directory) (filter (λ layer. nat_eq filesystem.number layer.filesystem) layers))
-        (flat_map_none (of_overlay [] layers_of) world.filesystems (λ f m. none f.overlay (fails is_overlay world.filesystems plain f m)))
-      where
-        none : (o : Option (Overlay ℕ)) → is_some o ≡ false → overlay_or [] layers_of o ≡ []
-        none None e = refl
-        none (Some overlay) e = absurd (true≢false e)
 
 module _ (world : World ℕ) (tasks : List (Task ℕ)) (left : List (Location ℕ)) (settles : IsSettledPlain world)
     (only : only_these_are_left world tasks left ≡ true) where

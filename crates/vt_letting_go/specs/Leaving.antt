@@ -65,3 +65,14 @@ abbrev pub StayingKeepsAll : Type 0
 StayingKeepsAll =
     (world : World ℕ) (tasks : List (Task ℕ)) → IsSettledPlain world → only_these_are_left world tasks [] ≡ true
     → settled nat_eq (with_tasks world tasks) ≡ with_tasks world tasks
+
+-- the tasks are at no place where no task of the world was
+abbrev pub comes_nowhere : World ℕ → List (Task ℕ) → Bool
+comes_nowhere world tasks = list_all (is_location_among (all_locations world)) (all_locations (with_tasks world tasks))
+
+-- Where tasks only leave places, a sweep in between changes nothing: places may be left one by one, each with a sweep, or all
+-- at once, with one.
+abbrev pub OneSweepForSeveral : Type 0
+OneSweepForSeveral =
+    (world : World ℕ) (tasks : List (Task ℕ)) → IsPlain world → HasTrees world → MountsStand world → comes_nowhere world tasks ≡ true
+    → settled nat_eq (with_tasks (settled nat_eq world) tasks) ≡ settled nat_eq (with_tasks world tasks)
