@@ -6,3 +6,5 @@ pub mod Inodes
 pub mod PlacesLeft
 pub mod TreesChanged
 pub mod LeftOneByOne
+pub mod GroupsHandedOn
+pub mod NamespacesEnd

@@ -100,6 +100,11 @@ module _ {A : Type 0} where
   filter_all p [] h = refl
   filter_all p (y ∷ ys) h = filter_here p y ys (h y (inl refl)) ∙ ap (λ rest. y ∷ rest) (filter_all p ys (λ x m. h x (inr m)))
 
+  -- a filter that none passes leaves nothing
+  pub nothing_passes : (p : A → Bool) (xs : List A) → ((x : A) → Among x xs → p x ≡ false) → filter p xs ≡ []
+  nothing_passes p [] h = refl
+  nothing_passes p (y ∷ ys) h = filter_skip p y ys (h y (inl refl)) ∙ nothing_passes p ys (λ x m. h x (inr m))
+
   -- two tests that agree on a list keep the same of it
   pub filter_alike : (p q : A → Bool) (xs : List A) → ((x : A) → Among x xs → p x ≡ q x) → filter p xs ≡ filter q xs
   filter_alike p q [] h = refl

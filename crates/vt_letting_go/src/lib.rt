@@ -2,5 +2,6 @@
 //! and does nothing.
 #![tactic(auto)]
 
+pub mod ends;
 pub mod leaving;
 pub mod sweeps;
