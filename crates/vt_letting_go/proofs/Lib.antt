@@ -8,3 +8,4 @@ pub mod TreesChanged
 pub mod LeftOneByOne
 pub mod GroupsHandedOn
 pub mod NamespacesEnd
+pub mod Detached

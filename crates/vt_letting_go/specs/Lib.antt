@@ -2,5 +2,6 @@ pub mod InUse
 pub mod OneByOne
 pub mod Leaving
 pub mod TreeChanges
+pub mod Detaching
 pub mod Groups
 pub mod Ends

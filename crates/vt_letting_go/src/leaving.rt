@@ -1,4 +1,5 @@
 //! What goes with the uses that a change took away.
+ghost use Rattle.vt_letting_go.specs.Detaching.{DetachingLetsGo, UnmountIsOfOne};
 ghost use Rattle.vt_letting_go.specs.Leaving.{LeavingLetsGo, OneSweepForSeveral, StayingKeepsAll};
 ghost use Rattle.vt_letting_go.specs.TreeChanges.{NamedStay, UnnamedGo};
 
@@ -15,4 +16,11 @@ pub fn what_tasks_leave_goes()
 pub fn what_loses_its_name_goes()
     ensures unnamed { UnnamedGo }
     ensures named { NamedStay }
+{}
+
+/// Where a mount on which no other stands leaves its place, it goes with its last use, its filesystem with its last mount, and
+/// the inodes of its root and its place with theirs. Nothing else goes.
+pub fn what_a_mount_leaves_goes()
+    ensures unmount { UnmountIsOfOne }
+    ensures left { DetachingLetsGo }
 {}
