@@ -76,7 +76,7 @@ pub unmount_is_of_one : UnmountIsOfOne
 unmount_is_of_one world number alone unshared = goes_alone world number alone unshared
 
 -- A mount of a list that is changed, where numbers stay
-found-map : (change : Mount ℕ → Mount ℕ) → ((mount : Mount ℕ) → (change mount).number ≡ mount.number) → (mounts : List (Mount ℕ)) (number : ℕ)
+pub found-map : (change : Mount ℕ → Mount ℕ) → ((mount : Mount ℕ) → (change mount).number ≡ mount.number) → (mounts : List (Mount ℕ)) (number : ℕ)
     → (mount : Mount ℕ) → Among mount mounts → mount_in nat_eq mounts number ≡ mount → mount.number ≡ number
     → mount_in nat_eq (map change mounts) number ≡ change (mount_in nat_eq mounts number)
 found-map change same [] number mount m e f = absurd m
@@ -99,7 +99,7 @@ found-map change same (first ∷ rest) number mount m e f =
         ∙ ap (λ b. change (unwrap_or (cond b (Some first) (find (λ x. nat_eq number x.number) rest)) (no_mount number))) (sym g)
 
 -- where none has the number, none has it after the change
-not_found-map : (change : Mount ℕ → Mount ℕ) → ((mount : Mount ℕ) → (change mount).number ≡ mount.number) → (mounts : List (Mount ℕ)) (number : ℕ)
+pub not_found-map : (change : Mount ℕ → Mount ℕ) → ((mount : Mount ℕ) → (change mount).number ≡ mount.number) → (mounts : List (Mount ℕ)) (number : ℕ)
     → (mount_in nat_eq (map change mounts) number).filesystem ≡ (mount_in nat_eq mounts number).filesystem
     ⊎ ((mount : Mount ℕ) × Among mount mounts × (mount_in nat_eq mounts number ≡ mount) × (mount.number ≡ number))
 not_found-map change same [] number = inl refl

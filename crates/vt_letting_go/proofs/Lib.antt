@@ -9,3 +9,4 @@ pub mod LeftOneByOne
 pub mod GroupsHandedOn
 pub mod NamespacesEnd
 pub mod Detached
+pub mod UsesKept

@@ -197,6 +197,10 @@ module _ {A B : Type 0} where
           ⊎_elim (λ same. (y, inl refl, e ∙ ap Some (sym same)))
           (λ later. let t : (x : A) × Among x ys × (h x ≡ Some b) = next later in (t.0, inr t.1, t.2)) l
 
+  pub any-map : (p : B → Bool) {q : A → Bool} (f : A → B) (xs : List A) → ((x : A) → p (f x) ≡ q x) → list_any p (map f xs) ≡ list_any q xs
+  any-map p f [] h = refl
+  any-map p {q = q} f (y ∷ ys) h = ap (λ b. b || list_any p (map f ys)) (h y) ∙ ap (λ b. q y || b) (any-map p f ys h)
+
   pub filter-map : (p : B → Bool) {q : A → Bool} (f : A → B) (xs : List A) → ((x : A) → p (f x) ≡ q x) → filter p (map f xs) ≡ map f (filter q xs)
   filter-map p f [] h = refl
   filter-map p {q = q} f (y ∷ ys) h =

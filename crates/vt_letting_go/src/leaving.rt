@@ -1,5 +1,6 @@
 //! What goes with the uses that a change took away.
 ghost use Rattle.vt_letting_go.specs.Detaching.{DetachingLetsGo, UnmountIsOfOne};
+ghost use Rattle.vt_letting_go.specs.Keeping.{FlagsAreOfOne, FlagsKeepAll, TypesKeepAll};
 ghost use Rattle.vt_letting_go.specs.Leaving.{LeavingLetsGo, OneSweepForSeveral, StayingKeepsAll};
 ghost use Rattle.vt_letting_go.specs.TreeChanges.{NamedStay, UnnamedGo};
 
@@ -23,4 +24,11 @@ pub fn what_loses_its_name_goes()
 pub fn what_a_mount_leaves_goes()
     ensures unmount { UnmountIsOfOne }
     ensures left { DetachingLetsGo }
+{}
+
+/// Where types or flags of mounts change, nothing goes.
+pub fn types_and_flags_keep_all()
+    ensures types { TypesKeepAll }
+    ensures one { FlagsAreOfOne }
+    ensures flags { FlagsKeepAll }
 {}
