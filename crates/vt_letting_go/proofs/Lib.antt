@@ -10,3 +10,4 @@ pub mod GroupsHandedOn
 pub mod NamespacesEnd
 pub mod Detached
 pub mod UsesKept
+pub mod UsesCounted

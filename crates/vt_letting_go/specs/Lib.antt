@@ -1,4 +1,5 @@
 pub mod InUse
+pub mod Counts
 pub mod OneByOne
 pub mod Leaving
 pub mod TreeChanges

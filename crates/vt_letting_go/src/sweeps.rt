@@ -1,4 +1,5 @@
 //! What the sweep leaves, and what it takes.
+ghost use Rattle.vt_letting_go.specs.Counts.{LocatedWhileCounted, MountedWhileCounted, OneMountLess, OneUseLess, UsedWhileCounted};
 ghost use Rattle.vt_letting_go.specs.InUse.{NothingGoes, WhatIsLeftIsInUse, OneSweepIsEnough};
 ghost use Rattle.vt_letting_go.specs.OneByOne.{AllGoesOneByOne, FilesystemsGoOneByOne, GroupsGoOneByOne, InodesGoOneByOne, MountsGoOneByOne};
 
@@ -19,4 +20,13 @@ pub fn things_go_one_by_one()
     ensures inodes { InodesGoOneByOne }
     ensures groups { GroupsGoOneByOne }
     ensures all { AllGoesOneByOne }
+{}
+
+/// A thing is in use just while the count of its uses is not zero, and what goes takes one from the counts of what it used.
+pub fn uses_are_counted()
+    ensures located { LocatedWhileCounted }
+    ensures mounted { MountedWhileCounted }
+    ensures inodes { UsedWhileCounted }
+    ensures location { OneUseLess }
+    ensures mount { OneMountLess }
 {}
