@@ -11,3 +11,5 @@ pub mod NamespacesEnd
 pub mod Detached
 pub mod UsesKept
 pub mod UsesCounted
+pub mod MountsAdded
+pub mod LookedUp

@@ -1,12 +1,13 @@
 -- The sweep, one thing at a time: each thing that lost a use is looked at, and goes if it has none left. path_resolution(7),
 -- unlink(2), umount(2) with MNT_DETACH.
-use Rattle.std.specs.Prelude.{All, Bool, List, None, false, filter, if◌then◌else◌, map, nat_eq, not, true, ℕ, ◌&&◌, ◌||◌, ◌≡◌}
+use Rattle.std.specs.Prelude.{All, Bool, List, None, false, filter, if◌then◌else◌, is_some, map, nat_eq, not, true, ℕ, ◌&&◌, ◌||◌, ◌≡◌}
 use Rattle.std.specs.List.{list_all, list_any}
 use Rattle.vt_spec.specs.Machine.FileTree.{FileTree}
-use Rattle.vt_spec.specs.Machine.Lists.{folded, is_among}
+use Rattle.vt_spec.specs.Machine.Lists.{any_pair, folded, is_among}
+use Rattle.vt_spec.specs.Machine.Mounts.{Mount}
 use Rattle.vt_spec.specs.Machine.Receives.{has_members}
-use Rattle.vt_spec.specs.Machine.Settled.{filesystem_lives, mount_lives, settled, without_dead_filesystems, without_dead_groups, without_dead_inodes, without_dead_mounts}
-use Rattle.vt_spec.specs.Machine.World.{Filesystem, World, is_overlay, with_mounts}
+use Rattle.vt_spec.specs.Machine.Settled.{filesystem_lives, has_layer_on, is_located, is_mounted, mount_lives, settled, without_dead_filesystems, without_dead_groups, without_dead_inodes, without_dead_mounts}
+use Rattle.vt_spec.specs.Machine.World.{Filesystem, World, is_overlay, mount_numbered, with_mounts}
 use Rattle.vt_letting_go.specs.InUse.{HasTrees, is_inode_used}
 
 -- The mount of this number goes, unless it is in a namespace, or a root, working directory or descriptor is on it.
@@ -134,3 +135,30 @@ abbrev pub AllGoesOneByOne : Type 0
 AllGoesOneByOne =
     (world : World ℕ) (losers : Losers) → IsPlain world → HasTrees world → AllInUseBut losers world
     → settled nat_eq world ≡ let_go world losers
+
+-- As code does it: what is looked up is left where it is used, and taken away where it is not.
+
+abbrev pub is_mount_used : World ℕ → ℕ → Bool
+is_mount_used world number = is_some (mount_numbered nat_eq world number).namespace || is_located nat_eq world number
+
+abbrev pub without_mount : World ℕ → ℕ → World ℕ
+without_mount world number = with_mounts world (filter (λ mount. not (nat_eq mount.number number)) world.mounts)
+
+abbrev pub MountIsLookedUp : Type 0
+MountIsLookedUp =
+    (world : World ℕ) (number : ℕ) → any_pair (λ (a b : Mount ℕ). nat_eq a.number b.number) world.mounts ≡ false
+    → let_go_mount world number ≡ (if is_mount_used world number then world else without_mount world number)
+
+abbrev pub is_filesystem_used : World ℕ → ℕ → Bool
+is_filesystem_used world number =
+    is_mounted nat_eq world number
+    || list_any (λ merged. has_layer_on nat_eq number merged && is_mounted nat_eq world merged.number) world.filesystems
+
+abbrev pub without_filesystem : World ℕ → ℕ → World ℕ
+without_filesystem world number =
+    record world { filesystems = filter (λ filesystem. not (nat_eq filesystem.number number)) world.filesystems }
+
+abbrev pub FilesystemIsLookedUp : Type 0
+FilesystemIsLookedUp =
+    (world : World ℕ) (number : ℕ)
+    → let_go_filesystem world number ≡ (if is_filesystem_used world number then world else without_filesystem world number)

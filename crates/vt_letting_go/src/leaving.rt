@@ -1,6 +1,6 @@
 //! What goes with the uses that a change took away.
 ghost use Rattle.vt_letting_go.specs.Detaching.{DetachingLetsGo, UnmountIsOfOne};
-ghost use Rattle.vt_letting_go.specs.Keeping.{FlagsAreOfOne, FlagsKeepAll, TypesKeepAll};
+ghost use Rattle.vt_letting_go.specs.Keeping.{FlagsAreOfOne, FlagsKeepAll, NewMountsKeepAll, TypesKeepAll};
 ghost use Rattle.vt_letting_go.specs.Leaving.{LeavingLetsGo, OneSweepForSeveral, StayingKeepsAll};
 ghost use Rattle.vt_letting_go.specs.TreeChanges.{NamedStay, UnnamedGo};
 
@@ -31,4 +31,9 @@ pub fn types_and_flags_keep_all()
     ensures types { TypesKeepAll }
     ensures one { FlagsAreOfOne }
     ensures flags { FlagsKeepAll }
+{}
+
+/// Where mounts are added, with the plain filesystems that they show, nothing goes.
+pub fn new_mounts_keep_all()
+    ensures { NewMountsKeepAll }
 {}

@@ -1,7 +1,7 @@
 //! What the sweep leaves, and what it takes.
 ghost use Rattle.vt_letting_go.specs.Counts.{LocatedWhileCounted, MountedWhileCounted, OneMountLess, OneUseLess, UsedWhileCounted};
 ghost use Rattle.vt_letting_go.specs.InUse.{NothingGoes, WhatIsLeftIsInUse, OneSweepIsEnough};
-ghost use Rattle.vt_letting_go.specs.OneByOne.{AllGoesOneByOne, FilesystemsGoOneByOne, GroupsGoOneByOne, InodesGoOneByOne, MountsGoOneByOne};
+ghost use Rattle.vt_letting_go.specs.OneByOne.{AllGoesOneByOne, FilesystemIsLookedUp, FilesystemsGoOneByOne, GroupsGoOneByOne, InodesGoOneByOne, MountIsLookedUp, MountsGoOneByOne};
 
 /// Where all is in use nothing goes, and what is left is in use: one sweep is enough.
 pub fn one_sweep_is_enough()
@@ -29,4 +29,10 @@ pub fn uses_are_counted()
     ensures inodes { UsedWhileCounted }
     ensures location { OneUseLess }
     ensures mount { OneMountLess }
+{}
+
+/// To look at a mount or a filesystem is to look it up by its number, and to take it away unless it is used.
+pub fn things_are_looked_up()
+    ensures mount { MountIsLookedUp }
+    ensures filesystem { FilesystemIsLookedUp }
 {}
