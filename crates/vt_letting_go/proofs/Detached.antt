@@ -1,22 +1,22 @@
 -- What goes when a mount leaves its place.
 use Rattle.std.proofs.Common.{◌≡◌, refl, sym, ap, subst, ◌∙◌, ◌⊎◌, inl, inr, ⊎_elim, ℕ, zero, suc, nat_eq, eqb-true, eq-eqb, Bool, true, false, cond, not, ◌||◌, ◌&&◌, List, [], ◌∷◌, filter, find, length, map, true≢false, flat_map, ◌++◌, Option, Some, None, is_some, option_map, option_to_list, unwrap_or}
-use Rattle.std.specs.Prelude.{All, filter_map}
-use Rattle.std.specs.List.{list_all, list_any}
+use Rattle.std.specs.Prelude.{filter_map}
+use Rattle.std.specs.List.{list_all}
 use Rattle.std.proofs.lemmas.Bool.{and_parts, not-true, or_cases, or_parts}
 use Rattle.vt_spec.specs.Machine.Detach.{after_going, going_at, going_from, has_child, place_below, place_left, taken_away, unmounted}
 use Rattle.vt_spec.specs.Machine.Lists.{chain, holds_of, is_among, last_or}
 use Rattle.vt_spec.specs.Machine.Mounts.{Location, Mount, detached, is_shared, mount_in, no_mount, root_of, stands_on}
-use Rattle.vt_spec.specs.Machine.Receives.{has_members, is_member_of, regrouped}
-use Rattle.vt_spec.specs.Machine.Settled.{filesystem_lives, is_located, is_mounted, layers_in, located_in, mount_lives, named_in, objects_of_overlay, settled, used_in, without_dead_filesystems, without_dead_mounts}
+use Rattle.vt_spec.specs.Machine.Receives.{is_member_of, regrouped}
+use Rattle.vt_spec.specs.Machine.Settled.{filesystem_lives, is_located, is_mounted, layers_in, located_in, mount_lives, named_in, objects_of_overlay, without_dead_filesystems, without_dead_mounts}
 use Rattle.vt_spec.specs.Machine.World.{Filesystem, World, all_locations, mount_at, mount_numbered, with_mounts}
 use Rattle.vt_spec.specs.Machine.WorldLaws.{is_nowhere_or_attached}
-use Rattle.vt_letting_go.specs.Detaching.{DetachingLetsGo, MovesOne, StandsUnshared, UnmountIsOfOne, detached_if, inodes_of_mount, used_by_mount, with_changed, without_place}
+use Rattle.vt_letting_go.specs.Detaching.{DetachingLetsGo, MovesOne, StandsUnshared, UnmountIsOfOne, detached_if, used_by_mount, with_changed, without_place}
 use Rattle.vt_letting_go.specs.InUse.{is_inode_used}
-use Rattle.vt_letting_go.specs.Leaving.{IsSettledPlain, stands_on_attached}
-use Rattle.vt_letting_go.specs.OneByOne.{FilesystemsInUseBut, GroupsInUseBut, Inode, InodesInUseBut, Losers, MountsInUseBut, is_inode_among, is_used_or_among, let_go}
+use Rattle.vt_letting_go.specs.Leaving.{IsSettledPlain}
+use Rattle.vt_letting_go.specs.OneByOne.{FilesystemsInUseBut, GroupsInUseBut, Inode, InodesInUseBut, Losers, MountsInUseBut, is_inode_among, is_used_or_among}
 use Rattle.vt_letting_go.proofs.Inodes.{all_goes_one_by_one}
 use Rattle.vt_letting_go.proofs.Lists.{Among, all_from_among, all_pass, among-append, among-append_left, among-append_right, among-filter, among-filter_map, among-from_filter, among-from_filter_map, among-from_map, among-map, among_from_all, any-filter, any_passes, decided, fails, is_among_left, is_among_numbers, is_among_right, map_alike, one_passes, or_first, or_second, passes}
-use Rattle.vt_letting_go.proofs.PlacesLeft.{found_in_filter, found_is_there, found_itself, no_layers, nowhere_parts, number_found, plain_uses, private_is_no_member}
+use Rattle.vt_letting_go.proofs.PlacesLeft.{found_in_filter, found_itself, no_layers, nowhere_parts, number_found, plain_uses, private_is_no_member}
 
 -- The unmount of one mount
 module _ (world : World ℕ) (number : ℕ) (alone : has_child nat_eq world number ≡ false) where

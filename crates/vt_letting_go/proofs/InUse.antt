@@ -1,13 +1,12 @@
 -- Where all is in use nothing goes, and what is left is in use.
-use Rattle.std.proofs.Common.{◌≡◌, refl, sym, ap, subst, ◌∙◌, ◌⊎◌, inl, inr, ⊎_elim, ℕ, nat_eq, eqb-true, eq-eqb, Bool, true, false, cond, not, ◌||◌, ◌&&◌, List, [], ◌∷◌, filter, map, true≢false, flat_map, ◌++◌, Option, Some, None, is_some, option_map}
+use Rattle.std.proofs.Common.{◌≡◌, refl, sym, ap, ◌∙◌, ⊎_elim, ℕ, nat_eq, eq-eqb, Bool, true, false, cond, not, ◌||◌, ◌&&◌, List, [], ◌∷◌, filter, map, true≢false, flat_map, ◌++◌, Option, Some, None, is_some, option_map}
 use Rattle.std.specs.Prelude.{All, filter_map}
 use Rattle.std.specs.List.{list_all, list_any}
-use Rattle.std.proofs.lemmas.List.Elements.{All-filter, All-map}
-use Rattle.vt_spec.specs.Machine.FileTree.{FileTree, targets_in}
+use Rattle.vt_spec.specs.Machine.FileTree.{targets_in}
 use Rattle.vt_spec.specs.Machine.Lists.{holds_of, is_among}
 use Rattle.vt_spec.specs.Machine.Locked.{of_overlay, overlay_or}
 use Rattle.vt_spec.specs.Machine.Receives.{has_members}
-use Rattle.vt_spec.specs.Machine.Settled.{filesystem_lives, has_layer_on, is_mounted, layers_in, located_in, mount_lives, named_in, objects_of_overlay, only_used, only_used_by, only_used_of, real_among, settled, used_in, without_dead_filesystems, without_dead_groups, without_dead_in, without_dead_inodes, without_dead_mounts}
+use Rattle.vt_spec.specs.Machine.Settled.{filesystem_lives, has_layer_on, is_mounted, layers_in, located_in, mount_lives, named_in, objects_of_overlay, only_used, only_used_by, real_among, settled, used_in, without_dead_filesystems, without_dead_groups, without_dead_in, without_dead_inodes, without_dead_mounts}
 use Rattle.vt_spec.specs.Machine.World.{Filesystem, Overlay, World, is_overlay, layers_of, upper_object, with_mounts}
 use Rattle.vt_letting_go.specs.InUse.{AllInUse, FilesystemsInUse, GroupsInUse, HasTrees, InodesInUse, IsListedTree, MountsInUse, NothingGoes, OneSweepIsEnough, UppersArePlain, WhatIsLeftIsInUse, has_upper_in, is_inode_used}
 use Rattle.vt_letting_go.proofs.Lists.{Among, all_from_among, all_pass, among-filter, among-from_map, among-map, among_from_all, any_passes, flat_map_none, one_passes, or_first, decided, among-from_filter, filter_all, flat_map-filter, flat_map-map, flat_map_alike, is_among_left, map_same, or_second, passes}

@@ -1,21 +1,20 @@
 -- Inodes of plain trees go one by one.
-use Rattle.std.proofs.Common.{◌≡◌, refl, sym, ap, subst, ◌∙◌, ◌⊎◌, inl, inr, ⊎_elim, ℕ, nat_eq, eqb-true, eq-eqb, Bool, true, false, cond, not, ◌||◌, ◌&&◌, List, [], ◌∷◌, filter, map, true≢false, flat_map, ◌++◌, Option, Some, None, is_some, option_map}
-use Rattle.std.specs.Prelude.{All}
-use Rattle.std.specs.List.{list_all, list_any}
-use Rattle.std.proofs.lemmas.Bool.{and_parts, not-true, or_parts}
+use Rattle.std.proofs.Common.{◌≡◌, refl, sym, ap, subst, ◌∙◌, ℕ, nat_eq, eqb-true, Bool, true, false, cond, not, ◌||◌, ◌&&◌, List, [], ◌∷◌, filter, map, true≢false, flat_map, ◌++◌, Option, Some, None, is_some, option_map}
+use Rattle.std.specs.List.{list_all}
+use Rattle.std.proofs.lemmas.Bool.{and_parts, not-true}
 use Rattle.std.proofs.lemmas.List.Elements.{All-filter}
 use Rattle.vt_spec.specs.Tree.{Node}
 use Rattle.vt_spec.specs.Machine.FileTree.{FileTree, targets_in}
-use Rattle.vt_spec.specs.Machine.Lists.{folded, is_among}
+use Rattle.vt_spec.specs.Machine.Lists.{is_among}
 use Rattle.vt_spec.specs.Machine.Locked.{of_overlay, overlay_or}
 use Rattle.vt_spec.specs.Machine.Receives.{has_members}
-use Rattle.vt_spec.specs.Machine.Settled.{filesystem_lives, layers_in, located_in, named_in, objects_of_overlay, only_used, only_used_by, only_used_of, real_among, settled, used_in, without_dead_filesystems, without_dead_groups, without_dead_in, without_dead_inodes, without_dead_mounts}
-use Rattle.vt_spec.specs.Machine.World.{Filesystem, Overlay, World, is_overlay, layers_of, with_mounts}
+use Rattle.vt_spec.specs.Machine.Settled.{filesystem_lives, layers_in, located_in, named_in, objects_of_overlay, only_used, only_used_by, only_used_of, real_among, used_in, without_dead_filesystems, without_dead_groups, without_dead_in, without_dead_inodes, without_dead_mounts}
+use Rattle.vt_spec.specs.Machine.World.{Filesystem, Overlay, World, is_overlay, layers_of}
 use Rattle.vt_spec.specs.Machine.WorldLaws.{ListsNumbers}
 use Rattle.vt_letting_go.specs.InUse.{HasTrees, IsListedTree, is_inode_used}
-use Rattle.vt_letting_go.specs.OneByOne.{AllGoesOneByOne, Inode, InodesGoOneByOne, InodesInUseBut, IsPlain, is_inode_among, is_used_or_among, let_go_filesystems, let_go_inode, let_go_inode_of, let_go_inodes, let_go_mounts, let_go_groups}
+use Rattle.vt_letting_go.specs.OneByOne.{AllGoesOneByOne, Inode, InodesGoOneByOne, IsPlain, is_inode_among, is_used_or_among, let_go_filesystems, let_go_inode, let_go_inode_of, let_go_inodes, let_go_groups}
 use Rattle.vt_letting_go.proofs.InUse.{UnusedAreEmpty, no_objects, unused_are_empty}
-use Rattle.vt_letting_go.proofs.Lists.{Among, among-filter, any-filter, among-from_filter, among-from_map, among_from_all, among_numbers, decided, fails, filter_alike, filter_all, filter_twice, flat_map-filter, flat_map-map, flat_map_alike, flat_map_none, is_among_numbers, map_alike, map_same, map_twice, none_passes, passes}
+use Rattle.vt_letting_go.proofs.Lists.{Among, any-filter, among-from_filter, among-from_map, among_from_all, among_numbers, fails, filter_alike, filter_all, filter_twice, flat_map-filter, flat_map-map, flat_map_alike, flat_map_none, map_alike, map_same, map_twice, none_passes, passes}
 use Rattle.vt_letting_go.proofs.OneByOne.{filesystems_go_one_by_one, groups_go_one_by_one, mounts_go_one_by_one}
 
 -- a filesystem without the inodes that a test names

@@ -1,21 +1,20 @@
 -- Places that are left one by one, each with a sweep, or all at once.
-use Rattle.std.proofs.Common.{◌≡◌, refl, sym, ap, subst, ◌∙◌, ◌⊎◌, inl, inr, ⊎_elim, ℕ, nat_eq, eqb-true, eq-eqb, Bool, true, false, cond, not, ◌||◌, ◌&&◌, List, [], ◌∷◌, filter, map, true≢false, flat_map, ◌++◌, Option, Some, None, is_some, option_to_list}
-use Rattle.std.specs.Prelude.{All, filter_map}
+use Rattle.std.proofs.Common.{◌≡◌, refl, sym, ap, subst, ◌∙◌, ⊎_elim, ℕ, nat_eq, eqb-true, eq-eqb, Bool, true, false, cond, not, ◌||◌, ◌&&◌, List, ◌∷◌, filter, map, true≢false, flat_map, ◌++◌, Some, None, is_some, option_to_list}
+use Rattle.std.specs.Prelude.{filter_map}
 use Rattle.std.specs.List.{list_all, list_any}
-use Rattle.std.proofs.lemmas.Bool.{and_parts, or_cases, or_parts}
+use Rattle.std.proofs.lemmas.Bool.{and_parts, or_cases}
 use Rattle.vt_spec.specs.Machine.Lists.{is_among}
 use Rattle.vt_spec.specs.Machine.Mounts.{Location, Mount, mount_in, root_of}
 use Rattle.vt_spec.specs.Machine.Receives.{has_members, is_member_of}
-use Rattle.vt_spec.specs.Machine.Settled.{filesystem_lives, is_located, is_mounted, layers_in, located_in, mount_lives, named_in, objects_of_overlay, only_used_by, only_used_of, settled, used_in, without_dead_filesystems, without_dead_groups, without_dead_inodes, without_dead_mounts}
-use Rattle.vt_spec.specs.Machine.World.{Filesystem, Overlay, Task, World, all_locations, is_overlay, layers_of, mount_at, with_mounts}
-use Rattle.vt_spec.specs.Machine.WorldLaws.{ListsNumbers, is_nowhere_or_attached}
+use Rattle.vt_spec.specs.Machine.Settled.{filesystem_lives, is_located, is_mounted, layers_in, located_in, mount_lives, named_in, objects_of_overlay, only_used_of, settled, used_in, without_dead_filesystems, without_dead_mounts}
+use Rattle.vt_spec.specs.Machine.World.{Filesystem, Task, World, all_locations, is_overlay, mount_at, with_mounts}
 use Rattle.vt_letting_go.specs.InUse.{HasTrees, IsListedTree, is_inode_used}
 use Rattle.vt_letting_go.specs.Leaving.{MountsStand, OneSweepForSeveral, comes_nowhere, is_location_among, stands_on_attached, with_tasks}
 use Rattle.vt_letting_go.specs.OneByOne.{IsPlain}
-use Rattle.vt_letting_go.proofs.InUse.{UnusedAreEmpty, left_by, named-left, number-left, overlay-left, root-left, unused_are_empty}
+use Rattle.vt_letting_go.proofs.InUse.{named-left, number-left, overlay-left, root-left, unused_are_empty}
 use Rattle.vt_letting_go.proofs.Inodes.{left_of_plain, numbers_without, plain_sweep, without_more, without_those}
-use Rattle.vt_letting_go.proofs.Lists.{Among, among-append, among-append_left, among-append_right, among-filter, among-filter_map, among-from_filter, among-from_filter_map, among-from_map, among-map, among_from_all, among_numbers, any_passes, decided, fails, filter-map, filter_alike, filter_twice, is_among_left, is_among_numbers, is_among_right, map_alike, map_twice, none_passes, one_passes, or_first, or_second, passes}
-use Rattle.vt_letting_go.proofs.PlacesLeft.{found_in_filter, found_is_there, found_itself, is_it, no_layers, no_layers_of, no_objects_of, nowhere_parts, number_found, plain_uses}
+use Rattle.vt_letting_go.proofs.Lists.{Among, among-append, among-append_left, among-append_right, among-filter, among-filter_map, among-from_filter, among-from_filter_map, among-from_map, among-map, among_from_all, any_passes, fails, filter-map, filter_alike, filter_twice, is_among_left, is_among_numbers, is_among_right, map_alike, map_twice, none_passes, one_passes, or_first, or_second, passes}
+use Rattle.vt_letting_go.proofs.PlacesLeft.{found_in_filter, found_is_there, found_itself, is_it, no_layers, no_layers_of, no_objects_of, number_found, plain_uses}
 
 -- one of two tests that follows from the other
 pub follows : (a b : Bool) → (a ≡ true → b ≡ true) → a ≡ (b && a)

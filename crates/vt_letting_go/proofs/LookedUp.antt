@@ -1,9 +1,8 @@
 -- A mount or a filesystem that is looked at is looked up by its number.
-use Rattle.std.proofs.Common.{◌≡◌, refl, sym, ap, ◌∙◌, ℕ, nat_eq, eqb-true, Bool, true, false, cond, not, ◌||◌, List, filter, is_some, true≢false}
-use Rattle.vt_spec.specs.Machine.Lists.{any_pair}
+use Rattle.std.proofs.Common.{◌≡◌, refl, sym, ap, ◌∙◌, ℕ, nat_eq, eqb-true, Bool, true, false, cond, not, ◌||◌, is_some}
 use Rattle.vt_spec.specs.Machine.Mounts.{Mount, mount_in}
 use Rattle.vt_spec.specs.Machine.Settled.{filesystem_lives, is_located, mount_lives}
-use Rattle.vt_spec.specs.Machine.World.{Filesystem, World, mount_numbered, with_mounts}
+use Rattle.vt_spec.specs.Machine.World.{Filesystem, mount_numbered, with_mounts}
 use Rattle.vt_letting_go.specs.OneByOne.{FilesystemIsLookedUp, MountIsLookedUp, is_filesystem_used, is_mount_used, let_go_filesystem, let_go_mount, without_filesystem, without_mount}
 use Rattle.vt_letting_go.proofs.Lists.{Among, filter_alike, filter_all}
 use Rattle.vt_letting_go.proofs.PlacesLeft.{found_itself}

@@ -1,19 +1,19 @@
 -- Mounts and filesystems that are added.
-use Rattle.std.proofs.Common.{◌≡◌, refl, sym, ap, subst, ◌∙◌, ◌⊎◌, inl, inr, ⊎_elim, ℕ, nat_eq, eqb-true, eq-eqb, Bool, true, false, cond, ◌||◌, ◌&&◌, List, [], ◌∷◌, filter, find, map, true≢false, flat_map, ◌++◌, Option, Some, None, is_some, option_to_list, unwrap_or}
-use Rattle.std.specs.Prelude.{All, filter_map}
-use Rattle.std.specs.List.{list_all, list_any}
+use Rattle.std.proofs.Common.{◌≡◌, refl, sym, ap, subst, ◌∙◌, ◌⊎◌, inl, inr, ⊎_elim, ℕ, nat_eq, eqb-true, eq-eqb, Bool, true, false, cond, ◌||◌, List, [], ◌∷◌, filter, find, map, true≢false, flat_map, ◌++◌, Option, Some, is_some, option_to_list, unwrap_or}
+use Rattle.std.specs.Prelude.{filter_map}
+use Rattle.std.specs.List.{list_all}
 use Rattle.std.proofs.lemmas.Bool.{and_parts, or_cases}
 use Rattle.std.proofs.lemmas.List.{map-append}
 use Rattle.std.proofs.lemmas.List.Folds.{list_any-append}
 use Rattle.vt_spec.specs.Machine.Lists.{is_among}
 use Rattle.vt_spec.specs.Machine.Mounts.{Location, Mount, mount_in, no_mount, root_of}
-use Rattle.vt_spec.specs.Machine.Settled.{filesystem_lives, is_located, is_mounted, layers_in, located_in, mount_lives, named_in, objects_of_overlay, settled, used_in}
+use Rattle.vt_spec.specs.Machine.Settled.{filesystem_lives, is_located, is_mounted, layers_in, located_in, mount_lives, named_in, objects_of_overlay}
 use Rattle.vt_spec.specs.Machine.World.{Filesystem, World, all_locations, mount_at}
 use Rattle.vt_letting_go.specs.InUse.{AllInUse, GroupsInUse, is_inode_used}
 use Rattle.vt_letting_go.specs.Keeping.{LocationsStand, NewMountsKeepAll, has_only_named, with_new}
 use Rattle.vt_letting_go.specs.Leaving.{IsSettledPlain, stands_on_attached}
 use Rattle.vt_letting_go.proofs.InUse.{nothing_goes}
-use Rattle.vt_letting_go.proofs.Lists.{Among, all_from_among, all_pass, among-append, among-append_left, among-append_right, among-filter, among-filter_map, among-from_filter, among-from_filter_map, among-from_map, among-map, among_from_all, any_passes, is_among_left, is_among_numbers, is_among_right, one_passes, or_first, or_second, passes}
+use Rattle.vt_letting_go.proofs.Lists.{Among, all_from_among, all_pass, among-append, among-append_left, among-append_right, among-filter, among-filter_map, among-from_filter, among-from_filter_map, among-from_map, among-map, among_from_all, is_among_left, is_among_numbers, is_among_right, or_first, or_second, passes}
 use Rattle.vt_letting_go.proofs.PlacesLeft.{found_is_there, no_layers, number_found, plain_uses}
 
 -- a mount that is there is found, whatever follows

@@ -1,18 +1,18 @@
 -- A namespace ends with its last task, and how many mounts a namespace has.
-use Rattle.std.proofs.Common.{◌≡◌, refl, sym, ap, subst, ◌∙◌, ◌⊎◌, inl, inr, ⊎_elim, ℕ, zero, suc, nat_eq, eqb-true, eq-eqb, Bool, true, false, cond, not, ◌||◌, ◌&&◌, ◌+◌, ◌++◌, ◌≤◌, List, [], ◌∷◌, filter, length, map, true≢false, Option, Some, None, option_map, option_to_list, arith}
+use Rattle.std.proofs.Common.{◌≡◌, refl, sym, ap, ◌∙◌, ⊎_elim, ℕ, zero, suc, nat_eq, eqb-true, eq-eqb, Bool, true, false, cond, not, ◌||◌, ◌&&◌, ◌+◌, ◌++◌, ◌≤◌, List, [], ◌∷◌, filter, length, map, Option, Some, None, option_map, option_to_list, arith}
 use Rattle.std.specs.Prelude.{nat_lt}
 use Rattle.std.specs.List.{list_all, list_any}
-use Rattle.std.proofs.lemmas.Bool.{and_parts, or_cases}
+use Rattle.std.proofs.lemmas.Bool.{and_parts}
 use Rattle.std.proofs.lemmas.Bool.Decides.{nat_tests}
-use Rattle.vt_spec.specs.Machine.Attach.{has_too_many, most_mounts}
+use Rattle.vt_spec.specs.Machine.Attach.{most_mounts}
 use Rattle.vt_spec.specs.Machine.Detach.{after_going, place_below, place_left, taken_away}
-use Rattle.vt_spec.specs.Machine.Lists.{chain, holds_of, is_among, last_or}
+use Rattle.vt_spec.specs.Machine.Lists.{chain, holds_of, last_or}
 use Rattle.vt_spec.specs.Machine.Mounts.{Location, Mount}
-use Rattle.vt_spec.specs.Machine.Namespaces.{has_tasks, is_in_ended, namespaces_ended}
+use Rattle.vt_spec.specs.Machine.Namespaces.{has_tasks, is_in_ended}
 use Rattle.vt_spec.specs.Machine.Receives.{lost_a_group, regrouped, regrouped_by}
 use Rattle.vt_spec.specs.Machine.World.{Namespace, World, mounts_of, with_mounts}
 use Rattle.vt_spec.specs.Machine.WorldLaws.{is_listed}
-use Rattle.vt_letting_go.specs.Ends.{AddedMountsCount, MountsAreListed, NoNamespaceEnds, OneNamespaceEnds, TooManyIsOfOne, mount_count, without_namespace}
+use Rattle.vt_letting_go.specs.Ends.{AddedMountsCount, MountsAreListed, NoNamespaceEnds, OneNamespaceEnds, TooManyIsOfOne, mount_count}
 use Rattle.vt_letting_go.proofs.Lists.{Among, among-from_map, among_numbers, any_passes, decided, fails, filter_alike, filter_all, map_same, none_passes, nothing_passes, passes}
 
 -- Where nothing is taken away, places stay.

@@ -1,14 +1,12 @@
 -- The sweep, one thing at a time.
-use Rattle.std.proofs.Common.{◌≡◌, refl, sym, ap, subst, ◌∙◌, ◌⊎◌, inl, inr, ⊎_elim, ℕ, nat_eq, eqb-true, eq-eqb, Bool, true, false, cond, not, ◌||◌, ◌&&◌, List, [], ◌∷◌, filter, map, true≢false, flat_map, ◌++◌, Option, Some, None, is_some, option_map}
-use Rattle.std.specs.Prelude.{All}
-use Rattle.std.specs.List.{list_all, list_any}
+use Rattle.std.proofs.Common.{◌≡◌, refl, sym, ap, ◌∙◌, ℕ, nat_eq, Bool, true, false, cond, not, ◌||◌, ◌&&◌, List, [], ◌∷◌, filter, true≢false, Option, None}
 use Rattle.std.proofs.lemmas.Bool.{or_parts}
-use Rattle.vt_spec.specs.Machine.Lists.{folded, is_among}
+use Rattle.vt_spec.specs.Machine.Lists.{is_among}
 use Rattle.vt_spec.specs.Machine.Receives.{has_members}
-use Rattle.vt_spec.specs.Machine.Settled.{filesystem_lives, has_layer_on, is_mounted, mount_lives, without_dead_filesystems, without_dead_groups, without_dead_mounts}
+use Rattle.vt_spec.specs.Machine.Settled.{filesystem_lives, has_layer_on, is_mounted, mount_lives}
 use Rattle.vt_spec.specs.Machine.World.{Filesystem, World, with_mounts}
-use Rattle.vt_letting_go.specs.OneByOne.{FilesystemsGoOneByOne, FilesystemsInUseBut, GroupsGoOneByOne, GroupsInUseBut, MountsGoOneByOne, MountsInUseBut, let_go_filesystem, let_go_filesystems, let_go_group, let_go_groups, let_go_mount, let_go_mounts}
-use Rattle.vt_letting_go.proofs.Lists.{Among, any-filter, filter_alike, filter_all, filter_twice, passes}
+use Rattle.vt_letting_go.specs.OneByOne.{FilesystemsGoOneByOne, GroupsGoOneByOne, MountsGoOneByOne, let_go_filesystem, let_go_filesystems, let_go_group, let_go_groups, let_go_mount, let_go_mounts}
+use Rattle.vt_letting_go.proofs.Lists.{any-filter, filter_alike, filter_all, filter_twice, passes}
 
 -- one after the other: looked at here, or looked at later
 pub looked_at : (here later lives : Bool) → (not (here || later) || lives) ≡ ((not here || lives) && (not later || lives))

@@ -1,20 +1,19 @@
 -- What goes when tasks leave places.
 use Rattle.std.proofs.Common.{◌≡◌, refl, sym, ap, subst, ◌∙◌, ◌⊎◌, inl, inr, ⊎_elim, ℕ, nat_eq, eqb-true, eq-eqb, Bool, true, false, cond, not, ◌||◌, ◌&&◌, List, [], ◌∷◌, filter, find, map, true≢false, flat_map, ◌++◌, Option, Some, None, is_some, unwrap_or, option_to_list}
-use Rattle.std.specs.Prelude.{All, filter_map}
+use Rattle.std.specs.Prelude.{filter_map}
 use Rattle.std.specs.List.{list_all, list_any}
 use Rattle.std.proofs.lemmas.Bool.{and_parts, or_cases, or_parts}
-use Rattle.std.proofs.lemmas.List.Folds.{list_any-append}
 use Rattle.vt_spec.specs.Machine.Lists.{any_pair, holds_of, is_among}
 use Rattle.vt_spec.specs.Machine.Mounts.{Location, Mount, Propagation, group_of, mount_in, no_mount, root_of, same_location}
 use Rattle.vt_spec.specs.Machine.Mounts.Propagation.{Private, Shared, Slave, Unbindable}
-use Rattle.vt_spec.specs.Machine.Receives.{has_members, is_member_of}
+use Rattle.vt_spec.specs.Machine.Receives.{is_member_of}
 use Rattle.vt_spec.specs.Machine.WorldLaws.{is_nowhere_or_attached, is_private}
 use Rattle.vt_spec.specs.Machine.Locked.{of_overlay, overlay_or}
-use Rattle.vt_spec.specs.Machine.Settled.{filesystem_lives, has_layer_on, is_located, is_mounted, layers_in, located_in, mount_lives, named_in, objects_of_overlay, used_in, without_dead_filesystems, without_dead_mounts}
+use Rattle.vt_spec.specs.Machine.Settled.{filesystem_lives, has_layer_on, is_located, is_mounted, layers_in, located_in, mount_lives, named_in, objects_of_overlay, without_dead_filesystems, without_dead_mounts}
 use Rattle.vt_spec.specs.Machine.World.{Filesystem, Overlay, Task, World, all_locations, is_overlay, layers_of, mount_at}
 use Rattle.vt_letting_go.specs.InUse.{is_inode_used}
-use Rattle.vt_letting_go.specs.Leaving.{IsSettledPlain, LeavingLetsGo, MountsStand, StayingKeepsAll, inodes_of_location, is_location_among, only_these_are_left, stands_on_attached, used_by_locations, with_tasks}
-use Rattle.vt_letting_go.specs.OneByOne.{FilesystemsInUseBut, GroupsInUseBut, Inode, InodesInUseBut, IsPlain, Losers, MountsInUseBut, is_inode_among, is_used_or_among, let_go}
+use Rattle.vt_letting_go.specs.Leaving.{IsSettledPlain, LeavingLetsGo, StayingKeepsAll, inodes_of_location, is_location_among, only_these_are_left, stands_on_attached, used_by_locations, with_tasks}
+use Rattle.vt_letting_go.specs.OneByOne.{FilesystemsInUseBut, GroupsInUseBut, InodesInUseBut, IsPlain, Losers, MountsInUseBut, is_inode_among, is_used_or_among}
 use Rattle.vt_letting_go.proofs.InUse.{no_objects}
 use Rattle.vt_letting_go.proofs.Inodes.{all_goes_one_by_one}
 use Rattle.vt_letting_go.proofs.Lists.{Among, all_from_among, all_pass, among-append, among-append_left, among-append_right, among-filter, among-filter_map, among-flat_map, among-from_filter, among-from_filter_map, among-from_map, among-map, among_from_all, among_numbers, any-filter, any_passes, decided, fails, flat_map_none, is_among_left, is_among_numbers, is_among_right, none_passes, one_passes, or_first, or_second, passes}

@@ -1,18 +1,16 @@
 -- Names of a tree, and inodes that are used no more.
 use Rattle.std.proofs.Common.{◌≡◌, ◌≢◌, refl, sym, ap, ◌∙◌, true≢false, ⊎_elim, ℕ, nat_eq, eq-eqb, Bool, true, false, cond, ◌||◌, List, [], ◌∷◌, map, Option, Some, None, is_some}
-use Rattle.std.specs.List.{list_any}
-use Rattle.std.proofs.lemmas.List.Folds.{list_any-append}
 use Rattle.std.proofs.lemmas.Option.{same_Some}
 use Rattle.std.specs.Ordering.{eq_by_cmp}
-use Rattle.vt_spec.specs.Tree.{Content, Entries, Node, entries_in, entry_named, is_directory_node, name_cmp, Tree}
+use Rattle.vt_spec.specs.Tree.{Content, Entries, Node, entries_in, entry_named, is_directory_node, name_cmp}
 use Rattle.vt_spec.specs.Tree.Content.{Directory, Regular, Symlink, Whiteout}
-use Rattle.vt_spec.specs.TreeLaws.{HasName, IsTree, entry_at}
+use Rattle.vt_spec.specs.TreeLaws.{HasName}
 use Rattle.vt_spec.specs.Machine.FileTree.{FileTree, targets_in}
 use Rattle.vt_spec.specs.Machine.Lists.{is_among}
 use Rattle.vt_spec.specs.Machine.Settled.{named_in}
 use Rattle.vt_spec.proofs.Nodes.{none_is_not}
 use Rattle.vt_letting_go.specs.InUse.{IsListedTree}
-use Rattle.vt_letting_go.proofs.Lists.{Among, among-flat_map, among_numbers, decided, is_among_numbers, or_second}
+use Rattle.vt_letting_go.proofs.Lists.{among-flat_map, among_numbers, decided, is_among_numbers, or_second}
 
 -- where an entry leads is among the targets
 pub among_targets : (name : List ℕ) (entries : Entries ℕ) (number : ℕ) → entry_named name entries ≡ Some number

@@ -1,20 +1,19 @@
 -- What goes when a plain tree changes.
-use Rattle.std.proofs.Common.{◌≡◌, refl, sym, ap, subst, ◌∙◌, ◌⊎◌, inl, inr, ⊎_elim, ℕ, nat_eq, eqb-true, eq-eqb, Bool, true, false, cond, not, ◌||◌, ◌&&◌, List, [], ◌∷◌, filter, find, map, true≢false, flat_map, ◌++◌, Option, Some, None, is_some, unwrap_or}
-use Rattle.std.specs.Prelude.{All}
-use Rattle.std.specs.List.{list_all, list_any}
+use Rattle.std.proofs.Common.{◌≡◌, refl, sym, ap, subst, ◌∙◌, ◌⊎◌, inl, inr, ⊎_elim, ℕ, nat_eq, eqb-true, eq-eqb, Bool, true, false, cond, ◌||◌, ◌&&◌, List, [], ◌∷◌, find, map, true≢false, flat_map, ◌++◌, Some, unwrap_or}
+use Rattle.std.specs.List.{list_all}
 use Rattle.std.proofs.lemmas.Bool.{or_cases}
 use Rattle.vt_spec.specs.Machine.FileTree.{FileTree}
 use Rattle.vt_spec.specs.Machine.Filesystems.{with_files}
 use Rattle.vt_spec.specs.Machine.Lists.{is_among}
-use Rattle.vt_spec.specs.Machine.Settled.{filesystem_lives, is_mounted, layers_in, located_in, mount_lives, named_in, objects_of_overlay, settled, used_in, without_dead_filesystems, without_dead_mounts}
+use Rattle.vt_spec.specs.Machine.Settled.{filesystem_lives, is_mounted, layers_in, located_in, named_in, objects_of_overlay, settled, without_dead_filesystems, without_dead_mounts}
 use Rattle.vt_spec.specs.Machine.World.{Filesystem, World, filesystem_numbered, is_overlay, no_filesystem, replaced_if_numbered}
 use Rattle.vt_letting_go.specs.InUse.{FilesystemsInUse, HasTrees, IsListedTree, is_inode_used}
 use Rattle.vt_letting_go.specs.Leaving.{IsSettledPlain}
-use Rattle.vt_letting_go.specs.OneByOne.{AllInUseBut, FilesystemsInUseBut, GroupsInUseBut, Inode, InodesInUseBut, IsPlain, Losers, MountsInUseBut, is_inode_among, is_used_or_among, let_go}
+use Rattle.vt_letting_go.specs.OneByOne.{FilesystemsInUseBut, GroupsInUseBut, InodesInUseBut, IsPlain, Losers, is_inode_among, is_used_or_among, let_go}
 use Rattle.vt_letting_go.specs.TreeChanges.{ChangesTree, NamedStay, UnnamedGo, with_tree}
 use Rattle.vt_letting_go.proofs.InUse.{filesystems_stay, mounts_stay}
 use Rattle.vt_letting_go.proofs.Inodes.{all_goes_one_by_one}
-use Rattle.vt_letting_go.proofs.Lists.{Among, all_from_among, all_pass, among-append, among-from_map, among-map, among_from_all, among_numbers, any_passes, fails, is_among_left, is_among_numbers, is_among_right, none_passes, one_passes, or_first, or_second, passes}
+use Rattle.vt_letting_go.proofs.Lists.{Among, all_from_among, all_pass, among-from_map, among-map, among_from_all, among_numbers, any_passes, fails, is_among_left, is_among_numbers, is_among_right, none_passes, or_first, or_second, passes}
 use Rattle.vt_letting_go.proofs.PlacesLeft.{no_layers, plain_uses}
 
 -- a filesystem that is there is found

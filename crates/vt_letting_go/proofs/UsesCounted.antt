@@ -5,7 +5,7 @@ use Rattle.std.specs.List.{list_any}
 use Rattle.std.proofs.lemmas.Bool.Decides.{nat_tests}
 use Rattle.vt_spec.specs.Machine.Mounts.{Location, Mount}
 use Rattle.vt_spec.specs.Machine.Settled.{used_in}
-use Rattle.vt_spec.specs.Machine.World.{World, all_locations}
+use Rattle.vt_spec.specs.Machine.World.{all_locations}
 use Rattle.vt_letting_go.specs.Counts.{LocatedWhileCounted, MountedWhileCounted, OneMountLess, OneUseLess, UsedWhileCounted, times}
 
 counted : (n : ℕ) → true ≡ nat_lt 0 (1 + n)

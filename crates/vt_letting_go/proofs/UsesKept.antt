@@ -1,12 +1,11 @@
 -- Changes of mounts that take no use away.
-use Rattle.std.proofs.Common.{◌≡◌, refl, sym, ap, subst, ◌∙◌, ◌⊎◌, inl, inr, ⊎_elim, ℕ, nat_eq, eqb-true, eq-eqb, Bool, true, false, cond, ◌||◌, ◌&&◌, List, [], ◌∷◌, filter, map, true≢false, flat_map, ◌++◌, Option, Some, None, is_some}
-use Rattle.std.specs.Prelude.{All, filter_map}
+use Rattle.std.proofs.Common.{◌≡◌, refl, sym, ap, subst, ◌∙◌, ⊎_elim, ℕ, nat_eq, eqb-true, eq-eqb, Bool, true, false, cond, ◌||◌, ◌&&◌, List, [], ◌∷◌, filter, map, true≢false, flat_map, ◌++◌, Option, is_some}
+use Rattle.std.specs.Prelude.{filter_map}
 use Rattle.std.specs.List.{cons_option, list_all, list_any}
-use Rattle.vt_spec.specs.Machine.Lists.{any_pair, is_among}
-use Rattle.vt_spec.specs.Machine.Mounts.{Location, Mount, MountFlags, Propagation, mount_in, replaced_if_same, root_of}
-use Rattle.vt_spec.specs.Machine.Outcome.Mounting.{with_flags}
+use Rattle.vt_spec.specs.Machine.Lists.{is_among}
+use Rattle.vt_spec.specs.Machine.Mounts.{Mount, MountFlags, mount_in, replaced_if_same, root_of}
 use Rattle.vt_spec.specs.Machine.Receives.{has_members, is_member_of}
-use Rattle.vt_spec.specs.Machine.Settled.{filesystem_lives, has_layer_on, is_located, is_mounted, layers_in, located_in, mount_lives, named_in, objects_of_overlay, settled, used_in}
+use Rattle.vt_spec.specs.Machine.Settled.{filesystem_lives, has_layer_on, is_located, is_mounted, layers_in, located_in, mount_lives, named_in, objects_of_overlay, settled}
 use Rattle.vt_spec.specs.Machine.World.{Filesystem, World, all_locations, mount_at, with_mounts}
 use Rattle.vt_letting_go.specs.Detaching.{with_changed}
 use Rattle.vt_letting_go.specs.InUse.{AllInUse, GroupsInUse, is_inode_used}

@@ -1,5 +1,5 @@
 -- Uses are counted: a thing is in use just while its count is not zero.
-use Rattle.std.specs.Prelude.{Bool, List, [], false, if◌then◌else◌, nat_eq, nat_lt, true, ℕ, ◌+◌, ◌++◌, ◌∷◌, ◌≡◌}
+use Rattle.std.specs.Prelude.{Bool, List, [], if◌then◌else◌, nat_eq, nat_lt, ℕ, ◌+◌, ◌++◌, ◌∷◌, ◌≡◌}
 use Rattle.vt_spec.specs.Machine.Mounts.{Location, Mount}
 use Rattle.vt_spec.specs.Machine.Settled.{is_located, is_mounted, used_in}
 use Rattle.vt_spec.specs.Machine.World.{Filesystem, World, all_locations}

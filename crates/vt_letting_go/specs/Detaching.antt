@@ -1,8 +1,7 @@
 -- What goes when a mount leaves its place: umount(2), also with MNT_DETACH.
-use Rattle.std.specs.Prelude.{Bool, List, None, Option, [], false, if◌then◌else◌, map, nat_eq, not, option_to_list, true, ℕ, ◌∷◌, ◌≡◌}
+use Rattle.std.specs.Prelude.{List, Option, [], false, if◌then◌else◌, map, nat_eq, not, option_to_list, true, ℕ, ◌∷◌, ◌≡◌}
 use Rattle.std.specs.List.{list_all}
 use Rattle.vt_spec.specs.Machine.Detach.{has_child, unmounted}
-use Rattle.vt_spec.specs.Machine.Lists.{is_among}
 use Rattle.vt_spec.specs.Machine.Mounts.{Mount, detached, is_shared}
 use Rattle.vt_spec.specs.Machine.Receives.{regrouped}
 use Rattle.vt_spec.specs.Machine.Settled.{settled}

@@ -1,5 +1,5 @@
 -- A world in which all is in use, and the sweep at the end of a call: path_resolution(7), unlink(2), umount(2) with MNT_DETACH.
-use Rattle.std.specs.Prelude.{All, Bool, List, None, false, nat_eq, true, ℕ, ◌≡◌}
+use Rattle.std.specs.Prelude.{All, Bool, None, false, nat_eq, true, ℕ, ◌≡◌}
 use Rattle.std.specs.List.{list_all}
 use Rattle.vt_spec.specs.Machine.FileTree.{FileTree}
 use Rattle.vt_spec.specs.Machine.Lists.{holds_of, is_among}

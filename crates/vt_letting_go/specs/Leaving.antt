@@ -4,7 +4,7 @@ use Rattle.std.specs.List.{list_all, list_any}
 use Rattle.vt_spec.specs.Machine.Lists.{any_pair}
 use Rattle.vt_spec.specs.Machine.Mounts.{Location, Mount, same_location}
 use Rattle.vt_spec.specs.Machine.Settled.{settled}
-use Rattle.vt_spec.specs.Machine.World.{Task, World, all_locations, locations_of, mount_at}
+use Rattle.vt_spec.specs.Machine.World.{Task, World, all_locations, mount_at}
 use Rattle.vt_spec.specs.Machine.WorldLaws.{is_nowhere_or_attached}
 use Rattle.vt_letting_go.specs.InUse.{AllInUse, HasTrees}
 use Rattle.vt_letting_go.specs.OneByOne.{Inode, IsPlain, Losers, let_go}

@@ -1,5 +1,5 @@
 -- What goes when a plain tree changes: unlink(2), rmdir(2), rename(2); mkdir(2), link(2), write(2), chmod(2).
-use Rattle.std.specs.Prelude.{Bool, List, [], map, nat_eq, true, ℕ, ◌||◌, ◌≡◌}
+use Rattle.std.specs.Prelude.{List, [], map, nat_eq, true, ℕ, ◌||◌, ◌≡◌}
 use Rattle.std.specs.List.{list_all}
 use Rattle.vt_spec.specs.Machine.FileTree.{FileTree}
 use Rattle.vt_spec.specs.Machine.Filesystems.{with_files}
