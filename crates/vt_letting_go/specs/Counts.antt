@@ -23,10 +23,12 @@ abbrev pub inode_uses : World ℕ → Filesystem ℕ → ℕ → ℕ
 inode_uses world filesystem number = times (nat_eq number) (used_in nat_eq world filesystem)
 
 abbrev pub LocatedWhileCounted : Type 0
-LocatedWhileCounted = (world : World ℕ) (number : ℕ) → is_located nat_eq world number ≡ nat_lt 0 (mount_uses world number)
+LocatedWhileCounted =
+    (world : World ℕ) (number : ℕ) → is_located nat_eq world number ≡ nat_lt 0 (mount_uses world number)
 
 abbrev pub MountedWhileCounted : Type 0
-MountedWhileCounted = (world : World ℕ) (number : ℕ) → is_mounted nat_eq world number ≡ nat_lt 0 (mounts_showing world number)
+MountedWhileCounted =
+    (world : World ℕ) (number : ℕ) → is_mounted nat_eq world number ≡ nat_lt 0 (mounts_showing world number)
 
 abbrev pub UsedWhileCounted : Type 0
 UsedWhileCounted =

@@ -21,10 +21,11 @@ without_place world number = with_mounts world (map (detached_if number) world.m
 -- the mount that it stands on is not shared
 abbrev pub StandsUnshared : World ℕ → ℕ → Type 0
 StandsUnshared world number =
-    list_all (λ place. not (is_shared (mount_at nat_eq world place).propagation)) (option_to_list (mount_numbered nat_eq world number).place) ≡ true
+    list_all (λ place. not (is_shared (mount_at nat_eq world place).propagation))
+    (option_to_list (mount_numbered nat_eq world number).place) ≡ true
 
--- A mount on which no other stands, at a place of a mount that is not shared, is unmounted alone: it has no place, namespace or
--- group any more, all other mounts are as they were, and its group is handed on if it was the last member.
+-- A mount on which no other stands, at a place of a mount that is not shared, is unmounted alone: it has no place,
+-- namespace or group any more, and all other mounts are as they were. Groups that lost their last member are handed on.
 abbrev pub UnmountIsOfOne : Type 0
 UnmountIsOfOne =
     (world : World ℕ) (number : ℕ) → has_child nat_eq world number ≡ false → StandsUnshared world number
@@ -57,12 +58,13 @@ used_by_mount world number groups = record {
   groups = groups;
 }
 
--- Where a mount on which no other stands leaves its place, and types and masters may have changed with it: of what it used, that
--- goes which nothing uses any more, and nothing else.
+-- Where a mount on which no other stands leaves its place, and types and masters may have changed with it: of what it
+-- used, that goes which nothing uses any more, and nothing else.
 abbrev pub DetachingLetsGo : Type 0
 DetachingLetsGo =
     (world : World ℕ) (number : ℕ) (change : Mount ℕ → Mount ℕ) (master : ℕ → Option ℕ) (groups : List ℕ)
     → IsSettledPlain world → MovesOne number change → has_child nat_eq world number ≡ false
     → list_all is_nowhere_or_attached (with_changed world change master).mounts ≡ true
     → GroupsInUseBut groups (with_changed world change master)
-    → settled nat_eq (with_changed world change master) ≡ let_go (with_changed world change master) (used_by_mount world number groups)
+    → settled nat_eq (with_changed world change master)
+    ≡ let_go (with_changed world change master) (used_by_mount world number groups)

@@ -1,4 +1,4 @@
--- A namespace ends with its last task, and how many mounts a namespace has: mount_namespaces(7); fs.mount-max of proc(5).
+-- A namespace ends with its last task, and how many mounts a namespace has: mount_namespaces(7), proc(5).
 use Rattle.std.specs.Prelude.{List, false, filter, length, map, nat_eq, nat_lt, not, option_to_list, true, ℕ, ◌+◌, ◌++◌, ◌||◌, ◌≡◌, ◌≤◌}
 use Rattle.std.specs.List.{list_all, list_any}
 use Rattle.vt_spec.specs.Machine.Attach.{has_too_many, most_mounts}
@@ -12,7 +12,8 @@ use Rattle.vt_spec.specs.Machine.WorldLaws.{is_listed}
 
 -- the namespace of each mount is there
 abbrev pub MountsAreListed : World ℕ → Type 0
-MountsAreListed world = list_all (λ mount. list_all (is_listed nat_eq world) (option_to_list mount.namespace)) world.mounts ≡ true
+MountsAreListed world =
+    list_all (λ mount. list_all (is_listed nat_eq world) (option_to_list mount.namespace)) world.mounts ≡ true
 
 -- While each namespace has a task, none ends.
 abbrev pub NoNamespaceEnds : Type 0
@@ -30,7 +31,8 @@ without_namespace world number =
 -- Where one namespace has no task, that one ends, and no other.
 abbrev pub OneNamespaceEnds : Type 0
 OneNamespaceEnds =
-    (world : World ℕ) (number : ℕ) → MountsAreListed world → list_any (λ task. nat_eq number task.namespace) world.tasks ≡ false
+    (world : World ℕ) (number : ℕ) → MountsAreListed world
+    → list_any (λ task. nat_eq number task.namespace) world.tasks ≡ false
     → list_all (λ namespace. nat_eq number namespace.number || has_tasks nat_eq world namespace) world.namespaces ≡ true
     → namespaces_ended nat_eq world ≡ without_namespace world number
 

@@ -31,9 +31,11 @@ hand_on world group = record world {
 abbrev pub is_group_or_lives : World ℕ → ℕ → ℕ → Bool
 is_group_or_lives world group other = nat_eq other group || has_members nat_eq world.mounts other
 
--- All groups but one live: what a mount is a member or a slave of, and what is the master of a group; and that one's own master.
+-- All groups but one live: what a mount is a member or a slave of, and what is the master of a group. That one's own
+-- master lives.
 pub record GroupsLiveBut (group : ℕ) (world : World ℕ) : Type 0 where
-  pub of_mounts : list_all (λ mount. list_all (is_group_or_lives world group) (option_to_list (source_of mount.propagation))) world.mounts ≡ true
+  pub of_mounts : list_all (λ mount.
+      list_all (is_group_or_lives world group) (option_to_list (source_of mount.propagation))) world.mounts ≡ true
   pub of_groups : (other : ℕ) → list_all (is_group_or_lives world group) (option_to_list (world.master other)) ≡ true
   pub its_master : list_all (has_members nat_eq world.mounts) (option_to_list (world.master group)) ≡ true
   pub in_use : GroupsInUseBut (group ∷ []) world
@@ -46,4 +48,5 @@ OneGroupIsHandedOn =
 
 -- While no mount lost its group or a master, all stay as they are.
 abbrev pub NoGroupIsHandedOn : Type 0
-NoGroupIsHandedOn = (world : World ℕ) → list_any (lost_a_group nat_eq world) world.mounts ≡ false → regrouped nat_eq world ≡ world
+NoGroupIsHandedOn =
+    (world : World ℕ) → list_any (lost_a_group nat_eq world) world.mounts ≡ false → regrouped nat_eq world ≡ world

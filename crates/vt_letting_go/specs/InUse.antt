@@ -1,4 +1,5 @@
--- A world in which all is in use, and the sweep at the end of a call: path_resolution(7), unlink(2), umount(2) with MNT_DETACH.
+-- A world in which all is in use, and the sweep at the end of a call: path_resolution(7), unlink(2), umount(2) with
+-- MNT_DETACH.
 use Rattle.std.specs.Prelude.{All, Bool, None, false, nat_eq, true, ℕ, ◌≡◌}
 use Rattle.std.specs.List.{list_all}
 use Rattle.vt_spec.specs.Machine.FileTree.{FileTree}
@@ -47,13 +48,14 @@ HasTrees world = All (λ filesystem. IsListedTree filesystem.files) world.filesy
 
 -- the filesystem is an overlay with its upper layer in the one of this number
 abbrev pub has_upper_in : ℕ → Filesystem ℕ → Bool
-has_upper_in number merged = of_overlay false (λ overlay. holds_of (λ layer. nat_eq number layer.filesystem) overlay.upper) merged
+has_upper_in number merged =
+    of_overlay false (λ overlay. holds_of (λ layer. nat_eq number layer.filesystem) overlay.upper) merged
 
 -- no upper layer of an overlay is in an overlay
 abbrev pub UppersArePlain : World ℕ → Type 0
 UppersArePlain world =
-    All (λ filesystem. is_overlay filesystem ≡ true → All (λ merged. has_upper_in filesystem.number merged ≡ false) world.filesystems)
-    world.filesystems
+    All (λ filesystem. is_overlay filesystem ≡ true
+    → All (λ merged. has_upper_in filesystem.number merged ≡ false) world.filesystems) world.filesystems
 
 -- Where all is in use the sweep leaves the world: a call that took no use away leaves all.
 abbrev pub NothingGoes : Type 0
@@ -66,4 +68,5 @@ WhatIsLeftIsInUse = (world : World ℕ) → HasTrees world → UppersArePlain wo
 -- so a second sweep takes nothing.
 abbrev pub OneSweepIsEnough : Type 0
 OneSweepIsEnough =
-    (world : World ℕ) → HasTrees world → UppersArePlain world → settled nat_eq (settled nat_eq world) ≡ settled nat_eq world
+    (world : World ℕ) → HasTrees world → UppersArePlain world
+    → settled nat_eq (settled nat_eq world) ≡ settled nat_eq world

@@ -22,7 +22,8 @@ pub record KeepsUses (change : Mount ℕ → Mount ℕ) : Type 0 where
 abbrev pub TypesKeepAll : Type 0
 TypesKeepAll =
     (world : World ℕ) (change : Mount ℕ → Mount ℕ) (master : ℕ → Option ℕ) → AllInUse world → KeepsUses change
-    → GroupsInUse (with_changed world change master) → settled nat_eq (with_changed world change master) ≡ with_changed world change master
+    → GroupsInUse (with_changed world change master)
+    → settled nat_eq (with_changed world change master) ≡ with_changed world change master
 
 -- The flags of one mount
 
@@ -32,20 +33,24 @@ flags_if number flags mount = if nat_eq mount.number number then record mount { 
 -- Where each mount has a number of its own, a change of flags is one of the record of one mount,
 abbrev pub FlagsAreOfOne : Type 0
 FlagsAreOfOne =
-    (world : World ℕ) (here : Location ℕ) (flags : MountFlags) → any_pair (λ (a b : Mount ℕ). nat_eq a.number b.number) world.mounts ≡ false
+    (world : World ℕ) (here : Location ℕ) (flags : MountFlags)
+    → any_pair (λ (a b : Mount ℕ). nat_eq a.number b.number) world.mounts ≡ false
     → with_flags nat_eq world here flags ≡ with_mounts world (map (flags_if here.mount flags) world.mounts)
 
 -- and nothing goes.
 abbrev pub FlagsKeepAll : Type 0
 FlagsKeepAll =
-    (world : World ℕ) (here : Location ℕ) (flags : MountFlags) → any_pair (λ (a b : Mount ℕ). nat_eq a.number b.number) world.mounts ≡ false
+    (world : World ℕ) (here : Location ℕ) (flags : MountFlags)
+    → any_pair (λ (a b : Mount ℕ). nat_eq a.number b.number) world.mounts ≡ false
     → AllInUse world → settled nat_eq (with_flags nat_eq world here flags) ≡ with_flags nat_eq world here flags
 
 -- New mounts and filesystems
 
 -- each root, working directory and descriptor is on a mount that is there
 abbrev pub LocationsStand : World ℕ → Type 0
-LocationsStand world = list_all (λ location. is_among nat_eq location.mount (map (λ mount. mount.number) world.mounts)) (all_locations world) ≡ true
+LocationsStand world =
+    list_all (λ location. is_among nat_eq location.mount (map (λ mount. mount.number) world.mounts))
+    (all_locations world) ≡ true
 
 abbrev pub with_new : World ℕ → List (Mount ℕ) → List (Filesystem ℕ) → (ℕ → Option ℕ) → World ℕ
 with_new world mounts filesystems master =
@@ -54,16 +59,17 @@ with_new world mounts filesystems master =
 -- each inode is the root, or has a name
 abbrev pub has_only_named : Filesystem ℕ → Bool
 has_only_named filesystem =
-    list_all (λ number. nat_eq number filesystem.files.tree.root || is_among nat_eq number (named_in filesystem.files)) filesystem.files.numbers
+    list_all (λ number. nat_eq number filesystem.files.tree.root || is_among nat_eq number (named_in filesystem.files))
+    filesystem.files.numbers
 
--- Where mounts in a namespace are added, and plain filesystems that are mounted by them, nothing goes: a bind or a new mount at one
--- place.
+-- Where mounts in a namespace are added, and plain filesystems that they show, nothing goes: a bind or a new mount.
 abbrev pub NewMountsKeepAll : Type 0
 NewMountsKeepAll =
     (world : World ℕ) (mounts : List (Mount ℕ)) (filesystems : List (Filesystem ℕ)) (master : ℕ → Option ℕ)
     → IsSettledPlain world → LocationsStand world
     → list_all (λ mount. is_some mount.namespace) mounts ≡ true
-    → list_all (λ filesystem. is_mounted nat_eq (with_new world mounts filesystems master) filesystem.number) filesystems ≡ true
+    → list_all (λ filesystem. is_mounted nat_eq (with_new world mounts filesystems master) filesystem.number) filesystems
+    ≡ true
     → list_all has_only_named filesystems ≡ true
     → GroupsInUse (with_new world mounts filesystems master)
     → settled nat_eq (with_new world mounts filesystems master) ≡ with_new world mounts filesystems master

@@ -11,10 +11,11 @@ use Rattle.vt_letting_go.specs.OneByOne.{Inode, IsPlain, Losers, let_go}
 
 -- the mount that a place is on is in a namespace
 abbrev pub stands_on_attached : World ℕ → Mount ℕ → Bool
-stands_on_attached world mount = list_all (λ place. is_some (mount_at nat_eq world place).namespace) (option_to_list mount.place)
+stands_on_attached world mount =
+    list_all (λ place. is_some (mount_at nat_eq world place).namespace) (option_to_list mount.place)
 
--- Of mounts: each has a number of its own, one outside every namespace has no place and is private, and a place is on a mount in
--- a namespace.
+-- Of mounts: each has a number of its own, one outside every namespace has no place and is private, and a place is on a
+-- mount in a namespace.
 pub record MountsStand (world : World ℕ) : Type 0 where
   pub one_number : any_pair (λ (a b : Mount ℕ). nat_eq a.number b.number) world.mounts ≡ false
   pub nowhere : list_all is_nowhere_or_attached world.mounts ≡ true
@@ -36,7 +37,8 @@ is_location_among list location = list_any (same_location nat_eq location) list
 -- each root, working directory and descriptor of the world is one still, or is among those that were left
 abbrev pub only_these_are_left : World ℕ → List (Task ℕ) → List (Location ℕ) → Bool
 only_these_are_left world tasks left =
-    list_all (λ location. is_location_among (all_locations (with_tasks world tasks)) location || is_location_among left location)
+    list_all (λ location.
+    is_location_among (all_locations (with_tasks world tasks)) location || is_location_among left location)
     (all_locations world)
 
 -- what a location that is left used: its mount, its inode, and through the mount a filesystem and the mount's root
@@ -53,11 +55,12 @@ used_by_locations world left = record {
   groups = [];
 }
 
--- A change of tasks: of what the locations that were left used, that goes which nothing uses any more, and nothing else. The
--- tasks may have come to other places, and any number of places may have been left at once.
+-- A change of tasks: of what the locations that were left used, that goes which nothing uses any more, and nothing
+-- else. The tasks may have come to other places, and any number of places may have been left at once.
 abbrev pub LeavingLetsGo : Type 0
 LeavingLetsGo =
-    (world : World ℕ) (tasks : List (Task ℕ)) (left : List (Location ℕ)) → IsSettledPlain world → only_these_are_left world tasks left ≡ true
+    (world : World ℕ) (tasks : List (Task ℕ)) (left : List (Location ℕ)) → IsSettledPlain world
+    → only_these_are_left world tasks left ≡ true
     → settled nat_eq (with_tasks world tasks) ≡ let_go (with_tasks world tasks) (used_by_locations world left)
 
 -- Where no place was left, nothing goes: fork(2), open(2) without creation, umask(2).
@@ -70,9 +73,10 @@ StayingKeepsAll =
 abbrev pub comes_nowhere : World ℕ → List (Task ℕ) → Bool
 comes_nowhere world tasks = list_all (is_location_among (all_locations world)) (all_locations (with_tasks world tasks))
 
--- Where tasks only leave places, a sweep in between changes nothing: places may be left one by one, each with a sweep, or all
--- at once, with one.
+-- Where tasks only leave places, a sweep in between changes nothing: places may be left one by one, each with a sweep,
+-- or all at once, with one.
 abbrev pub OneSweepForSeveral : Type 0
 OneSweepForSeveral =
-    (world : World ℕ) (tasks : List (Task ℕ)) → IsPlain world → HasTrees world → MountsStand world → comes_nowhere world tasks ≡ true
+    (world : World ℕ) (tasks : List (Task ℕ)) → IsPlain world → HasTrees world → MountsStand world
+    → comes_nowhere world tasks ≡ true
     → settled nat_eq (with_tasks (settled nat_eq world) tasks) ≡ settled nat_eq (with_tasks world tasks)

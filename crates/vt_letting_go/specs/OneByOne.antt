@@ -1,5 +1,5 @@
--- The sweep, one thing at a time: each thing that lost a use is looked at, and goes if it has none left. path_resolution(7),
--- unlink(2), umount(2) with MNT_DETACH.
+-- The sweep, one thing at a time: each thing that lost a use is looked at, and goes if it has none left.
+-- path_resolution(7), unlink(2), umount(2) with MNT_DETACH.
 use Rattle.std.specs.Prelude.{All, Bool, List, None, false, filter, if◌then◌else◌, is_some, map, nat_eq, not, true, ℕ, ◌&&◌, ◌||◌, ◌≡◌}
 use Rattle.std.specs.List.{list_all, list_any}
 use Rattle.vt_spec.specs.Machine.FileTree.{FileTree}
@@ -13,12 +13,14 @@ use Rattle.vt_letting_go.specs.InUse.{HasTrees, is_inode_used}
 -- The mount of this number goes, unless it is in a namespace, or a root, working directory or descriptor is on it.
 abbrev pub let_go_mount : World ℕ → ℕ → World ℕ
 let_go_mount world number =
-    with_mounts world (filter (λ mount. not (nat_eq mount.number number) || mount_lives nat_eq world mount) world.mounts)
+    with_mounts world
+    (filter (λ mount. not (nat_eq mount.number number) || mount_lives nat_eq world mount) world.mounts)
 
 -- The filesystem of this number goes, unless it is mounted, or an overlay with a layer in it is.
 abbrev pub let_go_filesystem : World ℕ → ℕ → World ℕ
 let_go_filesystem world number = record world {
-  filesystems = filter (λ filesystem. not (nat_eq filesystem.number number) || filesystem_lives nat_eq world filesystem) world.filesystems;
+  filesystems = filter (λ filesystem. not (nat_eq filesystem.number number) || filesystem_lives nat_eq world filesystem)
+      world.filesystems;
 }
 
 -- a tree without an inode
@@ -44,7 +46,8 @@ let_go_inode world inode = record world { filesystems = map (let_go_inode_of wor
 -- The group hears of nothing any more, unless it has members.
 abbrev pub let_go_group : World ℕ → ℕ → World ℕ
 let_go_group world group = record world {
-  master = λ other. if nat_eq other group && not (has_members nat_eq world.mounts other) then None else world.master other;
+  master = λ other.
+      if nat_eq other group && not (has_members nat_eq world.mounts other) then None else world.master other;
 }
 
 abbrev pub is_inode_among : ℕ → ℕ → List Inode → Bool
@@ -72,7 +75,9 @@ let_go_groups world groups = folded let_go_group world groups
 -- first mounts, then filesystems, then inodes, then groups
 abbrev pub let_go : World ℕ → Losers → World ℕ
 let_go world losers =
-    let_go_groups (let_go_inodes (let_go_filesystems (let_go_mounts world losers.mounts) losers.filesystems) losers.inodes) losers.groups
+    let_go_groups
+    (let_go_inodes (let_go_filesystems (let_go_mounts world losers.mounts) losers.filesystems) losers.inodes)
+    losers.groups
 
 -- no filesystem is an overlay
 abbrev pub IsPlain : World ℕ → Type 0
@@ -81,11 +86,13 @@ IsPlain world = list_any is_overlay world.filesystems ≡ false
 -- All else is in use
 
 abbrev pub MountsInUseBut : List ℕ → World ℕ → Type 0
-MountsInUseBut losers world = list_all (λ mount. is_among nat_eq mount.number losers || mount_lives nat_eq world mount) world.mounts ≡ true
+MountsInUseBut losers world =
+    list_all (λ mount. is_among nat_eq mount.number losers || mount_lives nat_eq world mount) world.mounts ≡ true
 
 abbrev pub FilesystemsInUseBut : List ℕ → World ℕ → Type 0
 FilesystemsInUseBut losers world =
-    list_all (λ filesystem. is_among nat_eq filesystem.number losers || filesystem_lives nat_eq world filesystem) world.filesystems ≡ true
+    list_all (λ filesystem. is_among nat_eq filesystem.number losers || filesystem_lives nat_eq world filesystem)
+    world.filesystems ≡ true
 
 abbrev pub is_used_or_among : List Inode → World ℕ → Filesystem ℕ → ℕ → Bool
 is_used_or_among losers world filesystem number =
@@ -93,11 +100,13 @@ is_used_or_among losers world filesystem number =
 
 abbrev pub InodesInUseBut : List Inode → World ℕ → Type 0
 InodesInUseBut losers world =
-    All (λ filesystem. list_all (is_used_or_among losers world filesystem) filesystem.files.numbers ≡ true) world.filesystems
+    All (λ filesystem. list_all (is_used_or_among losers world filesystem) filesystem.files.numbers ≡ true)
+    world.filesystems
 
 abbrev pub GroupsInUseBut : List ℕ → World ℕ → Type 0
 GroupsInUseBut losers world =
-    (group : ℕ) → is_among nat_eq group losers ≡ false → has_members nat_eq world.mounts group ≡ false → world.master group ≡ None
+    (group : ℕ) → is_among nat_eq group losers ≡ false → has_members nat_eq world.mounts group ≡ false
+    → world.master group ≡ None
 
 -- each in the world that what went before it has left
 pub record AllInUseBut (losers : Losers) (world : World ℕ) : Type 0 where
@@ -161,4 +170,5 @@ without_filesystem world number =
 abbrev pub FilesystemIsLookedUp : Type 0
 FilesystemIsLookedUp =
     (world : World ℕ) (number : ℕ)
-    → let_go_filesystem world number ≡ (if is_filesystem_used world number then world else without_filesystem world number)
+    → let_go_filesystem world number
+    ≡ (if is_filesystem_used world number then world else without_filesystem world number)

@@ -19,18 +19,21 @@ pub record ChangesTree (before after : FileTree ℕ) (unnamed : List ℕ) : Type
   pub tree : IsListedTree after
   pub root : after.tree.root ≡ before.tree.root
   -- an inode was there before, or has a name
-  pub inodes : list_all (λ number. is_among nat_eq number before.numbers || is_among nat_eq number (named_in after)) after.numbers ≡ true
+  pub inodes : list_all (λ number. is_among nat_eq number before.numbers || is_among nat_eq number (named_in after))
+      after.numbers ≡ true
   -- what had a name has one still, or is among these
-  pub names : list_all (λ number. is_among nat_eq number (named_in after) || is_among nat_eq number unnamed) (named_in before) ≡ true
+  pub names : list_all (λ number. is_among nat_eq number (named_in after) || is_among nat_eq number unnamed)
+      (named_in before) ≡ true
 
--- Of the inodes that may have lost their last name those go that have none, and where no location, mount or place is. Nothing
--- else goes.
+-- Of the inodes that may have lost their last name those go that have none, and where no location, mount or place is.
+-- Nothing else goes.
 abbrev pub UnnamedGo : Type 0
 UnnamedGo =
     (world : World ℕ) (number : ℕ) (files : FileTree ℕ) (unnamed : List ℕ) → IsSettledPlain world
     → is_among nat_eq number (map (λ filesystem. filesystem.number) world.filesystems) ≡ true
     → ChangesTree (filesystem_numbered nat_eq world number).files files unnamed
-    → settled nat_eq (with_tree world number files) ≡ let_go_inodes (with_tree world number files) (map (λ inode. (number, inode)) unnamed)
+    → settled nat_eq (with_tree world number files)
+    ≡ let_go_inodes (with_tree world number files) (map (λ inode. (number, inode)) unnamed)
 
 -- A change by which no name went leaves all.
 abbrev pub NamedStay : Type 0

@@ -19,8 +19,8 @@ pub fn what_loses_its_name_goes()
     ensures named { NamedStay }
 {}
 
-/// Where a mount on which no other stands leaves its place, it goes with its last use, its filesystem with its last mount, and
-/// the inodes of its root and its place with theirs. Nothing else goes.
+/// Where a mount on which no other stands leaves its place, it goes with its last use, its filesystem with its last
+/// mount, and the inodes of its root and its place with theirs. Nothing else goes.
 pub fn what_a_mount_leaves_goes()
     ensures unmount { UnmountIsOfOne }
     ensures left { DetachingLetsGo }

@@ -12,8 +12,8 @@ pub fn one_sweep_is_enough()
 
 /// Where all but some is in use, the sweep is to look at those one by one: a thing goes if nothing uses it.
 ///
-/// Mounts go first, then filesystems, then inodes, then the masters of groups. Of inodes this is said of worlds of plain
-/// filesystems.
+/// Mounts go first, then filesystems, then inodes, then the masters of groups. Of inodes this is said of worlds of
+/// plain filesystems.
 pub fn things_go_one_by_one()
     ensures mounts { MountsGoOneByOne }
     ensures filesystems { FilesystemsGoOneByOne }
@@ -22,7 +22,8 @@ pub fn things_go_one_by_one()
     ensures all { AllGoesOneByOne }
 {}
 
-/// A thing is in use just while the count of its uses is not zero, and what goes takes one from the counts of what it used.
+/// A thing is in use just while the count of its uses is not zero, and what goes takes one from the counts of what it
+/// used.
 pub fn uses_are_counted()
     ensures located { LocatedWhileCounted }
     ensures mounted { MountedWhileCounted }
