@@ -13,3 +13,4 @@ pub mod UsesKept
 pub mod UsesCounted
 pub mod MountsAdded
 pub mod LookedUp
+pub mod OfWorlds

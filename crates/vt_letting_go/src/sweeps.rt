@@ -2,6 +2,7 @@
 ghost use Rattle.vt_letting_go.specs.Counts.{LocatedWhileCounted, MountedWhileCounted, OneMountLess, OneUseLess, UsedWhileCounted};
 ghost use Rattle.vt_letting_go.specs.InUse.{NothingGoes, WhatIsLeftIsInUse, OneSweepIsEnough};
 ghost use Rattle.vt_letting_go.specs.OneByOne.{AllGoesOneByOne, FilesystemIsLookedUp, FilesystemsGoOneByOne, GroupsGoOneByOne, InodesGoOneByOne, MountIsLookedUp, MountsGoOneByOne};
+ghost use Rattle.vt_letting_go.specs.Worlds.{MountsOfWorldsStand, UppersOfWorldsArePlain, WorldsHaveTrees};
 
 /// Where all is in use nothing goes, and what is left is in use: one sweep is enough.
 pub fn one_sweep_is_enough()
@@ -36,4 +37,11 @@ pub fn uses_are_counted()
 pub fn things_are_looked_up()
     ensures mount { MountIsLookedUp }
     ensures filesystem { FilesystemIsLookedUp }
+{}
+
+/// The conditions of a world have what the laws of the sweep ask.
+pub fn worlds_are_fit_to_be_swept()
+    ensures trees { WorldsHaveTrees }
+    ensures mounts { MountsOfWorldsStand }
+    ensures uppers { UppersOfWorldsArePlain }
 {}
