@@ -1,0 +1,16 @@
+pub mod Lists
+pub mod Trees
+pub mod InUse
+pub mod OneByOne
+pub mod Inodes
+pub mod PlacesLeft
+pub mod TreesChanged
+pub mod LeftOneByOne
+pub mod GroupsHandedOn
+pub mod NamespacesEnd
+pub mod Detached
+pub mod UsesKept
+pub mod UsesCounted
+pub mod MountsAdded
+pub mod LookedUp
+pub mod OfWorlds

@@ -1,0 +1,53 @@
+-- Uses are counted.
+use Rattle.std.proofs.Common.{◌≡◌, refl, sym, ap, ◌∙◌, ℕ, nat_eq, Bool, true, false, cond, ◌||◌, ◌+◌, ◌++◌, List, [], ◌∷◌, arith}
+use Rattle.std.specs.Prelude.{nat_lt}
+use Rattle.std.specs.List.{list_any}
+use Rattle.std.proofs.lemmas.Bool.Decides.{nat_tests}
+use Rattle.vt_spec.specs.Machine.Mounts.{Location, Mount}
+use Rattle.vt_spec.specs.Machine.Settled.{used_in}
+use Rattle.vt_spec.specs.Machine.World.{all_locations}
+use Rattle.vt_letting_go.specs.Counts.{LocatedWhileCounted, MountedWhileCounted, OneMountLess, OneUseLess, UsedWhileCounted, times}
+
+counted : (n : ℕ) → true ≡ nat_lt 0 (1 + n)
+counted n = grind (arith, nat_tests)
+
+not_counted : (n : ℕ) → nat_lt 0 n ≡ nat_lt 0 (0 + n)
+not_counted n = ap (nat_lt 0) (omega arith)
+
+module _ {A : Type 0} where
+  any_counted : (test : A → Bool) (list : List A) → list_any test list ≡ nat_lt 0 (times test list)
+  any_counted test [] = refl
+  any_counted test (a ∷ rest) = by (test a) (any_counted test rest)
+    where
+      by : (b : Bool) → list_any test rest ≡ nat_lt 0 (times test rest) → (b || list_any test rest) ≡ nat_lt 0 (cond b 1 0 + times test rest)
+      by true e = counted (times test rest)
+      by false e = e ∙ not_counted (times test rest)
+
+  one_less : (test : A → Bool) (front back : List A) (a : A) → times test (front ++ (a ∷ back)) ≡ times test (front ++ back) + cond (test a) 1 0
+  one_less test [] back a = omega arith
+  one_less test (b ∷ front) back a =
+      ap (λ n. cond (test b) 1 0 + n) (one_less test front back a) ∙ again (cond (test b) 1 0) (times test (front ++ back)) (cond (test a) 1 0)
+    where
+      again : (x y z : ℕ) → x + (y + z) ≡ (x + y) + z
+      again x y z = omega arith
+
+pub located_while_counted : LocatedWhileCounted
+located_while_counted world number = any_counted (λ location. nat_eq number location.mount) (all_locations world)
+
+pub mounted_while_counted : MountedWhileCounted
+mounted_while_counted world number = any_counted (λ mount. nat_eq number mount.filesystem) world.mounts
+
+pub used_while_counted : UsedWhileCounted
+used_while_counted world filesystem number = any_counted (nat_eq number) (used_in nat_eq world filesystem)
+
+pub one_use_less : OneUseLess
+one_use_less world after front back location e f number =
+    ap (times (λ (l : Location ℕ). nat_eq number l.mount)) e
+    ∙ one_less (λ l. nat_eq number l.mount) front back location
+    ∙ ap (λ (list : List (Location ℕ)). times (λ l. nat_eq number l.mount) list + cond (nat_eq number location.mount) 1 0) (sym f)
+
+pub one_mount_less : OneMountLess
+one_mount_less world after front back mount e f number =
+    ap (times (λ (m : Mount ℕ). nat_eq number m.filesystem)) e
+    ∙ one_less (λ m. nat_eq number m.filesystem) front back mount
+    ∙ ap (λ (list : List (Mount ℕ)). times (λ m. nat_eq number m.filesystem) list + cond (nat_eq number mount.filesystem) 1 0) (sym f)

@@ -1,0 +1,5 @@
+use Rattle.vt_letting_go.proofs.MountsAdded
+use Rattle.vt_letting_go.proofs.leaving.new_mounts_keep_all.Goals as goal
+
+pub returns : goal.returns
+returns c = MountsAdded.new_mounts_keep_all

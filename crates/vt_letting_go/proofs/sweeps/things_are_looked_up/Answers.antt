@@ -1,0 +1,8 @@
+use Rattle.vt_letting_go.proofs.LookedUp.{filesystem_is_looked_up, mount_is_looked_up}
+use Rattle.vt_letting_go.proofs.sweeps.things_are_looked_up.Goals as goal
+
+pub returns-clause-mount : goal.returns-clause-mount
+returns-clause-mount c = mount_is_looked_up
+
+pub returns-clause-filesystem : goal.returns-clause-filesystem
+returns-clause-filesystem c = filesystem_is_looked_up

@@ -1,0 +1,10 @@
+pub mod InUse
+pub mod Counts
+pub mod OneByOne
+pub mod Leaving
+pub mod Worlds
+pub mod TreeChanges
+pub mod Detaching
+pub mod Keeping
+pub mod Groups
+pub mod Ends

@@ -1,0 +1,16 @@
+-- What a world is by its conditions.
+use Rattle.std.specs.Prelude.{nat_eq, ℕ}
+use Rattle.vt_spec.specs.Machine.World.{World}
+use Rattle.vt_spec.specs.Machine.WorldLaws.{IsWorld}
+use Rattle.vt_letting_go.specs.InUse.{HasTrees, UppersArePlain}
+use Rattle.vt_letting_go.specs.Leaving.{MountsStand}
+
+-- The conditions of a world have what the laws of the sweep ask of its trees, its mounts and its overlays.
+abbrev pub WorldsHaveTrees : Type 0
+WorldsHaveTrees = (world : World ℕ) → IsWorld nat_eq world → HasTrees world
+
+abbrev pub MountsOfWorldsStand : Type 0
+MountsOfWorldsStand = (world : World ℕ) → IsWorld nat_eq world → MountsStand world
+
+abbrev pub UppersOfWorldsArePlain : Type 0
+UppersOfWorldsArePlain = (world : World ℕ) → IsWorld nat_eq world → UppersArePlain world

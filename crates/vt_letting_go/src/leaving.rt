@@ -1,0 +1,39 @@
+//! What goes with the uses that a change took away.
+ghost use Rattle.vt_letting_go.specs.Detaching.{DetachingLetsGo, UnmountIsOfOne};
+ghost use Rattle.vt_letting_go.specs.Keeping.{FlagsAreOfOne, FlagsKeepAll, NewMountsKeepAll, TypesKeepAll};
+ghost use Rattle.vt_letting_go.specs.Leaving.{LeavingLetsGo, OneSweepForSeveral, StayingKeepsAll};
+ghost use Rattle.vt_letting_go.specs.TreeChanges.{NamedStay, UnnamedGo};
+
+/// Where tasks left places, what nothing uses any more goes of what they used there, and nothing else.
+///
+/// One sweep for several is the same as a sweep after each.
+pub fn what_tasks_leave_goes()
+    ensures left { LeavingLetsGo }
+    ensures stayed { StayingKeepsAll }
+    ensures several { OneSweepForSeveral }
+{}
+
+/// Where a plain tree changed, the inodes go that lost their last name and where nothing is, and nothing else.
+pub fn what_loses_its_name_goes()
+    ensures unnamed { UnnamedGo }
+    ensures named { NamedStay }
+{}
+
+/// Where a mount on which no other stands leaves its place, it goes with its last use, its filesystem with its last
+/// mount, and the inodes of its root and its place with theirs. Nothing else goes.
+pub fn what_a_mount_leaves_goes()
+    ensures unmount { UnmountIsOfOne }
+    ensures left { DetachingLetsGo }
+{}
+
+/// Where types or flags of mounts change, nothing goes.
+pub fn types_and_flags_keep_all()
+    ensures types { TypesKeepAll }
+    ensures one { FlagsAreOfOne }
+    ensures flags { FlagsKeepAll }
+{}
+
+/// Where mounts are added, with the plain filesystems that they show, nothing goes.
+pub fn new_mounts_keep_all()
+    ensures { NewMountsKeepAll }
+{}

@@ -1,0 +1,47 @@
+//! What the sweep leaves, and what it takes.
+ghost use Rattle.vt_letting_go.specs.Counts.{LocatedWhileCounted, MountedWhileCounted, OneMountLess, OneUseLess, UsedWhileCounted};
+ghost use Rattle.vt_letting_go.specs.InUse.{NothingGoes, WhatIsLeftIsInUse, OneSweepIsEnough};
+ghost use Rattle.vt_letting_go.specs.OneByOne.{AllGoesOneByOne, FilesystemIsLookedUp, FilesystemsGoOneByOne, GroupsGoOneByOne, InodesGoOneByOne, MountIsLookedUp, MountsGoOneByOne};
+ghost use Rattle.vt_letting_go.specs.Worlds.{MountsOfWorldsStand, UppersOfWorldsArePlain, WorldsHaveTrees};
+
+/// Where all is in use nothing goes, and what is left is in use: one sweep is enough.
+pub fn one_sweep_is_enough()
+    ensures nothing { NothingGoes }
+    ensures left { WhatIsLeftIsInUse }
+    ensures twice { OneSweepIsEnough }
+{}
+
+/// Where all but some is in use, the sweep is to look at those one by one: a thing goes if nothing uses it.
+///
+/// Mounts go first, then filesystems, then inodes, then the masters of groups. Of inodes this is said of worlds of
+/// plain filesystems.
+pub fn things_go_one_by_one()
+    ensures mounts { MountsGoOneByOne }
+    ensures filesystems { FilesystemsGoOneByOne }
+    ensures inodes { InodesGoOneByOne }
+    ensures groups { GroupsGoOneByOne }
+    ensures all { AllGoesOneByOne }
+{}
+
+/// A thing is in use just while the count of its uses is not zero, and what goes takes one from the counts of what it
+/// used.
+pub fn uses_are_counted()
+    ensures located { LocatedWhileCounted }
+    ensures mounted { MountedWhileCounted }
+    ensures inodes { UsedWhileCounted }
+    ensures location { OneUseLess }
+    ensures mount { OneMountLess }
+{}
+
+/// To look at a mount or a filesystem is to look it up by its number, and to take it away unless it is used.
+pub fn things_are_looked_up()
+    ensures mount { MountIsLookedUp }
+    ensures filesystem { FilesystemIsLookedUp }
+{}
+
+/// The conditions of a world have what the laws of the sweep ask.
+pub fn worlds_are_fit_to_be_swept()
+    ensures trees { WorldsHaveTrees }
+    ensures mounts { MountsOfWorldsStand }
+    ensures uppers { UppersOfWorldsArePlain }
+{}
