@@ -1,5 +1,4 @@
-use Rattle.std.proofs.Common.{◌≡◌, ℕ, List, [], ◌∷◌, length, refl, sym, ap, ◌∙◌}
-use Rattle.std.specs.declared.vec.Vec.{Vec}
+use Rattle.std.proofs.Common.{◌≡◌, List, [], ◌∷◌, length, refl, sym, ap, ◌∙◌}
 use Rattle.vt_node.specs.Listed.{listed}
 use Rattle.vt_node.proofs.ListedLemmas.{none-listed}
 use Rattle.vt_node.proofs.entries.DirectoryEntries.is_empty.Goals as goal
