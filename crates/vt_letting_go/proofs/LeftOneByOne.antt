@@ -87,9 +87,6 @@ module _ (world : World ℕ) (tasks : List (Task ℕ)) (plain : IsPlain world) (
   abbrev again_living : World ℕ
   again_living = without_dead_filesystems nat_eq (without_dead_mounts nat_eq again)
 
-  is_mounted_in : List (Mount ℕ) → ℕ → Bool
-  is_mounted_in mounts number = list_any (λ mount. nat_eq number mount.filesystem) mounts
-
   plain_filter : (test : Filesystem ℕ → Bool) (list : List (Filesystem ℕ)) → list_any is_overlay list ≡ false → list_any is_overlay (filter test list) ≡ false
   plain_filter test list e =
       none_passes is_overlay (filter test list) (λ f m. fails is_overlay list e f (among-from_filter test list f m).0)
