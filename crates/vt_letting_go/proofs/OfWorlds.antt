@@ -1,19 +1,21 @@
 -- What a world is by its conditions.
-use Rattle.std.proofs.Common.{◌≡◌, refl, sym, ap, subst, ◌∙◌, ◌⊎◌, inl, inr, ⊎_elim, ℕ, zero, suc, nat_eq, eqb-true, eq-eqb, Bool, true, false, cond, not, ◌&&◌, ◌++◌, List, [], ◌∷◌, find, length, true≢false, Option, Some, None, is_some, option_map, option_to_list, unwrap_or}
+use Rattle.std.proofs.Common.{◌≡◌, refl, sym, ap, subst, ◌∙◌, ◌⊎◌, inl, inr, ⊎_elim, ℕ, nat_eq, eqb-true, eq-eqb, Bool, true, false, cond, not, ◌&&◌, ◌++◌, List, [], ◌∷◌, find, true≢false, Option, Some, None, is_some, option_to_list, unwrap_or}
 use Rattle.std.specs.Prelude.{All}
 use Rattle.std.specs.List.{list_all, list_any}
 use Rattle.std.proofs.lemmas.Bool.{and_parts, not-true, or_parts}
-use Rattle.vt_spec.specs.Machine.Lists.{any_pair, chain, holds_of, last_or, same_option}
+use Rattle.vt_spec.specs.Machine.Lists.{any_pair, holds_of}
 use Rattle.vt_spec.specs.Machine.Locked.{of_overlay, overlay_or}
 use Rattle.vt_spec.specs.Machine.Mounts.{Location, Mount, mount_in, no_mount}
-use Rattle.vt_spec.specs.Machine.World.{Filesystem, Layer, Overlay, World, filesystem_numbered, is_overlay, layers_of, mount_at, no_filesystem}
-use Rattle.vt_spec.specs.Machine.WorldLaws.{IsWorld, ListsNumbers, is_nowhere_or_attached, is_plain_layer, last_below, stands_in_its_namespace}
+use Rattle.vt_spec.specs.Machine.World.{Filesystem, Layer, Overlay, World, filesystem_numbered, is_overlay, layers_of, mount_at, mount_numbered, no_filesystem}
+use Rattle.vt_spec.specs.Machine.WorldLaws.{IsWorld, ListsNumbers, Stands, is_nowhere_or_attached, is_plain_layer}
 use Rattle.vt_spec.specs.TreeLaws.{IsTree}
 use Rattle.vt_letting_go.specs.InUse.{IsListedTree, has_upper_in}
 use Rattle.vt_letting_go.specs.Leaving.{stands_on_attached}
 use Rattle.vt_letting_go.specs.Worlds.{MountsOfWorldsStand, UppersOfWorldsArePlain, WorldsHaveTrees}
 use Rattle.vt_letting_go.proofs.Lists.{Among, all_from_among, all_pass, among-append_left, among_from_all, fails, passes}
-use Rattle.vt_letting_go.proofs.PlacesLeft.{nowhere_parts}
+use Rattle.vt_letting_go.proofs.PlacesLeft.{found_itself, nowhere_parts}
+use Rattle.std.proofs.lemmas.Option.{same_Some}
+use Rattle.vt_spec.specs.Machine.WorldLaws.Stands.{at_root, on_parent}
 
 pub worlds_have_trees : WorldsHaveTrees
 worlds_have_trees world is =
@@ -33,63 +35,32 @@ found_or_none (first ∷ rest) number = by (nat_eq number first.number) (found_o
     by true later = inl (inl refl)
     by false later = ⊎_elim (λ m. inl (inr m)) inr later
 
--- a chain that ends at once
-ends_at_once : (next : Mount ℕ → Option (Mount ℕ)) (n : ℕ) (d mount : Mount ℕ) → next mount ≡ None → last_or d (chain n next mount) ≡ mount
-ends_at_once next zero d mount e = refl
-ends_at_once next (suc n) d mount e = ap (λ (o : Option (Mount ℕ)). last_or d (elim o [ None ↦ mount ∷ [] | Some b ↦ mount ∷ chain n next b ])) e
-
-not_empty : (mounts : List (Mount ℕ)) (x : Mount ℕ) → Among x mounts → (n : ℕ) × (length mounts ≡ suc n)
-not_empty [] x m = absurd m
-not_empty (y ∷ ys) x m = (length ys, refl)
-
 module _ (world : World ℕ) (is : IsWorld nat_eq world) where
-  below : Mount ℕ → Option (Mount ℕ)
-  below mount = option_map (mount_at nat_eq world) mount.place
-
-  -- outside every namespace there is no place
-  no_place : (location : Location ℕ) → is_some (mount_at nat_eq world location).namespace ≡ false → is_some (mount_at nat_eq world location).place ≡ false
-  no_place location e =
-      ⊎_elim
-      (λ m. (nowhere_parts (mount_at nat_eq world location) (passes is_nowhere_or_attached world.mounts is.nowhere (mount_at nat_eq world location) m) e).0)
-      (λ none. ap (λ x. is_some x.place) none)
-      (found_or_none world.mounts location.mount)
-
-  ends : (mount : Mount ℕ) → is_some mount.place ≡ false → below mount ≡ None
-  unfolding below
-  ends mount e = by mount.place e
+  -- a mount with a place is in a namespace
+  attached : (mount : Mount ℕ) → Among mount world.mounts → is_some mount.place ≡ true → is_some mount.namespace ≡ true
+  attached mount m placed = by (is_some mount.namespace) refl
     where
-      by : (o : Option (Location ℕ)) → is_some o ≡ false → option_map (mount_at nat_eq world) o ≡ None
-      by None f = refl
-      by (Some place) f = absurd (true≢false f)
+      by : (b : Bool) → is_some mount.namespace ≡ b → is_some mount.namespace ≡ true
+      by true e = e
+      by false e =
+          absurd (true≢false
+          (sym placed ∙ (nowhere_parts mount (passes is_nowhere_or_attached world.mounts is.nowhere mount m) e).0))
 
   on_attached : (mount : Mount ℕ) → Among mount world.mounts → (place : Location ℕ) → mount.place ≡ Some place
       → is_some (mount_at nat_eq world place).namespace ≡ true
-  unfolding below
-  on_attached mount m place p = by (is_some (mount_at nat_eq world place).namespace) refl
+  on_attached mount m place p =
+      by (among_from_all (λ (x : Mount ℕ). Stands nat_eq world x.number) world.mounts is.standing mount m)
+      (found_itself world.mounts is.one_number mount m)
     where
-      differ : (a b : Option ℕ) → is_some a ≡ true → is_some b ≡ false → same_option nat_eq a b ≡ false
-      differ None b e f = absurd (true≢false (sym e))
-      differ (Some a) None e f = refl
-      differ (Some a) (Some b) e f = absurd (true≢false f)
-
-      attached : (b : Bool) → is_some mount.namespace ≡ b → is_some mount.namespace ≡ true
-      attached true e = e
-      attached false e =
-          absurd (true≢false (sym (ap is_some p) ∙ (nowhere_parts mount (passes is_nowhere_or_attached world.mounts is.nowhere mount m) e).0))
-
-      by : (b : Bool) → is_some (mount_at nat_eq world place).namespace ≡ b → is_some (mount_at nat_eq world place).namespace ≡ true
-      by true e = e
-      by false e =
-          let size = not_empty world.mounts mount m in
-          let last : last_below nat_eq world mount ≡ mount_at nat_eq world place =
-          ap (λ k. last_or mount (chain k below mount)) size.1
-          ∙ ap (λ (o : Option (Mount ℕ)). last_or mount (elim o [ None ↦ mount ∷ [] | Some b ↦ mount ∷ chain size.0 below b ])) (ap (option_map (mount_at nat_eq world)) p)
-          ∙ ends_at_once below size.0 mount (mount_at nat_eq world place) (ends (mount_at nat_eq world place) (no_place place e)) in
-          let parts = and_parts (not (is_some (last_below nat_eq world mount).place)) (same_option nat_eq mount.namespace (last_below nat_eq world mount).namespace)
-          (passes (stands_in_its_namespace nat_eq world) world.mounts is.no_cycle mount m) in
-          absurd (true≢false
-          (sym (sym (ap (λ x. same_option nat_eq mount.namespace x.namespace) last) ∙ parts.1)
-          ∙ differ mount.namespace (mount_at nat_eq world place).namespace (attached (is_some mount.namespace) refl) e))
+      by : Stands nat_eq world mount.number → mount_numbered nat_eq world mount.number ≡ mount
+          → is_some (mount_at nat_eq world place).namespace ≡ true
+      by (at_root number e) itself =
+          absurd (true≢false (sym (ap is_some p) ∙ sym (ap (λ (x : Mount ℕ). is_some x.place) itself) ∙ ap is_some e))
+      by (on_parent number at e same stands) itself =
+          let it : at ≡ place = same_Some at place (sym e ∙ ap (λ (x : Mount ℕ). x.place) itself ∙ p) in
+          ap (λ l. is_some (mount_at nat_eq world l).namespace) (sym it)
+          ∙ ap is_some (sym same) ∙ ap (λ (x : Mount ℕ). is_some x.namespace) itself
+          ∙ attached mount m (ap is_some p)
 
 pub mounts_of_worlds_stand : MountsOfWorldsStand
 mounts_of_worlds_stand world is = record {
