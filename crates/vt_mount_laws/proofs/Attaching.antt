@@ -16,11 +16,10 @@ use Rattle.vt_mount_laws.specs.Mounts.Conditions.{NowhereOrAttached}
 use Rattle.vt_mount_laws.specs.Mounts.Copies.{ServeAsCopies}
 use Rattle.vt_mount_laws.specs.Mounts.Standing.{AllStand}
 use Rattle.vt_mount_laws.proofs.MountsAttached.{found_attached, none_pushes, push_keeps}
-use Rattle.vt_mount_laws.proofs.MountsFound.{found_or_none, number_found}
+use Rattle.vt_mount_laws.proofs.MountsFound.{found_in, found_or_none, found_there, number_found, placed_among}
 use Rattle.vt_mount_laws.proofs.MountsNumbered.{copies_keep_numbers, is_one_of}
 use Rattle.vt_mount_laws.proofs.MountsPlaces.{stands_there}
 use Rattle.vt_mount_laws.proofs.MountsReplaced.{found_itself}
-use Rattle.vt_mount_laws.proofs.Standing.{placed_among}
 
 -- A list of mounts is a tree: its first is the top, and each other one stands on one of them
 pub data Hangs (mounts : List (Mount ℕ)) : ℕ → Type 0 where
@@ -32,33 +31,6 @@ pub data Hangs (mounts : List (Mount ℕ)) : ℕ → Type 0 where
 hanging : (mounts : List (Mount ℕ)) (number : ℕ) → Hangs mounts number → (origin : Mount ℕ) × Among origin mounts × (origin.number ≡ number)
 hanging mounts number (from_top first rest e) = (first, subst (Among first) (sym e) (inl refl), refl)
 hanging mounts number (from_parent origin place m e later) = (origin, m, refl)
-
--- what is found in a list
-pub found_in : (test : Mount ℕ → Bool) (mounts : List (Mount ℕ)) (found : Mount ℕ) → find test mounts ≡ Some found → Among found mounts × (test found ≡ true)
-found_in test [] found e = absurd (true≢false (sym (ap is_some e)))
-found_in test (first ∷ rest) found e = by (test first) refl (found_in test rest found)
-  where
-    by : (b : Bool) → test first ≡ b → (find test rest ≡ Some found → Among found rest × (test found ≡ true)) → Among found (first ∷ rest) × (test found ≡ true)
-    by true f later =
-        let same : first ≡ found = same_Some first found (ap (λ c. cond c (Some first) (find test rest)) (sym f) ∙ e) in
-        (inl (sym same), ap test (sym same) ∙ f)
-    by false f later =
-        let t : Among found rest × (test found ≡ true) = later (ap (λ c. cond c (Some first) (find test rest)) (sym f) ∙ e) in
-        (inr t.0, t.1)
-
--- a number of the list finds a mount of it
-pub found_there : (mounts : List (Mount ℕ)) (number : ℕ) → is_among nat_eq number (numbers_of mounts) ≡ true → Among (mount_in nat_eq mounts number) mounts
-found_there [] number h = absurd (true≢false (sym h))
-found_there (first ∷ rest) number h = by (nat_eq number first.number) refl (found_there rest number)
-  where
-    by : (b : Bool) → nat_eq number first.number ≡ b
-        → (is_among nat_eq number (numbers_of rest) ≡ true → Among (mount_in nat_eq rest number) rest)
-        → Among (mount_in nat_eq (first ∷ rest) number) (first ∷ rest)
-    by true e later = inl (ap (λ b. unwrap_or (cond b (Some first) (find (λ (x : Mount ℕ). nat_eq number x.number) rest)) (no_mount number)) e)
-    by false e later =
-        inr (subst (λ x. Among x rest)
-        (sym (ap (λ b. unwrap_or (cond b (Some first) (find (λ (x : Mount ℕ). nat_eq number x.number) rest)) (no_mount number)) e))
-        (later (sym (ap (λ b. b || is_among nat_eq number (numbers_of rest)) e) ∙ h)))
 
 -- mounts over a place are some of the list
 module _ (mounts : List (Mount ℕ)) where
@@ -212,7 +184,7 @@ module _ (world : World ℕ) (new : Copies ℕ) (place : Location ℕ) (mounts :
   parent_there nowhere number on e f =
       ⊎_elim
       (λ found. subst (λ n. is_mount world n ≡ true) (number_found world.mounts on.mount) (is_one_of world.mounts (mount_numbered nat_eq world on.mount) found))
-      (λ none. absurd (outside (mount_numbered nat_eq world number) (placed_among world number on e) e (f ∙ ap (λ (x : Mount ℕ). x.namespace) none)))
+      (λ none. absurd (outside (mount_numbered nat_eq world number) (placed_among world.mounts number on e) e (f ∙ ap (λ (x : Mount ℕ). x.namespace) none)))
       (found_or_none world.mounts on.mount)
     where
       outside : (mount : Mount ℕ) → Among mount world.mounts → mount.place ≡ Some on → mount.namespace ≡ None → ⊥

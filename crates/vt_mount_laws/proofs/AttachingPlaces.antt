@@ -17,9 +17,9 @@ use Rattle.vt_mount_laws.specs.Mounts.Conditions.{NowhereOrAttached}
 use Rattle.vt_mount_laws.specs.Mounts.Copies.{ServeAsCopies}
 use Rattle.vt_mount_laws.specs.Mounts.Places.{OneMountAPlace}
 use Rattle.vt_mount_laws.specs.Mounts.Standing.{AllStand}
-use Rattle.vt_mount_laws.proofs.Attaching.{Hangs, all_stand_after, cover, found_in, found_there, parent_there, taker_there, top_among}
+use Rattle.vt_mount_laws.proofs.Attaching.{Hangs, all_stand_after, cover, parent_there, taker_there, top_among}
 use Rattle.vt_mount_laws.proofs.Attaching.Hangs.{from_parent, from_top}
-use Rattle.vt_mount_laws.proofs.MountsFound.{number_found}
+use Rattle.vt_mount_laws.proofs.MountsFound.{found_in, found_there, number_found, unfound}
 use Rattle.vt_mount_laws.proofs.MountsNumbered.{copies_keep_numbers, is_one_of, number_in_use, pair-append, pair-flat_map, parts_apart, same_number}
 use Rattle.vt_mount_laws.proofs.MountsPlaces.{found_at_its_place, one_place_of_two, same_location_is, stands_at_its_place, stands_there}
 use Rattle.vt_mount_laws.proofs.MountsReplaced.{apart, found_itself}
@@ -59,16 +59,6 @@ two_of mounts places a b m n differ = false_from_ne_true (test a b) (λ h.
     let t = one_place a b h in
     let same : a ≡ b = same_Some a b (sym (found_at_its_place mounts places a m t.0 t.1) ∙ found_at_its_place mounts places b n t.0 t.2) in
     true≢false (sym (eq-eqb a.number b.number (ap (λ (x : Mount ℕ). x.number) same)) ∙ differ))
-
--- where none is found no one passes
-unfound : (passes : Mount ℕ → Bool) (list : List (Mount ℕ)) → find passes list ≡ None → (x : Mount ℕ) → Among x list → passes x ≡ false
-unfound passes [] e x m = absurd m
-unfound passes (first ∷ rest) e x m = by (passes first) refl (unfound passes rest)
-  where
-    by : (b : Bool) → passes first ≡ b → (find passes rest ≡ None → (y : Mount ℕ) → Among y rest → passes y ≡ false) → passes x ≡ false
-    by true f later = absurd (true≢false (ap is_some (sym (ap (λ c. cond c (Some first) (find passes rest)) f) ∙ e)))
-    by false f later =
-        ⊎_elim (λ same. ap passes same ∙ f) (λ l. later (sym (ap (λ c. cond c (Some first) (find passes rest)) f) ∙ e) x l) m
 
 -- Mounts that cover one another, each at the root of the one before
 data Covers (list : List (Mount ℕ)) : ℕ → Location ℕ → Location ℕ → Type 0 where

@@ -16,7 +16,7 @@ use Rattle.vt_mount_laws.specs.Mounts.Attaching.{OneNumberAMount, numbers_of}
 use Rattle.vt_mount_laws.specs.Mounts.Conditions.{OneNumberEach}
 use Rattle.vt_mount_laws.specs.Mounts.Standing.{AllStand, BindsTakeEachOnce, StandingIsComputed, TreesHaveEachOnce}
 use Rattle.vt_mount_laws.specs.Mounts.Unmounting.{PlacesEnd}
-use Rattle.vt_mount_laws.proofs.MountsFound.{found_or_none, number_found}
+use Rattle.vt_mount_laws.proofs.MountsFound.{found_or_none, number_found, placed_among}
 use Rattle.vt_mount_laws.proofs.MountsNumbered.{pair-flat_map, same_number}
 use Rattle.vt_mount_laws.proofs.MountsReplaced.{found_itself}
 use Rattle.vt_mount_laws.proofs.UnmountingNamespaces.{one_namespace, same_namespace}
@@ -92,20 +92,13 @@ module _ (world : World ℕ) where
       absurd (omega (arith, t.1, same))))
       (way_apart place.mount stands)
 
-  -- a mount with a place is one of the world's
-  pub placed_among : (number : ℕ) (place : Location ℕ) → (mount_numbered nat_eq world number).place ≡ Some place → Among (mount_numbered nat_eq world number) world.mounts
-  placed_among number place e =
-      ⊎_elim (λ there. there)
-      (λ none. absurd (true≢false (sym (ap is_some e) ∙ ap (λ m. is_some m.place) none)))
-      (found_or_none world.mounts number)
-
   way_there : (number : ℕ) (stands : Stand number) (other : ℕ) → Among other (way number stands) → Among other (numbers_of world.mounts)
   unfolding way
   way_there number (at_root it e) other m = absurd m
   way_there number (on_parent it place e f stands) other m =
       ⊎_elim
       (λ same. subst (λ k. Among k (numbers_of world.mounts)) (number_found world.mounts it ∙ sym same)
-      (among-map (λ (mount : Mount ℕ). mount.number) world.mounts (mount_numbered nat_eq world it) (placed_among it place e)))
+      (among-map (λ (mount : Mount ℕ). mount.number) world.mounts (mount_numbered nat_eq world it) (placed_among world.mounts it place e)))
       (way_there place.mount stands other)
       m
 
@@ -159,7 +152,7 @@ module _ (world : World ℕ) where
       → (mount_numbered nat_eq world number).namespace ≡ (mount_numbered nat_eq world place.mount).namespace
   namespace_below one ends number place e =
       ⊎_elim
-      (λ there. same_namespace world ends (mount_numbered nat_eq world number) place (placed_among number place e) e there)
+      (λ there. same_namespace world ends (mount_numbered nat_eq world number) place (placed_among world.mounts number place e) e there)
       (λ none. missing none)
       (found_or_none world.mounts place.mount)
     where
@@ -176,9 +169,9 @@ module _ (world : World ℕ) where
       missing none =
           let x = mount_numbered nat_eq world number in
           let parent = mount_numbered nat_eq world place.mount in
-          let long = mounts_there world.mounts x (placed_among number place e) in
+          let long = mounts_there world.mounts x (placed_among world.mounts number place e) in
           let both : (not (is_some (last_below nat_eq world x).place) ≡ true) × (same_option nat_eq x.namespace (last_below nat_eq world x).namespace ≡ true) =
-          and_parts _ _ (among_from_list_all (stands_in_its_namespace nat_eq world) world.mounts ends x (placed_among number place e)) in
+          and_parts _ _ (among_from_list_all (stands_in_its_namespace nat_eq world) world.mounts ends x (placed_among world.mounts number place e)) in
           let end : last_below nat_eq world x ≡ parent =
           ap (λ k. last_or x (chain k below x)) long.1
           ∙ ap (last_or x) (chain_goes_on below long.0 x parent (ap (option_map (mount_at nat_eq world)) e))

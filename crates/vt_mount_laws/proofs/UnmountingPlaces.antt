@@ -12,7 +12,7 @@ use Rattle.std.proofs.lemmas.Bool.{false_from_ne_true}
 use Rattle.std.specs.Prelude.{filter_map, if◌then◌else◌}
 use Rattle.vt_mount_laws.proofs.MountsPlaces.{found_at_its_place, one_place_of_two, place_of_both}
 use Rattle.vt_mount_laws.proofs.MountsReplaced.{found_itself}
-use Rattle.vt_mount_laws.proofs.MountsFound.{found_or_none, number_found}
+use Rattle.vt_mount_laws.proofs.MountsFound.{found_or_none, number_found, placed_among}
 use Rattle.vt_mount_laws.proofs.Unmounting.{going_is_detached, middle, staying_is_placed}
 use Rattle.vt_spec.specs.Machine.Receives.{inheriting}
 use Rattle.vt_mount_laws.proofs.Groups.{mounts-regrouped}
@@ -31,12 +31,6 @@ data Falls (world : World ℕ) (gone : List ℕ) (mount : Mount ℕ) : Location 
 one_stander : (mounts : List (Mount ℕ)) → OneMountAPlace mounts → (a b : Mount ℕ) → Among a mounts → Among b mounts → (place : Location ℕ)
     → a.place ≡ Some place → b.place ≡ Some place → a ≡ b
 one_stander mounts one a b m n place e f = same_Some a b (sym (found_at_its_place mounts one a m place e) ∙ found_at_its_place mounts one b n place f)
-
--- a mount that has a place is one of the world's
-placed_among : (mounts : List (Mount ℕ)) (number : ℕ) (place : Location ℕ) → (mount_in nat_eq mounts number).place ≡ Some place
-    → Among (mount_in nat_eq mounts number) mounts
-placed_among mounts number place e =
-    ⊎_elim (λ m. m) (λ none. absurd (true≢false (sym (ap is_some e) ∙ ap (λ m. is_some m.place) none))) (found_or_none mounts number)
 
 -- one child alone
 one_child_alone : (mount : Mount ℕ) (list : List (Mount ℕ)) → only_cover nat_eq mount list ≡ true → (a b : Mount ℕ) → Among a list
