@@ -91,8 +91,22 @@ module _ (world : World ℕ) (new : Copies ℕ) (place : Location ℕ) (mounts :
   abbrev twig : Mount ℕ → Twig ℕ
   twig = twig_of new (group_of destination.propagation)
 
+  abbrev made : Mount ℕ → Twig ℕ → Mount ℕ
+  made = copy_at nat_eq world new tree parts
+
+  abbrev copies : Mount ℕ → List (Mount ℕ)
+  copies = copies_at nat_eq world new tree parts
+
   abbrev copy : Mount ℕ → Mount ℕ → Mount ℕ
-  copy part origin = copy_at nat_eq world new tree parts part (twig origin)
+  copy part origin = made part (twig origin)
+
+  abbrev place_at : Mount ℕ → Location ℕ
+  place_at part = record { mount = part.number; node = place.node }
+
+  -- where the copy at a part stands: at the part for the top, else on the copy of its parent
+  abbrev landing : Mount ℕ → Option (Location ℕ) → Bool → Location ℕ
+  landing part parent first =
+      if first then place_at part else unwrap_or (option_map (place_on_copy nat_eq new tree part.number) parent) place
 
   abbrev after : World ℕ
   after = attached_by nat_eq world new place false mounts
@@ -106,20 +120,20 @@ module _ (world : World ℕ) (new : Copies ℕ) (place : Location ℕ) (mounts :
   found_old : (number : ℕ) → is_mount world number ≡ true → mount_numbered nat_eq after number ≡ push (mount_numbered nat_eq world number)
   found_old number is = found_attached world new place false mounts number is
 
-  copy_among : (part origin : Mount ℕ) → Among origin mounts → Among (copy part origin) (copies_at nat_eq world new tree parts part)
+  copy_among : (part origin : Mount ℕ) → Among origin mounts → Among (copy part origin) (copies part)
   copy_among part origin m =
-      among-map (copy_at nat_eq world new tree parts part) tree.twigs (twig origin) (among-map twig mounts origin m)
+      among-map (made part) tree.twigs (twig origin) (among-map twig mounts origin m)
 
   copy_after : (part origin : Mount ℕ) → Among part parts → Among origin mounts → Among (copy part origin) after.mounts
   copy_after part origin m n =
       let old = map push world.mounts in
-      let first = copies_at nat_eq world new tree parts destination in
-      let rest = flat_map (copies_at nat_eq world new tree parts) (rest_of parts) in
+      let first = copies destination in
+      let rest = flat_map copies (rest_of parts) in
       ⊎_elim
       (λ e. among-append_left (old ++ first) rest (copy part origin)
-      (among-append_right old first (copy part origin) (subst (λ x. Among (copy part origin) (copies_at nat_eq world new tree parts x)) e (copy_among part origin n))))
+      (among-append_right old first (copy part origin) (subst (λ x. Among (copy part origin) (copies x)) e (copy_among part origin n))))
       (λ later. among-append_right (old ++ first) rest (copy part origin)
-      (among-flat_map (copies_at nat_eq world new tree parts) (rest_of parts) part (copy part origin) later (copy_among part origin n)))
+      (among-flat_map copies (rest_of parts) part (copy part origin) later (copy_among part origin n)))
       m
 
   found_copy : (part origin : Mount ℕ) → Among part parts → Among origin mounts → mount_numbered nat_eq after (copy part origin).number ≡ copy part origin
@@ -132,10 +146,10 @@ module _ (world : World ℕ) (new : Copies ℕ) (place : Location ℕ) (mounts :
     top_stands : (origin : Mount ℕ) → Among origin mounts → is_top nat_eq tree origin.number ≡ true → Stands nat_eq after (copy part origin).number
     top_stands origin m e =
         let found = found_copy part origin is_part m in
-        on_parent (copy part origin).number (record { mount = part.number; node = place.node })
+        on_parent (copy part origin).number (place_at part)
         (
         ap (λ (x : Mount ℕ). x.place) found
-        ∙ ap (λ b. Some (if b then record { mount = part.number; node = place.node } else unwrap_or (option_map (place_on_copy nat_eq new tree part.number) origin.place) place)) e
+        ∙ ap (λ b. Some (landing part origin.place b)) e
         )
         (ap (λ (x : Mount ℕ). x.namespace) found ∙ sym in_its) stands
 
@@ -160,8 +174,8 @@ module _ (world : World ℕ) (new : Copies ℕ) (place : Location ℕ) (mounts :
             on_parent (copy part origin).number (place_on_copy nat_eq new tree part.number on)
             (
             ap (λ (x : Mount ℕ). x.place) found
-            ∙ ap (λ b. Some (if b then record { mount = part.number; node = place.node } else unwrap_or (option_map (place_on_copy nat_eq new tree part.number) origin.place) place)) e
-            ∙ ap (λ p. Some (unwrap_or (option_map (place_on_copy nat_eq new tree part.number) p) place)) place_is
+            ∙ ap (λ b. Some (landing part origin.place b)) e
+            ∙ ap (λ p. Some (landing part p false)) place_is
             )
             (
             ap (λ (x : Mount ℕ). x.namespace) found
@@ -199,19 +213,16 @@ module _ (world : World ℕ) (new : Copies ℕ) (place : Location ℕ) (mounts :
       at_root it (ap (λ (x : Mount ℕ). x.place) (found_old it is) ∙ ap (λ (x : Mount ℕ). x.place) (none_pushes world new tree parts (mount_numbered nat_eq world it) (at_no_place (rest_of parts))) ∙ e)
     where
       at_no_place : (list : List (Mount ℕ))
-          → list_any (λ receiver. stands_at nat_eq (record { mount = receiver.number; node = place.node }) (mount_numbered nat_eq world it)) list ≡ false
+          → list_any (λ receiver. stands_at nat_eq (place_at receiver) (mount_numbered nat_eq world it)) list ≡ false
       at_no_place [] = refl
       at_no_place (receiver ∷ list) =
-          ap (λ p. holds_of (same_location nat_eq (record { mount = receiver.number; node = place.node })) p
-          || list_any (λ other. stands_at nat_eq (record { mount = other.number; node = place.node }) (mount_numbered nat_eq world it)) list) e
+          ap (λ p. holds_of (same_location nat_eq (place_at receiver)) p
+          || list_any (λ other. stands_at nat_eq (place_at other) (mount_numbered nat_eq world it)) list) e
           ∙ at_no_place list
   stands_after nowhere number (on_parent it on e f stands) is =
       let parent_is = parent_there nowhere it on e f in
       by (receiver_below nat_eq tree parts (mount_numbered nat_eq world it)) refl parent_is (stands_after nowhere on.mount stands parent_is)
     where
-      mount : Mount ℕ
-      mount = mount_numbered nat_eq world it
-
       by : (receiver : Option (Mount ℕ)) → receiver_below nat_eq tree parts (mount_numbered nat_eq world it) ≡ receiver
           → is_mount world on.mount ≡ true → Stands nat_eq after on.mount → Stands nat_eq after it
       by None none parent_is parent =
@@ -221,19 +232,19 @@ module _ (world : World ℕ) (new : Copies ℕ) (place : Location ℕ) (mounts :
           ∙ sym (ap (λ (x : Mount ℕ). x.namespace) (found_old on.mount parent_is) ∙ push_namespace (mount_numbered nat_eq world on.mount)))
           parent
       by (Some receiver) some parent_is parent =
-          let found = found_in (λ part. stands_at nat_eq (record { mount = part.number; node = place.node }) (mount_numbered nat_eq world it)) (rest_of parts) receiver some in
-          let part_place = stands_there (record { mount = receiver.number; node = place.node }) (mount_numbered nat_eq world it) found.1 in
-          let same : on.mount ≡ receiver.number = ap (λ (p : Location ℕ). p.mount) (same_Some on (record { mount = receiver.number; node = place.node }) (sym e ∙ part_place)) in
+          let found = found_in (λ part. stands_at nat_eq (place_at part) (mount_numbered nat_eq world it)) (rest_of parts) receiver some in
+          let part_place = stands_there (place_at receiver) (mount_numbered nat_eq world it) found.1 in
+          let same : on.mount ≡ receiver.number = ap (λ (p : Location ℕ). p.mount) (same_Some on (place_at receiver) (sym e ∙ part_place)) in
           let receiver_itself : mount_numbered nat_eq world receiver.number ≡ receiver = found_itself world.mounts one receiver (is_taker receiver found.0) in
           let receiver_is : is_mount world receiver.number ≡ true = subst (λ n. is_mount world n ≡ true) same parent_is in
           let in_its : (mount_numbered nat_eq after receiver.number).namespace ≡ receiver.namespace =
           ap (λ (x : Mount ℕ). x.namespace) (found_old receiver.number receiver_is) ∙ push_namespace (mount_numbered nat_eq world receiver.number) ∙ ap (λ (x : Mount ℕ). x.namespace) receiver_itself in
           let top_in : Among top mounts = subst (Among top) (sym is_tree) (inl refl) in
-          let onto = top_among (copies_at nat_eq world new tree parts receiver) place (copy receiver top) (copy_among receiver top top_in) in
-          let from = among-from_map (copy_at nat_eq world new tree parts receiver) tree.twigs onto.0 onto.1 in
+          let onto = top_among (copies receiver) place (copy receiver top) (copy_among receiver top top_in) in
+          let from = among-from_map (made receiver) tree.twigs onto.0 onto.1 in
           let origin = among-from_map twig mounts from.0 from.1 in
-          let it_is : onto.0 ≡ copy receiver origin.0 = from.2 ∙ ap (copy_at nat_eq world new tree parts receiver) origin.2 in
-          let new_place = top_of_copies nat_eq (copies_at nat_eq world new tree parts receiver) place in
+          let it_is : onto.0 ≡ copy receiver origin.0 = from.2 ∙ ap (made receiver) origin.2 in
+          let new_place = top_of_copies nat_eq (copies receiver) place in
           let number : new_place.mount ≡ (copy receiver origin.0).number = onto.2 ∙ ap (λ (x : Mount ℕ). x.number) it_is in
           on_parent it new_place
           (ap (λ (x : Mount ℕ). x.place) (found_old it is) ∙ ap (λ (x : Mount ℕ). x.place) (ap (pushed_onto nat_eq world new tree parts (mount_numbered nat_eq world it)) some))
@@ -249,14 +260,14 @@ module _ (world : World ℕ) (new : Copies ℕ) (place : Location ℕ) (mounts :
   pub all_stand_after : NowhereOrAttached world → AllStand world → AllStand after
   all_stand_after nowhere all = all_from_among (λ (mount : Mount ℕ). Stands nat_eq after mount.number) after.mounts (λ mount m.
       let old = map push world.mounts in
-      let first = copies_at nat_eq world new tree parts destination in
-      let rest = flat_map (copies_at nat_eq world new tree parts) (rest_of parts) in
+      let first = copies destination in
+      let rest = flat_map copies (rest_of parts) in
       let old_stands : (x : Mount ℕ) → Among x world.mounts → Stands nat_eq after x.number = λ x l.
       stands_after nowhere x.number (among_from_all (λ (y : Mount ℕ). Stands nat_eq world y.number) world.mounts all x l) (number_is x l) in
-      let copied : (part : Mount ℕ) → Among part parts → Among part world.mounts → Among mount (copies_at nat_eq world new tree parts part) → Stands nat_eq after mount.number = λ part p l n.
-      let from = among-from_map (copy_at nat_eq world new tree parts part) tree.twigs mount n in
+      let copied : (part : Mount ℕ) → Among part parts → Among part world.mounts → Among mount (copies part) → Stands nat_eq after mount.number = λ part p l n.
+      let from = among-from_map (made part) tree.twigs mount n in
       let origin = among-from_map twig mounts from.0 from.1 in
-      let it_is : mount ≡ copy part origin.0 = from.2 ∙ ap (copy_at nat_eq world new tree parts part) origin.2 in
+      let it_is : mount ≡ copy part origin.0 = from.2 ∙ ap (made part) origin.2 in
       let in_its : (mount_numbered nat_eq after part.number).namespace ≡ part.namespace =
       ap (λ (x : Mount ℕ). x.namespace) (found_old part.number (number_is part l)) ∙ push_namespace (mount_numbered nat_eq world part.number)
       ∙ ap (λ (x : Mount ℕ). x.namespace) (found_itself world.mounts one part l) in
@@ -269,7 +280,7 @@ module _ (world : World ℕ) (new : Copies ℕ) (place : Location ℕ) (mounts :
       subst (λ n. Stands nat_eq after n) (sym (ap (λ (x : Mount ℕ). x.number) from.2 ∙ (push_keeps world new tree parts from.0).number)) (old_stands from.0 from.1))
       (λ l. copied destination (inl refl) destination_there l)
       (among-append old first mount here))
-      (λ later. let from = among-from_flat_map (copies_at nat_eq world new tree parts) (rest_of parts) mount later in
+      (λ later. let from = among-from_flat_map copies (rest_of parts) mount later in
       copied from.0 (inr from.1) (is_taker from.0 from.1) from.2)
       (among-append (old ++ first) rest mount m))
     where

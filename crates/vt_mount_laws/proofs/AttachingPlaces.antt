@@ -20,7 +20,7 @@ use Rattle.vt_mount_laws.specs.Mounts.Standing.{AllStand}
 use Rattle.vt_mount_laws.proofs.Attaching.{Hangs, all_stand_after, cover, parent_there, taker_there, top_among}
 use Rattle.vt_mount_laws.proofs.Attaching.Hangs.{from_parent, from_top}
 use Rattle.vt_mount_laws.proofs.MountsFound.{found_in, found_there, number_found, unfound}
-use Rattle.vt_mount_laws.proofs.MountsNumbered.{copies_keep_numbers, is_one_of, number_in_use, pair-append, pair-flat_map, parts_apart, same_number}
+use Rattle.vt_mount_laws.proofs.MountsNumbered.{copies_keep_numbers, is_one_of, number_in_use, pair-append, pair-flat_map, parts_apart, same_number, same_origin}
 use Rattle.vt_mount_laws.proofs.MountsPlaces.{found_at_its_place, one_place_of_two, same_location_is, stands_at_its_place, stands_there}
 use Rattle.vt_mount_laws.proofs.MountsReplaced.{apart, found_itself}
 use Rattle.vt_mount_laws.proofs.Standing.{fewer_numbers, rank, rank_child}
@@ -28,10 +28,13 @@ use Rattle.vt_mount_laws.proofs.Standing.{fewer_numbers, rank, rank_child}
 abbrev test : Mount ℕ → Mount ℕ → Bool
 test a b = stand_at_one_place nat_eq a b
 
+abbrev beside : Option (Location ℕ) → Option (Location ℕ) → Bool
+beside other place = is_some place && same_option (same_location nat_eq) place other
+
 -- two places on two mounts
 differ_by_mount : (a b : Mount ℕ) (p q : Location ℕ) → a.place ≡ Some p → b.place ≡ Some q → nat_eq p.mount q.mount ≡ false → test a b ≡ false
 differ_by_mount a b p q e f differ =
-    ap (λ (x : Option (Location ℕ)). is_some x && same_option (same_location nat_eq) x b.place) e
+    ap (beside b.place) e
     ∙ ap (same_option (same_location nat_eq) (Some p)) f
     ∙ ap (λ c. c && nat_eq p.node q.node) differ
 
@@ -40,12 +43,12 @@ one_place : (a b : Mount ℕ) → test a b ≡ true → (p : Location ℕ) × (a
 one_place a b h = by a.place refl b.place refl
   where
     by : (x : Option (Location ℕ)) → a.place ≡ x → (y : Option (Location ℕ)) → b.place ≡ y → (p : Location ℕ) × (a.place ≡ Some p) × (b.place ≡ Some p)
-    by None e y f = absurd (true≢false (sym h ∙ ap (λ (x : Option (Location ℕ)). is_some x && same_option (same_location nat_eq) x b.place) e))
+    by None e y f = absurd (true≢false (sym h ∙ ap (beside b.place) e))
     by (Some p) e None f =
-        absurd (true≢false (sym h ∙ ap (λ (x : Option (Location ℕ)). is_some x && same_option (same_location nat_eq) x b.place) e ∙ ap (same_option (same_location nat_eq) (Some p)) f))
+        absurd (true≢false (sym h ∙ ap (beside b.place) e ∙ ap (same_option (same_location nat_eq) (Some p)) f))
     by (Some p) e (Some q) f =
         let same : same_location nat_eq p q ≡ true =
-        sym (ap (λ (x : Option (Location ℕ)). is_some x && same_option (same_location nat_eq) x b.place) e ∙ ap (same_option (same_location nat_eq) (Some p)) f) ∙ h in
+        sym (ap (beside b.place) e ∙ ap (same_option (same_location nat_eq) (Some p)) f) ∙ h in
         (p, e, f ∙ ap Some (sym (same_location_is p q same)))
 
 -- and the other way round
@@ -67,24 +70,28 @@ data Covers (list : List (Mount ℕ)) : ℕ → Location ℕ → Location ℕ �
       → Covers list (suc n) here end
 
 module _ (list : List (Mount ℕ)) where
+  -- the last of so many steps through the mounts over a place
+  abbrev end_of : ℕ → Location ℕ → Location ℕ
+  end_of n here = last_or here (chain n (cover list) here)
+
   -- a walk through the mounts over a place ends, or takes all its steps
   ends_or_covers : (n : ℕ) (here : Location ℕ)
-      → (child_at nat_eq list (last_or here (chain n (cover list) here)) ≡ None) ⊎ Covers list n here (last_or here (chain n (cover list) here))
+      → (child_at nat_eq list (end_of n here) ≡ None) ⊎ Covers list n here (end_of n here)
   ends_or_covers zero here = inr (none here)
   ends_or_covers (suc n) here = by (child_at nat_eq list here) refl (ends_or_covers n)
     where
       by : (child : Option (Mount ℕ)) → child_at nat_eq list here ≡ child
-          → ((place : Location ℕ) → (child_at nat_eq list (last_or place (chain n (cover list) place)) ≡ None) ⊎ Covers list n place (last_or place (chain n (cover list) place)))
-          → (child_at nat_eq list (last_or here (chain (suc n) (cover list) here)) ≡ None) ⊎ Covers list (suc n) here (last_or here (chain (suc n) (cover list) here))
+          → ((place : Location ℕ) → (child_at nat_eq list (end_of n place) ≡ None) ⊎ Covers list n place (end_of n place))
+          → (child_at nat_eq list (end_of (suc n) here) ≡ None) ⊎ Covers list (suc n) here (end_of (suc n) here)
       by None e later =
-          let end : last_or here (chain (suc n) (cover list) here) ≡ here = ap (last_or here) (chain_ends (cover list) n here (ap (option_map root_of) e)) in
+          let end : end_of (suc n) here ≡ here = ap (last_or here) (chain_ends (cover list) n here (ap (option_map root_of) e)) in
           inl (ap (child_at nat_eq list) end ∙ e)
       by (Some child) e later =
-          let end : last_or here (chain (suc n) (cover list) here) ≡ last_or (root_of child) (chain n (cover list) (root_of child)) =
+          let end : end_of (suc n) here ≡ end_of n (root_of child) =
           ap (last_or here) (chain_goes_on (cover list) n here (root_of child) (ap (option_map root_of) e)) ∙ last_of_chain (cover list) n (root_of child) here in
           ⊎_elim
           (λ done. inl (ap (child_at nat_eq list) end ∙ done))
-          (λ steps. inr (next n here (last_or here (chain (suc n) (cover list) here)) child e (subst (Covers list n (root_of child)) (sym end) steps)))
+          (λ steps. inr (next n here (end_of (suc n) here) child e (subst (Covers list n (root_of child)) (sym end) steps)))
           (later (root_of child))
 
   one_more : (n : ℕ) (here end : Location ℕ) (child : Mount ℕ) → Covers list n here end → child_at nat_eq list end ≡ Some child
@@ -113,21 +120,24 @@ module _ (list : List (Mount ℕ)) where
 
   module _ (world : World ℕ) (one : OneNumberAMount world.mounts) (all : AllStand world)
       (are_there : (mount : Mount ℕ) → Among mount list → Among mount world.mounts) where
-    cover_rank : (here : Location ℕ) (child : Mount ℕ) → child_at nat_eq list here ≡ Some child → rank world one all child.number ≡ suc (rank world one all here.mount)
+    abbrev depth_of : ℕ → ℕ
+    depth_of = rank world one all
+
+    cover_rank : (here : Location ℕ) (child : Mount ℕ) → child_at nat_eq list here ≡ Some child → depth_of child.number ≡ suc (depth_of here.mount)
     cover_rank here child e =
         let found = found_in (stands_at nat_eq here) list child e in
         rank_child world one all child.number here
         (ap (λ (x : Mount ℕ). x.place) (found_itself world.mounts one child (are_there child found.0)) ∙ stands_there here child found.1)
 
     visited_deeper : (n : ℕ) (here end : Location ℕ) (steps : Covers list n here end) (number : ℕ) → Among number (visited n here end steps)
-        → rank world one all here.mount < rank world one all number
+        → depth_of here.mount < depth_of number
     unfolding visited
     visited_deeper n here end (none it) number m = absurd m
     visited_deeper n here end (next k it last child e steps) number m =
         let up = cover_rank it child e in
         ⊎_elim
-        (λ same. let level : rank world one all number ≡ rank world one all child.number = ap (rank world one all) same in omega (arith, up, level))
-        (λ later. let further : rank world one all child.number < rank world one all number = visited_deeper k (root_of child) last steps number later in omega (arith, up, further))
+        (λ same. let level : depth_of number ≡ depth_of child.number = ap depth_of same in omega (arith, up, level))
+        (λ later. let further : depth_of child.number < depth_of number = visited_deeper k (root_of child) last steps number later in omega (arith, up, further))
         m
 
     visited_apart : (n : ℕ) (here end : Location ℕ) (steps : Covers list n here end) → any_pair nat_eq (visited n here end steps) ≡ false
@@ -137,8 +147,8 @@ module _ (list : List (Mount ℕ)) where
         or_from (list_any (nat_eq child.number) (visited k (root_of child) last steps)) (any_pair nat_eq (visited k (root_of child) last steps))
         (none_from_among (nat_eq child.number) (visited k (root_of child) last steps) (λ number m.
         false_from_ne_true (nat_eq child.number number) (λ same.
-        let level : rank world one all child.number ≡ rank world one all number = ap (rank world one all) (eqb-true child.number number same) in
-        let further : rank world one all child.number < rank world one all number = visited_deeper k (root_of child) last steps number m in
+        let level : depth_of child.number ≡ depth_of number = ap depth_of (eqb-true child.number number same) in
+        let further : depth_of child.number < depth_of number = visited_deeper k (root_of child) last steps number m in
         absurd (omega (arith, level, further)))))
         (visited_apart k (root_of child) last steps)
 
@@ -147,16 +157,16 @@ module _ (list : List (Mount ℕ)) where
     numbers_length (mount ∷ mounts) = ap suc (numbers_length mounts)
 
     -- nothing covers what is topmost
-    pub topmost_free : (here : Location ℕ) → child_at nat_eq list (last_or here (chain (length list) (cover list) here)) ≡ None
-    topmost_free here = by (child_at nat_eq list (last_or here (chain (length list) (cover list) here))) refl
+    pub topmost_free : (here : Location ℕ) → child_at nat_eq list (end_of (length list) here) ≡ None
+    topmost_free here = by (child_at nat_eq list (end_of (length list) here)) refl
       where
-        by : (child : Option (Mount ℕ)) → child_at nat_eq list (last_or here (chain (length list) (cover list) here)) ≡ child
-            → child_at nat_eq list (last_or here (chain (length list) (cover list) here)) ≡ None
+        by : (child : Option (Mount ℕ)) → child_at nat_eq list (end_of (length list) here) ≡ child
+            → child_at nat_eq list (end_of (length list) here) ≡ None
         by None e = e
         by (Some child) e =
             ⊎_elim (λ done. done)
             (λ steps.
-            let more = one_more (length list) here (last_or here (chain (length list) (cover list) here)) child steps e in
+            let more = one_more (length list) here (end_of (length list) here) child steps e in
             let few = fewer_numbers (visited (suc (length list)) here (root_of child) more) (numbers_of list)
             (visited_apart (suc (length list)) here (root_of child) more) (visited_there (suc (length list)) here (root_of child) more) in
             let long = visited_length (suc (length list)) here (root_of child) more in
@@ -179,11 +189,30 @@ module _ (world : World ℕ) (new : Copies ℕ) (place : Location ℕ) (mounts :
   abbrev twig : Mount ℕ → Twig ℕ
   twig = twig_of new (group_of (mount_at nat_eq world place).propagation)
 
+  abbrev made : Mount ℕ → Twig ℕ → Mount ℕ
+  made = copy_at nat_eq world new tree parts
+
   abbrev copy : Mount ℕ → Mount ℕ → Mount ℕ
-  copy part origin = copy_at nat_eq world new tree parts part (twig origin)
+  copy part origin = made part (twig origin)
 
   abbrev copies : Mount ℕ → List (Mount ℕ)
   copies part = copies_at nat_eq world new tree parts part
+
+  -- the place on a part, and on a copy that it gets
+  abbrev place_at : Mount ℕ → Location ℕ
+  place_at part = record { mount = part.number; node = place.node }
+
+  abbrev place_upon : Mount ℕ → Location ℕ → Location ℕ
+  place_upon part on = record { mount = new.copy part.number on.mount; node = on.node }
+
+  -- where what stood at a part goes
+  abbrev top_at : Mount ℕ → Location ℕ
+  top_at part = top_of_copies nat_eq (copies part) place
+
+  -- where the copy at a part stands: at the part for the top, else on the copy of its parent
+  abbrev landing : Mount ℕ → Option (Location ℕ) → Bool → Location ℕ
+  landing part parent first =
+      if first then place_at part else unwrap_or (option_map (place_on_copy nat_eq new tree part.number) parent) place
 
   abbrev after : World ℕ
   after = attached_by nat_eq world new place false mounts
@@ -200,9 +229,9 @@ module _ (world : World ℕ) (new : Copies ℕ) (place : Location ℕ) (mounts :
   -- each copy is of a mount of the tree
   copied : (part x : Mount ℕ) → Among x (copies part) → (origin : Mount ℕ) × Among origin mounts × (x ≡ copy part origin)
   copied part x m =
-      let from = among-from_map (copy_at nat_eq world new tree parts part) tree.twigs x m in
+      let from = among-from_map (made part) tree.twigs x m in
       let origin = among-from_map twig mounts from.0 from.1 in
-      (origin.0, origin.1, from.2 ∙ ap (copy_at nat_eq world new tree parts part) origin.2)
+      (origin.0, origin.1, from.2 ∙ ap (made part) origin.2)
 
   copies_after : (part : Mount ℕ) → Among part parts → (x : Mount ℕ) → Among x (copies part) → Among x after.mounts
   copies_after part m x n =
@@ -216,9 +245,9 @@ module _ (world : World ℕ) (new : Copies ℕ) (place : Location ℕ) (mounts :
 
   -- Where a copy stands: the top at the part's place, another one on the copy of what its origin stands on
   data CopyPlace (part origin : Mount ℕ) : Type 0 where
-    at_part : nat_eq origin.number top.number ≡ true → (copy part origin).place ≡ Some (record { mount = part.number; node = place.node }) → CopyPlace part origin
+    at_part : nat_eq origin.number top.number ≡ true → (copy part origin).place ≡ Some (place_at part) → CopyPlace part origin
     on_copy : (on : Location ℕ) (parent : Mount ℕ) → nat_eq origin.number top.number ≡ false → origin.place ≡ Some on → Among parent mounts
-        → parent.number ≡ on.mount → (copy part origin).place ≡ Some (record { mount = new.copy part.number on.mount; node = on.node }) → CopyPlace part origin
+        → parent.number ≡ on.mount → (copy part origin).place ≡ Some (place_upon part on) → CopyPlace part origin
 
   top_test : (origin : Mount ℕ) → is_top nat_eq tree origin.number ≡ nat_eq origin.number top.number
   top_test origin = ap (λ (ms : List (Mount ℕ)). holds_of (λ (t : Twig ℕ). nat_eq origin.number t.origin.number) (first_of_list (map twig ms))) is_tree
@@ -231,9 +260,9 @@ module _ (world : World ℕ) (new : Copies ℕ) (place : Location ℕ) (mounts :
   copy_place_of part origin m = by (nat_eq origin.number top.number) refl origin.number (hangs origin m) refl
     where
       placed : (b : Bool) → nat_eq origin.number top.number ≡ b
-          → (copy part origin).place ≡ Some (if b then record { mount = part.number; node = place.node } else unwrap_or (option_map (place_on_copy nat_eq new tree part.number) origin.place) place)
+          → (copy part origin).place ≡ Some (landing part origin.place b)
       placed b e =
-          ap (λ c. Some (if c then record { mount = part.number; node = place.node } else unwrap_or (option_map (place_on_copy nat_eq new tree part.number) origin.place) place))
+          ap (λ c. Some (landing part origin.place c))
           (top_test origin ∙ e)
 
       by : (b : Bool) → nat_eq origin.number top.number ≡ b → (n : ℕ) → Hangs mounts n → n ≡ origin.number → CopyPlace part origin
@@ -249,7 +278,7 @@ module _ (world : World ℕ) (new : Copies ℕ) (place : Location ℕ) (mounts :
           let place_is : origin.place ≡ Some on = ap (λ (x : Mount ℕ). x.place) (sym it) ∙ f in
           let parent = parent_of on.mount later in
           on_copy on parent.0 e place_is parent.1 parent.2
-          (placed false e ∙ ap (λ p. Some (unwrap_or (option_map (place_on_copy nat_eq new tree part.number) p) place)) place_is)
+          (placed false e ∙ ap (λ p. Some (landing part p false)) place_is)
 
   -- the number of a copy is that of no mount that was there
   copy_is_new : (part origin : Mount ℕ) → Among part parts → Among origin mounts → (number : ℕ) → is_mount world number ≡ true
@@ -287,16 +316,16 @@ module _ (world : World ℕ) (new : Copies ℕ) (place : Location ℕ) (mounts :
     where
       by : (a : Mount ℕ) → Among a mounts → CopyPlace p a → (b : Mount ℕ) → Among b mounts → CopyPlace q b → test (copy p a) (copy q b) ≡ false
       by a i (at_part e f) b j (at_part g h) =
-          differ_by_mount (copy p a) (copy q b) (record { mount = p.number; node = place.node }) (record { mount = q.number; node = place.node }) f h differ
+          differ_by_mount (copy p a) (copy q b) (place_at p) (place_at q) f h differ
       by a i (at_part e f) b j (on_copy on parent g h there_is same d) =
-          differ_by_mount (copy p a) (copy q b) (record { mount = p.number; node = place.node }) (record { mount = new.copy q.number on.mount; node = on.node }) f d
+          differ_by_mount (copy p a) (copy q b) (place_at p) (place_upon q on) f d
           (subst (λ k. nat_eq p.number (new.copy q.number k) ≡ false) same (copy_is_new q parent n there_is p.number (part_there p m)))
       by a i (on_copy on parent e f there_is same c) b j (at_part g h) =
-          differ_by_mount (copy p a) (copy q b) (record { mount = new.copy p.number on.mount; node = on.node }) (record { mount = q.number; node = place.node }) c h
+          differ_by_mount (copy p a) (copy q b) (place_upon p on) (place_at q) c h
           (apart q.number (new.copy p.number on.mount)
           (subst (λ k. nat_eq q.number (new.copy p.number k) ≡ false) same (copy_is_new p parent m there_is q.number (part_there q n))))
       by a i (on_copy on parent e f there_is same c) b j (on_copy at other g h there_too same_too d) =
-          differ_by_mount (copy p a) (copy q b) (record { mount = new.copy p.number on.mount; node = on.node }) (record { mount = new.copy q.number at.mount; node = at.node }) c d
+          differ_by_mount (copy p a) (copy q b) (place_upon p on) (place_upon q at) c d
           (subst (λ k. nat_eq (new.copy p.number k) (new.copy q.number at.mount) ≡ false) same
           (subst (λ k. nat_eq (new.copy p.number parent.number) (new.copy q.number k) ≡ false) same_too (two_parts p q parent other m n there_is there_too differ)))
 
@@ -311,18 +340,18 @@ module _ (world : World ℕ) (new : Copies ℕ) (place : Location ℕ) (mounts :
         by (at_part e f) (at_part g h) =
             absurd (true≢false (sym (eq-eqb a.number b.number (eqb-true a.number top.number e ∙ sym (eqb-true b.number top.number g))) ∙ differ))
         by (at_part e f) (on_copy on parent g h there_is same d) =
-            differ_by_mount (copy part a) (copy part b) (record { mount = part.number; node = place.node }) (record { mount = new.copy part.number on.mount; node = on.node }) f d
+            differ_by_mount (copy part a) (copy part b) (place_at part) (place_upon part on) f d
             (subst (λ k. nat_eq part.number (new.copy part.number k) ≡ false) same (copy_is_new part parent m there_is part.number (part_there part m)))
         by (on_copy on parent e f there_is same c) (at_part g h) =
-            differ_by_mount (copy part a) (copy part b) (record { mount = new.copy part.number on.mount; node = on.node }) (record { mount = part.number; node = place.node }) c h
+            differ_by_mount (copy part a) (copy part b) (place_upon part on) (place_at part) c h
             (apart part.number (new.copy part.number on.mount)
             (subst (λ k. nat_eq part.number (new.copy part.number k) ≡ false) same (copy_is_new part parent m there_is part.number (part_there part m))))
         by (on_copy on parent e f there_is same c) (on_copy at other g h there_too same_too d) =
             false_from_ne_true (test (copy part a) (copy part b)) (λ both.
             let t = one_place (copy part a) (copy part b) both in
-            let left : record { mount = new.copy part.number on.mount; node = on.node } ≡ t.0 = same_Some _ t.0 (sym c ∙ t.1) in
-            let right : record { mount = new.copy part.number at.mount; node = at.node } ≡ t.0 = same_Some _ t.0 (sym d ∙ t.2) in
-            let equal : record { mount = new.copy part.number on.mount; node = on.node } ≡ record { mount = new.copy part.number at.mount; node = at.node } = left ∙ sym right in
+            let left : place_upon part on ≡ t.0 = same_Some _ t.0 (sym c ∙ t.1) in
+            let right : place_upon part at ≡ t.0 = same_Some _ t.0 (sym d ∙ t.2) in
+            let equal : place_upon part on ≡ place_upon part at = left ∙ sym right in
             let number : (part.number ≡ part.number) × (parent.number ≡ other.number) =
             serve.apart part.number parent.number part.number other.number (is_one_of parts part m) (is_one_of mounts parent there_is) (is_one_of parts part m) (is_one_of mounts other there_too)
             (ap (new.copy part.number) same ∙ ap (λ (l : Location ℕ). l.mount) equal ∙ ap (new.copy part.number) (sym same_too)) in
@@ -333,15 +362,15 @@ module _ (world : World ℕ) (new : Copies ℕ) (place : Location ℕ) (mounts :
 
     copies_spread : (part : Mount ℕ) → Among part parts → any_pair test (copies part) ≡ false
     copies_spread part m =
-        pair-map (λ (a b : Twig ℕ). nat_eq a.origin.number b.origin.number) test (copy_at nat_eq world new tree parts part) tree.twigs
+        pair-map same_origin test (made part) tree.twigs
         (λ a b k l differ.
         let x = among-from_map twig mounts a k in
         let y = among-from_map twig mounts b l in
-        subst (λ z. test (copy_at nat_eq world new tree parts part z) (copy_at nat_eq world new tree parts part b) ≡ false) (sym x.2)
-        (subst (λ z. test (copy part x.0) (copy_at nat_eq world new tree parts part z) ≡ false) (sym y.2)
+        subst (λ z. test (made part z) (made part b) ≡ false) (sym x.2)
+        (subst (λ z. test (copy part x.0) (made part z) ≡ false) (sym y.2)
         (two_at_one part m x.0 y.0 x.1 y.1
         (subst (λ z. nat_eq x.0.number z.origin.number ≡ false) y.2 (subst (λ z. nat_eq z.origin.number b.origin.number ≡ false) x.2 differ)))))
-        (pair-map same_number (λ (a b : Twig ℕ). nat_eq a.origin.number b.origin.number) twig mounts (λ a b k l differ. differ) own)
+        (pair-map same_number same_origin twig mounts (λ a b k l differ. differ) own)
 
     all_copies_spread : any_pair test (flat_map copies parts) ≡ false
     all_copies_spread =
@@ -351,15 +380,15 @@ module _ (world : World ℕ) (new : Copies ℕ) (place : Location ℕ) (mounts :
     data PushCase (mount : Mount ℕ) : Type 0 where
       stays : push mount ≡ mount → receiver_below nat_eq tree parts mount ≡ None → PushCase mount
       goes : (receiver origin : Mount ℕ) → Among receiver (rest_of parts) → Among origin mounts
-          → mount.place ≡ Some (record { mount = receiver.number; node = place.node })
-          → (push mount).place ≡ Some (top_of_copies nat_eq (copies receiver) place)
-          → (top_of_copies nat_eq (copies receiver) place).mount ≡ new.copy receiver.number origin.number → PushCase mount
+          → mount.place ≡ Some (place_at receiver)
+          → (push mount).place ≡ Some (top_at receiver)
+          → (top_at receiver).mount ≡ new.copy receiver.number origin.number → PushCase mount
 
     top_in : Among top mounts
     top_in = subst (Among top) (sym is_tree) (inl refl)
 
     top_copy : (part : Mount ℕ) → Among (copy part top) (copies part)
-    top_copy part = among-map (copy_at nat_eq world new tree parts part) tree.twigs (twig top) (among-map twig mounts top top_in)
+    top_copy part = among-map (made part) tree.twigs (twig top) (among-map twig mounts top top_in)
 
     push_case : (mount : Mount ℕ) → PushCase mount
     push_case mount = by (receiver_below nat_eq tree parts mount) refl
@@ -367,11 +396,11 @@ module _ (world : World ℕ) (new : Copies ℕ) (place : Location ℕ) (mounts :
         by : (found : Option (Mount ℕ)) → receiver_below nat_eq tree parts mount ≡ found → PushCase mount
         by None e = stays (ap (pushed_onto nat_eq world new tree parts mount) e) e
         by (Some receiver) e =
-            let found = found_in (λ part. stands_at nat_eq (record { mount = part.number; node = place.node }) mount) (rest_of parts) receiver e in
+            let found = found_in (λ part. stands_at nat_eq (place_at part) mount) (rest_of parts) receiver e in
             let onto = top_among (copies receiver) place (copy receiver top) (top_copy receiver) in
             let of = copied receiver onto.0 onto.1 in
             goes receiver of.0 found.0 of.1
-            (stands_there (record { mount = receiver.number; node = place.node }) mount found.1)
+            (stands_there (place_at receiver) mount found.1)
             (ap (λ (x : Mount ℕ). x.place) (ap (pushed_onto nat_eq world new tree parts mount) e))
             (onto.2 ∙ ap (λ (x : Mount ℕ). x.number) of.2)
 
@@ -393,23 +422,23 @@ module _ (world : World ℕ) (new : Copies ℕ) (place : Location ℕ) (mounts :
       where
         -- one that stays, and one that goes onto a copy
         mixed : (x y : Mount ℕ) → Among x world.mounts → push x ≡ x → (receiver origin : Mount ℕ) → Among receiver (rest_of parts) → Among origin mounts
-            → (push y).place ≡ Some (top_of_copies nat_eq (copies receiver) place)
-            → (top_of_copies nat_eq (copies receiver) place).mount ≡ new.copy receiver.number origin.number
+            → (push y).place ≡ Some (top_at receiver)
+            → (top_at receiver).mount ≡ new.copy receiver.number origin.number
             → (test (push x) (push y) ≡ false) × (test (push y) (push x) ≡ false)
         mixed x y k keeps receiver origin r o f same = at x.place refl
           where
             at : (found : Option (Location ℕ)) → x.place ≡ found → (test (push x) (push y) ≡ false) × (test (push y) (push x) ≡ false)
             at None e = (
-              ap (λ (z : Mount ℕ). test z (push y)) keeps ∙ ap (λ (q : Option (Location ℕ)). is_some q && same_option (same_location nat_eq) q (push y).place) e,
-              ap (λ (z : Mount ℕ). test (push y) z) keeps ∙ ap (λ (q : Option (Location ℕ)). is_some q && same_option (same_location nat_eq) q x.place) f
-                  ∙ ap (same_option (same_location nat_eq) (Some (top_of_copies nat_eq (copies receiver) place))) e,
+              ap (λ (z : Mount ℕ). test z (push y)) keeps ∙ ap (beside (push y).place) e,
+              ap (λ (z : Mount ℕ). test (push y) z) keeps ∙ ap (beside x.place) f
+                  ∙ ap (same_option (same_location nat_eq) (Some (top_at receiver))) e,
             )
             at (Some on) e =
                 let fresh_one = copy_is_new receiver origin (inr r) o on.mount (on_is_there x k on e) in
-                let elsewhere : nat_eq on.mount (top_of_copies nat_eq (copies receiver) place).mount ≡ false = ap (nat_eq on.mount) same ∙ fresh_one in (
-                  ap (λ (z : Mount ℕ). test z (push y)) keeps ∙ differ_by_mount x (push y) on (top_of_copies nat_eq (copies receiver) place) e f elsewhere,
+                let elsewhere : nat_eq on.mount (top_at receiver).mount ≡ false = ap (nat_eq on.mount) same ∙ fresh_one in (
+                  ap (λ (z : Mount ℕ). test z (push y)) keeps ∙ differ_by_mount x (push y) on (top_at receiver) e f elsewhere,
                   ap (λ (z : Mount ℕ). test (push y) z) keeps
-                      ∙ differ_by_mount (push y) x (top_of_copies nat_eq (copies receiver) place) on f e (apart on.mount (top_of_copies nat_eq (copies receiver) place).mount elsewhere),
+                      ∙ differ_by_mount (push y) x (top_at receiver) on f e (apart on.mount (top_at receiver).mount elsewhere),
                 )
 
         by : PushCase a → PushCase b → test (push a) (push b) ≡ false
@@ -422,14 +451,14 @@ module _ (world : World ℕ) (new : Copies ℕ) (place : Location ℕ) (mounts :
             two true equal =
                 let number : receiver.number ≡ other.number = eqb-true receiver.number other.number equal in
                 absurd (true≢false
-                (sym (stand_together a b (record { mount = other.number; node = place.node }) (e ∙ (λ i. Some (record { mount = number i; node = place.node }))) g) ∙ differ))
+                (sym (stand_together a b (place_at other) (e ∙ (λ i. Some (record { mount = number i; node = place.node }))) g) ∙ differ))
             two false apart_too =
-                differ_by_mount (push a) (push b) (top_of_copies nat_eq (copies receiver) place) (top_of_copies nat_eq (copies other) place) f h
-                (ap (λ k. nat_eq k (top_of_copies nat_eq (copies other) place).mount) same ∙ ap (nat_eq (new.copy receiver.number origin.number)) same_too
+                differ_by_mount (push a) (push b) (top_at receiver) (top_at other) f h
+                (ap (λ k. nat_eq k (top_at other).mount) same ∙ ap (nat_eq (new.copy receiver.number origin.number)) same_too
                 ∙ two_parts receiver other origin second (inr r) (inr t) o u apart_too)
 
     -- nothing stands on the topmost copy
-    free_top : (part : Mount ℕ) → Among part parts → child_at nat_eq (copies part) (top_of_copies nat_eq (copies part) place) ≡ None
+    free_top : (part : Mount ℕ) → Among part parts → child_at nat_eq (copies part) (top_at part) ≡ None
     free_top part m = by (copies part) refl (top_copy part)
       where
         by : (list : List (Mount ℕ)) → copies part ≡ list → Among (copy part top) list → child_at nat_eq list (top_of_copies nat_eq list place) ≡ None
@@ -453,8 +482,8 @@ module _ (world : World ℕ) (new : Copies ℕ) (place : Location ℕ) (mounts :
         by origin o (at_part e f) (stays g h) in_copies =
             false_from_ne_true (test (push a) (copy part origin)) (λ both.
             let t = one_place (push a) (copy part origin) both in
-            let stands : a.place ≡ Some (record { mount = part.number; node = place.node }) =
-            ap (λ (z : Mount ℕ). z.place) (sym g) ∙ t.1 ∙ ap Some (sym (same_Some (record { mount = part.number; node = place.node }) t.0 (sym f ∙ t.2))) in
+            let stands : a.place ≡ Some (place_at part) =
+            ap (λ (z : Mount ℕ). z.place) (sym g) ∙ t.1 ∙ ap Some (sym (same_Some (place_at part) t.0 (sym f ∙ t.2))) in
             ⊎_elim
             (λ is_destination.
             let at_place : a.place ≡ Some place =
@@ -462,20 +491,20 @@ module _ (world : World ℕ) (new : Copies ℕ) (place : Location ℕ) (mounts :
             true≢false (sym (stands_at_its_place place a at_place) ∙ unfound (stands_at nat_eq place) world.mounts free a m))
             (λ receiver.
             true≢false
-            (sym (stands_at_its_place (record { mount = part.number; node = place.node }) a stands)
-            ∙ unfound (λ other. stands_at nat_eq (record { mount = other.number; node = place.node }) a) (rest_of parts) h part receiver))
+            (sym (stands_at_its_place (place_at part) a stands)
+            ∙ unfound (λ other. stands_at nat_eq (place_at other) a) (rest_of parts) h part receiver))
             n)
         by origin o (at_part e f) (goes receiver second r u g h same) in_copies =
-            differ_by_mount (push a) (copy part origin) (top_of_copies nat_eq (copies receiver) place) (record { mount = part.number; node = place.node }) h f
+            differ_by_mount (push a) (copy part origin) (top_at receiver) (place_at part) h f
             (ap (λ c. nat_eq c part.number) same
             ∙ apart part.number (new.copy receiver.number second.number) (copy_is_new receiver second (inr r) u part.number (part_there part n)))
         by origin o (on_copy on parent e f there_is same c) (stays g h) in_copies = at a.place refl
           where
             at : (found : Option (Location ℕ)) → a.place ≡ found → test (push a) (copy part origin) ≡ false
-            at None d = ap (λ (z : Mount ℕ). test z (copy part origin)) g ∙ ap (λ (q : Option (Location ℕ)). is_some q && same_option (same_location nat_eq) q (copy part origin).place) d
+            at None d = ap (λ (z : Mount ℕ). test z (copy part origin)) g ∙ ap (beside (copy part origin).place) d
             at (Some stands_on) d =
                 ap (λ (z : Mount ℕ). test z (copy part origin)) g
-                ∙ differ_by_mount a (copy part origin) stands_on (record { mount = new.copy part.number on.mount; node = on.node }) d c
+                ∙ differ_by_mount a (copy part origin) stands_on (place_upon part on) d c
                 (subst (λ q. nat_eq stands_on.mount (new.copy part.number q) ≡ false) same (copy_is_new part parent n there_is stands_on.mount (on_is_there a m stands_on d)))
         by origin o (on_copy on parent e f there_is same c) (goes receiver second r u g h same_too) in_copies = at (nat_eq receiver.number part.number) refl
           where
@@ -484,13 +513,13 @@ module _ (world : World ℕ) (new : Copies ℕ) (place : Location ℕ) (mounts :
                 let itself : receiver ≡ part = same_part receiver part (inr r) n (eqb-true receiver.number part.number equal) in
                 false_from_ne_true (test (push a) (copy part origin)) (λ both.
                 let t = one_place (push a) (copy part origin) both in
-                let top_place : (copy part origin).place ≡ Some (top_of_copies nat_eq (copies part) place) =
-                t.2 ∙ ap Some (sym (same_Some (top_of_copies nat_eq (copies receiver) place) t.0 (sym h ∙ t.1))) ∙ ap (λ (z : Mount ℕ). Some (top_of_copies nat_eq (copies z) place)) itself in
+                let top_place : (copy part origin).place ≡ Some (top_at part) =
+                t.2 ∙ ap Some (sym (same_Some (top_at receiver) t.0 (sym h ∙ t.1))) ∙ ap (λ (z : Mount ℕ). Some (top_at z)) itself in
                 true≢false
-                (sym (stands_at_its_place (top_of_copies nat_eq (copies part) place) (copy part origin) top_place)
-                ∙ unfound (stands_at nat_eq (top_of_copies nat_eq (copies part) place)) (copies part) (free_top part n) (copy part origin) in_copies))
+                (sym (stands_at_its_place (top_at part) (copy part origin) top_place)
+                ∙ unfound (stands_at nat_eq (top_at part)) (copies part) (free_top part n) (copy part origin) in_copies))
             at false differ =
-                differ_by_mount (push a) (copy part origin) (top_of_copies nat_eq (copies receiver) place) (record { mount = new.copy part.number on.mount; node = on.node }) h c
+                differ_by_mount (push a) (copy part origin) (top_at receiver) (place_upon part on) h c
                 (ap (λ q. nat_eq q (new.copy part.number on.mount)) same_too
                 ∙ subst (λ q. nat_eq (new.copy receiver.number second.number) (new.copy part.number q) ≡ false) same (two_parts receiver part second parent (inr r) n u there_is differ))
 

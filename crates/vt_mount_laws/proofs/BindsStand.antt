@@ -59,10 +59,16 @@ module _ (world : World ℕ) (whole : List (Mount ℕ)) where
       within x from.2)
       m
 
+one_hangs : (mount x : Mount ℕ) → Among x (mount ∷ []) → Hangs (mount ∷ []) x.number
+one_hangs mount x m =
+    ⊎_elim
+    (λ e. subst (λ (y : Mount ℕ). Hangs (mount ∷ []) y.number) (sym e) (from_top mount [] refl))
+    (λ none. absurd none)
+    m
+
 bind_hangs : (world : World ℕ) (source : Location ℕ) (recursive : Bool) (x : Mount ℕ) → Among x (bind_tree nat_eq world source recursive)
     → Hangs (bind_tree nat_eq world source recursive) x.number
-bind_hangs world source false x m =
-    ⊎_elim (λ e. subst (λ (y : Mount ℕ). Hangs (bind_tree nat_eq world source false) y.number) (sym e) (from_top (bound nat_eq world source) [] refl)) (λ none. absurd none) m
+bind_hangs world source false x m = one_hangs (bound nat_eq world source) x m
 bind_hangs world source true x m =
     let whole = bind_tree nat_eq world source true in
     let fuel = length world.mounts in
@@ -113,16 +119,21 @@ stands_with_filesystem world filesystem number (at_root it e) = at_root it e
 stands_with_filesystem world filesystem number (on_parent it place e f stands) =
     on_parent it place e f (stands_with_filesystem world filesystem place.mount stands)
 
+all_stand_with_filesystem : (world : World ℕ) (filesystem : Filesystem ℕ) → AllStand world
+    → AllStand (with_new_filesystem world filesystem)
+all_stand_with_filesystem world filesystem all =
+    let larger = with_new_filesystem world filesystem in
+    all_from_among (λ (x : Mount ℕ). Stands nat_eq larger x.number) world.mounts (λ x m.
+    stands_with_filesystem world filesystem x.number
+    (among_from_all (λ (y : Mount ℕ). Stands nat_eq world y.number) world.mounts all x m))
+
 pub new_mounts_keep_standing : NewMountsKeepStanding
 new_mounts_keep_standing world fresh place filesystem flags serves one nowhere all there =
     let larger = with_new_filesystem world filesystem in
     let mount = new_mount filesystem.number filesystem.files.tree.root flags in
     all_stand_after larger (supplied larger fresh place (mount ∷ [])) place (mount ∷ [])
     (supplies_serve_as_copies larger fresh (parts_of nat_eq larger place) (mount ∷ []) serves) refl one there
-    (λ x m. ⊎_elim (λ e. subst (λ (y : Mount ℕ). Hangs (mount ∷ []) y.number) (sym e) (from_top mount [] refl)) (λ none. absurd none) m)
-    mount [] refl nowhere
-    (all_from_among (λ (x : Mount ℕ). Stands nat_eq larger x.number) world.mounts (λ x m.
-    stands_with_filesystem world filesystem x.number (among_from_all (λ (y : Mount ℕ). Stands nat_eq world y.number) world.mounts all x m)))
+    (one_hangs mount) mount [] refl nowhere (all_stand_with_filesystem world filesystem all)
 
 pub new_mounts_keep_numbers : NewMountsKeepNumbers
 new_mounts_keep_numbers world fresh place filesystem flags serves one =
@@ -141,13 +152,16 @@ bindable_there world (suc fuel) mount x m =
     inr (⊎_elim (λ e. subst (λ y. Among y world.mounts) (sym e) there) (λ l. l) (bindable_there world fuel from.0 x from.2)))
     m
 
+not_itself : (a b : Mount ℕ) → nat_eq a.number b.number ≡ false → a ≡ b → ⊥
+not_itself a b differ e = true≢false (sym (eq-eqb a.number b.number (ap (λ (y : Mount ℕ). y.number) e)) ∙ differ)
+
 bind_there : (world : World ℕ) (source : Location ℕ) (recursive : Bool) (x : Mount ℕ) → Among x (bind_tree nat_eq world source recursive)
     → nat_eq x.number (bound nat_eq world source).number ≡ false → Among x world.mounts
 bind_there world source false x m differ =
-    ⊎_elim (λ e. absurd (true≢false (sym (eq-eqb x.number (bound nat_eq world source).number (ap (λ (y : Mount ℕ). y.number) e)) ∙ differ))) (λ none. absurd none) m
+    ⊎_elim (λ e. absurd (not_itself x (bound nat_eq world source) differ e)) (λ none. absurd none) m
 bind_there world source true x m differ =
     ⊎_elim
-    (λ e. absurd (true≢false (sym (eq-eqb x.number (bound nat_eq world source).number (ap (λ (y : Mount ℕ). y.number) e)) ∙ differ)))
+    (λ e. absurd (not_itself x (bound nat_eq world source) differ e))
     (λ later.
     let under = bindable_children nat_eq world.mounts source.mount in
     let from = among-from_flat_map (bindable_tree nat_eq (length world.mounts) world.mounts) (filter (stands_under nat_eq world source) under) x later in
@@ -175,10 +189,7 @@ new_mounts_keep_places world fresh place filesystem flags serves one nowhere all
     let mount = new_mount filesystem.number filesystem.files.tree.root flags in
     places_after larger (supplied larger fresh place (mount ∷ [])) place (mount ∷ [])
     (supplies_serve_as_copies larger fresh (parts_of nat_eq larger place) (mount ∷ []) serves) refl one there
-    (λ x m. ⊎_elim (λ e. subst (λ (y : Mount ℕ). Hangs (mount ∷ []) y.number) (sym e) (from_top mount [] refl)) (λ none. absurd none) m)
-    mount [] refl nowhere
-    (all_from_among (λ (x : Mount ℕ). Stands nat_eq larger x.number) world.mounts (λ x m.
-    stands_with_filesystem world filesystem x.number (among_from_all (λ (y : Mount ℕ). Stands nat_eq world y.number) world.mounts all x m)))
+    (one_hangs mount) mount [] refl nowhere (all_stand_with_filesystem world filesystem all)
     (λ a b m n not_top nor_top differ.
-    ⊎_elim (λ e. absurd (true≢false (sym (eq-eqb a.number mount.number (ap (λ (y : Mount ℕ). y.number) e)) ∙ not_top))) (λ none. absurd none) m)
+    ⊎_elim (λ e. absurd (not_itself a mount not_top e)) (λ none. absurd none) m)
     places free

@@ -13,7 +13,7 @@ use Rattle.vt_mount_laws.specs.Mounts.Receivers.{GroupsLive}
 use Rattle.vt_mount_laws.specs.Mounts.Conditions.{TypeKeepsGroups}
 use Rattle.vt_spec.specs.Machine.Calls.{TypeWord}
 use Rattle.vt_spec.specs.Machine.World.{World, mount_numbered, Namespace}
-use Rattle.vt_mount_laws.proofs.MountsRetyped.{between, groups_by, next_world, retype}
+use Rattle.vt_mount_laws.proofs.MountsRetyped.{between, groups_by, next_world, retype, retyped_if}
 use Rattle.std.proofs.lemmas.Bool.Decides.{eqb_tells}
 use Rattle.std.proofs.lemmas.Bool.{false_from_ne_true}
 use Rattle.vt_mount_laws.proofs.MountsFound.{found_or_none}
@@ -134,10 +134,10 @@ module _ (world : World ℕ) (group : ℕ → ℕ) (word : TypeWord) (named : Li
           (λ new. subst (EndsUp after_all) (ap group (sym same) ∙ sym new) (new_ends chosen.0 chosen.1))
           (λ was. still_ends source (lives_in world live old m source was))
           (source_taken (group old.number) word old.propagation source
-          (sym (ap (λ b. source_of (if b then (record old { propagation = type_after (group old.number) word old.propagation }) else old).propagation) e) ∙ f))
+          (sym (ap (λ b. source_of (retyped_if world group word named old b).propagation) e) ∙ f))
       by old m false e source f =
           still_ends source (lives_in world live old m source
-          (sym (ap (λ b. source_of (if b then (record old { propagation = type_after (group old.number) word old.propagation }) else old).propagation) e) ∙ f))
+          (sym (ap (λ b. source_of (retyped_if world group word named old b).propagation) e) ∙ f))
 
 -- numbers that are not in use have no members
 unused_members : (world : World ℕ) (number : ℕ) → is_among nat_eq number (numbers_in_use world) ≡ false

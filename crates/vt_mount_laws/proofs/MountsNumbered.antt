@@ -117,6 +117,15 @@ numbered_apart size k i m j l n e =
     let above : k * size ≡ m * size = ap (λ x. x * size) same in
     (same, omega (arith, e, above))
 
+-- the index of the copy of a mount at a part, and of its image for a group
+abbrev copy_index : List (Mount ℕ) → List (Mount ℕ) → ℕ → ℕ → ℕ
+copy_index parts mounts part origin =
+    numbered (length mounts) (index_of nat_eq parts part) (index_of nat_eq mounts origin)
+
+abbrev image_index : List (Mount ℕ) → List (Mount ℕ) → ℕ → ℕ → ℕ
+image_index parts mounts group origin =
+    numbered (length mounts) (index_of_group nat_eq parts group) (index_of nat_eq mounts origin)
+
 module _ (world : World ℕ) (fresh : Fresh ℕ) (serves : Serves nat_eq world fresh) where
   evens_apart : (j k : ℕ) → evens fresh j ≡ evens fresh k → j ≡ k
   evens_apart j k e = let same : 2 * j ≡ 2 * k = serves.apart (2 * j) (2 * k) (eq-eqb (evens fresh j) (evens fresh k) e) in omega (arith, same)
@@ -129,27 +138,27 @@ module _ (world : World ℕ) (fresh : Fresh ℕ) (serves : Serves nat_eq world f
 
   copies_serve : (parts mounts : List (Mount ℕ)) → ServeAsCopies world parts mounts (copies_from nat_eq fresh parts mounts)
   copies_serve parts mounts = record {
-    unused = λ part origin m n. serves.unused (2 * numbered (length mounts) (index_of nat_eq parts part) (index_of nat_eq mounts origin));
+    unused = λ part origin m n. serves.unused (2 * copy_index parts mounts part origin);
     apart = λ part origin other_part other m n o p e.
         let at = numbered_apart (length mounts) (index_of nat_eq parts part) (index_of nat_eq mounts origin) (index_of nat_eq parts other_part) (index_of nat_eq mounts other)
         (index_below mounts origin n) (index_below mounts other p)
-        (evens_apart (numbered (length mounts) (index_of nat_eq parts part) (index_of nat_eq mounts origin))
-        (numbered (length mounts) (index_of nat_eq parts other_part) (index_of nat_eq mounts other)) e) in
+        (evens_apart (copy_index parts mounts part origin)
+        (copy_index parts mounts other_part other) e) in
         (one_index parts part other_part m o at.0, one_index mounts origin other n p at.1);
   }
 
   images_serve : (parts mounts : List (Mount ℕ)) → ServeAsImages world parts mounts (copies_from nat_eq fresh parts mounts)
   images_serve parts mounts = record {
-    unused = λ group origin m n. serves.unused (2 * numbered (length mounts) (index_of_group nat_eq parts group) (index_of nat_eq mounts origin) + 1);
+    unused = λ group origin m n. serves.unused (2 * image_index parts mounts group origin + 1);
     apart = λ group origin other_group other m n o p e.
         let at = numbered_apart (length mounts) (index_of_group nat_eq parts group) (index_of nat_eq mounts origin) (index_of_group nat_eq parts other_group) (index_of nat_eq mounts other)
         (index_below mounts origin n) (index_below mounts other p)
-        (odds_apart (numbered (length mounts) (index_of_group nat_eq parts group) (index_of nat_eq mounts origin))
-        (numbered (length mounts) (index_of_group nat_eq parts other_group) (index_of nat_eq mounts other)) e) in
+        (odds_apart (image_index parts mounts group origin)
+        (image_index parts mounts other_group other) e) in
         (one_index_of_groups parts group other_group m o at.0, one_index mounts origin other n p at.1);
     not_copies = λ group origin part other m n e.
-        evens_odds (numbered (length mounts) (index_of_group nat_eq parts group) (index_of nat_eq mounts origin))
-        (numbered (length mounts) (index_of nat_eq parts part) (index_of nat_eq mounts other)) e;
+        evens_odds (image_index parts mounts group origin)
+        (copy_index parts mounts part other) e;
   }
 
 pub supplies_serve_as_copies : SuppliesServeAsCopies
@@ -162,6 +171,9 @@ supplies_serve_as_images world fresh parts mounts serves = images_serve world fr
 
 abbrev pub same_number : Mount ℕ → Mount ℕ → Bool
 same_number a b = nat_eq a.number b.number
+
+abbrev pub same_origin : Twig ℕ → Twig ℕ → Bool
+same_origin a b = same_number a.origin b.origin
 
 -- what is made of each of several, where what is made of one is apart, and what is made of two
 pub pair-flat_map : (test : Mount ℕ → Mount ℕ → Bool) (f : Mount ℕ → List (Mount ℕ)) (xs : List (Mount ℕ)) → any_pair same_number xs ≡ false
@@ -217,8 +229,17 @@ module _ (world : World ℕ) (new : Copies ℕ) (place : Location ℕ) (moves : 
   abbrev tree : Graft ℕ
   tree = graft_of nat_eq world new place moves mounts
 
+  abbrev parts : List (Mount ℕ)
+  parts = parts_of nat_eq world place
+
+  abbrev twig : Mount ℕ → Twig ℕ
+  twig = twig_of new (group_of (mount_at nat_eq world place).propagation)
+
+  abbrev made : Mount ℕ → Twig ℕ → Mount ℕ
+  made = copy_at nat_eq world new tree parts
+
   abbrev copies : Mount ℕ → List (Mount ℕ)
-  copies = copies_at nat_eq world new tree (parts_of nat_eq world place)
+  copies = copies_at nat_eq world new tree parts
 
   -- the part gets copies, and not what moves
   abbrev IsCopied : Mount ℕ → Type 0
@@ -227,52 +248,52 @@ module _ (world : World ℕ) (new : Copies ℕ) (place : Location ℕ) (moves : 
   copied_from : (part : Mount ℕ) → IsCopied part → (copy : Mount ℕ) → Among copy (copies part)
       → (origin : Mount ℕ) × Among origin mounts × (copy.number ≡ new.copy part.number origin.number)
   copied_from part copied copy m =
-      let from = among-from_map (copy_at nat_eq world new tree (parts_of nat_eq world place) part) tree.twigs copy m in
-      let twig = among-from_map (twig_of new (group_of (mount_at nat_eq world place).propagation)) mounts from.0 from.1 in (
-        twig.0,
-        twig.1,
+      let from = among-from_map (made part) tree.twigs copy m in
+      let origin = among-from_map twig mounts from.0 from.1 in (
+        origin.0,
+        origin.1,
         ap (λ c. c.number) from.2
             ∙ ap (λ b. if b then from.0.origin.number else new.copy part.number from.0.origin.number) copied
-            ∙ ap (λ (t : Twig ℕ). new.copy part.number t.origin.number) twig.2,
+            ∙ ap (λ (t : Twig ℕ). new.copy part.number t.origin.number) origin.2,
       )
 
   -- copies of two mounts, or at two parts, have two numbers
-  two_copies : (x y a b : Mount ℕ) → Among x (parts_of nat_eq world place) → Among y (parts_of nat_eq world place) → IsCopied x → IsCopied y
+  two_copies : (x y a b : Mount ℕ) → Among x parts → Among y parts → IsCopied x → IsCopied y
       → same_number x y ≡ false → Among a (copies x) → Among b (copies y) → same_number a b ≡ false
   two_copies x y a b m n c d differ k l =
       let s = copied_from x c a k in
       let t = copied_from y d b l in
       false_from_ne_true (nat_eq a.number b.number) (λ same.
       let at : (x.number ≡ y.number) × (s.0.number ≡ t.0.number) =
-      serve.apart x.number s.0.number y.number t.0.number (is_one_of (parts_of nat_eq world place) x m) (is_one_of mounts s.0 s.1)
-      (is_one_of (parts_of nat_eq world place) y n) (is_one_of mounts t.0 t.1) (sym s.2 ∙ eqb-true a.number b.number same ∙ t.2) in
+      serve.apart x.number s.0.number y.number t.0.number (is_one_of parts x m) (is_one_of mounts s.0 s.1)
+      (is_one_of parts y n) (is_one_of mounts t.0 t.1) (sym s.2 ∙ eqb-true a.number b.number same ∙ t.2) in
       true≢false (sym (eq-eqb x.number y.number at.0) ∙ differ))
 
-  copies_apart : (part : Mount ℕ) → Among part (parts_of nat_eq world place) → IsCopied part → any_pair same_number (copies part) ≡ false
+  copies_apart : (part : Mount ℕ) → Among part parts → IsCopied part → any_pair same_number (copies part) ≡ false
   copies_apart part m copied =
-      pair-map (λ (a b : Twig ℕ). nat_eq a.origin.number b.origin.number) same_number (copy_at nat_eq world new tree (parts_of nat_eq world place) part) tree.twigs
-      (λ a b k l differ. false_from_ne_true (same_number (copy_at nat_eq world new tree (parts_of nat_eq world place) part a) (copy_at nat_eq world new tree (parts_of nat_eq world place) part b)) (λ same.
-      let number : (t : Twig ℕ) → (copy_at nat_eq world new tree (parts_of nat_eq world place) part t).number ≡ new.copy part.number t.origin.number =
+      pair-map same_origin same_number (made part) tree.twigs
+      (λ a b k l differ. false_from_ne_true (same_number (made part a) (made part b)) (λ same.
+      let number : (t : Twig ℕ) → (made part t).number ≡ new.copy part.number t.origin.number =
       λ t. ap (λ b. if b then t.origin.number else new.copy part.number t.origin.number) copied in
-      let from_a = among-from_map (twig_of new (group_of (mount_at nat_eq world place).propagation)) mounts a k in
-      let from_b = among-from_map (twig_of new (group_of (mount_at nat_eq world place).propagation)) mounts b l in
-      let origin : (t : Twig ℕ) (x : Mount ℕ) → t ≡ twig_of new (group_of (mount_at nat_eq world place).propagation) x → Among x mounts → IsOneOf mounts t.origin.number =
+      let from_a = among-from_map twig mounts a k in
+      let from_b = among-from_map twig mounts b l in
+      let origin : (t : Twig ℕ) (x : Mount ℕ) → t ≡ twig x → Among x mounts → IsOneOf mounts t.origin.number =
       λ t x e n. subst (λ u. IsOneOf mounts u.origin.number) (sym e) (is_one_of mounts x n) in
-      let part_one = is_one_of (parts_of nat_eq world place) part m in
+      let part_one = is_one_of parts part m in
       let at : (part.number ≡ part.number) × (a.origin.number ≡ b.origin.number) =
       serve.apart part.number a.origin.number part.number b.origin.number part_one (origin a from_a.0 from_a.2 from_a.1) part_one (origin b from_b.0 from_b.2 from_b.1)
       (sym (number a) ∙ eqb-true _ _ same ∙ number b) in
       true≢false (sym (eq-eqb a.origin.number b.origin.number at.1) ∙ differ)))
-      (pair-map same_number (λ (a b : Twig ℕ). nat_eq a.origin.number b.origin.number) (twig_of new (group_of (mount_at nat_eq world place).propagation)) mounts (λ a b k l differ. differ) own)
+      (pair-map same_number same_origin twig mounts (λ a b k l differ. differ) own)
 
-  all_apart : (list : List (Mount ℕ)) → any_pair same_number list ≡ false → ((part : Mount ℕ) → Among part list → Among part (parts_of nat_eq world place) × IsCopied part)
+  all_apart : (list : List (Mount ℕ)) → any_pair same_number list ≡ false → ((part : Mount ℕ) → Among part list → Among part parts × IsCopied part)
       → any_pair same_number (flat_map copies list) ≡ false
   all_apart list apart_too each =
       pair-flat_map same_number copies list apart_too (λ part m. let e = each part m in copies_apart part e.0 e.1)
       (λ x y a b m n differ k l. let e = each x m in let f = each y n in two_copies x y a b e.0 f.0 e.1 f.1 differ k l)
 
   -- no copy has the number of a mount that was there
-  copies_new : (list : List (Mount ℕ)) → ((part : Mount ℕ) → Among part list → Among part (parts_of nat_eq world place) × IsCopied part)
+  copies_new : (list : List (Mount ℕ)) → ((part : Mount ℕ) → Among part list → Among part parts × IsCopied part)
       → (old copy : Mount ℕ) → Among old world.mounts → Among copy (flat_map copies list) → same_number old copy ≡ false
   copies_new list each old copy m n =
       let from = among-from_flat_map copies list copy n in
@@ -282,10 +303,10 @@ module _ (world : World ℕ) (new : Copies ℕ) (place : Location ℕ) (moves : 
       true≢false
       (sym (is_among_numbers (numbers_in_use world) (new.copy from.0.number t.0.number)
       (subst (λ number. Among number (numbers_in_use world)) (sym (sym t.2 ∙ eqb-true copy.number old.number same)) (number_in_use world old m)))
-      ∙ serve.unused from.0.number t.0.number (is_one_of (parts_of nat_eq world place) from.0 e.0) (is_one_of mounts t.0 t.1))))
+      ∙ serve.unused from.0.number t.0.number (is_one_of parts from.0 e.0) (is_one_of mounts t.0 t.1))))
 
   finish : (list : List (Mount ℕ)) → any_pair same_number list ≡ false
-      → ((part : Mount ℕ) → Among part list → Among part (parts_of nat_eq world place) × IsCopied part)
+      → ((part : Mount ℕ) → Among part list → Among part parts × IsCopied part)
       → others world new place moves mounts ≡ flat_map copies list
       → OneNumberAMount (attached_by nat_eq world new place moves mounts).mounts
   finish list apart_too each is =
@@ -326,8 +347,8 @@ unshare_keeps_numbers world fresh task serves one =
     λ mount m.
     let t = place_found (λ (other : Mount ℕ). nat_eq mount.number other.number) 0 copied mount m (eq-eqb mount.number mount.number refl) in
     (t.0, ap (λ found. odds fresh (unwrap_or found 0)) t.2 ∙ ap (λ n. fresh (2 * n + 1)) (omega arith), t.1, t.3, eqb-true mount.number t.1.number t.4) in
-    pair-append (λ (a b : Mount ℕ). nat_eq a.number b.number) world.mounts (map copy copied) one
-    (pair-map (λ (a b : Mount ℕ). nat_eq a.number b.number) (λ (a b : Mount ℕ). nat_eq a.number b.number) copy copied
+    pair-append same_number world.mounts (map copy copied) one
+    (pair-map same_number same_number copy copied
     (λ a b m n differ. false_from_ne_true (nat_eq (copy a).number (copy b).number) (λ together.
     let s = numbered_copy a m in
     let t = numbered_copy b n in
@@ -336,7 +357,7 @@ unshare_keeps_numbers world fresh task serves one =
     let index : s.0 ≡ t.0 = omega (arith, odd) in
     let same : s.2 ≡ t.2 = same_Some s.2 t.2 (sym s.3 ∙ ap (slice_get copied) index ∙ t.3) in
     true≢false (sym (eq-eqb a.number b.number (s.4 ∙ ap (λ x. x.number) same ∙ sym t.4)) ∙ differ)))
-    (pair-filter (λ (a b : Mount ℕ). nat_eq a.number b.number) (λ x. holds_of (nat_eq task.namespace) x.namespace) world.mounts one))
+    (pair-filter same_number (λ x. holds_of (nat_eq task.namespace) x.namespace) world.mounts one))
     (λ a b m n.
     let from = among-from_map copy copied b n in
     let t = numbered_copy from.0 from.1 in

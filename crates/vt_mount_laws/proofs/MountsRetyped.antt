@@ -40,6 +40,10 @@ module _ (world : World ℕ) (group : ℕ → ℕ) (word : TypeWord) (named : Li
   abbrev pub retype : Mount ℕ → Mount ℕ
   retype = retyped_mount nat_eq group word named
 
+  abbrev pub retyped_if : Mount ℕ → Bool → Mount ℕ
+  retyped_if mount chosen =
+      if chosen then (record mount { propagation = type_after (group mount.number) word mount.propagation }) else mount
+
   -- before groups inherit
   abbrev pub between : World ℕ
   between = record world { mounts = map retype world.mounts; master = with_new_groups nat_eq group world.master named }
@@ -53,7 +57,7 @@ module _ (world : World ℕ) (group : ℕ → ℕ) (word : TypeWord) (named : Li
   pub retype_keeps : (mount : Mount ℕ) → KeepsAllButType mount (retype mount)
   retype_keeps mount = by (is_named mount)
     where
-      by : (b : Bool) → KeepsAllButType mount (if b then (record mount { propagation = type_after (group mount.number) word mount.propagation }) else mount)
+      by : (b : Bool) → KeepsAllButType mount (retyped_if mount b)
       by true = record { number = refl; namespace = refl; place = refl; filesystem = refl; root = refl; flags = refl }
       by false = all_but_type_itself mount
 
@@ -113,7 +117,7 @@ module _ (world : World ℕ) (group : ℕ → ℕ) (word : TypeWord) (named : Li
       by true there =
           let one = mount_numbered nat_eq world number in
           ap (λ m. m.propagation) (retyped_found number there)
-          ∙ ap (λ b. inherited nat_eq between (if b then (record one { propagation = type_after (group one.number) word one.propagation }) else one).propagation)
+          ∙ ap (λ b. inherited nat_eq between (retyped_if one b).propagation)
           (named_by_number number ∙ unnamed)
           ∙ kept_where_master one.propagation has
       by false missing = ap (λ m. m.propagation) (retyped_missing number missing)
@@ -124,7 +128,7 @@ module _ (world : World ℕ) (group : ℕ → ℕ) (word : TypeWord) (named : Li
   type_of_named number there chosen =
       let one = mount_numbered nat_eq world number in
       ap (λ m. m.propagation) (retyped_found number there)
-      ∙ ap (λ b. inherited nat_eq between (if b then (record one { propagation = type_after (group one.number) word one.propagation }) else one).propagation)
+      ∙ ap (λ b. inherited nat_eq between (retyped_if one b).propagation)
       (named_by_number number ∙ chosen)
       ∙ ap (λ n. inherited nat_eq between (type_after (group n) word one.propagation)) (number_found world.mounts number)
 

@@ -46,6 +46,13 @@ module _ (world : World ℕ) where
   abbrev below : Mount ℕ → Option (Mount ℕ)
   below mount = option_map (mount_at nat_eq world) mount.place
 
+  abbrev mount_of : ℕ → Mount ℕ
+  mount_of = mount_numbered nat_eq world
+
+  -- the last of so many mounts below a mount
+  abbrev last_in : ℕ → Mount ℕ → Mount ℕ
+  last_in n mount = last_or mount (chain n below mount)
+
   -- how many places there are below a mount, and the mounts that have one
   depth : (number : ℕ) → Stand number → ℕ
   depth number (at_root it e) = 0
@@ -64,12 +71,12 @@ module _ (world : World ℕ) where
   unfolding depth
   same_depth a (at_root it e) b (at_root other f) same = refl
   same_depth a (at_root it e) b (on_parent other place f g y) same =
-      absurd (true≢false (sym (ap is_some f) ∙ sym (ap (λ n. is_some (mount_numbered nat_eq world n).place) same) ∙ ap is_some e))
+      absurd (true≢false (sym (ap is_some f) ∙ sym (ap (λ n. is_some (mount_of n).place) same) ∙ ap is_some e))
   same_depth a (on_parent it place e f x) b (at_root other g) same =
-      absurd (true≢false (sym (ap is_some e) ∙ ap (λ n. is_some (mount_numbered nat_eq world n).place) same ∙ ap is_some g))
+      absurd (true≢false (sym (ap is_some e) ∙ ap (λ n. is_some (mount_of n).place) same ∙ ap is_some g))
   same_depth a (on_parent it place e f x) b (on_parent other at g h y) same =
       ap suc (same_depth place.mount x at.mount y
-      (ap (λ (p : Location ℕ). p.mount) (same_Some place at (sym e ∙ ap (λ n. (mount_numbered nat_eq world n).place) same ∙ g))))
+      (ap (λ (p : Location ℕ). p.mount) (same_Some place at (sym e ∙ ap (λ n. (mount_of n).place) same ∙ g))))
 
   -- what is on the way stands no deeper
   on_way : (number : ℕ) (stands : Stand number) (other : ℕ) → Among other (way number stands) → (x : Stand other) × (depth other x ≤ depth number stands)
@@ -98,7 +105,7 @@ module _ (world : World ℕ) where
   way_there number (on_parent it place e f stands) other m =
       ⊎_elim
       (λ same. subst (λ k. Among k (numbers_of world.mounts)) (number_found world.mounts it ∙ sym same)
-      (among-map (λ (mount : Mount ℕ). mount.number) world.mounts (mount_numbered nat_eq world it) (placed_among world.mounts it place e)))
+      (among-map (λ (mount : Mount ℕ). mount.number) world.mounts (mount_of it) (placed_among world.mounts it place e)))
       (way_there place.mount stands other)
       m
 
@@ -115,19 +122,19 @@ module _ (world : World ℕ) where
 
   -- where the places below a mount end, in its namespace
   last_stands : (n number : ℕ) (stands : Stand number) → depth number stands ≤ n
-      → ((last_or (mount_numbered nat_eq world number) (chain n below (mount_numbered nat_eq world number))).place ≡ None)
-      × ((mount_numbered nat_eq world number).namespace ≡ (last_or (mount_numbered nat_eq world number) (chain n below (mount_numbered nat_eq world number))).namespace)
+      → ((last_in n (mount_of number)).place ≡ None)
+      × ((mount_of number).namespace ≡ (last_in n (mount_of number)).namespace)
   unfolding depth
   last_stands zero number (at_root it e) l = (e, refl)
   last_stands zero number (on_parent it place e f stands) l = absurd (omega (arith, l))
   last_stands (suc n) number (at_root it e) l =
-      let end : last_or (mount_numbered nat_eq world it) (chain (suc n) below (mount_numbered nat_eq world it)) ≡ mount_numbered nat_eq world it =
-      ap (last_or (mount_numbered nat_eq world it)) (chain_ends below n (mount_numbered nat_eq world it) (ap (option_map (mount_at nat_eq world)) e)) in
+      let end : last_in (suc n) (mount_of it) ≡ mount_of it =
+      ap (last_or (mount_of it)) (chain_ends below n (mount_of it) (ap (option_map (mount_at nat_eq world)) e)) in
       (ap (λ m. m.place) end ∙ e, ap (λ m. m.namespace) (sym end))
   last_stands (suc n) number (on_parent it place e f stands) l =
-      let one = mount_numbered nat_eq world it in
-      let parent = mount_numbered nat_eq world place.mount in
-      let end : last_or one (chain (suc n) below one) ≡ last_or parent (chain n below parent) =
+      let one = mount_of it in
+      let parent = mount_of place.mount in
+      let end : last_in (suc n) one ≡ last_in n parent =
       ap (last_or one) (chain_goes_on below n one parent (ap (option_map (mount_at nat_eq world)) e)) ∙ last_of_chain below n parent one in
       let later = last_stands n place.mount stands (omega (arith, l)) in
       (ap (λ m. m.place) end ∙ later.0, f ∙ later.1 ∙ ap (λ m. m.namespace) (sym end))
@@ -140,19 +147,19 @@ module _ (world : World ℕ) where
 
   test_of_standing : OneNumberEach world → AllStand world → PlacesEnd world
   test_of_standing one all = list_all_from_among (stands_in_its_namespace nat_eq world) world.mounts (λ mount m.
-      let itself : mount_numbered nat_eq world mount.number ≡ mount = found_itself world.mounts one mount m in
+      let itself : mount_of mount.number ≡ mount = found_itself world.mounts one mount m in
       let stands : Stand mount.number = among_from_all (λ (other : Mount ℕ). Stand other.number) world.mounts all mount m in
       let last = last_stands (length world.mounts) mount.number stands (not_deep mount.number stands) in
       subst (λ x. stands_in_its_namespace nat_eq world x ≡ true) itself
       (and_from _ _ (ap (λ p. not (is_some p)) last.0)
-      (same_as_test (mount_numbered nat_eq world mount.number).namespace (last_below nat_eq world (mount_numbered nat_eq world mount.number)).namespace last.1)))
+      (same_as_test (mount_of mount.number).namespace (last_below nat_eq world (mount_of mount.number)).namespace last.1)))
 
   -- the other way round
-  namespace_below : OneNumberEach world → PlacesEnd world → (number : ℕ) (place : Location ℕ) → (mount_numbered nat_eq world number).place ≡ Some place
-      → (mount_numbered nat_eq world number).namespace ≡ (mount_numbered nat_eq world place.mount).namespace
+  namespace_below : OneNumberEach world → PlacesEnd world → (number : ℕ) (place : Location ℕ) → (mount_of number).place ≡ Some place
+      → (mount_of number).namespace ≡ (mount_of place.mount).namespace
   namespace_below one ends number place e =
       ⊎_elim
-      (λ there. same_namespace world ends (mount_numbered nat_eq world number) place (placed_among world.mounts number place e) e there)
+      (λ there. same_namespace world ends (mount_of number) place (placed_among world.mounts number place e) e there)
       (λ none. missing none)
       (found_or_none world.mounts place.mount)
     where
@@ -160,48 +167,48 @@ module _ (world : World ℕ) where
       mounts_there [] x m = absurd m
       mounts_there (y ∷ ys) x m = (length ys, refl)
 
-      alone : (k : ℕ) (x : Mount ℕ) → below x ≡ None → last_or x (chain k below x) ≡ x
+      alone : (k : ℕ) (x : Mount ℕ) → below x ≡ None → last_in k x ≡ x
       alone zero x f = refl
       alone (suc k) x f = ap (last_or x) (chain_ends below k x f)
 
-      missing : mount_numbered nat_eq world place.mount ≡ no_mount place.mount
-          → (mount_numbered nat_eq world number).namespace ≡ (mount_numbered nat_eq world place.mount).namespace
+      missing : mount_of place.mount ≡ no_mount place.mount
+          → (mount_of number).namespace ≡ (mount_of place.mount).namespace
       missing none =
-          let x = mount_numbered nat_eq world number in
-          let parent = mount_numbered nat_eq world place.mount in
+          let x = mount_of number in
+          let parent = mount_of place.mount in
           let long = mounts_there world.mounts x (placed_among world.mounts number place e) in
           let both : (not (is_some (last_below nat_eq world x).place) ≡ true) × (same_option nat_eq x.namespace (last_below nat_eq world x).namespace ≡ true) =
           and_parts _ _ (among_from_list_all (stands_in_its_namespace nat_eq world) world.mounts ends x (placed_among world.mounts number place e)) in
           let end : last_below nat_eq world x ≡ parent =
-          ap (λ k. last_or x (chain k below x)) long.1
+          ap (λ k. last_in k x) long.1
           ∙ ap (last_or x) (chain_goes_on below long.0 x parent (ap (option_map (mount_at nat_eq world)) e))
           ∙ last_of_chain below long.0 parent x
           ∙ alone long.0 parent (ap (λ m. option_map (mount_at nat_eq world) m.place) none) in
           one_namespace x.namespace (last_below nat_eq world x).namespace both.1 ∙ ap (λ m. m.namespace) end
 
   stands_by_test : OneNumberEach world → PlacesEnd world → (n number : ℕ)
-      → is_some (last_or (mount_numbered nat_eq world number) (chain n below (mount_numbered nat_eq world number))).place ≡ false → Stand number
-  stands_by_test one ends zero number h = at_root number (no_place (mount_numbered nat_eq world number).place h)
+      → is_some (last_in n (mount_of number)).place ≡ false → Stand number
+  stands_by_test one ends zero number h = at_root number (no_place (mount_of number).place h)
     where
       no_place : (place : Option (Location ℕ)) → is_some place ≡ false → place ≡ None
       no_place None e = refl
       no_place (Some place) e = absurd (true≢false e)
-  stands_by_test one ends (suc n) number h = by (mount_numbered nat_eq world number).place refl (stands_by_test one ends n)
+  stands_by_test one ends (suc n) number h = by (mount_of number).place refl (stands_by_test one ends n)
     where
-      by : (place : Option (Location ℕ)) → (mount_numbered nat_eq world number).place ≡ place
-          → ((other : ℕ) → is_some (last_or (mount_numbered nat_eq world other) (chain n below (mount_numbered nat_eq world other))).place ≡ false → Stand other)
+      by : (place : Option (Location ℕ)) → (mount_of number).place ≡ place
+          → ((other : ℕ) → is_some (last_in n (mount_of other)).place ≡ false → Stand other)
           → Stand number
       by None e later = at_root number e
       by (Some place) e later =
-          let x = mount_numbered nat_eq world number in
-          let parent = mount_numbered nat_eq world place.mount in
+          let x = mount_of number in
+          let parent = mount_of place.mount in
           on_parent number place e (namespace_below one ends number place e)
           (later place.mount
           (sym (ap (λ m. is_some m.place) (ap (last_or x) (chain_goes_on below n x parent (ap (option_map (mount_at nat_eq world)) e)) ∙ last_of_chain below n parent x)) ∙ h))
 
   standing_by_test : OneNumberEach world → PlacesEnd world → AllStand world
   standing_by_test one ends = all_from_among (λ (mount : Mount ℕ). Stand mount.number) world.mounts (λ mount m.
-      let itself : mount_numbered nat_eq world mount.number ≡ mount = found_itself world.mounts one mount m in
+      let itself : mount_of mount.number ≡ mount = found_itself world.mounts one mount m in
       stands_by_test one ends (length world.mounts) mount.number
       (subst (λ x. is_some (last_below nat_eq world x).place ≡ false) (sym itself)
       (not-true _ (and_parts _ _ (among_from_list_all (stands_in_its_namespace nat_eq world) world.mounts ends mount m)).0)))
