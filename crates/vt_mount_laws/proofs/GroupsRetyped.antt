@@ -26,8 +26,8 @@ use Rattle.vt_mount_laws.proofs.MountsReplaced.{tree_among}
 use Rattle.std.proofs.lemmas.Option.{same_Some}
 
 -- what a type that is taken has as its source
-source_taken : (new : ℕ) (word : TypeWord) (kind : Propagation ℕ) (source : ℕ) → source_of (type_after new word kind) ≡ Some source
-    → (source ≡ new) ⊎ (source_of kind ≡ Some source)
+source_taken : (new : ℕ) (word : TypeWord) (kind : Propagation ℕ) (source : ℕ)
+    → source_of (type_after new word kind) ≡ Some source → (source ≡ new) ⊎ (source_of kind ≡ Some source)
 source_taken new ToShared (Shared group) source e = inr e
 source_taken new ToShared (Slave above) source e = inl (sym (same_Some new source e))
 source_taken new ToShared Private source e = inl (sym (same_Some new source e))
@@ -42,14 +42,17 @@ source_taken new ToUnbindable kind source e = absurd (true≢false (sym (ap is_s
 -- the master of a group after new groups were made: as it was, or that of the mount for which the group is new
 module _ (group : ℕ → ℕ) where
   IsNewMaster : List (Mount ℕ) → ℕ → Option ℕ → Type 0
-  IsNewMaster named one above = (mount : Mount ℕ) × Among mount named × (one ≡ group mount.number) × (above ≡ master_after mount.propagation)
+  IsNewMaster named one above =
+      (mount : Mount ℕ) × Among mount named × (one ≡ group mount.number) × (above ≡ master_after mount.propagation)
 
-  later_master : (first : Mount ℕ) (rest : List (Mount ℕ)) (one : ℕ) (above : Option ℕ) → IsNewMaster rest one above → IsNewMaster (first ∷ rest) one above
+  later_master : (first : Mount ℕ) (rest : List (Mount ℕ)) (one : ℕ) (above : Option ℕ) → IsNewMaster rest one above
+      → IsNewMaster (first ∷ rest) one above
   unfolding IsNewMaster
   later_master first rest one above t = (t.0, inr t.1, t.2, t.3)
 
   new_or_old : (master : ℕ → Option ℕ) (named : List (Mount ℕ)) (one : ℕ)
-      → (with_new_groups nat_eq group master named one ≡ master one) ⊎ IsNewMaster named one (with_new_groups nat_eq group master named one)
+      → (with_new_groups nat_eq group master named one ≡ master one)
+      ⊎ IsNewMaster named one (with_new_groups nat_eq group master named one)
   unfolding IsNewMaster
   new_or_old master [] one = inl refl
   new_or_old master (first ∷ rest) one =
@@ -57,7 +60,13 @@ module _ (group : ℕ → ℕ) where
       (λ kept.
       ⊎_elim
       (λ other. inl (kept ∙ ap (λ b. if b then master_after first.propagation else master one) other.0))
-      (λ same. inr (first, inl refl, same.1, kept ∙ ap (λ b. if b then master_after first.propagation else master one) same.0))
+      (λ same. inr (
+        first,
+        inl refl,
+        same.1,
+        kept
+            ∙ ap (λ b. if b then master_after first.propagation else master one) same.0,
+      ))
       (either one (group first.number)))
       (λ t. inr (t.0, inr t.1, t.2, t.3))
       (new_or_old (with_master nat_eq master (group first.number) (master_after first.propagation)) rest one)
@@ -81,14 +90,18 @@ module _ (group : ℕ → ℕ) where
         kept ∙ ap (λ b. if b then master_after first.propagation else master (group mount.number))
             (eq-eqb (group mount.number) (group first.number) (ap (λ (x : Mount ℕ). group x.number) e)),
       ))
-      (λ l. let t = new_for_one (with_master nat_eq master (group first.number) (master_after first.propagation)) rest mount l in (t.0, inr t.1, t.2, t.3))
+      (λ l. let t =
+      new_for_one (with_master nat_eq master (group first.number) (master_after first.propagation)) rest mount l in
+      (t.0, inr t.1, t.2, t.3))
       m)
       (λ t. (t.0, inr t.1, t.2, t.3))
-      (new_or_old (with_master nat_eq master (group first.number) (master_after first.propagation)) rest (group mount.number))
+      (new_or_old (with_master nat_eq master (group first.number) (master_after first.propagation)) rest
+      (group mount.number))
 
 module _ (world : World ℕ) (group : ℕ → ℕ) (word : TypeWord) (named : List (Mount ℕ)) (live : GroupsLive world)
     (none : (number : ℕ) → has_members nat_eq world.mounts (group number) ≡ false)
-    (sourced : (mount : Mount ℕ) → Among mount named → (source : ℕ) → source_of mount.propagation ≡ Some source → Among mount world.mounts) where
+    (sourced : (mount : Mount ℕ) → Among mount named → (source : ℕ) → source_of mount.propagation ≡ Some source
+    → Among mount world.mounts) where
   abbrev after_all : ℕ → Option ℕ
   after_all = with_new_groups nat_eq group world.master named
 
@@ -124,7 +137,8 @@ module _ (world : World ℕ) (group : ℕ → ℕ) (word : TypeWord) (named : Li
       by from.0 from.1 (list_any (λ (other : Mount ℕ). nat_eq from.0.number other.number) named) refl source
       (sym (ap (λ x. source_of x.propagation) from.2) ∙ e))
     where
-      by : (old : Mount ℕ) → Among old world.mounts → (b : Bool) → list_any (λ (other : Mount ℕ). nat_eq old.number other.number) named ≡ b
+      by : (old : Mount ℕ) → Among old world.mounts → (b : Bool)
+          → list_any (λ (other : Mount ℕ). nat_eq old.number other.number) named ≡ b
           → (source : ℕ) → source_of (retype world group word named old).propagation ≡ Some source
           → EndsUp after_all source
       by old m true e source f =
@@ -145,14 +159,18 @@ unused_members : (world : World ℕ) (number : ℕ) → is_among nat_eq number (
 unused_members world number h = false_from_ne_true (has_members nat_eq world.mounts number) (λ has.
     let member = any_among (is_member_of nat_eq number) world.mounts has in
     let shared = member_shared number member.0 member.2 in
-    let used : Among number (used_by_mount member.0) = inr (subst (λ k. Among number (option_to_list (source_of k))) (sym shared) (inl refl)) in
+    let used : Among number (used_by_mount member.0) =
+    inr (subst (λ k. Among number (option_to_list (source_of k))) (sym shared) (inl refl)) in
     let among : Among number (numbers_in_use world) =
-    among-append_left (flat_map used_by_mount world.mounts ++ flat_map used_by_filesystem world.filesystems) (map (λ (namespace : Namespace ℕ). namespace.number) world.namespaces) number
-    (among-append_left (flat_map used_by_mount world.mounts) (flat_map used_by_filesystem world.filesystems) number (among-flat_map used_by_mount world.mounts member.0 number member.1 used)) in
+    among-append_left (flat_map used_by_mount world.mounts ++ flat_map used_by_filesystem world.filesystems)
+    (map (λ (namespace : Namespace ℕ). namespace.number) world.namespaces) number
+    (among-append_left (flat_map used_by_mount world.mounts) (flat_map used_by_filesystem world.filesystems) number
+    (among-flat_map used_by_mount world.mounts member.0 number member.1 used)) in
     true≢false (sym (is_among_numbers (numbers_in_use world) number among) ∙ h))
 
 -- a named mount with a source is one of the world's
-named_sourced : (world : World ℕ) (number : ℕ) (recursive : Bool) (mount : Mount ℕ) → Among mount (named_mounts nat_eq world number recursive)
+named_sourced : (world : World ℕ) (number : ℕ) (recursive : Bool) (mount : Mount ℕ)
+    → Among mount (named_mounts nat_eq world number recursive)
     → (source : ℕ) → source_of mount.propagation ≡ Some source → Among mount world.mounts
 named_sourced world number recursive mount m source e = by recursive m
   where
@@ -163,11 +181,14 @@ named_sourced world number recursive mount m source e = by recursive m
         (found_or_none world.mounts number)
 
     by : (b : Bool) → Among mount (named_mounts nat_eq world number b) → Among mount world.mounts
-    by true l = ⊎_elim itself (λ there. there) (tree_among (length world.mounts) world.mounts (mount_numbered nat_eq world number) mount l)
+    by true l =
+        ⊎_elim itself (λ there. there)
+        (tree_among (length world.mounts) world.mounts (mount_numbered nat_eq world number) mount l)
     by false l = ⊎_elim itself (λ none. absurd none) l
 
 pub type_keeps_groups : TypeKeepsGroups
 type_keeps_groups world fresh number word recursive serves live =
     all_live world (groups_by world fresh number recursive) word (named_mounts nat_eq world number recursive) live
-    (λ other. unused_members world (groups_by world fresh number recursive other) (serves.unused (index_of nat_eq (named_mounts nat_eq world number recursive) other)))
+    (λ other. unused_members world (groups_by world fresh number recursive other)
+    (serves.unused (index_of nat_eq (named_mounts nat_eq world number recursive) other)))
     (named_sourced world number recursive)

@@ -26,7 +26,8 @@ found_or_none (first ∷ rest) number = by (nat_eq number first.number) refl (fo
   where
     by : (b : Bool) → nat_eq number first.number ≡ b
         → Among (mount_in nat_eq rest number) rest ⊎ (mount_in nat_eq rest number ≡ no_mount number)
-        → Among (mount_in nat_eq (first ∷ rest) number) (first ∷ rest) ⊎ (mount_in nat_eq (first ∷ rest) number ≡ no_mount number)
+        → Among (mount_in nat_eq (first ∷ rest) number) (first ∷ rest)
+        ⊎ (mount_in nat_eq (first ∷ rest) number ≡ no_mount number)
     by true e later = inl (inl (first_or_later first rest number true e))
     by false e later =
         let later_one = first_or_later first rest number false e in
@@ -92,46 +93,57 @@ number_found (first ∷ rest) number = by (nat_eq number first.number) refl (num
     by : (b : Bool) → nat_eq number first.number ≡ b → (mount_in nat_eq rest number).number ≡ number
         → (mount_in nat_eq (first ∷ rest) number).number ≡ number
     by true e later =
-        ap (λ b. (unwrap_or (cond b (Some first) (find (has_number number) rest)) (no_mount number)).number) e ∙ sym (eqb-true number first.number e)
-    by false e later = ap (λ b. (unwrap_or (cond b (Some first) (find (has_number number) rest)) (no_mount number)).number) e ∙ later
+        ap (λ b. (unwrap_or (cond b (Some first) (find (has_number number) rest)) (no_mount number)).number) e
+        ∙ sym (eqb-true number first.number e)
+    by false e later =
+        ap (λ b. (unwrap_or (cond b (Some first) (find (has_number number) rest)) (no_mount number)).number) e ∙ later
 
 -- a change of each mount that keeps the numbers is found under them
-pub found-map : (f : Mount ℕ → Mount ℕ) → ((mount : Mount ℕ) → (f mount).number ≡ mount.number) → (mounts : List (Mount ℕ)) (number : ℕ)
-    → f (no_mount number) ≡ no_mount number
+pub found-map : (f : Mount ℕ → Mount ℕ) → ((mount : Mount ℕ) → (f mount).number ≡ mount.number)
+    → (mounts : List (Mount ℕ)) (number : ℕ) → f (no_mount number) ≡ no_mount number
     → mount_in nat_eq (map f mounts) number ≡ f (mount_in nat_eq mounts number)
 found-map f numbers [] number none = sym none
-found-map f numbers (first ∷ rest) number none = by (nat_eq number first.number) refl (found-map f numbers rest number none)
+found-map f numbers (first ∷ rest) number none =
+    by (nat_eq number first.number) refl (found-map f numbers rest number none)
   where
-    by : (b : Bool) → nat_eq number first.number ≡ b → mount_in nat_eq (map f rest) number ≡ f (mount_in nat_eq rest number)
+    by : (b : Bool) → nat_eq number first.number ≡ b
+        → mount_in nat_eq (map f rest) number ≡ f (mount_in nat_eq rest number)
         → mount_in nat_eq (map f (first ∷ rest)) number ≡ f (mount_in nat_eq (first ∷ rest) number)
     by true e later =
-        ap (λ b. unwrap_or (cond b (Some (f first)) (find (has_number number) (map f rest))) (no_mount number)) (ap (nat_eq number) (numbers first) ∙ e)
+        ap (λ b. unwrap_or (cond b (Some (f first)) (find (has_number number) (map f rest))) (no_mount number))
+        (ap (nat_eq number) (numbers first) ∙ e)
         ∙ sym (ap (λ b. f (unwrap_or (cond b (Some first) (find (has_number number) rest)) (no_mount number))) e)
     by false e later =
-        ap (λ b. unwrap_or (cond b (Some (f first)) (find (has_number number) (map f rest))) (no_mount number)) (ap (nat_eq number) (numbers first) ∙ e)
+        ap (λ b. unwrap_or (cond b (Some (f first)) (find (has_number number) (map f rest))) (no_mount number))
+        (ap (nat_eq number) (numbers first) ∙ e)
         ∙ later
         ∙ sym (ap (λ b. f (unwrap_or (cond b (Some first) (find (has_number number) rest)) (no_mount number))) e)
 
 -- as that, of a mount that is there
-pub found-map_there : (f : Mount ℕ → Mount ℕ) → ((mount : Mount ℕ) → (f mount).number ≡ mount.number) → (mounts : List (Mount ℕ)) (number : ℕ)
-    → is_among nat_eq number (map (λ mount. mount.number) mounts) ≡ true
+pub found-map_there : (f : Mount ℕ → Mount ℕ) → ((mount : Mount ℕ) → (f mount).number ≡ mount.number)
+    → (mounts : List (Mount ℕ)) (number : ℕ) → is_among nat_eq number (map (λ mount. mount.number) mounts) ≡ true
     → mount_in nat_eq (map f mounts) number ≡ f (mount_in nat_eq mounts number)
 found-map_there f numbers [] number there = absurd (true≢false (sym there))
-found-map_there f numbers (first ∷ rest) number there = by (nat_eq number first.number) refl (found-map_there f numbers rest number)
+found-map_there f numbers (first ∷ rest) number there =
+    by (nat_eq number first.number) refl (found-map_there f numbers rest number)
   where
     by : (b : Bool) → nat_eq number first.number ≡ b
-        → (is_among nat_eq number (map (λ mount. mount.number) rest) ≡ true → mount_in nat_eq (map f rest) number ≡ f (mount_in nat_eq rest number))
+        → (is_among nat_eq number (map (λ mount. mount.number) rest) ≡ true
+        → mount_in nat_eq (map f rest) number ≡ f (mount_in nat_eq rest number))
         → mount_in nat_eq (map f (first ∷ rest)) number ≡ f (mount_in nat_eq (first ∷ rest) number)
     by true e later =
-        ap (λ b. unwrap_or (cond b (Some (f first)) (find (has_number number) (map f rest))) (no_mount number)) (ap (nat_eq number) (numbers first) ∙ e)
+        ap (λ b. unwrap_or (cond b (Some (f first)) (find (has_number number) (map f rest))) (no_mount number))
+        (ap (nat_eq number) (numbers first) ∙ e)
         ∙ sym (ap (λ b. f (unwrap_or (cond b (Some first) (find (has_number number) rest)) (no_mount number))) e)
     by false e later =
-        ap (λ b. unwrap_or (cond b (Some (f first)) (find (has_number number) (map f rest))) (no_mount number)) (ap (nat_eq number) (numbers first) ∙ e)
+        ap (λ b. unwrap_or (cond b (Some (f first)) (find (has_number number) (map f rest))) (no_mount number))
+        (ap (nat_eq number) (numbers first) ∙ e)
         ∙ later (sym (ap (λ b. b || is_among nat_eq number (map (λ (mount : Mount ℕ). mount.number) rest)) e) ∙ there)
         ∙ sym (ap (λ b. f (unwrap_or (cond b (Some first) (find (has_number number) rest)) (no_mount number))) e)
 
-pub numbers-map : (f : Mount ℕ → Mount ℕ) → ((mount : Mount ℕ) → (f mount).number ≡ mount.number) → (mounts : List (Mount ℕ))
-    → map (λ mount. mount.number) (map f mounts) ≡ map (λ mount. mount.number) mounts
+pub numbers-map : (f : Mount ℕ → Mount ℕ) → ((mount : Mount ℕ) → (f mount).number ≡ mount.number)
+    → (mounts : List (Mount ℕ)) → map (λ mount. mount.number) (map f mounts) ≡ map (λ mount. mount.number) mounts
 numbers-map f numbers [] = refl
 numbers-map f numbers (first ∷ rest) =
-    ap (λ n. n ∷ map (λ mount. mount.number) (map f rest)) (numbers first) ∙ ap (λ ns. first.number ∷ ns) (numbers-map f numbers rest)
+    ap (λ n. n ∷ map (λ mount. mount.number) (map f rest)) (numbers first)
+    ∙ ap (λ ns. first.number ∷ ns) (numbers-map f numbers rest)
