@@ -232,7 +232,8 @@ module _ (world : World ℕ) (new : Copies ℕ) (place : Location ℕ) (mounts :
   stands_after : NowhereOrAttached world → (number : ℕ) → Stands nat_eq world number → is_mount world number ≡ true
       → Stands nat_eq after number
   stands_after nowhere number (at_root it e) is =
-      at_root it (ap (λ (x : Mount ℕ). x.place) (found_old it is)
+      at_root it
+      (ap (λ (x : Mount ℕ). x.place) (found_old it is)
       ∙ ap (λ (x : Mount ℕ). x.place)
       (none_pushes world new tree parts (mount_numbered nat_eq world it) (at_no_place (rest_of parts))) ∙ e)
     where

@@ -150,8 +150,10 @@ module _ (list : List (Mount ℕ)) where
         let up = cover_rank it child e in
         ⊎_elim
         (λ same. let level : depth_of number ≡ depth_of child.number = ap depth_of same in omega (arith, up, level))
-        (λ later. let further : depth_of child.number < depth_of number =
-        visited_deeper k (root_of child) last steps number later in omega (arith, up, further))
+        (λ later.
+        let further : depth_of child.number < depth_of number =
+        visited_deeper k (root_of child) last steps number later in
+        omega (arith, up, further))
         m
 
     visited_apart : (n : ℕ) (here end : Location ℕ) (steps : Covers list n here end)
@@ -268,13 +270,12 @@ module _ (world : World ℕ) (new : Copies ℕ) (place : Location ℕ) (mounts :
     at_part : nat_eq origin.number top.number ≡ true → (copy part origin).place ≡ Some (place_at part)
         → CopyPlace part origin
     on_copy : (on : Location ℕ) (parent : Mount ℕ) → nat_eq origin.number top.number ≡ false → origin.place ≡ Some on
-        → Among parent mounts
-        → parent.number ≡ on.mount → (copy part origin).place ≡ Some (place_upon part on) → CopyPlace part origin
+        → Among parent mounts → parent.number ≡ on.mount → (copy part origin).place ≡ Some (place_upon part on)
+        → CopyPlace part origin
 
   top_test : (origin : Mount ℕ) → is_top nat_eq tree origin.number ≡ nat_eq origin.number top.number
   top_test origin =
-      ap (λ (ms : List (Mount ℕ)).
-      holds_of (λ (t : Twig ℕ). nat_eq origin.number t.origin.number) (first_of_list (map twig ms))) is_tree
+      ap (λ (ms : List (Mount ℕ)). holds_of (same_origin (twig origin)) (first_of_list (map twig ms))) is_tree
 
   parent_of : (number : ℕ) → Hangs mounts number → (parent : Mount ℕ) × Among parent mounts × (parent.number ≡ number)
   parent_of number (from_top first rest e) = (first, subst (Among first) (sym e) (inl refl), refl)
@@ -422,8 +423,7 @@ module _ (world : World ℕ) (new : Copies ℕ) (place : Location ℕ) (mounts :
 
     all_copies_spread : any_pair test (flat_map copies parts) ≡ false
     all_copies_spread =
-        pair-flat_map test copies parts (parts_apart world place one) copies_spread (λ p q x y m n differ k l.
-        apart_at_two p q x y m n differ k l)
+        pair-flat_map test copies parts (parts_apart world place one) copies_spread apart_at_two
 
     -- What was there: it stays, or goes onto the copy at the receiver where it stood
     data PushCase (mount : Mount ℕ) : Type 0 where
@@ -551,15 +551,10 @@ module _ (world : World ℕ) (new : Copies ℕ) (place : Location ℕ) (mounts :
             ap (λ (z : Mount ℕ). z.place) (sym g) ∙ t.1 ∙ ap Some (sym (same_Some (place_at part) t.0 (sym f ∙ t.2))) in
             ⊎_elim
             (λ is_destination.
+            let number : part.number ≡ place.mount =
+            ap (λ (z : Mount ℕ). z.number) is_destination ∙ number_found world.mounts place.mount in
             let at_place : a.place ≡ Some place =
-            stands
-            ∙ (λ i.
-            Some (record {
-              mount =
-                  (ap (λ (z : Mount ℕ). z.number) is_destination ∙ number_found world.mounts place.mount) i;
-              node =
-                  place.node;
-            })) in
+            stands ∙ (λ i. Some (record { mount = number i; node = place.node })) in
             true≢false (sym (stands_at_its_place place a at_place)
             ∙ unfound (stands_at nat_eq place) world.mounts free a m))
             (λ receiver.

@@ -33,8 +33,9 @@ module _ (world : World ℕ) (whole : List (Mount ℕ)) where
       by None e = absurd (true≢false (sym on ∙ ap (holds_of (λ p. nat_eq number p.mount)) e))
       by (Some place) e =
           from_parent child place there e
-          (subst (Hangs whole) (eqb-true number place.mount
-          (sym (ap (holds_of (λ p. nat_eq number p.mount)) e) ∙ on)) hung)
+          (subst (Hangs whole)
+          (eqb-true number place.mount (sym (ap (holds_of (λ p. nat_eq number p.mount)) e) ∙ on))
+          hung)
 
   bindable : (number : ℕ) (child : Mount ℕ) → Among child (bindable_children nat_eq world.mounts number)
       → Among child (children nat_eq world.mounts number)
@@ -166,8 +167,10 @@ bindable_there world (suc fuel) mount x m =
     among-from_filter (λ (y : Mount ℕ). not (is_unbindable y.propagation))
     (children nat_eq world.mounts mount.number) from.0 from.1 in
     let there = (among-from_filter (stands_on nat_eq mount.number) world.mounts from.0 child.0).0 in
-    inr (⊎_elim (λ e. subst (λ y. Among y world.mounts) (sym e) there) (λ l.
-    l) (bindable_there world fuel from.0 x from.2)))
+    inr (⊎_elim
+    (λ e. subst (λ y. Among y world.mounts) (sym e) there)
+    (λ l. l)
+    (bindable_there world fuel from.0 x from.2)))
     m
 
 not_itself : (a b : Mount ℕ) → nat_eq a.number b.number ≡ false → a ≡ b → ⊥
@@ -191,8 +194,10 @@ bind_there world source true x m differ =
     (among-from_filter (λ (y : Mount ℕ). not (is_unbindable y.propagation))
     (children nat_eq world.mounts source.mount) from.0 child).0 in
     let there = (among-from_filter (stands_on nat_eq source.mount) world.mounts from.0 kept).0 in
-    ⊎_elim (λ e. subst (λ y. Among y world.mounts) (sym e) there) (λ l.
-    l) (bindable_there world (length world.mounts) from.0 x from.2))
+    ⊎_elim
+    (λ e. subst (λ y. Among y world.mounts) (sym e) there)
+    (λ l. l)
+    (bindable_there world (length world.mounts) from.0 x from.2))
     m
 
 pub binds_keep_places : BindsKeepPlaces

@@ -32,19 +32,19 @@ module _ (world : World ℕ) (new : Copies ℕ) (graft : Graft ℕ) (parts : Lis
       by (Some part) =
           record { number = refl; namespace = refl; filesystem = refl; root = refl; flags = refl; propagation = refl }
 
+  abbrev pub is_pushed_by : Mount ℕ → Mount ℕ → Bool
+  is_pushed_by mount receiver = stands_at nat_eq (record { mount = receiver.number; node = graft.place.node }) mount
+
   -- what stands at no receiver's place is left
   pub none_pushes : (mount : Mount ℕ)
-      → list_any (λ receiver. stands_at nat_eq (record { mount = receiver.number; node = graft.place.node }) mount)
-      (rest_of parts) ≡ false
+      → list_any (is_pushed_by mount) (rest_of parts) ≡ false
       → pushed_up nat_eq world new graft parts mount ≡ mount
   none_pushes mount h =
       ap (pushed_onto nat_eq world new graft parts mount)
-      (none_found (λ receiver. stands_at nat_eq (record { mount = receiver.number; node = graft.place.node }) mount)
-      (rest_of parts) h)
+      (none_found (is_pushed_by mount) (rest_of parts) h)
 
   stands_nowhere : (number : ℕ) (receivers : List (Mount ℕ))
-      → list_any (λ receiver. stands_at nat_eq (record { mount = receiver.number; node = graft.place.node })
-      (no_mount number)) receivers ≡ false
+      → list_any (is_pushed_by (no_mount number)) receivers ≡ false
   stands_nowhere number [] = refl
   stands_nowhere number (receiver ∷ receivers) = stands_nowhere number receivers
 
@@ -225,7 +225,8 @@ shows_back a b r =
 shown_by_all : (before mounts copies : List (Mount ℕ))
     → ((number : ℕ) → KeepsWhatItShows (mount_in nat_eq before number) (mount_in nat_eq mounts number))
     → ((copy : Mount ℕ) → Among copy copies → KeepsWhatItShows (mount_in nat_eq before copy.number) copy)
-    → (number : ℕ) → KeepsWhatItShows (mount_in nat_eq before number)
+    → (number : ℕ)
+    → KeepsWhatItShows (mount_in nat_eq before number)
     (mount_in nat_eq (folded (with_mount nat_eq) mounts copies) number)
 shown_by_all before mounts [] so each number = so number
 shown_by_all before mounts (copy ∷ copies) so each number =
@@ -244,8 +245,8 @@ moved_mounts_show world fresh source place number one there =
     let new = supplied world fresh place mounts in
     let moved : KeepsWhatItShows (mount_numbered nat_eq world number)
     (mount_in nat_eq (moved_ones world new place true mounts) number) =
-    shown_by_all world.mounts world.mounts (arriving world new place true mounts) (λ n.
-    shows_itself (mount_in nat_eq world.mounts n)) (λ copy m.
+    shown_by_all world.mounts world.mounts (arriving world new place true mounts)
+    (λ n. shows_itself (mount_in nat_eq world.mounts n)) (λ copy m.
     let from = arrives world new place mounts copy m in
     subst (λ origin. KeepsWhatItShows origin copy)
     (sym (itself from.0 (tree_among (length world.mounts) world.mounts (mount_at nat_eq world source) from.0 from.1))

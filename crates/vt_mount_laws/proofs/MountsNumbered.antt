@@ -74,8 +74,7 @@ place_found p k (y ∷ ys) a m e = by (p y) refl (place_found p (k + 1) ys a)
         let t = later l e in (
           suc t.0,
           t.1,
-          ap (λ b. if b then Some k else place_from p (k + 1) ys) f ∙ t.2
-              ∙ ap Some (omega arith),
+          ap (λ b. if b then Some k else place_from p (k + 1) ys) f ∙ t.2 ∙ ap Some (omega arith),
           t.3,
           t.4,
         ))
@@ -148,16 +147,20 @@ image_index parts mounts group origin =
 
 module _ (world : World ℕ) (fresh : Fresh ℕ) (serves : Serves nat_eq world fresh) where
   evens_apart : (j k : ℕ) → evens fresh j ≡ evens fresh k → j ≡ k
-  evens_apart j k e = let same : 2 * j ≡ 2 * k =
-      serves.apart (2 * j) (2 * k) (eq-eqb (evens fresh j) (evens fresh k) e) in omega (arith, same)
+  evens_apart j k e =
+      let same : 2 * j ≡ 2 * k = serves.apart (2 * j) (2 * k) (eq-eqb (evens fresh j) (evens fresh k) e) in
+      omega (arith, same)
 
   odds_apart : (j k : ℕ) → odds fresh j ≡ odds fresh k → j ≡ k
-  odds_apart j k e = let same : 2 * j + 1 ≡ 2 * k + 1 =
-      serves.apart (2 * j + 1) (2 * k + 1) (eq-eqb (odds fresh j) (odds fresh k) e) in omega (arith, same)
+  odds_apart j k e =
+      let same : 2 * j + 1 ≡ 2 * k + 1 =
+      serves.apart (2 * j + 1) (2 * k + 1) (eq-eqb (odds fresh j) (odds fresh k) e) in
+      omega (arith, same)
 
   evens_odds : (j k : ℕ) → odds fresh j ≡ evens fresh k → ⊥
-  evens_odds j k e = let same : 2 * j + 1 ≡ 2 * k =
-      serves.apart (2 * j + 1) (2 * k) (eq-eqb (odds fresh j) (evens fresh k) e) in omega (arith, same)
+  evens_odds j k e =
+      let same : 2 * j + 1 ≡ 2 * k = serves.apart (2 * j + 1) (2 * k) (eq-eqb (odds fresh j) (evens fresh k) e) in
+      omega (arith, same)
 
   copies_serve : (parts mounts : List (Mount ℕ))
       → ServeAsCopies world parts mounts (copies_from nat_eq fresh parts mounts)
@@ -207,8 +210,9 @@ same_origin a b = same_number a.origin b.origin
 -- what is made of each of several, where what is made of one is apart, and what is made of two
 pub pair-flat_map : (test : Mount ℕ → Mount ℕ → Bool) (f : Mount ℕ → List (Mount ℕ)) (xs : List (Mount ℕ))
     → any_pair same_number xs ≡ false → ((x : Mount ℕ) → Among x xs → any_pair test (f x) ≡ false)
-    → ((x y a b : Mount ℕ) → Among x xs → Among y xs → same_number x y ≡ false → Among a (f x) → Among b (f y)
-    → test a b ≡ false) → any_pair test (flat_map f xs) ≡ false
+    → ((x y a b : Mount ℕ) → Among x xs → Among y xs → same_number x y ≡ false
+    → Among a (f x) → Among b (f y) → test a b ≡ false)
+    → any_pair test (flat_map f xs) ≡ false
 pair-flat_map test f [] h own cross = refl
 pair-flat_map test f (x ∷ xs) h own cross =
     let parts : (list_any (same_number x) xs ≡ false) × (any_pair same_number xs ≡ false) =
@@ -225,8 +229,8 @@ is_one_of mounts mount m =
 
 module _ (world : World ℕ) (place : Location ℕ) where
   takers_apart : OneNumberAMount world.mounts → (group : Option ℕ)
-      → any_pair same_number (filter (takes_part nat_eq world place)
-      (unwrap_or (option_map (receivers nat_eq world) group) [])) ≡ false
+      → any_pair same_number
+      (filter (takes_part nat_eq world place) (unwrap_or (option_map (receivers nat_eq world) group) [])) ≡ false
   takers_apart one None = refl
   takers_apart one (Some group) =
       pair-filter same_number (takes_part nat_eq world place) (receivers nat_eq world group)
@@ -254,8 +258,9 @@ module _ (world : World ℕ) (place : Location ℕ) where
       or_from (list_any (same_number (mount_at nat_eq world place)) takers) (any_pair same_number takers)
       (none_from_among (same_number (mount_at nat_eq world place)) takers (λ mount m.
       ap (λ n. nat_eq n mount.number) (number_found world.mounts place.mount)
-      ∙ taker_elsewhere mount (among-from_filter (takes_part nat_eq world place)
-      (receivers_of nat_eq world (mount_at nat_eq world place)) mount m).1))
+      ∙ taker_elsewhere mount
+      (among-from_filter (takes_part nat_eq world place) (receivers_of nat_eq world (mount_at nat_eq world place))
+      mount m).1))
       (takers_apart one (group_of (mount_at nat_eq world place).propagation))
 
 module _ (world : World ℕ) (new : Copies ℕ) (place : Location ℕ) (moves : Bool) (mounts : List (Mount ℕ))
@@ -349,8 +354,8 @@ module _ (world : World ℕ) (new : Copies ℕ) (place : Location ℕ) (moves : 
       → OneNumberAMount (attached_by nat_eq world new place moves mounts).mounts
   finish list apart_too each is =
       pair_by_numbers (attached_by nat_eq world new place moves mounts).mounts
-      ∙ ap (any_pair nat_eq) (numbers_attached world new place moves mounts
-      ∙ ap (λ added. numbers_of world.mounts ++ numbers_of added) is)
+      ∙ ap (any_pair nat_eq)
+      (numbers_attached world new place moves mounts ∙ ap (λ added. numbers_of world.mounts ++ numbers_of added) is)
       ∙ pair-append nat_eq (numbers_of world.mounts) (numbers_of (flat_map copies list))
       (sym (pair_by_numbers world.mounts) ∙ one)
       (sym (pair_by_numbers (flat_map copies list)) ∙ all_apart list apart_too each)

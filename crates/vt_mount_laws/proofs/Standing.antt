@@ -91,8 +91,9 @@ module _ (world : World ℕ) where
       ⊎_elim
       (λ same. subst (λ k. (x : Stand k) × (depth k x ≤ suc (depth place.mount stands))) (sym same)
       (on_parent it place e f stands, omega arith))
-      (λ later. let t : (x : Stand other) × (depth other x ≤ depth place.mount stands) =
-      on_way place.mount stands other later in (t.0, omega (arith, t.1)))
+      (λ later.
+      let t : (x : Stand other) × (depth other x ≤ depth place.mount stands) = on_way place.mount stands other later in
+      (t.0, omega (arith, t.1)))
       m
 
   way_apart : (number : ℕ) (stands : Stand number) → any_pair nat_eq (way number stands) ≡ false
@@ -194,7 +195,8 @@ module _ (world : World ℕ) where
           let long = mounts_there world.mounts x (placed_among world.mounts number place e) in
           let both : (not (is_some (last_below nat_eq world x).place) ≡ true)
           × (same_option nat_eq x.namespace (last_below nat_eq world x).namespace ≡ true) =
-          and_parts _ _ (among_from_list_all (stands_in_its_namespace nat_eq world) world.mounts ends x
+          and_parts _ _
+          (among_from_list_all (stands_in_its_namespace nat_eq world) world.mounts ends x
           (placed_among world.mounts number place e)) in
           let end : last_below nat_eq world x ≡ parent =
           ap (λ k. last_in k x) long.1
@@ -223,15 +225,16 @@ module _ (world : World ℕ) where
           (later place.mount
           (sym (ap (λ m. is_some m.place)
           (ap (last_or x) (chain_goes_on below n x parent (ap (option_map (mount_at nat_eq world)) e))
-          ∙ last_of_chain below n parent x)) ∙ h))
+          ∙ last_of_chain below n parent x))
+          ∙ h))
 
   standing_by_test : OneNumberEach world → PlacesEnd world → AllStand world
   standing_by_test one ends = all_from_among (λ (mount : Mount ℕ). Stand mount.number) world.mounts (λ mount m.
       let itself : mount_of mount.number ≡ mount = found_itself world.mounts one mount m in
       stands_by_test one ends (length world.mounts) mount.number
       (subst (λ x. is_some (last_below nat_eq world x).place ≡ false) (sym itself)
-      (not-true _ (and_parts _ _
-      (among_from_list_all (stands_in_its_namespace nat_eq world) world.mounts ends mount m)).0)))
+      (not-true _
+      (and_parts _ _ (among_from_list_all (stands_in_its_namespace nat_eq world) world.mounts ends mount m)).0)))
 
 pub standing_is_computed : StandingIsComputed
 standing_is_computed world one = (test_of_standing world one, standing_by_test world one)
@@ -288,7 +291,9 @@ module _ (world : World ℕ) (one : OneNumberEach world) (all : AllStand world) 
       ⊎_elim sym (λ further. absurd (omega (arith, further, same))) (lies_deeper b it second)
   one_above a b number (under top it place e way) (itself other) same =
       let child = rank_child it place e in
-      ⊎_elim (λ equal. let level : rank top ≡ rank place.mount = ap rank equal in
+      ⊎_elim
+      (λ equal.
+      let level : rank top ≡ rank place.mount = ap rank equal in
       absurd (omega (arith, level, child, same)))
       (λ further. absurd (omega (arith, further, child, same))) (lies_deeper top place.mount way)
   one_above a b number (under top it place e way) (under above other at f later) same =
@@ -317,8 +322,10 @@ module _ (world : World ℕ) (one : OneNumberEach world) (all : AllStand world) 
   lies_in_tree : (fuel : ℕ) (mount x : Mount ℕ) → Among x (tree_from nat_eq fuel world.mounts mount)
       → LiesIn world mount.number x.number
   lies_in_tree zero mount x m =
-      ⊎_elim (λ e. subst (λ (y : Mount ℕ). LiesIn world mount.number y.number) (sym e) (itself mount.number)) (λ none.
-      absurd none) m
+      ⊎_elim
+      (λ e. subst (λ (y : Mount ℕ). LiesIn world mount.number y.number) (sym e) (itself mount.number))
+      (λ none. absurd none)
+      m
   lies_in_tree (suc fuel) mount x m =
       ⊎_elim
       (λ e. subst (λ (y : Mount ℕ). LiesIn world mount.number y.number) (sym e) (itself mount.number))
@@ -353,7 +360,9 @@ module _ (world : World ℕ) (one : OneNumberEach world) (all : AllStand world) 
         let child = child_rank mount from.0 (are_children from.0 from.1) in
         false_from_ne_true (nat_eq mount.number x.number) (λ same.
         let level : rank mount.number ≡ rank x.number = ap rank (eqb-true mount.number x.number same) in
-        ⊎_elim (λ equal. let l : rank from.0.number ≡ rank x.number = ap rank equal in
+        ⊎_elim
+        (λ equal.
+        let l : rank from.0.number ≡ rank x.number = ap rank equal in
         absurd (omega (arith, l, level, child)))
         (λ further. absurd (omega (arith, further, level, child)))
         (lies_deeper from.0.number x.number (lie from.0 x from.1 from.2)))))
@@ -377,8 +386,10 @@ module _ (world : World ℕ) (one : OneNumberEach world) (all : AllStand world) 
   bindable_in_tree : (fuel : ℕ) (mount x : Mount ℕ) → Among x (bindable_tree nat_eq fuel world.mounts mount)
       → LiesIn world mount.number x.number
   bindable_in_tree zero mount x m =
-      ⊎_elim (λ e. subst (λ (y : Mount ℕ). LiesIn world mount.number y.number) (sym e) (itself mount.number)) (λ none.
-      absurd none) m
+      ⊎_elim
+      (λ e. subst (λ (y : Mount ℕ). LiesIn world mount.number y.number) (sym e) (itself mount.number))
+      (λ none. absurd none)
+      m
   bindable_in_tree (suc fuel) mount x m =
       ⊎_elim
       (λ e. subst (λ (y : Mount ℕ). LiesIn world mount.number y.number) (sym e) (itself mount.number))

@@ -48,8 +48,8 @@ abbrev pub TypeIsOfTheNamed : Type 0
 TypeIsOfTheNamed =
     (world : World ℕ) (fresh : Fresh ℕ) (one : ℕ) (word : TypeWord) (recursive : Bool) (number : ℕ)
     → is_among nat_eq number (numbers_of (named_mounts nat_eq world one recursive)) ≡ false
-    → has_its_master (with_type nat_eq fresh world one word recursive)
-    (mount_numbered nat_eq world number).propagation ≡ true
+    → has_its_master (with_type nat_eq fresh world one word recursive) (mount_numbered nat_eq world number).propagation
+    ≡ true
     → (mount_numbered nat_eq (with_type nat_eq fresh world one word recursive) number).propagation
     ≡ (mount_numbered nat_eq world number).propagation
 

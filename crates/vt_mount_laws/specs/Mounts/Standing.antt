@@ -67,10 +67,9 @@ MovesKeepNumbers =
 abbrev pub BindsKeepPlaces : Type 0
 BindsKeepPlaces =
     (world : World ℕ) (fresh : Fresh ℕ) (source place : Location ℕ) (recursive : Bool) → Serves nat_eq world fresh
-    → OneNumberEach world
-    → NowhereOrAttached world → AllStand world → is_mount world place.mount ≡ true
-    → child_at nat_eq world.mounts place ≡ None
-    → OneMountEachPlace world → OneMountEachPlace (bound_at nat_eq fresh world source place recursive)
+    → OneNumberEach world → NowhereOrAttached world → AllStand world → is_mount world place.mount ≡ true
+    → child_at nat_eq world.mounts place ≡ None → OneMountEachPlace world
+    → OneMountEachPlace (bound_at nat_eq fresh world source place recursive)
 
 abbrev pub NewMountsKeepPlaces : Type 0
 NewMountsKeepPlaces =
