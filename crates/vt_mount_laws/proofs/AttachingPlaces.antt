@@ -1,12 +1,12 @@
 -- A tree of mounts that is attached leaves at most one mount at a place.
-use Rattle.std.proofs.Common.{◌≡◌, refl, sym, ap, subst, ◌∙◌, true, false, nat_eq, ℕ, Bool, List, None, Option, Some, [], append_assoc, arith, cond, eq-eqb, eqb-true, find, flat_map, inl, inr, is_some, length, map, option_map, suc, true≢false, zero, ⊎_elim, ◌&&◌, ◌++◌, ◌<◌, ◌≤◌, ◌∷◌, ◌⊎◌}
+use Rattle.std.proofs.Common.{◌≡◌, refl, sym, ap, subst, ◌∙◌, true, false, nat_eq, ℕ, Bool, List, None, Option, Some, [], append_assoc, arith, eq-eqb, eqb-true, flat_map, inl, inr, is_some, length, map, option_map, suc, true≢false, zero, ⊎_elim, ◌&&◌, ◌++◌, ◌<◌, ◌∷◌, ◌⊎◌}
 use Rattle.std.specs.List.{list_any}
 use Rattle.std.specs.Prelude.{if◌then◌else◌, unwrap_or}
-use Rattle.std.proofs.lemmas.Bool.{and_parts, false_from_ne_true, or_from}
+use Rattle.std.proofs.lemmas.Bool.{false_from_ne_true, or_from}
 use Rattle.std.proofs.lemmas.Option.{same_Some}
 use Rattle.vt_spec.proofs.Lists.{Among, among-append_left, among-append_right, among-flat_map, among-from_flat_map, among-from_map, among-map, among_from_all, chain_ends, chain_goes_on, is_among_numbers, last_of_chain, none_from_among, pair-map}
 use Rattle.vt_spec.specs.Machine.Attach.{Copies, Graft, Twig, attached_by, copies_at, copy_at, graft_of, is_top, parts_of, place_on_copy, pushed_onto, pushed_up, receiver_below, top_of_copies, twig_of}
-use Rattle.vt_spec.specs.Machine.Lists.{any_pair, chain, first_of_list, holds_of, is_among, last_or, rest_of, same_option}
+use Rattle.vt_spec.specs.Machine.Lists.{any_pair, chain, first_of_list, holds_of, last_or, rest_of, same_option}
 use Rattle.vt_spec.specs.Machine.Mounts.{Location, Mount, child_at, group_of, mount_in, root_of, same_location, stands_at}
 use Rattle.vt_spec.specs.Machine.Run.{numbers_in_use}
 use Rattle.vt_spec.specs.Machine.World.{World, mount_at, mount_numbered}

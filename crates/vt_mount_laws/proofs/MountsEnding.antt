@@ -1,6 +1,6 @@
 -- The places below places come to an end through changes of types and flags.
-use Rattle.std.proofs.Common.{◌≡◌, refl, sym, ap, subst, ◌∙◌, true, false, zero, suc, nat_eq, ℕ, Bool, List, None, Option, Some, [], cond, find, inl, inr, is_some, length, not, option_map, true≢false, unwrap_or, ◌&&◌, ◌||◌, ◌∷◌}
-use Rattle.vt_spec.specs.Machine.Mounts.{Location, Mount, no_mount, mount_in}
+use Rattle.std.proofs.Common.{◌≡◌, refl, sym, ap, subst, ◌∙◌, zero, suc, nat_eq, ℕ, None, Option, Some, is_some, length, not, option_map, ◌&&◌}
+use Rattle.vt_spec.specs.Machine.Mounts.{Location, Mount, mount_in}
 use Rattle.vt_spec.proofs.Lists.{Among, among-map, among_from_list_all, chain_ends, chain_goes_on, is_among_numbers, last_of_chain, list_all_from_among}
 use Rattle.vt_mount_laws.specs.Mounts.Conditions.{FlagsKeepPlacesEnding, InheritanceKeepsPlacesEnding, OneNumberEach, TypeKeepsPlacesEnding}
 use Rattle.vt_mount_laws.specs.Mounts.Unmounting.{PlacesEnd}

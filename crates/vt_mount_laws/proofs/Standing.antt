@@ -1,13 +1,12 @@
 -- Mounts that stand, and what the test of it computes.
-use Rattle.std.proofs.Common.{◌≡◌, refl, sym, ap, subst, ◌∙◌, true, false, zero, suc, nat_eq, ℕ, Bool, List, None, Option, Some, [], arith, eq-eqb, eqb-true, filter, flat_map, inl, inr, is_some, length, map, not, option_map, true≢false, ⊎_elim, ◌&&◌, ◌+◌, ◌<◌, ◌∷◌, ◌≤◌, ◌⊎◌}
+use Rattle.std.proofs.Common.{◌≡◌, refl, sym, ap, subst, ◌∙◌, true, false, zero, suc, nat_eq, ℕ, Bool, List, None, Option, Some, [], arith, eq-eqb, eqb-true, filter, flat_map, inl, inr, is_some, length, not, option_map, true≢false, ⊎_elim, ◌<◌, ◌∷◌, ◌≤◌, ◌⊎◌}
 use Rattle.std.specs.List.{list_any}
-use Rattle.std.specs.Prelude.{All}
 use Rattle.std.proofs.lemmas.Bool.{and_from, and_parts, false_from_ne_true, not-true, or_from, or_parts}
 use Rattle.std.proofs.lemmas.List.Filters.{length-filter_both}
 use Rattle.std.proofs.lemmas.Option.{same_Some}
-use Rattle.vt_spec.proofs.Lists.{Among, all_from_among, among-filter, among-from_filter, among-from_flat_map, among-map, among_from_all, among_from_list_all, among_numbers, chain_ends, chain_goes_on, is_among_numbers, last_of_chain, list_all_from_among, none_among, none_from_among, pair-filter}
-use Rattle.vt_spec.specs.Machine.Lists.{any_pair, chain, holds_of, is_among, last_or, same_option}
-use Rattle.vt_spec.specs.Machine.Mounts.{Location, Mount, children, is_unbindable, mount_in, no_mount, stands_on, tree_from}
+use Rattle.vt_spec.proofs.Lists.{Among, all_from_among, among-filter, among-from_filter, among-from_flat_map, among-map, among_from_all, among_from_list_all, among_numbers, chain_ends, chain_goes_on, last_of_chain, list_all_from_among, none_among, none_from_among, pair-filter}
+use Rattle.vt_spec.specs.Machine.Lists.{any_pair, chain, holds_of, last_or, same_option}
+use Rattle.vt_spec.specs.Machine.Mounts.{Location, Mount, children, is_unbindable, no_mount, stands_on, tree_from}
 use Rattle.vt_spec.specs.Machine.Attach.{bind_tree, bindable_children, bindable_tree, bound, stands_under}
 use Rattle.vt_spec.specs.Machine.World.{World, mount_at, mount_numbered}
 use Rattle.vt_spec.specs.Machine.WorldLaws.{Stands, last_below, stands_in_its_namespace}
