@@ -28,7 +28,7 @@ pub data Hangs (mounts : List (Mount ℕ)) : ℕ → Type 0 where
       → Hangs mounts place.mount → Hangs mounts origin.number
 
 -- a mount of this number hangs in the list
-hanging : (mounts : List (Mount ℕ)) (number : ℕ) → Hangs mounts number
+pub hanging : (mounts : List (Mount ℕ)) (number : ℕ) → Hangs mounts number
     → (origin : Mount ℕ) × Among origin mounts × (origin.number ≡ number)
 hanging mounts number (from_top first rest e) = (first, subst (Among first) (sym e) (inl refl), refl)
 hanging mounts number (from_parent origin place m e later) = (origin, m, refl)

@@ -3,6 +3,7 @@ use Rattle.std.proofs.Common.{◌≡◌, refl, sym, ap, subst, ◌∙◌, true, 
 use Rattle.std.specs.List.{list_any}
 use Rattle.std.specs.Prelude.{if◌then◌else◌, unwrap_or}
 use Rattle.std.proofs.lemmas.Bool.{false_from_ne_true, or_from}
+use Rattle.std.proofs.lemmas.List.{length-map}
 use Rattle.std.proofs.lemmas.Option.{same_Some}
 use Rattle.vt_spec.proofs.Lists.{Among, among-append_left, among-append_right, among-flat_map, among-from_flat_map, among-from_map, among-map, among_from_all, chain_ends, chain_goes_on, is_among_numbers, last_of_chain, none_from_among, pair-map}
 use Rattle.vt_spec.specs.Machine.Attach.{Copies, Graft, Twig, attached_by, copies_at, copy_at, graft_of, is_top, parts_of, place_on_copy, pushed_onto, pushed_up, receiver_below, top_of_copies, twig_of}
@@ -17,11 +18,11 @@ use Rattle.vt_mount_laws.specs.Mounts.Conditions.{NowhereOrAttached}
 use Rattle.vt_mount_laws.specs.Mounts.Copies.{ServeAsCopies}
 use Rattle.vt_mount_laws.specs.Mounts.Places.{OneMountAPlace}
 use Rattle.vt_mount_laws.specs.Mounts.Standing.{AllStand}
-use Rattle.vt_mount_laws.proofs.Attaching.{Hangs, all_stand_after, cover, parent_there, taker_there, top_among}
+use Rattle.vt_mount_laws.proofs.Attaching.{Hangs, all_stand_after, cover, hanging, parent_there, taker_there, top_among}
 use Rattle.vt_mount_laws.proofs.Attaching.Hangs.{from_parent, from_top}
 use Rattle.vt_mount_laws.proofs.MountsFound.{found_in, found_there, number_found, unfound}
 use Rattle.vt_mount_laws.proofs.MountsNumbered.{copies_keep_numbers, is_one_of, number_in_use, pair-append, pair-flat_map, parts_apart, same_number, same_origin}
-use Rattle.vt_mount_laws.proofs.MountsPlaces.{found_at_its_place, one_place_of_two, same_location_is, stands_at_its_place, stands_there}
+use Rattle.vt_mount_laws.proofs.MountsPlaces.{found_at_its_place, one_place_of_two, one_stander, same_location_is, stands_at_its_place, stands_there}
 use Rattle.vt_mount_laws.proofs.MountsReplaced.{apart, found_itself}
 use Rattle.vt_mount_laws.proofs.Standing.{fewer_numbers, rank, rank_child}
 
@@ -62,9 +63,7 @@ pub two_of : (mounts : List (Mount ℕ)) → OneMountAPlace mounts → (a b : Mo
     → nat_eq a.number b.number ≡ false → test a b ≡ false
 two_of mounts places a b m n differ = false_from_ne_true (test a b) (λ h.
     let t = one_place a b h in
-    let same : a ≡ b =
-    same_Some a b (sym (found_at_its_place mounts places a m t.0 t.1)
-    ∙ found_at_its_place mounts places b n t.0 t.2) in
+    let same : a ≡ b = one_stander mounts places a b m n t.0 t.1 t.2 in
     true≢false (sym (eq-eqb a.number b.number (ap (λ (x : Mount ℕ). x.number) same)) ∙ differ))
 
 -- Mounts that cover one another, each at the root of the one before
@@ -170,10 +169,6 @@ module _ (list : List (Mount ℕ)) where
         absurd (omega (arith, level, further)))))
         (visited_apart k (root_of child) last steps)
 
-    numbers_length : (mounts : List (Mount ℕ)) → length (numbers_of mounts) ≡ length mounts
-    numbers_length [] = refl
-    numbers_length (mount ∷ mounts) = ap suc (numbers_length mounts)
-
     -- nothing covers what is topmost
     pub topmost_free : (here : Location ℕ) → child_at nat_eq list (end_of (length list) here) ≡ None
     topmost_free here = by (child_at nat_eq list (end_of (length list) here)) refl
@@ -189,7 +184,7 @@ module _ (list : List (Mount ℕ)) where
             (visited_apart (suc (length list)) here (root_of child) more)
             (visited_there (suc (length list)) here (root_of child) more) in
             let long = visited_length (suc (length list)) here (root_of child) more in
-            let size = numbers_length list in
+            let size = length-map list (λ (mount : Mount ℕ). mount.number) in
             absurd (omega (arith, few, long, size)))
             (ends_or_covers (length list) here)
 
@@ -277,10 +272,6 @@ module _ (world : World ℕ) (new : Copies ℕ) (place : Location ℕ) (mounts :
   top_test origin =
       ap (λ (ms : List (Mount ℕ)). holds_of (same_origin (twig origin)) (first_of_list (map twig ms))) is_tree
 
-  parent_of : (number : ℕ) → Hangs mounts number → (parent : Mount ℕ) × Among parent mounts × (parent.number ≡ number)
-  parent_of number (from_top first rest e) = (first, subst (Among first) (sym e) (inl refl), refl)
-  parent_of number (from_parent origin on m e later) = (origin, m, refl)
-
   copy_place_of : (part origin : Mount ℕ) → Among origin mounts → CopyPlace part origin
   copy_place_of part origin m = by (nat_eq origin.number top.number) refl origin.number (hangs origin m) refl
     where
@@ -305,7 +296,7 @@ module _ (world : World ℕ) (new : Copies ℕ) (place : Location ℕ) (mounts :
           sym (found_itself mounts own other l) ∙ ap (mount_in nat_eq mounts) is
           ∙ found_itself mounts own origin m in
           let place_is : origin.place ≡ Some on = ap (λ (x : Mount ℕ). x.place) (sym it) ∙ f in
-          let parent = parent_of on.mount later in
+          let parent = hanging mounts on.mount later in
           on_copy on parent.0 e place_is parent.1 parent.2
           (placed false e ∙ ap (λ p. Some (landing part p false)) place_is)
 

@@ -15,7 +15,7 @@ use Rattle.vt_mount_laws.proofs.AttachingPlaces.{places_after, two_of}
 use Rattle.vt_mount_laws.proofs.MountsAttached.{supplied}
 use Rattle.vt_mount_laws.proofs.MountsFound.{number_found}
 use Rattle.vt_mount_laws.proofs.MountsNumbered.{attach_keeps_numbers, supplies_serve_as_copies}
-use Rattle.vt_mount_laws.proofs.Standing.{binds_take_each_once, trees_have_each_once}
+use Rattle.vt_mount_laws.proofs.Standing.{bindable_child, binds_take_each_once, trees_have_each_once}
 
 -- What a bind takes hangs together
 module _ (world : World ℕ) (whole : List (Mount ℕ)) where
@@ -35,12 +35,6 @@ module _ (world : World ℕ) (whole : List (Mount ℕ)) where
           (eqb-true number place.mount (sym (ap (holds_of (λ p. nat_eq number p.mount)) e) ∙ on))
           hung)
 
-  bindable : (number : ℕ) (child : Mount ℕ) → Among child (bindable_children nat_eq world.mounts number)
-      → Among child (children nat_eq world.mounts number)
-  bindable number child m =
-      (among-from_filter (λ (y : Mount ℕ). not (is_unbindable y.propagation))
-      (children nat_eq world.mounts number) child m).0
-
   first_of_tree : (fuel : ℕ) (mount : Mount ℕ) → Among mount (bindable_tree nat_eq fuel world.mounts mount)
   first_of_tree zero mount = inl refl
   first_of_tree (suc fuel) mount = inl refl
@@ -59,7 +53,7 @@ module _ (world : World ℕ) (whole : List (Mount ℕ)) where
       let within : (y : Mount ℕ) → Among y (bindable_tree nat_eq fuel world.mounts from.0) → Among y whole =
       λ y n. all y (inr (among-flat_map (bindable_tree nat_eq fuel world.mounts) below from.0 y from.1 n)) in
       tree_hangs fuel from.0
-      (child_hangs mount.number from.0 (bindable mount.number from.0 from.1)
+      (child_hangs mount.number from.0 (bindable_child world mount.number from.0 from.1)
       (within from.0 (first_of_tree fuel from.0)) hung)
       within x from.2)
       m
@@ -90,7 +84,7 @@ bind_hangs world source true x m =
     let within : (y : Mount ℕ) → Among y (bindable_tree nat_eq fuel world.mounts from.0) → Among y whole =
     λ y n. inr (among-flat_map (bindable_tree nat_eq fuel world.mounts) chosen from.0 y from.1 n) in
     tree_hangs world whole fuel from.0
-    (child_hangs world whole source.mount from.0 (bindable world whole source.mount from.0 child)
+    (child_hangs world whole source.mount from.0 (bindable_child world source.mount from.0 child)
     (within from.0 (first_of_tree world whole fuel from.0)) at_source)
     within x from.2)
     m
@@ -161,10 +155,8 @@ bindable_there world (suc fuel) mount x m =
     let from =
     among-from_flat_map (bindable_tree nat_eq fuel world.mounts)
     (bindable_children nat_eq world.mounts mount.number) x later in
-    let child =
-    among-from_filter (λ (y : Mount ℕ). not (is_unbindable y.propagation))
-    (children nat_eq world.mounts mount.number) from.0 from.1 in
-    let there = (among-from_filter (stands_on nat_eq mount.number) world.mounts from.0 child.0).0 in
+    let child = bindable_child world mount.number from.0 from.1 in
+    let there = (among-from_filter (stands_on nat_eq mount.number) world.mounts from.0 child).0 in
     inr (⊎_elim
     (λ e. subst (λ y. Among y world.mounts) (sym e) there)
     (λ l. l)
@@ -188,9 +180,7 @@ bind_there world source true x m differ =
     among-from_flat_map (bindable_tree nat_eq (length world.mounts) world.mounts)
     (filter (stands_under nat_eq world source) under) x later in
     let child = (among-from_filter (stands_under nat_eq world source) under from.0 from.1).0 in
-    let kept =
-    (among-from_filter (λ (y : Mount ℕ). not (is_unbindable y.propagation))
-    (children nat_eq world.mounts source.mount) from.0 child).0 in
+    let kept = bindable_child world source.mount from.0 child in
     let there = (among-from_filter (stands_on nat_eq source.mount) world.mounts from.0 kept).0 in
     ⊎_elim
     (λ e. subst (λ y. Among y world.mounts) (sym e) there)

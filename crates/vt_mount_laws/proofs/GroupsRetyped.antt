@@ -22,6 +22,7 @@ use Rattle.std.specs.Prelude.{if◌then◌else◌, option_to_list}
 use Rattle.vt_spec.specs.Machine.Types.{master_after, named_mounts, type_after, with_master, with_new_groups}
 use Rattle.vt_mount_laws.proofs.GroupsKept.{member_shared, regrouped_live}
 use Rattle.vt_spec.specs.Machine.Run.{numbers_in_use, used_by_filesystem, used_by_mount}
+use Rattle.vt_mount_laws.proofs.MountsNumbered.{mount_uses}
 use Rattle.vt_mount_laws.proofs.MountsReplaced.{tree_among}
 use Rattle.std.proofs.lemmas.Option.{same_Some}
 
@@ -161,11 +162,7 @@ unused_members world number h = false_from_ne_true (has_members nat_eq world.mou
     let shared = member_shared number member.0 member.2 in
     let used : Among number (used_by_mount member.0) =
     inr (subst (λ k. Among number (option_to_list (source_of k))) (sym shared) (inl refl)) in
-    let among : Among number (numbers_in_use world) =
-    among-append_left (flat_map used_by_mount world.mounts ++ flat_map used_by_filesystem world.filesystems)
-    (map (λ (namespace : Namespace ℕ). namespace.number) world.namespaces) number
-    (among-append_left (flat_map used_by_mount world.mounts) (flat_map used_by_filesystem world.filesystems) number
-    (among-flat_map used_by_mount world.mounts member.0 number member.1 used)) in
+    let among = mount_uses world member.0 member.1 number used in
     true≢false (sym (is_among_numbers (numbers_in_use world) number among) ∙ h))
 
 -- a named mount with a source is one of the world's

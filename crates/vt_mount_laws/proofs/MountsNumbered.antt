@@ -34,15 +34,20 @@ pair-append test (x ∷ xs) ys e f cross =
     ⊎_elim (λ l. none_among (test x) xs parts.0 y l) (λ r. cross x y (inl refl) r) (among-append xs ys y m)))
     (pair-append test xs ys parts.1 f (λ a b m n. cross a b (inr m) n))
 
--- the number of a mount is in use
+-- the numbers that a mount uses are in use
+pub mount_uses : (world : World ℕ) (mount : Mount ℕ) → Among mount world.mounts → (number : ℕ)
+    → Among number (used_by_mount mount) → Among number (numbers_in_use world)
+mount_uses world mount m number used =
+    let of_mounts = flat_map used_by_mount world.mounts in
+    let of_filesystems = flat_map used_by_filesystem world.filesystems in
+    among-append_left (of_mounts ++ of_filesystems)
+    (map (λ (namespace : Namespace ℕ). namespace.number) world.namespaces) number
+    (among-append_left of_mounts of_filesystems number
+    (among-flat_map used_by_mount world.mounts mount number m used))
+
 pub number_in_use : (world : World ℕ) (mount : Mount ℕ) → Among mount world.mounts
     → Among mount.number (numbers_in_use world)
-number_in_use world mount m =
-    among-append_left (flat_map used_by_mount world.mounts ++ flat_map used_by_filesystem world.filesystems)
-    (map (λ (namespace : Namespace ℕ). namespace.number) world.namespaces) mount.number
-    (among-append_left (flat_map used_by_mount world.mounts)
-    (flat_map used_by_filesystem world.filesystems) mount.number
-    (among-flat_map used_by_mount world.mounts mount mount.number m (inl refl)))
+number_in_use world mount m = mount_uses world mount m mount.number (inl refl)
 
 -- so it is none that is handed in
 number_is_old : (world : World ℕ) (fresh : Fresh ℕ) → Serves nat_eq world fresh → (number : ℕ)

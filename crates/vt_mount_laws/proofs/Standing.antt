@@ -2,6 +2,7 @@
 use Rattle.std.proofs.Common.{◌≡◌, refl, sym, ap, subst, ◌∙◌, true, false, zero, suc, nat_eq, ℕ, Bool, List, None, Option, Some, [], arith, eq-eqb, eqb-true, filter, flat_map, inl, inr, is_some, length, not, option_map, true≢false, ⊎_elim, ◌<◌, ◌∷◌, ◌≤◌, ◌⊎◌}
 use Rattle.std.specs.List.{list_any}
 use Rattle.std.proofs.lemmas.Bool.{and_from, and_parts, false_from_ne_true, not-true, or_from, or_parts}
+use Rattle.std.proofs.lemmas.List.{length-map}
 use Rattle.std.proofs.lemmas.List.Filters.{length-filter_both}
 use Rattle.std.proofs.lemmas.Option.{same_Some}
 use Rattle.vt_spec.proofs.Lists.{Among, all_from_among, among-filter, among-from_filter, among-from_flat_map, among-map, among_from_all, among_from_list_all, among_numbers, chain_ends, chain_goes_on, last_of_chain, list_all_from_among, none_among, none_from_among, pair-filter}
@@ -125,12 +126,8 @@ module _ (world : World ℕ) where
       fewer_numbers (way number stands) (numbers_of world.mounts) (way_apart number stands)
       (way_there number stands) in
       let one = way_length number stands in
-      let two = mapped_length world.mounts in
+      let two = length-map world.mounts (λ (mount : Mount ℕ). mount.number) in
       omega (arith, few, one, two)
-    where
-      mapped_length : (mounts : List (Mount ℕ)) → length (numbers_of mounts) ≡ length mounts
-      mapped_length [] = refl
-      mapped_length (mount ∷ mounts) = ap suc (mapped_length mounts)
 
   -- where the places below a mount end, in its namespace
   last_stands : (n number : ℕ) (stands : Stand number) → depth number stands ≤ n
@@ -248,6 +245,12 @@ module _ (world : World ℕ) where
   further_in : (a b c : ℕ) → LiesIn world a b → LiesIn world b c → LiesIn world a c
   further_in a b c first (itself it) = first
   further_in a b c first (under it number place e way) = under a number place e (further_in a it place.mount first way)
+
+pub bindable_child : (world : World ℕ) (number : ℕ) (child : Mount ℕ)
+    → Among child (bindable_children nat_eq world.mounts number) → Among child (children nat_eq world.mounts number)
+bindable_child world number child m =
+    (among-from_filter (λ (y : Mount ℕ). not (is_unbindable y.propagation))
+    (children nat_eq world.mounts number) child m).0
 
 module _ (world : World ℕ) (one : OneNumberEach world) (all : AllStand world) where
   stand : (number : ℕ) → Stands nat_eq world number
@@ -396,10 +399,7 @@ module _ (world : World ℕ) (one : OneNumberEach world) (all : AllStand world) 
       let from =
       among-from_flat_map (bindable_tree nat_eq fuel world.mounts)
       (bindable_children nat_eq world.mounts mount.number) x later in
-      let kept =
-      among-from_filter (λ (y : Mount ℕ). not (is_unbindable y.propagation))
-      (children nat_eq world.mounts mount.number) from.0 from.1 in
-      let child = child_lies mount from.0 kept.0 in
+      let child = child_lies mount from.0 (bindable_child world mount.number from.0 from.1) in
       further_in world mount.number from.0.number x.number
       (under mount.number from.0.number child.0 child.1
       (subst (LiesIn world mount.number) (sym child.2) (itself mount.number)))
@@ -411,17 +411,11 @@ module _ (world : World ℕ) (one : OneNumberEach world) (all : AllStand world) 
       pair-filter same_number (λ (y : Mount ℕ). not (is_unbindable y.propagation)) (children nat_eq world.mounts number)
       (pair-filter same_number (stands_on nat_eq number) world.mounts one)
 
-  bindable_child : (number : ℕ) (child : Mount ℕ) → Among child (bindable_children nat_eq world.mounts number)
-      → Among child (children nat_eq world.mounts number)
-  bindable_child number child m =
-      (among-from_filter (λ (y : Mount ℕ). not (is_unbindable y.propagation))
-      (children nat_eq world.mounts number) child m).0
-
   bindable_once : (fuel : ℕ) (mount : Mount ℕ) → OneNumberAMount (bindable_tree nat_eq fuel world.mounts mount)
   bindable_once zero mount = refl
   bindable_once (suc fuel) mount =
       chosen_once mount (bindable_tree nat_eq fuel world.mounts) (bindable_children nat_eq world.mounts mount.number)
-      (bindable_child mount.number)
+      (bindable_child world mount.number)
       (bindable_apart mount.number)
       (λ child x m k. bindable_in_tree fuel child x k) (λ child m. bindable_once fuel child)
 
@@ -437,7 +431,7 @@ module _ (world : World ℕ) (one : OneNumberEach world) (all : AllStand world) 
       λ child m. (among-from_filter (stands_under nat_eq world source) under_source child m).0 in
       chosen_once mount (bindable_tree nat_eq fuel world.mounts) chosen
       (λ child m. subst (λ n. Among child (children nat_eq world.mounts n)) (sym number)
-      (bindable_child source.mount child (from child m)))
+      (bindable_child world source.mount child (from child m)))
       (pair-filter same_number (stands_under nat_eq world source) under_source (bindable_apart source.mount))
       (λ child x m k. bindable_in_tree fuel child x k) (λ child m. bindable_once fuel child)
 

@@ -10,7 +10,7 @@ use Rattle.vt_spec.specs.Machine.Lists.{any_pair, chain, holds_of, last_or}
 use Rattle.vt_mount_laws.proofs.UnmountingGoes.{child_goes}
 use Rattle.std.proofs.lemmas.Bool.{false_from_ne_true}
 use Rattle.std.specs.Prelude.{filter_map, if◌then◌else◌}
-use Rattle.vt_mount_laws.proofs.MountsPlaces.{found_at_its_place, one_place_of_two, place_of_both}
+use Rattle.vt_mount_laws.proofs.MountsPlaces.{found_at_its_place, one_place_of_two, one_stander, place_of_both}
 use Rattle.vt_mount_laws.proofs.MountsReplaced.{found_itself}
 use Rattle.vt_mount_laws.proofs.MountsFound.{number_found, placed_among}
 use Rattle.vt_mount_laws.proofs.Unmounting.{going_is_detached, middle, staying_is_placed}
@@ -26,11 +26,6 @@ data Falls (world : World ℕ) (gone : List ℕ) (mount : Mount ℕ) : Location 
   direct : (rest : Location ℕ) → mount.place ≡ Some rest → Falls world gone mount rest
   down : (place rest : Location ℕ) → Falls world gone mount place → is_going nat_eq gone place.mount ≡ true
       → (mount_at nat_eq world place).place ≡ Some rest → Falls world gone mount rest
-
--- only one mount stands at a place
-one_stander : (mounts : List (Mount ℕ)) → OneMountAPlace mounts → (a b : Mount ℕ) → Among a mounts → Among b mounts → (place : Location ℕ)
-    → a.place ≡ Some place → b.place ≡ Some place → a ≡ b
-one_stander mounts one a b m n place e f = same_Some a b (sym (found_at_its_place mounts one a m place e) ∙ found_at_its_place mounts one b n place f)
 
 -- one child alone
 one_child_alone : (mount : Mount ℕ) (list : List (Mount ℕ)) → only_cover nat_eq mount list ≡ true → (a b : Mount ℕ) → Among a list
