@@ -22,7 +22,7 @@ use Rattle.vt_mount_laws.proofs.Attaching.{Hangs, all_stand_after, cover, hangin
 use Rattle.vt_mount_laws.proofs.Attaching.Hangs.{from_parent, from_top}
 use Rattle.vt_mount_laws.proofs.MountsFound.{found_in, found_there, number_found, unfound}
 use Rattle.vt_mount_laws.proofs.MountsNumbered.{copies_keep_numbers, is_one_of, number_in_use, pair-append, pair-flat_map, parts_apart, same_number, same_origin}
-use Rattle.vt_mount_laws.proofs.MountsPlaces.{found_at_its_place, one_place_of_two, one_stander, same_location_is, stands_at_its_place, stands_there}
+use Rattle.vt_mount_laws.proofs.MountsPlaces.{one_place_of_two, one_stander, same_location_is, stands_at_its_place, stands_there}
 use Rattle.vt_mount_laws.proofs.MountsReplaced.{apart, found_itself}
 use Rattle.vt_mount_laws.proofs.Standing.{fewer_numbers, rank, rank_child}
 

@@ -1,5 +1,5 @@
 -- Groups live on through a change of type.
-use Rattle.std.proofs.Common.{◌≡◌, refl, sym, ap, subst, ◌∙◌, true, false, nat_eq, Bool, List, Option, Some, [], eq-eqb, eqb-true, flat_map, inl, inr, is_some, map, true≢false, ⊎_elim, ◌++◌, ◌∷◌, ◌⊎◌, ℕ, length}
+use Rattle.std.proofs.Common.{◌≡◌, refl, sym, ap, subst, ◌∙◌, true, false, nat_eq, Bool, List, Option, Some, [], eq-eqb, eqb-true, inl, inr, is_some, true≢false, ⊎_elim, ◌∷◌, ◌⊎◌, ℕ, length}
 use Rattle.std.specs.List.{list_any}
 use Rattle.vt_spec.specs.Machine.Mounts.{Mount, Propagation, index_of, source_of}
 use Rattle.vt_spec.specs.Machine.Mounts.Propagation.{Private, Shared, Slave, Unbindable}
@@ -7,12 +7,12 @@ use Rattle.vt_spec.specs.Machine.Calls.TypeWord.{ToPrivate, ToShared, ToSlave, T
 use Rattle.vt_mount_laws.proofs.GroupsUp.{EndsUp, LivesIn, lives_in}
 use Rattle.vt_mount_laws.proofs.GroupsUp.EndsUp.{at_top, goes_up}
 use Rattle.vt_mount_laws.proofs.GroupsUp.Lives.{below, top}
-use Rattle.vt_spec.proofs.Lists.{Among, among-append_left, among-flat_map, among-from_map, any_among, is_among_numbers}
+use Rattle.vt_spec.proofs.Lists.{Among, among-from_map, any_among, is_among_numbers}
 use Rattle.vt_spec.specs.Machine.Lists.{is_among}
 use Rattle.vt_mount_laws.specs.Mounts.Receivers.{GroupsLive}
 use Rattle.vt_mount_laws.specs.Mounts.Conditions.{TypeKeepsGroups}
 use Rattle.vt_spec.specs.Machine.Calls.{TypeWord}
-use Rattle.vt_spec.specs.Machine.World.{World, mount_numbered, Namespace}
+use Rattle.vt_spec.specs.Machine.World.{World, mount_numbered}
 use Rattle.vt_mount_laws.proofs.MountsRetyped.{between, groups_by, next_world, retype, retyped_if}
 use Rattle.std.proofs.lemmas.Bool.Decides.{eqb_tells}
 use Rattle.std.proofs.lemmas.Bool.{false_from_ne_true}
@@ -21,7 +21,7 @@ use Rattle.vt_spec.specs.Machine.Receives.{has_members, is_member_of}
 use Rattle.std.specs.Prelude.{if◌then◌else◌, option_to_list}
 use Rattle.vt_spec.specs.Machine.Types.{master_after, named_mounts, type_after, with_master, with_new_groups}
 use Rattle.vt_mount_laws.proofs.GroupsKept.{member_shared, regrouped_live}
-use Rattle.vt_spec.specs.Machine.Run.{numbers_in_use, used_by_filesystem, used_by_mount}
+use Rattle.vt_spec.specs.Machine.Run.{numbers_in_use, used_by_mount}
 use Rattle.vt_mount_laws.proofs.MountsNumbered.{mount_uses}
 use Rattle.vt_mount_laws.proofs.MountsReplaced.{tree_among}
 use Rattle.std.proofs.lemmas.Option.{same_Some}

@@ -3,14 +3,13 @@ use Rattle.std.proofs.Common.{◌≡◌, refl, sym, ap, subst, ◌∙◌, true, 
 use Rattle.vt_spec.proofs.Lists.{Among, among-filter, among-from_filter_map, among-from_map, among_numbers, chain_ends, chain_goes_on, last_of_chain, none_among, pair-map}
 use Rattle.vt_mount_laws.specs.Mounts.Conditions.{AreApart, OneMountEachPlace, UnmountLeavesOneMountAPlace}
 use Rattle.vt_spec.specs.Machine.Mounts.{Location, child_at, children, is_shared, mount_in, stands_at, stands_on, Mount}
-use Rattle.vt_mount_laws.specs.Mounts.Places.{OneMountAPlace}
 use Rattle.vt_spec.specs.Machine.World.{World, mount_at, mount_numbered}
 use Rattle.vt_spec.specs.Machine.Detach.{after_going, goes_at, going, going_at, going_from, is_going, may_go, only_cover, place_below, place_left, taken_away}
 use Rattle.vt_spec.specs.Machine.Lists.{any_pair, chain, holds_of, last_or}
 use Rattle.vt_mount_laws.proofs.UnmountingGoes.{child_goes}
 use Rattle.std.proofs.lemmas.Bool.{false_from_ne_true}
 use Rattle.std.specs.Prelude.{filter_map, if◌then◌else◌}
-use Rattle.vt_mount_laws.proofs.MountsPlaces.{found_at_its_place, one_place_of_two, one_stander, place_of_both}
+use Rattle.vt_mount_laws.proofs.MountsPlaces.{one_place_of_two, one_stander, place_of_both}
 use Rattle.vt_mount_laws.proofs.MountsReplaced.{found_itself}
 use Rattle.vt_mount_laws.proofs.MountsFound.{number_found, placed_among}
 use Rattle.vt_mount_laws.proofs.Unmounting.{going_is_detached, middle, staying_is_placed}
