@@ -83,8 +83,7 @@ taker_there world place mount m =
 
 module _ (world : World ℕ) (new : Copies ℕ) (place : Location ℕ) (mounts : List (Mount ℕ))
     (serve : ServeAsCopies world (parts_of nat_eq world place) mounts new) (own : OneNumberAMount mounts)
-    (one : OneNumberAMount world.mounts)
-    (there : is_mount world place.mount ≡ true)
+    (one : OneNumberAMount world.mounts) (there : is_mount world place.mount ≡ true)
     (hangs : (origin : Mount ℕ) → Among origin mounts → Hangs mounts origin.number)
     (top : Mount ℕ) (others : List (Mount ℕ)) (is_tree : mounts ≡ top ∷ others) where
   abbrev tree : Graft ℕ

@@ -179,19 +179,19 @@ module _ (list : List (Mount ℕ)) where
         by (Some child) e =
             ⊎_elim (λ done. done)
             (λ steps.
+            let n = suc (length list) in
+            let end = root_of child in
             let more = one_more (length list) here (end_of (length list) here) child steps e in
-            let few = fewer_numbers (visited (suc (length list)) here (root_of child) more) (numbers_of list)
-            (visited_apart (suc (length list)) here (root_of child) more)
-            (visited_there (suc (length list)) here (root_of child) more) in
-            let long = visited_length (suc (length list)) here (root_of child) more in
+            let few = fewer_numbers (visited n here end more) (numbers_of list)
+            (visited_apart n here end more) (visited_there n here end more) in
+            let long = visited_length n here end more in
             let size = length-map list (λ (mount : Mount ℕ). mount.number) in
             absurd (omega (arith, few, long, size)))
             (ends_or_covers (length list) here)
 
 module _ (world : World ℕ) (new : Copies ℕ) (place : Location ℕ) (mounts : List (Mount ℕ))
     (serve : ServeAsCopies world (parts_of nat_eq world place) mounts new) (own : OneNumberAMount mounts)
-    (one : OneNumberAMount world.mounts)
-    (there : is_mount world place.mount ≡ true)
+    (one : OneNumberAMount world.mounts) (there : is_mount world place.mount ≡ true)
     (hangs : (origin : Mount ℕ) → Among origin mounts → Hangs mounts origin.number)
     (top : Mount ℕ) (others : List (Mount ℕ)) (is_tree : mounts ≡ top ∷ others)
     (nowhere : NowhereOrAttached world) (all : AllStand world) where
@@ -277,9 +277,7 @@ module _ (world : World ℕ) (new : Copies ℕ) (place : Location ℕ) (mounts :
     where
       placed : (b : Bool) → nat_eq origin.number top.number ≡ b
           → (copy part origin).place ≡ Some (landing part origin.place b)
-      placed b e =
-          ap (λ c. Some (landing part origin.place c))
-          (top_test origin ∙ e)
+      placed b e = ap (λ c. Some (landing part origin.place c)) (top_test origin ∙ e)
 
       by : (b : Bool) → nat_eq origin.number top.number ≡ b → (n : ℕ) → Hangs mounts n → n ≡ origin.number
           → CopyPlace part origin
@@ -293,8 +291,7 @@ module _ (world : World ℕ) (new : Copies ℕ) (place : Location ℕ) (mounts :
           same_first a as_list b bs f = same_Some a b (ap first_of_list f)
       by false e n (from_parent other on l f later) is =
           let it : other ≡ origin =
-          sym (found_itself mounts own other l) ∙ ap (mount_in nat_eq mounts) is
-          ∙ found_itself mounts own origin m in
+          sym (found_itself mounts own other l) ∙ ap (mount_in nat_eq mounts) is ∙ found_itself mounts own origin m in
           let place_is : origin.place ≡ Some on = ap (λ (x : Mount ℕ). x.place) (sym it) ∙ f in
           let parent = hanging mounts on.mount later in
           on_copy on parent.0 e place_is parent.1 parent.2
@@ -315,13 +312,14 @@ module _ (world : World ℕ) (new : Copies ℕ) (place : Location ℕ) (mounts :
       (eqb-true number (new.copy part.number origin.number) same) used))
       ∙ serve.unused part.number origin.number (is_one_of parts part m) (is_one_of mounts origin n)))
 
+  -- copies at two parts have two numbers
   two_parts : (p q a b : Mount ℕ) → Among p parts → Among q parts → Among a mounts → Among b mounts
       → nat_eq p.number q.number ≡ false → nat_eq (new.copy p.number a.number) (new.copy q.number b.number) ≡ false
   two_parts p q a b m n k l differ =
       false_from_ne_true (nat_eq (new.copy p.number a.number) (new.copy q.number b.number)) (λ same.
       let at : (p.number ≡ q.number) × (a.number ≡ b.number) =
-      serve.apart p.number a.number q.number b.number (is_one_of parts p m) (is_one_of mounts a k) (is_one_of parts q n)
-      (is_one_of mounts b l)
+      serve.apart p.number a.number q.number b.number
+      (is_one_of parts p m) (is_one_of mounts a k) (is_one_of parts q n) (is_one_of mounts b l)
       (eqb-true (new.copy p.number a.number) (new.copy q.number b.number) same) in
       true≢false (sym (eq-eqb p.number q.number at.0) ∙ differ))
 
@@ -390,8 +388,9 @@ module _ (world : World ℕ) (new : Copies ℕ) (place : Location ℕ) (mounts :
             let right : place_upon part at ≡ t.0 = same_Some _ t.0 (sym d ∙ t.2) in
             let equal : place_upon part on ≡ place_upon part at = left ∙ sym right in
             let number : (part.number ≡ part.number) × (parent.number ≡ other.number) =
-            serve.apart part.number parent.number part.number other.number (is_one_of parts part m)
-            (is_one_of mounts parent there_is) (is_one_of parts part m) (is_one_of mounts other there_too)
+            serve.apart part.number parent.number part.number other.number
+            (is_one_of parts part m) (is_one_of mounts parent there_is)
+            (is_one_of parts part m) (is_one_of mounts other there_too)
             (ap (new.copy part.number) same ∙ ap (λ (l : Location ℕ). l.mount) equal
             ∙ ap (new.copy part.number) (sym same_too)) in
             let mount_is : on.mount ≡ at.mount = sym same ∙ number.1 ∙ same_too in

@@ -46,11 +46,6 @@ module _ (group : ℕ → ℕ) where
   IsNewMaster named one above =
       (mount : Mount ℕ) × Among mount named × (one ≡ group mount.number) × (above ≡ master_after mount.propagation)
 
-  later_master : (first : Mount ℕ) (rest : List (Mount ℕ)) (one : ℕ) (above : Option ℕ) → IsNewMaster rest one above
-      → IsNewMaster (first ∷ rest) one above
-  unfolding IsNewMaster
-  later_master first rest one above t = (t.0, inr t.1, t.2, t.3)
-
   new_or_old : (master : ℕ → Option ℕ) (named : List (Mount ℕ)) (one : ℕ)
       → (with_new_groups nat_eq group master named one ≡ master one)
       ⊎ IsNewMaster named one (with_new_groups nat_eq group master named one)
@@ -65,8 +60,7 @@ module _ (group : ℕ → ℕ) where
         first,
         inl refl,
         same.1,
-        kept
-            ∙ ap (λ b. if b then master_after first.propagation else master one) same.0,
+        kept ∙ ap (λ b. if b then master_after first.propagation else master one) same.0,
       ))
       (either one (group first.number)))
       (λ t. inr (t.0, inr t.1, t.2, t.3))
@@ -91,7 +85,8 @@ module _ (group : ℕ → ℕ) where
         kept ∙ ap (λ b. if b then master_after first.propagation else master (group mount.number))
             (eq-eqb (group mount.number) (group first.number) (ap (λ (x : Mount ℕ). group x.number) e)),
       ))
-      (λ l. let t =
+      (λ l.
+      let t =
       new_for_one (with_master nat_eq master (group first.number) (master_after first.propagation)) rest mount l in
       (t.0, inr t.1, t.2, t.3))
       m)
@@ -101,8 +96,8 @@ module _ (group : ℕ → ℕ) where
 
 module _ (world : World ℕ) (group : ℕ → ℕ) (word : TypeWord) (named : List (Mount ℕ)) (live : GroupsLive world)
     (none : (number : ℕ) → has_members nat_eq world.mounts (group number) ≡ false)
-    (sourced : (mount : Mount ℕ) → Among mount named → (source : ℕ) → source_of mount.propagation ≡ Some source
-    → Among mount world.mounts) where
+    (sourced : (mount : Mount ℕ) → Among mount named
+    → (source : ℕ) → source_of mount.propagation ≡ Some source → Among mount world.mounts) where
   abbrev after_all : ℕ → Option ℕ
   after_all = with_new_groups nat_eq group world.master named
 
