@@ -17,7 +17,7 @@ use Rattle.vt_mount_laws.specs.Mounts.Copies.{ServeAsCopies}
 use Rattle.vt_mount_laws.specs.Mounts.Standing.{AllStand}
 use Rattle.vt_mount_laws.proofs.MountsAttached.{found_attached, none_pushes, push_keeps}
 use Rattle.vt_mount_laws.proofs.MountsFound.{found_in, found_or_none, found_there, number_found, placed_among}
-use Rattle.vt_mount_laws.proofs.MountsNumbered.{copies_keep_numbers, is_one_of}
+use Rattle.vt_mount_laws.proofs.MountsNumbered.{copies_keep_numbers, is_one_of, same_origin}
 use Rattle.vt_mount_laws.proofs.MountsPlaces.{stands_there}
 use Rattle.vt_mount_laws.proofs.MountsReplaced.{found_itself}
 
@@ -158,18 +158,14 @@ module _ (world : World ℕ) (new : Copies ℕ) (place : Location ℕ) (mounts :
     top_stands origin m e =
         let found = found_copy part origin is_part m in
         on_parent (copy part origin).number (place_at part)
-        (
-        ap (λ (x : Mount ℕ). x.place) found
-        ∙ ap (λ b. Some (landing part origin.place b)) e
-        )
+        (ap (λ (x : Mount ℕ). x.place) found ∙ ap (λ b. Some (landing part origin.place b)) e)
         (ap (λ (x : Mount ℕ). x.namespace) found ∙ sym in_its) stands
 
     copies_stand : (number : ℕ) → Hangs mounts number → (origin : Mount ℕ) → Among origin mounts
         → origin.number ≡ number → Stands nat_eq after (copy part origin).number
     copies_stand number (from_top first rest list) origin m same =
         top_stands origin m
-        (ap (λ (ms : List (Mount ℕ)).
-        holds_of (λ (t : Twig ℕ). nat_eq origin.number t.origin.number) (first_of_list (map twig ms))) list
+        (ap (λ (ms : List (Mount ℕ)). holds_of (same_origin (twig origin)) (first_of_list (map twig ms))) list
         ∙ eq-eqb origin.number first.number same)
     copies_stand number (from_parent other on l f later) origin m same =
         by (is_top nat_eq tree origin.number) refl (copies_stand on.mount later)
@@ -186,17 +182,13 @@ module _ (world : World ℕ) (new : Copies ℕ) (place : Location ℕ) (mounts :
             let parent = hanging mounts on.mount later in
             let place_is : origin.place ≡ Some on = ap (λ (x : Mount ℕ). x.place) (sym it) ∙ f in
             on_parent (copy part origin).number (place_on_copy nat_eq new tree part.number on)
-            (
-            ap (λ (x : Mount ℕ). x.place) found
+            (ap (λ (x : Mount ℕ). x.place) found
             ∙ ap (λ b. Some (landing part origin.place b)) e
-            ∙ ap (λ p. Some (landing part p false)) place_is
-            )
-            (
-            ap (λ (x : Mount ℕ). x.namespace) found
+            ∙ ap (λ p. Some (landing part p false)) place_is)
+            (ap (λ (x : Mount ℕ). x.namespace) found
             ∙ sym (ap (λ k. (mount_numbered nat_eq after k).namespace)
             (ap (copy_number nat_eq new tree part.number) (sym parent.2))
-            ∙ ap (λ (x : Mount ℕ). x.namespace) (found_copy part parent.0 is_part parent.1))
-            )
+            ∙ ap (λ (x : Mount ℕ). x.namespace) (found_copy part parent.0 is_part parent.1)))
             (subst (Stands nat_eq after) (ap (copy_number nat_eq new tree part.number) parent.2)
             (parent_stands parent.0 parent.1 parent.2))
 
