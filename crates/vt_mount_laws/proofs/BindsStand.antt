@@ -1,15 +1,13 @@
 -- Binds, new mounts and moves: each mount goes on standing, with a number of its own.
-use Rattle.std.proofs.Common.{◌≡◌, refl, sym, ap, subst, ◌∙◌, true, false, nat_eq, ℕ, Bool, List, None, Option, Some, [], eq-eqb, eqb-true, filter, flat_map, inl, inr, length, map, not, suc, true≢false, zero, ⊎_elim, ◌++◌, ◌∷◌, ◌⊎◌}
-use Rattle.std.specs.Prelude.{All}
+use Rattle.std.proofs.Common.{◌≡◌, refl, sym, ap, subst, ◌∙◌, true, false, nat_eq, ℕ, Bool, List, None, Option, Some, [], eq-eqb, eqb-true, filter, flat_map, inl, inr, length, suc, true≢false, zero, ⊎_elim, ◌∷◌, ◌⊎◌}
 use Rattle.vt_spec.proofs.Lists.{Among, all_from_among, among-flat_map, among-from_filter, among-from_flat_map, among_from_all}
 use Rattle.vt_spec.specs.Machine.Attach.{bind_tree, bindable_children, bindable_tree, bound, parts_of, stands_under}
-use Rattle.vt_spec.specs.Machine.Lists.{Fresh, holds_of}
-use Rattle.vt_spec.specs.Machine.Mounts.{Location, Mount, MountFlags, children, is_unbindable, stands_on}
+use Rattle.vt_spec.specs.Machine.Lists.{holds_of}
+use Rattle.vt_spec.specs.Machine.Mounts.{Location, Mount, children, stands_on}
 use Rattle.vt_spec.specs.Machine.Outcome.Mounting.{moved_tree, new_mount, with_new_filesystem}
-use Rattle.vt_spec.specs.Machine.World.{Filesystem, World, mount_at, mount_numbered}
+use Rattle.vt_spec.specs.Machine.World.{Filesystem, World}
 use Rattle.vt_spec.specs.Machine.WorldLaws.{Stands}
 use Rattle.vt_spec.specs.Machine.WorldLaws.Stands.{at_root, on_parent}
-use Rattle.vt_mount_laws.specs.Mounts.Attaching.{OneNumberAMount}
 use Rattle.vt_mount_laws.specs.Mounts.Standing.{AllStand, BindsKeepNumbers, BindsKeepPlaces, BindsKeepStanding, MovesKeepNumbers, NewMountsKeepNumbers, NewMountsKeepPlaces, NewMountsKeepStanding}
 use Rattle.vt_mount_laws.proofs.Attaching.{Hangs, all_stand_after}
 use Rattle.vt_mount_laws.proofs.Attaching.Hangs.{from_parent, from_top}
@@ -17,13 +15,13 @@ use Rattle.vt_mount_laws.proofs.AttachingPlaces.{places_after, two_of}
 use Rattle.vt_mount_laws.proofs.MountsAttached.{supplied}
 use Rattle.vt_mount_laws.proofs.MountsFound.{number_found}
 use Rattle.vt_mount_laws.proofs.MountsNumbered.{attach_keeps_numbers, supplies_serve_as_copies}
-use Rattle.vt_mount_laws.proofs.Standing.{binds_take_each_once, trees_have_each_once}
+use Rattle.vt_mount_laws.proofs.Standing.{bindable_child, binds_take_each_once, trees_have_each_once}
 
 -- What a bind takes hangs together
 module _ (world : World ℕ) (whole : List (Mount ℕ)) where
   -- a child of what hangs
-  child_hangs : (number : ℕ) (child : Mount ℕ) → Among child (children nat_eq world.mounts number) → Among child whole → Hangs whole number
-      → Hangs whole child.number
+  child_hangs : (number : ℕ) (child : Mount ℕ) → Among child (children nat_eq world.mounts number) → Among child whole
+      → Hangs whole number → Hangs whole child.number
   child_hangs number child m there hung = by child.place refl
     where
       on : stands_on nat_eq number child ≡ true
@@ -33,10 +31,9 @@ module _ (world : World ℕ) (whole : List (Mount ℕ)) where
       by None e = absurd (true≢false (sym on ∙ ap (holds_of (λ p. nat_eq number p.mount)) e))
       by (Some place) e =
           from_parent child place there e
-          (subst (Hangs whole) (eqb-true number place.mount (sym (ap (holds_of (λ p. nat_eq number p.mount)) e) ∙ on)) hung)
-
-  bindable : (number : ℕ) (child : Mount ℕ) → Among child (bindable_children nat_eq world.mounts number) → Among child (children nat_eq world.mounts number)
-  bindable number child m = (among-from_filter (λ (y : Mount ℕ). not (is_unbindable y.propagation)) (children nat_eq world.mounts number) child m).0
+          (subst (Hangs whole)
+          (eqb-true number place.mount (sym (ap (holds_of (λ p. nat_eq number p.mount)) e) ∙ on))
+          hung)
 
   first_of_tree : (fuel : ℕ) (mount : Mount ℕ) → Among mount (bindable_tree nat_eq fuel world.mounts mount)
   first_of_tree zero mount = inl refl
@@ -45,7 +42,8 @@ module _ (world : World ℕ) (whole : List (Mount ℕ)) where
   tree_hangs : (fuel : ℕ) (mount : Mount ℕ) → Hangs whole mount.number
       → ((x : Mount ℕ) → Among x (bindable_tree nat_eq fuel world.mounts mount) → Among x whole)
       → (x : Mount ℕ) → Among x (bindable_tree nat_eq fuel world.mounts mount) → Hangs whole x.number
-  tree_hangs zero mount hung all x m = ⊎_elim (λ e. subst (λ (y : Mount ℕ). Hangs whole y.number) (sym e) hung) (λ none. absurd none) m
+  tree_hangs zero mount hung all x m =
+      ⊎_elim (λ e. subst (λ (y : Mount ℕ). Hangs whole y.number) (sym e) hung) (λ none. absurd none) m
   tree_hangs (suc fuel) mount hung all x m =
       ⊎_elim
       (λ e. subst (λ (y : Mount ℕ). Hangs whole y.number) (sym e) hung)
@@ -55,14 +53,21 @@ module _ (world : World ℕ) (whole : List (Mount ℕ)) where
       let within : (y : Mount ℕ) → Among y (bindable_tree nat_eq fuel world.mounts from.0) → Among y whole =
       λ y n. all y (inr (among-flat_map (bindable_tree nat_eq fuel world.mounts) below from.0 y from.1 n)) in
       tree_hangs fuel from.0
-      (child_hangs mount.number from.0 (bindable mount.number from.0 from.1) (within from.0 (first_of_tree fuel from.0)) hung)
+      (child_hangs mount.number from.0 (bindable_child world mount.number from.0 from.1)
+      (within from.0 (first_of_tree fuel from.0)) hung)
       within x from.2)
       m
 
-bind_hangs : (world : World ℕ) (source : Location ℕ) (recursive : Bool) (x : Mount ℕ) → Among x (bind_tree nat_eq world source recursive)
-    → Hangs (bind_tree nat_eq world source recursive) x.number
-bind_hangs world source false x m =
-    ⊎_elim (λ e. subst (λ (y : Mount ℕ). Hangs (bind_tree nat_eq world source false) y.number) (sym e) (from_top (bound nat_eq world source) [] refl)) (λ none. absurd none) m
+one_hangs : (mount x : Mount ℕ) → Among x (mount ∷ []) → Hangs (mount ∷ []) x.number
+one_hangs mount x m =
+    ⊎_elim
+    (λ e. subst (λ (y : Mount ℕ). Hangs (mount ∷ []) y.number) (sym e) (from_top mount [] refl))
+    (λ none. absurd none)
+    m
+
+bind_hangs : (world : World ℕ) (source : Location ℕ) (recursive : Bool) (x : Mount ℕ)
+    → Among x (bind_tree nat_eq world source recursive) → Hangs (bind_tree nat_eq world source recursive) x.number
+bind_hangs world source false x m = one_hangs (bound nat_eq world source) x m
 bind_hangs world source true x m =
     let whole = bind_tree nat_eq world source true in
     let fuel = length world.mounts in
@@ -79,15 +84,19 @@ bind_hangs world source true x m =
     let within : (y : Mount ℕ) → Among y (bindable_tree nat_eq fuel world.mounts from.0) → Among y whole =
     λ y n. inr (among-flat_map (bindable_tree nat_eq fuel world.mounts) chosen from.0 y from.1 n) in
     tree_hangs world whole fuel from.0
-    (child_hangs world whole source.mount from.0 (bindable world whole source.mount from.0 child) (within from.0 (first_of_tree world whole fuel from.0)) at_source)
+    (child_hangs world whole source.mount from.0 (bindable_child world source.mount from.0 child)
+    (within from.0 (first_of_tree world whole fuel from.0)) at_source)
     within x from.2)
     m
 
 bind_top : (world : World ℕ) (source : Location ℕ) (recursive : Bool)
     → (rest : List (Mount ℕ)) × (bind_tree nat_eq world source recursive ≡ bound nat_eq world source ∷ rest)
 bind_top world source false = ([], refl)
-bind_top world source true =
-    (flat_map (bindable_tree nat_eq (length world.mounts) world.mounts) (filter (stands_under nat_eq world source) (bindable_children nat_eq world.mounts source.mount)), refl)
+bind_top world source true = (
+  flat_map (bindable_tree nat_eq (length world.mounts) world.mounts)
+      (filter (stands_under nat_eq world source) (bindable_children nat_eq world.mounts source.mount)),
+  refl,
+)
 
 pub binds_keep_standing : BindsKeepStanding
 binds_keep_standing world fresh source place recursive serves one nowhere all there =
@@ -100,11 +109,13 @@ binds_keep_standing world fresh source place recursive serves one nowhere all th
 
 pub binds_keep_numbers : BindsKeepNumbers
 binds_keep_numbers world fresh source place recursive serves one all =
-    attach_keeps_numbers world fresh place false (bind_tree nat_eq world source recursive) serves (binds_take_each_once world source recursive one all) one
+    attach_keeps_numbers world fresh place false (bind_tree nat_eq world source recursive) serves
+    (binds_take_each_once world source recursive one all) one
 
 pub moves_keep_numbers : MovesKeepNumbers
 moves_keep_numbers world fresh source place serves one all =
-    attach_keeps_numbers world fresh place true (moved_tree nat_eq world source) serves (trees_have_each_once world source.mount one all) one
+    attach_keeps_numbers world fresh place true (moved_tree nat_eq world source) serves
+    (trees_have_each_once world source.mount one all) one
 
 -- A new mount
 stands_with_filesystem : (world : World ℕ) (filesystem : Filesystem ℕ) (number : ℕ) → Stands nat_eq world number
@@ -113,48 +124,68 @@ stands_with_filesystem world filesystem number (at_root it e) = at_root it e
 stands_with_filesystem world filesystem number (on_parent it place e f stands) =
     on_parent it place e f (stands_with_filesystem world filesystem place.mount stands)
 
+all_stand_with_filesystem : (world : World ℕ) (filesystem : Filesystem ℕ) → AllStand world
+    → AllStand (with_new_filesystem world filesystem)
+all_stand_with_filesystem world filesystem all =
+    let larger = with_new_filesystem world filesystem in
+    all_from_among (λ (x : Mount ℕ). Stands nat_eq larger x.number) world.mounts (λ x m.
+    stands_with_filesystem world filesystem x.number
+    (among_from_all (λ (y : Mount ℕ). Stands nat_eq world y.number) world.mounts all x m))
+
 pub new_mounts_keep_standing : NewMountsKeepStanding
 new_mounts_keep_standing world fresh place filesystem flags serves one nowhere all there =
     let larger = with_new_filesystem world filesystem in
     let mount = new_mount filesystem.number filesystem.files.tree.root flags in
     all_stand_after larger (supplied larger fresh place (mount ∷ [])) place (mount ∷ [])
     (supplies_serve_as_copies larger fresh (parts_of nat_eq larger place) (mount ∷ []) serves) refl one there
-    (λ x m. ⊎_elim (λ e. subst (λ (y : Mount ℕ). Hangs (mount ∷ []) y.number) (sym e) (from_top mount [] refl)) (λ none. absurd none) m)
-    mount [] refl nowhere
-    (all_from_among (λ (x : Mount ℕ). Stands nat_eq larger x.number) world.mounts (λ x m.
-    stands_with_filesystem world filesystem x.number (among_from_all (λ (y : Mount ℕ). Stands nat_eq world y.number) world.mounts all x m)))
+    (one_hangs mount) mount [] refl nowhere (all_stand_with_filesystem world filesystem all)
 
 pub new_mounts_keep_numbers : NewMountsKeepNumbers
 new_mounts_keep_numbers world fresh place filesystem flags serves one =
-    attach_keeps_numbers (with_new_filesystem world filesystem) fresh place false (new_mount filesystem.number filesystem.files.tree.root flags ∷ []) serves refl one
+    attach_keeps_numbers (with_new_filesystem world filesystem) fresh place false
+    (new_mount filesystem.number filesystem.files.tree.root flags ∷ []) serves refl one
 
 -- What a bind takes but for its top are mounts of the world
-bindable_there : (world : World ℕ) (fuel : ℕ) (mount x : Mount ℕ) → Among x (bindable_tree nat_eq fuel world.mounts mount)
-    → (x ≡ mount) ⊎ Among x world.mounts
+bindable_there : (world : World ℕ) (fuel : ℕ) (mount x : Mount ℕ)
+    → Among x (bindable_tree nat_eq fuel world.mounts mount) → (x ≡ mount) ⊎ Among x world.mounts
 bindable_there world zero mount x m = ⊎_elim inl (λ none. absurd none) m
 bindable_there world (suc fuel) mount x m =
     ⊎_elim inl
     (λ later.
-    let from = among-from_flat_map (bindable_tree nat_eq fuel world.mounts) (bindable_children nat_eq world.mounts mount.number) x later in
-    let child = among-from_filter (λ (y : Mount ℕ). not (is_unbindable y.propagation)) (children nat_eq world.mounts mount.number) from.0 from.1 in
-    let there = (among-from_filter (stands_on nat_eq mount.number) world.mounts from.0 child.0).0 in
-    inr (⊎_elim (λ e. subst (λ y. Among y world.mounts) (sym e) there) (λ l. l) (bindable_there world fuel from.0 x from.2)))
+    let from =
+    among-from_flat_map (bindable_tree nat_eq fuel world.mounts)
+    (bindable_children nat_eq world.mounts mount.number) x later in
+    let child = bindable_child world mount.number from.0 from.1 in
+    let there = (among-from_filter (stands_on nat_eq mount.number) world.mounts from.0 child).0 in
+    inr (⊎_elim
+    (λ e. subst (λ y. Among y world.mounts) (sym e) there)
+    (λ l. l)
+    (bindable_there world fuel from.0 x from.2)))
     m
 
-bind_there : (world : World ℕ) (source : Location ℕ) (recursive : Bool) (x : Mount ℕ) → Among x (bind_tree nat_eq world source recursive)
+not_itself : (a b : Mount ℕ) → nat_eq a.number b.number ≡ false → a ≡ b → ⊥
+not_itself a b differ e = true≢false (sym (eq-eqb a.number b.number (ap (λ (y : Mount ℕ). y.number) e)) ∙ differ)
+
+bind_there : (world : World ℕ) (source : Location ℕ) (recursive : Bool) (x : Mount ℕ)
+    → Among x (bind_tree nat_eq world source recursive)
     → nat_eq x.number (bound nat_eq world source).number ≡ false → Among x world.mounts
 bind_there world source false x m differ =
-    ⊎_elim (λ e. absurd (true≢false (sym (eq-eqb x.number (bound nat_eq world source).number (ap (λ (y : Mount ℕ). y.number) e)) ∙ differ))) (λ none. absurd none) m
+    ⊎_elim (λ e. absurd (not_itself x (bound nat_eq world source) differ e)) (λ none. absurd none) m
 bind_there world source true x m differ =
     ⊎_elim
-    (λ e. absurd (true≢false (sym (eq-eqb x.number (bound nat_eq world source).number (ap (λ (y : Mount ℕ). y.number) e)) ∙ differ)))
+    (λ e. absurd (not_itself x (bound nat_eq world source) differ e))
     (λ later.
     let under = bindable_children nat_eq world.mounts source.mount in
-    let from = among-from_flat_map (bindable_tree nat_eq (length world.mounts) world.mounts) (filter (stands_under nat_eq world source) under) x later in
+    let from =
+    among-from_flat_map (bindable_tree nat_eq (length world.mounts) world.mounts)
+    (filter (stands_under nat_eq world source) under) x later in
     let child = (among-from_filter (stands_under nat_eq world source) under from.0 from.1).0 in
-    let kept = (among-from_filter (λ (y : Mount ℕ). not (is_unbindable y.propagation)) (children nat_eq world.mounts source.mount) from.0 child).0 in
+    let kept = bindable_child world source.mount from.0 child in
     let there = (among-from_filter (stands_on nat_eq source.mount) world.mounts from.0 kept).0 in
-    ⊎_elim (λ e. subst (λ y. Among y world.mounts) (sym e) there) (λ l. l) (bindable_there world (length world.mounts) from.0 x from.2))
+    ⊎_elim
+    (λ e. subst (λ y. Among y world.mounts) (sym e) there)
+    (λ l. l)
+    (bindable_there world (length world.mounts) from.0 x from.2))
     m
 
 pub binds_keep_places : BindsKeepPlaces
@@ -166,7 +197,8 @@ binds_keep_places world fresh source place recursive serves one nowhere all ther
     (binds_take_each_once world source recursive one all) one there (bind_hangs world source recursive)
     (bound nat_eq world source) top.0 top.1 nowhere all
     (λ a b m n not_top nor_top differ.
-    two_of world.mounts places a b (bind_there world source recursive a m not_top) (bind_there world source recursive b n nor_top) differ)
+    two_of world.mounts places a b (bind_there world source recursive a m not_top)
+    (bind_there world source recursive b n nor_top) differ)
     places free
 
 pub new_mounts_keep_places : NewMountsKeepPlaces
@@ -175,10 +207,7 @@ new_mounts_keep_places world fresh place filesystem flags serves one nowhere all
     let mount = new_mount filesystem.number filesystem.files.tree.root flags in
     places_after larger (supplied larger fresh place (mount ∷ [])) place (mount ∷ [])
     (supplies_serve_as_copies larger fresh (parts_of nat_eq larger place) (mount ∷ []) serves) refl one there
-    (λ x m. ⊎_elim (λ e. subst (λ (y : Mount ℕ). Hangs (mount ∷ []) y.number) (sym e) (from_top mount [] refl)) (λ none. absurd none) m)
-    mount [] refl nowhere
-    (all_from_among (λ (x : Mount ℕ). Stands nat_eq larger x.number) world.mounts (λ x m.
-    stands_with_filesystem world filesystem x.number (among_from_all (λ (y : Mount ℕ). Stands nat_eq world y.number) world.mounts all x m)))
+    (one_hangs mount) mount [] refl nowhere (all_stand_with_filesystem world filesystem all)
     (λ a b m n not_top nor_top differ.
-    ⊎_elim (λ e. absurd (true≢false (sym (eq-eqb a.number mount.number (ap (λ (y : Mount ℕ). y.number) e)) ∙ not_top))) (λ none. absurd none) m)
+    ⊎_elim (λ e. absurd (not_itself a mount not_top e)) (λ none. absurd none) m)
     places free

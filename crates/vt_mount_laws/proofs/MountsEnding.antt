@@ -1,12 +1,12 @@
 -- The places below places come to an end through changes of types and flags.
-use Rattle.std.proofs.Common.{◌≡◌, refl, sym, ap, subst, ◌∙◌, true, false, zero, suc, nat_eq, ℕ, Bool, List, None, Option, Some, [], cond, find, inl, inr, is_some, length, not, option_map, true≢false, unwrap_or, ◌&&◌, ◌||◌, ◌∷◌}
-use Rattle.vt_spec.specs.Machine.Mounts.{Location, Mount, no_mount, mount_in}
+use Rattle.std.proofs.Common.{◌≡◌, refl, sym, ap, subst, ◌∙◌, zero, suc, nat_eq, ℕ, None, Option, Some, is_some, length, not, option_map, ◌&&◌}
+use Rattle.vt_spec.specs.Machine.Mounts.{Location, Mount, mount_in}
 use Rattle.vt_spec.proofs.Lists.{Among, among-map, among_from_list_all, chain_ends, chain_goes_on, is_among_numbers, last_of_chain, list_all_from_among}
 use Rattle.vt_mount_laws.specs.Mounts.Conditions.{FlagsKeepPlacesEnding, InheritanceKeepsPlacesEnding, OneNumberEach, TypeKeepsPlacesEnding}
 use Rattle.vt_mount_laws.specs.Mounts.Unmounting.{PlacesEnd}
 use Rattle.vt_spec.specs.Machine.World.{World, mount_at, mount_numbered}
 use Rattle.vt_spec.specs.Machine.Lists.{chain, is_among, last_or, same_option}
-use Rattle.vt_mount_laws.proofs.MountsFound.{found-map, numbers-map, number_found}
+use Rattle.vt_mount_laws.proofs.MountsFound.{found-map, found_there, numbers-map, number_found}
 use Rattle.vt_mount_laws.proofs.MountsReplaced.{found_itself, numbers-with_mount, one_number_by_numbers, related-with_mount}
 use Rattle.vt_spec.specs.Machine.Receives.{inheriting, regrouped}
 use Rattle.vt_spec.specs.Machine.WorldLaws.{last_below, stands_in_its_namespace}
@@ -56,7 +56,7 @@ module _ (world after : World ℕ) (alike : (number : ℕ) → StandsAlike (moun
       let found : mount_numbered nat_eq after mount.number ≡ mount =
       found_itself after.mounts (one_number_by_numbers world.mounts after.mounts numbers one) mount m in
       let r : StandsAlike old mount = subst (StandsAlike old) found (alike mount.number) in
-      let there : Among old world.mounts = found_among world.mounts mount.number
+      let there : Among old world.mounts = found_there world.mounts mount.number
       (ap (is_among nat_eq mount.number) (sym numbers) ∙ is_among_numbers (numbers_of after.mounts) mount.number (among-map (λ (x : Mount ℕ). x.number) after.mounts mount m)) in
       let long : length after.mounts ≡ length world.mounts =
       sym (length-map after.mounts (λ (x : Mount ℕ). x.number)) ∙ ap length numbers ∙ length-map world.mounts (λ (x : Mount ℕ). x.number) in
@@ -66,20 +66,6 @@ module _ (world after : World ℕ) (alike : (number : ℕ) → StandsAlike (moun
       ∙ ap (λ s. not (is_some (last_below nat_eq world old).place) && same_option nat_eq mount.namespace s) last.namespace
       ∙ ap (λ s. not (is_some (last_below nat_eq world old).place) && same_option nat_eq s (last_below nat_eq world old).namespace) r.namespace
       ∙ among_from_list_all (stands_in_its_namespace nat_eq world) world.mounts ends old there)
-    where
-      found_among : (mounts : List (Mount ℕ)) (number : ℕ) → is_among nat_eq number (numbers_of mounts) ≡ true
-          → Among (mount_in nat_eq mounts number) mounts
-      found_among [] number h = absurd (true≢false (sym h))
-      found_among (first ∷ rest) number h = found_by (nat_eq number first.number) refl (found_among rest number)
-        where
-          found_by : (b : Bool) → nat_eq number first.number ≡ b
-              → (is_among nat_eq number (numbers_of rest) ≡ true → Among (mount_in nat_eq rest number) rest)
-              → Among (mount_in nat_eq (first ∷ rest) number) (first ∷ rest)
-          found_by true e later = inl (ap (λ b. unwrap_or (cond b (Some first) (find (λ (x : Mount ℕ). nat_eq number x.number) rest)) (no_mount number)) e)
-          found_by false e later =
-              inr (subst (λ x. Among x rest)
-              (sym (ap (λ b. unwrap_or (cond b (Some first) (find (λ (x : Mount ℕ). nat_eq number x.number) rest)) (no_mount number)) e))
-              (later (sym (ap (λ b. b || is_among nat_eq number (numbers_of rest)) e) ∙ h)))
 
 pub type_keeps_places_ending : TypeKeepsPlacesEnding
 type_keeps_places_ending world fresh number word recursive one ends =

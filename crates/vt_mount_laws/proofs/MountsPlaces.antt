@@ -2,6 +2,7 @@
 use Rattle.std.proofs.Common.{◌≡◌, refl, sym, ap, ◌∙◌, ⊎_elim, ℕ, nat_eq, eqb-true, eq-eqb, Bool, true, false, true≢false, cond, ◌&&◌, List, [], ◌∷◌, Option, Some, None, is_some, find}
 use Rattle.std.specs.List.{list_any}
 use Rattle.std.proofs.lemmas.Bool.{and_parts, and_from, or_parts}
+use Rattle.std.proofs.lemmas.Option.{same_Some}
 use Rattle.vt_spec.specs.Machine.Lists.{any_pair, holds_of, same_option}
 use Rattle.vt_spec.specs.Machine.Mounts.{Location, Mount, child_at, same_location, stands_at}
 use Rattle.vt_spec.specs.Machine.WorldLaws.{stand_at_one_place}
@@ -72,3 +73,9 @@ place_of_both a b h = by a.place refl b.place refl h
     by (Some p) e (Some q) f t =
         let same : p ≡ q = same_location_is p q (sym (ap (λ x. is_some x && same_option (same_location nat_eq) x b.place) e ∙ ap (same_option (same_location nat_eq) (Some p)) f) ∙ t) in
         (p, e, f ∙ ap Some (sym same))
+
+-- only one mount stands at a place
+pub one_stander : (mounts : List (Mount ℕ)) → OneMountAPlace mounts → (a b : Mount ℕ) → Among a mounts
+    → Among b mounts → (place : Location ℕ) → a.place ≡ Some place → b.place ≡ Some place → a ≡ b
+one_stander mounts one a b m n place e f =
+    same_Some a b (sym (found_at_its_place mounts one a m place e) ∙ found_at_its_place mounts one b n place f)

@@ -33,12 +33,17 @@ flags_are_of_one world here flags number other =
 
 -- Types
 all_but_type_itself : (mount : Mount ℕ) → KeepsAllButType mount mount
-all_but_type_itself mount = record { number = refl; namespace = refl; place = refl; filesystem = refl; root = refl; flags = refl }
+all_but_type_itself mount =
+    record { number = refl; namespace = refl; place = refl; filesystem = refl; root = refl; flags = refl }
 
 -- mounts that take their types at once
 module _ (world : World ℕ) (group : ℕ → ℕ) (word : TypeWord) (named : List (Mount ℕ)) where
   abbrev pub retype : Mount ℕ → Mount ℕ
   retype = retyped_mount nat_eq group word named
+
+  abbrev pub retyped_if : Mount ℕ → Bool → Mount ℕ
+  retyped_if mount chosen =
+      if chosen then (record mount { propagation = type_after (group mount.number) word mount.propagation }) else mount
 
   -- before groups inherit
   abbrev pub between : World ℕ
@@ -53,7 +58,7 @@ module _ (world : World ℕ) (group : ℕ → ℕ) (word : TypeWord) (named : Li
   pub retype_keeps : (mount : Mount ℕ) → KeepsAllButType mount (retype mount)
   retype_keeps mount = by (is_named mount)
     where
-      by : (b : Bool) → KeepsAllButType mount (if b then (record mount { propagation = type_after (group mount.number) word mount.propagation }) else mount)
+      by : (b : Bool) → KeepsAllButType mount (retyped_if mount b)
       by true = record { number = refl; namespace = refl; place = refl; filesystem = refl; root = refl; flags = refl }
       by false = all_but_type_itself mount
 
@@ -63,41 +68,57 @@ module _ (world : World ℕ) (group : ℕ → ℕ) (word : TypeWord) (named : Li
       ∙ numbers-map retype (λ mount. (retype_keeps mount).number) world.mounts
 
   pub retyped_found : (number : ℕ) → is_mount world number ≡ true
-      → mount_numbered nat_eq next_world number ≡ inheriting nat_eq between (retype (mount_numbered nat_eq world number))
+      → mount_numbered nat_eq next_world number
+      ≡ inheriting nat_eq between (retype (mount_numbered nat_eq world number))
   retyped_found number there =
       ap (λ mounts. mount_in nat_eq mounts number) (mounts-regrouped between)
       ∙ found-map (inheriting nat_eq between) (λ mount. refl) between.mounts number refl
-      ∙ ap (inheriting nat_eq between) (found-map_there retype (λ mount. (retype_keeps mount).number) world.mounts number there)
+      ∙ ap (inheriting nat_eq between)
+      (found-map_there retype (λ mount. (retype_keeps mount).number) world.mounts number there)
 
-  retyped_missing : (number : ℕ) → is_mount world number ≡ false → mount_numbered nat_eq next_world number ≡ mount_numbered nat_eq world number
+  retyped_missing : (number : ℕ) → is_mount world number ≡ false
+      → mount_numbered nat_eq next_world number ≡ mount_numbered nat_eq world number
   retyped_missing number missing =
       none_numbered next_world.mounts number (ap (is_among nat_eq number) numbers-retyped ∙ missing)
       ∙ sym (none_numbered world.mounts number missing)
 
-  pub keeps_all_but_type : (number : ℕ) → KeepsAllButType (mount_numbered nat_eq world number) (mount_numbered nat_eq next_world number)
+  pub keeps_all_but_type : (number : ℕ)
+      → KeepsAllButType (mount_numbered nat_eq world number) (mount_numbered nat_eq next_world number)
   keeps_all_but_type number = by (is_mount world number) refl
     where
-      by : (b : Bool) → is_mount world number ≡ b → KeepsAllButType (mount_numbered nat_eq world number) (mount_numbered nat_eq next_world number)
+      by : (b : Bool) → is_mount world number ≡ b
+          → KeepsAllButType (mount_numbered nat_eq world number) (mount_numbered nat_eq next_world number)
       by true there =
           let r = retype_keeps (mount_numbered nat_eq world number) in
           subst (KeepsAllButType (mount_numbered nat_eq world number)) (sym (retyped_found number there))
-          (record { number = r.number; namespace = r.namespace; place = r.place; filesystem = r.filesystem; root = r.root; flags = r.flags })
+          (record {
+            number = r.number;
+            namespace = r.namespace;
+            place = r.place;
+            filesystem = r.filesystem;
+            root = r.root;
+            flags = r.flags;
+          })
       by false missing =
-          subst (KeepsAllButType (mount_numbered nat_eq world number)) (sym (retyped_missing number missing)) (all_but_type_itself (mount_numbered nat_eq world number))
+          subst (KeepsAllButType (mount_numbered nat_eq world number)) (sym (retyped_missing number missing))
+          (all_but_type_itself (mount_numbered nat_eq world number))
 
-  named_by_number : (number : ℕ) → is_named (mount_numbered nat_eq world number) ≡ is_among nat_eq number (numbers_of named)
+  named_by_number : (number : ℕ)
+      → is_named (mount_numbered nat_eq world number) ≡ is_among nat_eq number (numbers_of named)
   named_by_number number =
       ap (λ n. list_any (λ (other : Mount ℕ). nat_eq n other.number) named) (number_found world.mounts number)
       ∙ by named
     where
-      by : (list : List (Mount ℕ)) → list_any (λ (other : Mount ℕ). nat_eq number other.number) list ≡ is_among nat_eq number (numbers_of list)
+      by : (list : List (Mount ℕ))
+          → list_any (λ (other : Mount ℕ). nat_eq number other.number) list ≡ is_among nat_eq number (numbers_of list)
       by [] = refl
       by (first ∷ rest) = ap (λ b. nat_eq number first.number || b) (by rest)
 
   pub members_between : (one : ℕ) → has_members nat_eq next_world.mounts one ≡ has_members nat_eq between.mounts one
   members_between one = members-regrouped between one
 
-  pub kept_where_master : (kind : Propagation ℕ) → has_its_master next_world kind ≡ true → inherited nat_eq between kind ≡ kind
+  pub kept_where_master : (kind : Propagation ℕ) → has_its_master next_world kind ≡ true
+      → inherited nat_eq between kind ≡ kind
   kept_where_master (Shared one) h = refl
   kept_where_master (Slave above) h = inherited_kept between above (sym (members_between above) ∙ h)
   kept_where_master Private h = refl
@@ -113,7 +134,7 @@ module _ (world : World ℕ) (group : ℕ → ℕ) (word : TypeWord) (named : Li
       by true there =
           let one = mount_numbered nat_eq world number in
           ap (λ m. m.propagation) (retyped_found number there)
-          ∙ ap (λ b. inherited nat_eq between (if b then (record one { propagation = type_after (group one.number) word one.propagation }) else one).propagation)
+          ∙ ap (λ b. inherited nat_eq between (retyped_if one b).propagation)
           (named_by_number number ∙ unnamed)
           ∙ kept_where_master one.propagation has
       by false missing = ap (λ m. m.propagation) (retyped_missing number missing)
@@ -124,9 +145,10 @@ module _ (world : World ℕ) (group : ℕ → ℕ) (word : TypeWord) (named : Li
   type_of_named number there chosen =
       let one = mount_numbered nat_eq world number in
       ap (λ m. m.propagation) (retyped_found number there)
-      ∙ ap (λ b. inherited nat_eq between (if b then (record one { propagation = type_after (group one.number) word one.propagation }) else one).propagation)
+      ∙ ap (λ b. inherited nat_eq between (retyped_if one b).propagation)
       (named_by_number number ∙ chosen)
-      ∙ ap (λ n. inherited nat_eq between (type_after (group n) word one.propagation)) (number_found world.mounts number)
+      ∙ ap (λ n. inherited nat_eq between (type_after (group n) word one.propagation))
+      (number_found world.mounts number)
 
   pub retyping_is_of_mounts : KeepsAllButMounts world next_world
   retyping_is_of_mounts = by (list_any (lost_a_group nat_eq between) between.mounts)
@@ -141,22 +163,26 @@ groups_by world fresh number recursive = numbers_by nat_eq fresh (named_mounts n
 
 pub type_is_all_that_changes : TypeIsAllThatChanges
 type_is_all_that_changes world fresh number word recursive other =
-    keeps_all_but_type world (groups_by world fresh number recursive) word (named_mounts nat_eq world number recursive) other
+    keeps_all_but_type world (groups_by world fresh number recursive) word
+    (named_mounts nat_eq world number recursive) other
 
 pub types_are_of_mounts : TypesAreOfMounts
 types_are_of_mounts world fresh number word recursive =
-    retyping_is_of_mounts world (groups_by world fresh number recursive) word (named_mounts nat_eq world number recursive)
+    retyping_is_of_mounts world (groups_by world fresh number recursive) word
+    (named_mounts nat_eq world number recursive)
 
 pub type_is_of_the_named : TypeIsOfTheNamed
 type_is_of_the_named world fresh number word recursive other unnamed has =
-    type_of_unnamed world (groups_by world fresh number recursive) word (named_mounts nat_eq world number recursive) other unnamed has
+    type_of_unnamed world (groups_by world fresh number recursive) word (named_mounts nat_eq world number recursive)
+    other unnamed has
 
 pub type_is_taken : TypeIsTaken
 type_is_taken world fresh number word recursive other there chosen has =
     let group = groups_by world fresh number recursive in
     let named = named_mounts nat_eq world number recursive in
     type_of_named world group word named other there chosen
-    ∙ kept_where_master world group word named (type_after (group other) word (mount_numbered nat_eq world other).propagation) has
+    ∙ kept_where_master world group word named
+    (type_after (group other) word (mount_numbered nat_eq world other).propagation) has
 
 pub alone_is_private : AloneIsPrivate
 alone_is_private world fresh number one there shared no_master none =
@@ -166,7 +192,8 @@ alone_is_private world fresh number one there shared no_master none =
     let chosen : is_among nat_eq number (numbers_of named) ≡ true =
     is_among_numbers (numbers_of named) number (inl (sym (number_found world.mounts number))) in
     let above : middle.master one ≡ None =
-    ap (λ kind. with_master nat_eq world.master (group (mount_numbered nat_eq world number).number) (master_after kind) one) shared
+    ap (λ kind. with_master nat_eq world.master (group (mount_numbered nat_eq world number).number)
+    (master_after kind) one) shared
     ∙ either_none (nat_eq one (group (mount_numbered nat_eq world number).number)) no_master in
     type_of_named world group ToSlave named number there chosen
     ∙ ap (λ kind. inherited nat_eq middle (type_after (group number) ToSlave kind)) shared

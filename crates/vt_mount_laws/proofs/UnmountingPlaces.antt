@@ -3,16 +3,15 @@ use Rattle.std.proofs.Common.{◌≡◌, refl, sym, ap, subst, ◌∙◌, true, 
 use Rattle.vt_spec.proofs.Lists.{Among, among-filter, among-from_filter_map, among-from_map, among_numbers, chain_ends, chain_goes_on, last_of_chain, none_among, pair-map}
 use Rattle.vt_mount_laws.specs.Mounts.Conditions.{AreApart, OneMountEachPlace, UnmountLeavesOneMountAPlace}
 use Rattle.vt_spec.specs.Machine.Mounts.{Location, child_at, children, is_shared, mount_in, stands_at, stands_on, Mount}
-use Rattle.vt_mount_laws.specs.Mounts.Places.{OneMountAPlace}
 use Rattle.vt_spec.specs.Machine.World.{World, mount_at, mount_numbered}
 use Rattle.vt_spec.specs.Machine.Detach.{after_going, goes_at, going, going_at, going_from, is_going, may_go, only_cover, place_below, place_left, taken_away}
 use Rattle.vt_spec.specs.Machine.Lists.{any_pair, chain, holds_of, last_or}
 use Rattle.vt_mount_laws.proofs.UnmountingGoes.{child_goes}
 use Rattle.std.proofs.lemmas.Bool.{false_from_ne_true}
 use Rattle.std.specs.Prelude.{filter_map, if◌then◌else◌}
-use Rattle.vt_mount_laws.proofs.MountsPlaces.{found_at_its_place, one_place_of_two, place_of_both}
+use Rattle.vt_mount_laws.proofs.MountsPlaces.{one_place_of_two, one_stander, place_of_both}
 use Rattle.vt_mount_laws.proofs.MountsReplaced.{found_itself}
-use Rattle.vt_mount_laws.proofs.MountsFound.{found_or_none, number_found}
+use Rattle.vt_mount_laws.proofs.MountsFound.{number_found, placed_among}
 use Rattle.vt_mount_laws.proofs.Unmounting.{going_is_detached, middle, staying_is_placed}
 use Rattle.vt_spec.specs.Machine.Receives.{inheriting}
 use Rattle.vt_mount_laws.proofs.Groups.{mounts-regrouped}
@@ -26,17 +25,6 @@ data Falls (world : World ℕ) (gone : List ℕ) (mount : Mount ℕ) : Location 
   direct : (rest : Location ℕ) → mount.place ≡ Some rest → Falls world gone mount rest
   down : (place rest : Location ℕ) → Falls world gone mount place → is_going nat_eq gone place.mount ≡ true
       → (mount_at nat_eq world place).place ≡ Some rest → Falls world gone mount rest
-
--- only one mount stands at a place
-one_stander : (mounts : List (Mount ℕ)) → OneMountAPlace mounts → (a b : Mount ℕ) → Among a mounts → Among b mounts → (place : Location ℕ)
-    → a.place ≡ Some place → b.place ≡ Some place → a ≡ b
-one_stander mounts one a b m n place e f = same_Some a b (sym (found_at_its_place mounts one a m place e) ∙ found_at_its_place mounts one b n place f)
-
--- a mount that has a place is one of the world's
-placed_among : (mounts : List (Mount ℕ)) (number : ℕ) (place : Location ℕ) → (mount_in nat_eq mounts number).place ≡ Some place
-    → Among (mount_in nat_eq mounts number) mounts
-placed_among mounts number place e =
-    ⊎_elim (λ m. m) (λ none. absurd (true≢false (sym (ap is_some e) ∙ ap (λ m. is_some m.place) none))) (found_or_none mounts number)
 
 -- one child alone
 one_child_alone : (mount : Mount ℕ) (list : List (Mount ℕ)) → only_cover nat_eq mount list ≡ true → (a b : Mount ℕ) → Among a list

@@ -1,5 +1,6 @@
--- A change of flags is of one mount, a change of type of the mounts that it names: mount(2) with MS_REMOUNT and MS_BIND, and with
--- MS_SHARED, MS_SLAVE, MS_PRIVATE or MS_UNBINDABLE; mount_namespaces(7), "propagation type transitions".
+-- A change of flags is of one mount, a change of type of the mounts that it names: mount(2) with MS_REMOUNT and
+-- MS_BIND, and with MS_SHARED, MS_SLAVE, MS_PRIVATE or MS_UNBINDABLE; mount_namespaces(7), "propagation type
+-- transitions".
 use Rattle.std.specs.Prelude.{Bool, None, false, true, ℕ, nat_eq, ◌≡◌}
 use Rattle.vt_spec.specs.Machine.Calls.{TypeWord}
 use Rattle.vt_spec.specs.Machine.Calls.TypeWord.{ToSlave}
@@ -17,7 +18,8 @@ use Rattle.vt_mount_laws.specs.Mounts.Unmounting.{KeepsAllButMounts, has_its_mas
 abbrev pub FlagsAreSet : Type 0
 FlagsAreSet =
     (world : World ℕ) (here : Location ℕ) (flags : MountFlags) → is_mount world here.mount ≡ true
-    → mount_numbered nat_eq (with_flags nat_eq world here flags) here.mount ≡ record (mount_at nat_eq world here) { flags = flags }
+    → mount_numbered nat_eq (with_flags nat_eq world here flags) here.mount
+    ≡ record (mount_at nat_eq world here) { flags = flags }
 
 -- Each other mount has the record that it had.
 abbrev pub FlagsAreOfOne : Type 0
@@ -38,26 +40,32 @@ pub record KeepsAllButType (before later : Mount ℕ) : Type 0 where
 abbrev pub TypeIsAllThatChanges : Type 0
 TypeIsAllThatChanges =
     (world : World ℕ) (fresh : Fresh ℕ) (one : ℕ) (word : TypeWord) (recursive : Bool) (number : ℕ)
-    → KeepsAllButType (mount_numbered nat_eq world number) (mount_numbered nat_eq (with_type nat_eq fresh world one word recursive) number)
+    → KeepsAllButType (mount_numbered nat_eq world number)
+    (mount_numbered nat_eq (with_type nat_eq fresh world one word recursive) number)
 
 -- and a mount that is not named its type too, unless it is a slave of a group that lost its last member.
 abbrev pub TypeIsOfTheNamed : Type 0
 TypeIsOfTheNamed =
     (world : World ℕ) (fresh : Fresh ℕ) (one : ℕ) (word : TypeWord) (recursive : Bool) (number : ℕ)
     → is_among nat_eq number (numbers_of (named_mounts nat_eq world one recursive)) ≡ false
-    → has_its_master (with_type nat_eq fresh world one word recursive) (mount_numbered nat_eq world number).propagation ≡ true
-    → (mount_numbered nat_eq (with_type nat_eq fresh world one word recursive) number).propagation ≡ (mount_numbered nat_eq world number).propagation
+    → has_its_master (with_type nat_eq fresh world one word recursive) (mount_numbered nat_eq world number).propagation
+    ≡ true
+    → (mount_numbered nat_eq (with_type nat_eq fresh world one word recursive) number).propagation
+    ≡ (mount_numbered nat_eq world number).propagation
 
--- A named mount takes the type of the table, with a new group of its own where it needs one, unless it was made a slave of a group
--- that so lost its last member.
+-- A named mount takes the type of the table, with a new group of its own where it needs one, unless it was made a slave
+-- of a group that so lost its last member.
 abbrev pub TypeIsTaken : Type 0
 TypeIsTaken =
-    (world : World ℕ) (fresh : Fresh ℕ) (one : ℕ) (word : TypeWord) (recursive : Bool) (number : ℕ) → is_mount world number ≡ true
+    (world : World ℕ) (fresh : Fresh ℕ) (one : ℕ) (word : TypeWord) (recursive : Bool) (number : ℕ)
+    → is_mount world number ≡ true
     → is_among nat_eq number (numbers_of (named_mounts nat_eq world one recursive)) ≡ true
     → has_its_master (with_type nat_eq fresh world one word recursive)
-    (type_after (numbers_by nat_eq fresh (named_mounts nat_eq world one recursive) number) word (mount_numbered nat_eq world number).propagation) ≡ true
+    (type_after (numbers_by nat_eq fresh (named_mounts nat_eq world one recursive) number) word
+    (mount_numbered nat_eq world number).propagation) ≡ true
     → (mount_numbered nat_eq (with_type nat_eq fresh world one word recursive) number).propagation
-    ≡ type_after (numbers_by nat_eq fresh (named_mounts nat_eq world one recursive) number) word (mount_numbered nat_eq world number).propagation
+    ≡ type_after (numbers_by nat_eq fresh (named_mounts nat_eq world one recursive) number) word
+    (mount_numbered nat_eq world number).propagation
 
 -- A shared mount that is made a slave, and was alone in a group without a master, is private.
 abbrev pub AloneIsPrivate : Type 0

@@ -12,7 +12,8 @@ use Rattle.vt_mount_laws.specs.Mounts.Attaching.{OneNumberAMount, numbers_of}
 abbrev pub IsOneOf : List (Mount ℕ) → ℕ → Type 0
 IsOneOf mounts number = is_among nat_eq number (numbers_of mounts) ≡ true
 
--- No number of a copy is in use, and two copies have two numbers: those at one part of two mounts, and those at two parts.
+-- No number of a copy is in use, and two copies have two numbers: those at one part of two mounts, and those at two
+-- parts.
 pub record ServeAsCopies (world : World ℕ) (parts mounts : List (Mount ℕ)) (new : Copies ℕ) : Type 0 where
   pub unused : (part origin : ℕ) → IsOneOf parts part → IsOneOf mounts origin
       → is_among nat_eq (new.copy part origin) (numbers_in_use world) ≡ false
@@ -44,5 +45,5 @@ SuppliesServeAsImages =
 abbrev pub CopiesKeepNumbers : Type 0
 CopiesKeepNumbers =
     (world : World ℕ) (new : Copies ℕ) (place : Location ℕ) (moves : Bool) (mounts : List (Mount ℕ))
-    → ServeAsCopies world (parts_of nat_eq world place) mounts new → OneNumberAMount mounts → OneNumberAMount world.mounts
-    → OneNumberAMount (attached_by nat_eq world new place moves mounts).mounts
+    → ServeAsCopies world (parts_of nat_eq world place) mounts new → OneNumberAMount mounts
+    → OneNumberAMount world.mounts → OneNumberAMount (attached_by nat_eq world new place moves mounts).mounts

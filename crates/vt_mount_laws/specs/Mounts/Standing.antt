@@ -34,21 +34,21 @@ BindsTakeEachOnce =
 -- Mounts keep standing, each with a number of its own, where those that are handed in are not in use: through a bind,
 abbrev pub BindsKeepStanding : Type 0
 BindsKeepStanding =
-    (world : World ℕ) (fresh : Fresh ℕ) (source place : Location ℕ) (recursive : Bool) → Serves nat_eq world fresh → OneNumberEach world
-    → NowhereOrAttached world → AllStand world → is_mount world place.mount ≡ true
+    (world : World ℕ) (fresh : Fresh ℕ) (source place : Location ℕ) (recursive : Bool) → Serves nat_eq world fresh
+    → OneNumberEach world → NowhereOrAttached world → AllStand world → is_mount world place.mount ≡ true
     → AllStand (bound_at nat_eq fresh world source place recursive)
 
 abbrev pub BindsKeepNumbers : Type 0
 BindsKeepNumbers =
-    (world : World ℕ) (fresh : Fresh ℕ) (source place : Location ℕ) (recursive : Bool) → Serves nat_eq world fresh → OneNumberEach world
-    → AllStand world → OneNumberEach (bound_at nat_eq fresh world source place recursive)
+    (world : World ℕ) (fresh : Fresh ℕ) (source place : Location ℕ) (recursive : Bool) → Serves nat_eq world fresh
+    → OneNumberEach world → AllStand world → OneNumberEach (bound_at nat_eq fresh world source place recursive)
 
 -- through a new mount,
 abbrev pub NewMountsKeepStanding : Type 0
 NewMountsKeepStanding =
     (world : World ℕ) (fresh : Fresh ℕ) (place : Location ℕ) (filesystem : Filesystem ℕ) (flags : MountFlags)
-    → Serves nat_eq (with_new_filesystem world filesystem) fresh → OneNumberEach world → NowhereOrAttached world → AllStand world
-    → is_mount world place.mount ≡ true → AllStand (mounted nat_eq fresh world place filesystem flags)
+    → Serves nat_eq (with_new_filesystem world filesystem) fresh → OneNumberEach world → NowhereOrAttached world
+    → AllStand world → is_mount world place.mount ≡ true → AllStand (mounted nat_eq fresh world place filesystem flags)
 
 abbrev pub NewMountsKeepNumbers : Type 0
 NewMountsKeepNumbers =
@@ -59,19 +59,21 @@ NewMountsKeepNumbers =
 -- and through a move, which hands numbers to the copies at receivers.
 abbrev pub MovesKeepNumbers : Type 0
 MovesKeepNumbers =
-    (world : World ℕ) (fresh : Fresh ℕ) (source place : Location ℕ) → Serves nat_eq world fresh → OneNumberEach world → AllStand world
-    → OneNumberEach (moved_to nat_eq fresh world source place)
+    (world : World ℕ) (fresh : Fresh ℕ) (source place : Location ℕ) → Serves nat_eq world fresh → OneNumberEach world
+    → AllStand world → OneNumberEach (moved_to nat_eq fresh world source place)
 
--- A bind and a new mount leave at most one mount at a place, where none stands at the destination: that is one over which no mount stands.
+-- A bind and a new mount leave at most one mount at a place, where none stands at the destination: that is one over
+-- which no mount stands.
 abbrev pub BindsKeepPlaces : Type 0
 BindsKeepPlaces =
-    (world : World ℕ) (fresh : Fresh ℕ) (source place : Location ℕ) (recursive : Bool) → Serves nat_eq world fresh → OneNumberEach world
-    → NowhereOrAttached world → AllStand world → is_mount world place.mount ≡ true → child_at nat_eq world.mounts place ≡ None
-    → OneMountEachPlace world → OneMountEachPlace (bound_at nat_eq fresh world source place recursive)
+    (world : World ℕ) (fresh : Fresh ℕ) (source place : Location ℕ) (recursive : Bool) → Serves nat_eq world fresh
+    → OneNumberEach world → NowhereOrAttached world → AllStand world → is_mount world place.mount ≡ true
+    → child_at nat_eq world.mounts place ≡ None → OneMountEachPlace world
+    → OneMountEachPlace (bound_at nat_eq fresh world source place recursive)
 
 abbrev pub NewMountsKeepPlaces : Type 0
 NewMountsKeepPlaces =
     (world : World ℕ) (fresh : Fresh ℕ) (place : Location ℕ) (filesystem : Filesystem ℕ) (flags : MountFlags)
-    → Serves nat_eq (with_new_filesystem world filesystem) fresh → OneNumberEach world → NowhereOrAttached world → AllStand world
-    → is_mount world place.mount ≡ true → child_at nat_eq world.mounts place ≡ None
+    → Serves nat_eq (with_new_filesystem world filesystem) fresh → OneNumberEach world → NowhereOrAttached world
+    → AllStand world → is_mount world place.mount ≡ true → child_at nat_eq world.mounts place ≡ None
     → OneMountEachPlace world → OneMountEachPlace (mounted nat_eq fresh world place filesystem flags)
