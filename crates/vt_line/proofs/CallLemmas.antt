@@ -1,6 +1,6 @@
 -- Calls by their names and words.
 use Rattle.std.specs.Global.{Vec}
-use Rattle.std.proofs.Common.{List, None, Option, Some, Result, Ok, Err, option_map, refl, subst, sym, ap, ◌≡◌, ◌∙◌, ◌∷◌, [], ℕ, IsSome, IsSomeAnd}
+use Rattle.std.proofs.Common.{List, None, Option, Some, Result, Err, option_map, refl, subst, sym, ap, ◌≡◌, ◌∙◌, ◌∷◌, [], ℕ, IsSome, IsSomeAnd}
 use Rattle.vt_spec.specs.Machine.Calls.{Call}
 use Rattle.vt_spec.specs.Machine.Lists.{then_some}
 use Rattle.vt_spec.specs.Machine.Script.{no_more, path_alone, path_word, two_paths, word_then}

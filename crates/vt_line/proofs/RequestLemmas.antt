@@ -1,5 +1,5 @@
 -- What a line asks for, by its texts.
-use Rattle.std.proofs.Common.{inl, inr, IfSome, is_some, Bool, List, None, Option, Some, Err, [], ap, arith, codes, cond, false, length, lit≤, option_map, refl, subst, suc, sym, true, unwrap_or, zero, ℕ, ◌<◌, ◌≡◌, ◌≤◌, ◌∙◌, ◌∷◌, leb, IsSomeAnd}
+use Rattle.std.proofs.Common.{inl, inr, IfSome, is_some, Bool, List, None, Option, Some, Err, [], ap, arith, codes, cond, false, length, lit≤, option_map, refl, subst, suc, sym, true, unwrap_or, ℕ, ◌<◌, ◌≡◌, ◌≤◌, ◌∙◌, ◌∷◌, leb, IsSomeAnd}
 use Rattle.std.specs.List.{list_any}
 use Rattle.std.specs.Str.{bytes_eq}
 use Rattle.std.proofs.lemmas.Bool.Decides.{nat_tests}
@@ -9,7 +9,7 @@ use Rattle.vt_spec.specs.Machine.Calls as asked
 use Rattle.vt_spec.specs.Machine.Calls.Call.{MountOverlay, MountPlain}
 use Rattle.vt_spec.specs.Machine.Lists.{then_some}
 use Rattle.vt_spec.specs.Machine.Mounts.{plain_flags}
-use Rattle.vt_spec.specs.Machine.Script.{Request, access_word, asked_by, attribute_words, bytes_word, call_asked, call_words, capabilities_word, chown_call, creation_words, descriptor_word, descriptor_words, directive_asked, each_of, file_call_names, files, flags_or_plain, flags_word, fork_words, groups_word, identity_word, kept_or_identity, may_have, mode_word, mount_words, mounting_words, naming_words, no_more, offset_word, options_of, path_alone, path_word, raw_tokens, request_of, request_of_texts, task_word, task_words, token_text, two_paths, type_word, who_of, with_first, word_then, yes_or_no_word}
+use Rattle.vt_spec.specs.Machine.Script.{Request, access_word, asked_by, attribute_words, bytes_word, call_asked, call_words, capabilities_word, chown_call, creation_words, descriptor_word, descriptor_words, directive_asked, each_of, file_call_names, files, flags_or_plain, flags_word, fork_words, groups_word, identity_word, kept_or_identity, may_have, mode_word, mount_words, mounting_words, naming_words, no_more, offset_word, options_of, path_alone, path_word, raw_tokens, request_of, request_of_texts, task_word, task_words, token_text, two_paths, type_word, word_then, yes_or_no_word}
 use Rattle.vt_spec.specs.Machine.Script.Request.{Calling}
 use Rattle.vt_spec.specs.Machine.Script.Version.{One}
 use Rattle.vt_spec.specs.Machine.Script.Who.{Nobody, Someone}

@@ -1,7 +1,6 @@
 -- The texts of a line, free of capacities, and how a token's bytes are read.
-use Rattle.std.specs.Prelude.{List, None, Option, [], drop, if◌then◌else◌, length, map, nat_le, option_map, sum, take, ℕ, ◌++◌, ◌∷◌, ◌≡◌}
+use Rattle.std.specs.Prelude.{List, None, Option, [], drop, if◌then◌else◌, length, map, nat_le, take, ℕ, ◌∷◌}
 use denote.Ref.{Bor}
-use Rattle.arrayvec.specs.ArrayVec.{ArrayVec}
 use Rattle.vt_spec.specs.Machine.Script as spec
 use Rattle.vt_spec.specs.Machine.Script.{each_of, raw_tokens, token_text}
 use Rattle.vt_line.specs.declared.token.Reading.{Reading}

@@ -79,7 +79,11 @@ impl Reading {
 pub fn is_unescaped(line: &[u8]) -> bool
     ensures { result ≡ list_all (λ byte. byte == 32 || is_plain byte) line.now }
 {
-    line.iter().all(|byte| *byte == b' ' || is_plain(*byte))
+    let mut unescaped = true;
+    for byte in line {
+        unescaped &= (*byte == b' ') | is_plain(*byte);
+    }
+    unescaped
 }
 
 /// The texts of a line without escapes, which are its tokens: they stand between spaces.

@@ -6,6 +6,7 @@ ghost use Rattle.vt_script.specs.Progress.{opening_moment, HasNoNewline};
 ghost use Rattle.vt_script.specs.Session.{moment, lines_begun, IsReading, Feeds, Closes, Replies};
 ghost use Rattle.vt_script.specs.SessionValue.{state_of};
 
+use memchr::memchr;
 use std::alloc::Global;
 use vt_calls::Calls;
 use vt_io::line::LineBuffer;
@@ -32,7 +33,7 @@ fn split_line(bytes: &[u8]) -> Option<(&[u8], &[u8])>
     ensures { MatchOption result (HasNoNewline bytes.now)
         (λ parts. (bytes.now ≡ parts.0.now ++ 10 ∷ parts.1.now) × HasNoNewline parts.0.now) }
 {
-    let newline = bytes.iter().position(|byte| *byte == b'\n')?;
+    let newline = memchr(b'\n', bytes)?;
     let (line, after) = bytes.split_at(newline);
     Some((line, &after[1..]))
 }

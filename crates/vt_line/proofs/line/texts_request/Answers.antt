@@ -1,4 +1,4 @@
-use Rattle.std.proofs.Common.{◌≡◌, ◌∷◌, ◌<◌, List, None, Some, Err, length, ℕ, option_map, sym, ap, ◌∙◌, subst, rules}
+use Rattle.std.proofs.Common.{◌≡◌, ◌∷◌, ◌<◌, Err, length, option_map, sym, ap, ◌∙◌, subst, rules}
 use Rattle.vt_spec.specs.Machine.Script.{files, request_of_texts, task_word}
 use Rattle.vt_spec.specs.Machine.Script.Request.{Calling}
 use Rattle.vt_request.specs.Requests.{call_of}

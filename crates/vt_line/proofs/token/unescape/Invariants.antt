@@ -1,4 +1,4 @@
-use Rattle.std.proofs.Common.{◌≡◌, ◌≤◌, ◌+◌, ◌++◌, drop, length}
+use Rattle.std.proofs.Common.{◌≡◌, ◌≤◌, ◌+◌, drop, length}
 use Rattle.vt_spec.specs.Machine.Script.{spelled}
 use Rattle.vt_spec.specs.Machine.Script.Reading.{Between}
 use Rattle.vt_line.specs.Tokens.{reading_of}

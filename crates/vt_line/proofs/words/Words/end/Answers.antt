@@ -1,4 +1,4 @@
-use Rattle.std.proofs.Common.{map, sym, ◌∙◌}
+use Rattle.std.proofs.Common.{sym, ◌∙◌}
 use Rattle.std.proofs.lemmas.List.{length-map}
 use Rattle.vt_line.specs.Tokens.{texts_of}
 use Rattle.vt_line.proofs.WordLemmas.{words_end}
