@@ -111,11 +111,20 @@ impl<'a> Model for PathText<'a> {
     ghost invariant = { λ path. IsWalkable path.text.now };
 }
 
-// Whether a word of the text is over its limit. A text within that limit has no such word, and is not looked through.
+// Whether a word of the text is over its limit. Of each stretch of one byte more than that limit only what follows
+// its last slash is looked at: a word that is too long would leave no slash there.
 pub(crate) fn has_long_word(text: &[u8]) -> bool
     ensures { result ≡ list_any (λ word. nat_lt longest_name (length word)) (words text.now) }
 {
-    text.len() > LONGEST_NAME && Words { text }.any(|word| word.len() > LONGEST_NAME)
+    let mut rest = text;
+    while rest.len() > LONGEST_NAME {
+        let start = after_last_slash(&rest[..LONGEST_NAME + 1]);
+        if start == 0 {
+            return true;
+        }
+        rest = &rest[start..];
+    }
+    false
 }
 
 // Whether the text, or one of its words, is over its limit.
