@@ -81,7 +81,7 @@ module _ (world : World ℕ) (conditions : IsWorld nat_eq world) (overlay : Over
   pub are_open : AreOpen layers
   are_open depth layer e =
       let open_one = is_open depth layer e in (
-        subst IsTree (sym open_one.is) (all_found (λ filesystem. IsTree filesystem.files.tree) open_one.test world.filesystems conditions.trees open_one.filesystem open_one.found),
+        subst IsTree (sym open_one.is) (all_found (λ filesystem. IsTree filesystem.files.tree) open_one.test world.filesystems conditions.files.trees open_one.filesystem open_one.found),
         open_one.directory,
       )
 
@@ -92,8 +92,8 @@ module _ (world : World ℕ) (conditions : IsWorld nat_eq world) (overlay : Over
       let shows = (computed layers (name ∷ path) seen).0 s in
       let has = shows.has_uncut.0 in
       let open_one = is_open seen.layer has.0 has.1 in
-      let tree = all_found (λ filesystem. IsTree filesystem.files.tree) open_one.test world.filesystems conditions.trees open_one.filesystem open_one.found in
-      let listed = all_found (λ filesystem. ListsNumbers nat_eq filesystem.files) open_one.test world.filesystems conditions.numbers open_one.filesystem open_one.found in
+      let tree = all_found (λ filesystem. IsTree filesystem.files.tree) open_one.test world.filesystems conditions.files.trees open_one.filesystem open_one.found in
+      let listed = all_found (λ filesystem. ListsNumbers nat_eq filesystem.files) open_one.test world.filesystems conditions.files.numbers open_one.filesystem open_one.found in
       let within = in_sum open_one.test world.filesystems open_one.filesystem open_one.found in
       let last = last_of (name ∷ path) (not_empty name path) in
       let longer = sym (length_longer last.0 last.1) ∙ ap length last.2 in
@@ -222,4 +222,4 @@ remount_shows_the_same fresh before later number left anew conditions is later_c
     let anew_shows = (made_merged later later_conditions anew are_layers fresh distinct).shows path in
     objects_alike _ _ (node_shown nat_eq before left path)
     (objects_alike _ _ (node_shown nat_eq later anew path) anew_shows alike)
-    ((conditions.overlays_merge number left is).shows path)
+    ((conditions.overlays.overlays_merge number left is).shows path)

@@ -65,18 +65,18 @@ module _ (world : World ℕ) (conditions : IsWorld nat_eq world) (number : ℕ) 
   files = merged.files
 
   pub overlay_tree : IsTree files.tree
-  overlay_tree = all_found (λ filesystem. IsTree filesystem.files.tree) (λ filesystem. nat_eq number filesystem.number) world.filesystems conditions.trees merged (overlay_found world number overlay is)
+  overlay_tree = all_found (λ filesystem. IsTree filesystem.files.tree) (λ filesystem. nat_eq number filesystem.number) world.filesystems conditions.files.trees merged (overlay_found world number overlay is)
 
   pub overlay_numbers : ListsNumbers nat_eq files
-  overlay_numbers = all_found (λ filesystem. ListsNumbers nat_eq filesystem.files) (λ filesystem. nat_eq number filesystem.number) world.filesystems conditions.numbers merged (overlay_found world number overlay is)
+  overlay_numbers = all_found (λ filesystem. ListsNumbers nat_eq filesystem.files) (λ filesystem. nat_eq number filesystem.number) world.filesystems conditions.files.numbers merged (overlay_found world number overlay is)
 
   pub overlay_merges : IsMerged nat_eq world merged overlay
-  overlay_merges = conditions.overlays_merge number overlay is
+  overlay_merges = conditions.overlays.overlays_merge number overlay is
 
   plain_layers : list_all (is_plain_layer nat_eq world) (layers_of overlay) ≡ true
   plain_layers =
       sym (ap (overlay_or true (λ o. list_all (is_plain_layer nat_eq world) (layers_of o))) is)
-      ∙ all_pass_found (of_overlay true (λ o. list_all (is_plain_layer nat_eq world) (layers_of o))) (λ filesystem. nat_eq number filesystem.number) world.filesystems conditions.plain_layers merged (overlay_found world number overlay is)
+      ∙ all_pass_found (of_overlay true (λ o. list_all (is_plain_layer nat_eq world) (layers_of o))) (λ filesystem. nat_eq number filesystem.number) world.filesystems conditions.overlays.plain_layers merged (overlay_found world number overlay is)
 
   -- its layers may be mounted
   pub overlay_layers : AreLayers world overlay
@@ -87,7 +87,7 @@ module _ (world : World ℕ) (conditions : IsWorld nat_eq world) (number : ℕ) 
           and_first (not (is_empty_list overlay.lowers)) (nat_le (length overlay.lowers) most_lowers)
           (and_first (not (is_empty_list overlay.lowers) && nat_le (length overlay.lowers) most_lowers) (same_bool (is_some overlay.upper) (is_some overlay.work))
           (sym (ap (overlay_or true has_fit_layers) is)
-          ∙ all_pass_found (of_overlay true has_fit_layers) (λ filesystem. nat_eq number filesystem.number) world.filesystems conditions.fit_layers merged (overlay_found world number overlay is)))
+          ∙ all_pass_found (of_overlay true has_fit_layers) (λ filesystem. nat_eq number filesystem.number) world.filesystems conditions.overlays.fit_layers merged (overlay_found world number overlay is)))
 
       some_lower : (above lowers : List (Layer ℕ)) → not (is_empty_list lowers) ≡ true → above ++ lowers ≢ []
       some_lower [] [] e none = true≢false (sym e)

@@ -20,8 +20,8 @@ use Rattle.vt_spec.specs.Machine.WorldLaws.Stands.{at_root, on_parent}
 pub worlds_have_trees : WorldsHaveTrees
 worlds_have_trees world is =
     all_from_among (λ f. IsListedTree f.files) world.filesystems (λ f m. record {
-      tree = among_from_all (λ g. IsTree g.files.tree) world.filesystems is.trees f m;
-      numbers = among_from_all (λ g. ListsNumbers nat_eq g.files) world.filesystems is.numbers f m;
+      tree = among_from_all (λ g. IsTree g.files.tree) world.filesystems is.files.trees f m;
+      numbers = among_from_all (λ g. ListsNumbers nat_eq g.files) world.filesystems is.files.numbers f m;
     })
 
 -- what is found is there, or stands for none
@@ -44,13 +44,13 @@ module _ (world : World ℕ) (is : IsWorld nat_eq world) where
       by true e = e
       by false e =
           absurd (true≢false
-          (sym placed ∙ (nowhere_parts mount (passes is_nowhere_or_attached world.mounts is.nowhere mount m) e).0))
+          (sym placed ∙ (nowhere_parts mount (passes is_nowhere_or_attached world.mounts is.mounts.nowhere mount m) e).0))
 
   on_attached : (mount : Mount ℕ) → Among mount world.mounts → (place : Location ℕ) → mount.place ≡ Some place
       → is_some (mount_at nat_eq world place).namespace ≡ true
   on_attached mount m place p =
-      by (among_from_all (λ (x : Mount ℕ). Stands nat_eq world x.number) world.mounts is.standing mount m)
-      (found_itself world.mounts is.one_number mount m)
+      by (among_from_all (λ (x : Mount ℕ). Stands nat_eq world x.number) world.mounts is.mounts.standing mount m)
+      (found_itself world.mounts is.mounts.one_number mount m)
     where
       by : Stands nat_eq world mount.number → mount_numbered nat_eq world mount.number ≡ mount
           → is_some (mount_at nat_eq world place).namespace ≡ true
@@ -64,8 +64,8 @@ module _ (world : World ℕ) (is : IsWorld nat_eq world) where
 
 pub mounts_of_worlds_stand : MountsOfWorldsStand
 mounts_of_worlds_stand world is = record {
-  one_number = is.one_number;
-  nowhere = is.nowhere;
+  one_number = is.mounts.one_number;
+  nowhere = is.mounts.nowhere;
   on_attached = all_pass (stands_on_attached world) world.mounts (λ mount m. by mount m mount.place refl);
 }
   where
@@ -98,7 +98,7 @@ uppers_of_worlds_are_plain world is =
     all_from_among (λ f. is_overlay f ≡ true → All (λ merged. has_upper_in f.number merged ≡ false) world.filesystems) world.filesystems
     (λ f m overlay. all_from_among (λ merged. has_upper_in f.number merged ≡ false) world.filesystems
     (λ merged n. by f m overlay merged.overlay
-    (passes (of_overlay true (λ o. list_all (is_plain_layer nat_eq world) (layers_of o))) world.filesystems is.plain_layers merged n)))
+    (passes (of_overlay true (λ o. list_all (is_plain_layer nat_eq world) (layers_of o))) world.filesystems is.overlays.plain_layers merged n)))
   where
     by : (f : Filesystem ℕ) → Among f world.filesystems → is_overlay f ≡ true → (o : Option (Overlay ℕ))
         → overlay_or true (λ overlay. list_all (is_plain_layer nat_eq world) (layers_of overlay)) o ≡ true
@@ -124,6 +124,6 @@ uppers_of_worlds_are_plain world is =
             same true g =
                 absurd (true≢false
                 (sym is_one
-                ∙ ap is_overlay (sym (found_filesystem world.filesystems is.one_filesystem f m))
+                ∙ ap is_overlay (sym (found_filesystem world.filesystems is.files.one_filesystem f m))
                 ∙ ap (λ n. is_overlay (filesystem_numbered nat_eq world n)) (eqb-true f.number layer.filesystem g)
                 ∙ plain_layer layer e))

@@ -53,7 +53,7 @@ listed_place test (Some l) place h e = ap test (sym (ap (λ o. unwrap_or o l) e)
 pub worlds_are_standing : WorldsAreStanding
 worlds_are_standing world conditions =
     let rooted = AllPass-from_list_all (has_its_root nat_eq world) world.mounts conditions.roots in
-    let found = found_by_number world.mounts conditions.one_number in
+    let found = found_by_number world.mounts conditions.mounts.one_number in
     record {
       roots = λ k d lt. root (slice_index_or world.mounts k d) (rooted k d lt) (found k d lt);
       places = λ k d lt. place (slice_index_or world.mounts k d) (rooted k d lt);

@@ -1,13 +1,13 @@
--- The conditions of a world, which every call keeps.
-use Rattle.std.specs.Prelude.{All, Bool, List, None, Option, Some, [], false, filter, is_some, length, map, nat_le, nat_lt, not, option_map, option_to_list, true, ℕ, ⊤, ◌&&◌, ◌+◌, ◌==◌, ◌||◌, ◌≡◌, ◌∷◌}
-use Rattle.std.specs.List.{list_all}
+-- The invariants of a world, which every call keeps.
+use Rattle.std.specs.Prelude.{All, Bool, List, None, Option, Some, [], false, filter, flat_map, is_some, length, map, nat_le, nat_lt, not, option_map, option_to_list, slice_get, true, ℕ, ⊤, ◌&&◌, ◌+◌, ◌==◌, ◌||◌, ◌≡◌, ◌∷◌}
+use Rattle.std.specs.List.{list_all, list_any}
 use Rattle.std.specs.Str.{bytes_eq}
 use Rattle.vt_spec.specs.declared.attributes.Kind.TheVariants.{File, White}
 use Rattle.vt_spec.specs.Machine.Attach.{has_too_many}
 use Rattle.vt_spec.specs.Machine.FileTree.{FileTree, is_kind_in, is_opaque_in, link_text}
-use Rattle.vt_spec.specs.Machine.Layers.{shown}
+use Rattle.vt_spec.specs.Machine.Layers.{node_at_path, shown}
 use Rattle.vt_spec.specs.Machine.Lists.{any_pair, chain, holds_of, is_among, is_empty_list, last_or, same_option, then_some}
-use Rattle.vt_spec.specs.Machine.Locked.{of_overlay}
+use Rattle.vt_spec.specs.Machine.Locked.{live_upper_and_work, of_overlay, overlaps_one_of, overlays}
 use Rattle.vt_spec.specs.Machine.Merging.{layer_node, merged_at, real_object}
 use Rattle.vt_spec.specs.Machine.Mounts.{Location, Mount, Propagation, same_location, source_of}
 use Rattle.vt_spec.specs.Machine.Mounts.Propagation.{Private, Shared, Slave, Unbindable}
@@ -19,11 +19,12 @@ use Rattle.vt_spec.specs.Machine.Outcome.Tasks.{deepest_name, most_forks}
 use Rattle.vt_spec.specs.Machine.Policy.{same_bool}
 use Rattle.vt_spec.specs.Machine.Receives.{groups_up, has_members}
 use Rattle.vt_spec.specs.PathText.{is_empty, longest_name, longest_path}
+use Rattle.vt_spec.specs.Machine.Settled.{settled}
 use Rattle.vt_spec.specs.Tree.{Content, Node, bytes_in, is_directory_node, names_in}
 use Rattle.vt_spec.specs.Tree.Content.{Directory, Regular, Symlink}
 use Rattle.vt_spec.specs.TreeLaws.{HasOwnParents, IsTree, led}
-use Rattle.vt_spec.specs.Machine.World.{Descriptor, Filesystem, Layer, Namespace, Overlay, Real, Task, World, all_locations, filesystem_numbered, is_directory_at, is_overlay, layers_of, mount_at, mount_numbered, mounts_of, open_layer, same_name, shown_layers}
-use Rattle.vt_spec.specs.Machine.World.Real.{Upper}
+use Rattle.vt_spec.specs.Machine.World.{Descriptor, Filesystem, Layer, Namespace, Overlay, Real, Task, World, all_locations, filesystem_numbered, is_directory_at, is_overlay, layers_of, mount_at, mount_numbered, mounts_of, node_at, open_layer, same_name, shown_layers}
+use Rattle.vt_spec.specs.Machine.World.Real.{Below, Upper}
 
 module _ {N : Type 0} where
   -- what the merged tree has of a shown object: its owner, mode, kind, bytes or text; a directory's names are the tree's
@@ -166,41 +167,91 @@ module _ {N : Type 0} (eq : N → N → Bool) where
       then_some (shown (map (open_layer eq world) (shown_layers overlay)) path)
       (layer_node (map (open_layer eq world) (shown_layers overlay)))
 
+  -- the inode of a real object: one of the upper layer, or what a path leads to in a lower one
+  abbrev pub real_node : World N → Overlay N → Real N → Option (Node N)
+  real_node world overlay (Upper object) =
+      then_some overlay.upper (λ layer. (filesystem_numbered eq world layer.filesystem).files.tree.node object)
+  real_node world overlay (Below layer path) =
+      then_some (slice_get overlay.lowers layer) (λ lower. node_at_path (open_layer eq world lower) path)
+
   pub record IsMerged (world : World N) (filesystem : Filesystem N) (overlay : Overlay N) : Type 0 where
     pub shows : (path : List (List ℕ)) → SameObject (then_some (number_at_path filesystem.files path) filesystem.files.tree.node) (node_shown world overlay path)
     pub names : (path : List (List ℕ)) (number : N) → number_at_path filesystem.files path ≡ Some number → overlay.real number ≡ real_shown world overlay path
+    -- each inode, with a name or without one, has a real object of its kind, owner, mode and content
+    pub real_objects : (number : N) → SameObject (filesystem.files.tree.node number) (then_some (overlay.real number) (real_node world overlay))
     pub no_whiteout : (number : N) → is_kind_in White (filesystem.files.tree.node number) ≡ false
     pub no_mark : (number : N) → is_opaque_in (filesystem.files.tree.node number) ≡ false
     pub upper_there : (number object : N) → overlay.real number ≡ Some (Upper object) → holds_of (λ layer. is_there world layer.filesystem object) overlay.upper ≡ true
     pub one_to_one : (a b : N) → is_some (overlay.real a) ≡ true → overlay.real a ≡ overlay.real b → a ≡ b
 
-  pub record IsWorld (world : World N) : Type 0 where
-    -- trees: path_resolution(7)
+  -- some inode lies or counts under both layers: overlayfs, "sharing and copying layers"
+  abbrev pub overlap : World N → Layer N → Layer N → Bool
+  overlap world a b = overlaps_one_of eq world (b ∷ []) a
+
+  abbrev pub live_lowers : World N → List (Layer N)
+  live_lowers world = flat_map (of_overlay [] (λ overlay. overlay.lowers)) (overlays world)
+
+  -- a location is a directory, seen through a mount of the namespace, or through one that is in none
+  abbrev pub is_directory_seen_in : World N → N → Location N → Bool
+  is_directory_seen_in world namespace location =
+      is_directory_at eq world location && list_all (eq namespace) (option_to_list (mount_at eq world location).namespace)
+
+  abbrev pub stands_on_directories : World N → Task N → Bool
+  stands_on_directories world task =
+      is_directory_seen_in world task.namespace task.root && is_directory_seen_in world task.namespace task.directory
+
+  abbrev pub has_regular_files_open : World N → Task N → Bool
+  has_regular_files_open world task =
+      list_all (λ descriptor. is_kind_in File (node_at eq world descriptor.location)) task.descriptors
+
+  -- Invariants of trees: path_resolution(7)
+  pub record TreeInvariants (world : World N) : Type 0 where
     pub trees : All (λ filesystem. IsTree filesystem.files.tree) world.filesystems
     pub own_parents : All (λ filesystem. HasOwnParents filesystem.files.tree) world.filesystems
     pub numbers : All (λ filesystem. ListsNumbers filesystem.files) world.filesystems
-    -- overlays: overlayfs
-    pub overlays_merge : (number : N) (overlay : Overlay N) → (filesystem_numbered eq world number).overlay ≡ Some overlay → IsMerged world (filesystem_numbered eq world number) overlay
     pub one_filesystem : any_pair (λ a b. eq a.number b.number) world.filesystems ≡ false
     pub fit_filesystems : list_all is_fit_filesystem world.filesystems ≡ true
+
+  -- Invariants of overlays: overlayfs. An upper or work directory has no inode in common with another layer of a live
+  -- overlay; so no object of an upper layer lies in one, nor under a lower layer of its own overlay.
+  pub record OverlayInvariants (world : World N) : Type 0 where
+    pub overlays_merge : (number : N) (overlay : Overlay N) → (filesystem_numbered eq world number).overlay ≡ Some overlay → IsMerged world (filesystem_numbered eq world number) overlay
     pub fit_layers : list_all (of_overlay true has_fit_layers) world.filesystems ≡ true
     pub plain_layers : list_all (of_overlay true (λ overlay. list_all (is_plain_layer world) (layers_of overlay))) world.filesystems ≡ true
-    -- mounts: mount_namespaces(7), sharedsubtree
+    pub changed_apart : any_pair (overlap world) (live_upper_and_work world) ≡ false
+    pub lowers_apart : list_any (overlaps_one_of eq world (live_lowers world)) (live_upper_and_work world) ≡ false
+
+  -- Invariants of mounts: mount_namespaces(7), sharedsubtree
+  pub record MountInvariants (world : World N) : Type 0 where
     pub one_number : any_pair (λ a b. eq a.number b.number) world.mounts ≡ false
     pub one_child : any_pair stand_at_one_place world.mounts ≡ false
     pub standing : All (λ mount. Stands eq world mount.number) world.mounts
     pub nowhere : list_all is_nowhere_or_attached world.mounts ≡ true
     pub groups : list_all (has_living_groups world) world.mounts ≡ true
-    pub roots : list_all (has_its_root world) world.mounts ≡ true
-    -- namespaces: mount_namespaces(7)
+
+  -- Invariants of namespaces: mount_namespaces(7)
+  pub record NamespaceInvariants (world : World N) : Type 0 where
     pub one_namespace : any_pair (λ a b. eq a.number b.number) world.namespaces ≡ false
     pub mounts_listed : list_all (λ mount. list_all (is_listed world) (option_to_list mount.namespace)) world.mounts ≡ true
     pub tasks_listed : list_all (λ task. is_listed world task.namespace) world.tasks ≡ true
     pub root_mounts : list_all (has_one_root world) world.namespaces ≡ true
-    -- tasks: credentials(7)
-    pub one_task : any_pair (λ a b. same_name a.name b.name) world.tasks ≡ false
-    pub locations_live : list_all (is_located_well world) (all_locations world) ≡ true
     pub namespaces_live : list_all (has_tasks eq world) world.namespaces ≡ true
-    -- limits
     pub few_mounts : has_too_many eq world ≡ false
+
+  -- Invariants of tasks: credentials(7), path_resolution(7), open(2)
+  pub record TaskInvariants (world : World N) : Type 0 where
+    pub one_task : any_pair (λ a b. same_name a.name b.name) world.tasks ≡ false
     pub small_tasks : list_all is_within_limits world.tasks ≡ true
+    pub locations_live : list_all (is_located_well world) (all_locations world) ≡ true
+    pub directories : list_all (stands_on_directories world) world.tasks ≡ true
+    pub open_files : list_all (has_regular_files_open world) world.tasks ≡ true
+
+  -- All of them. What mounts show is there, and nothing is left that nothing uses.
+  pub record IsWorld (world : World N) : Type 0 where
+    pub files : TreeInvariants world
+    pub overlays : OverlayInvariants world
+    pub mounts : MountInvariants world
+    pub namespaces : NamespaceInvariants world
+    pub tasks : TaskInvariants world
+    pub roots : list_all (has_its_root world) world.mounts ≡ true
+    pub nothing_unused : settled eq world ≡ world
