@@ -1,0 +1,4 @@
+-- The invariants of a world under calls and scripts.
+pub mod Calls
+pub mod Kept
+pub mod Permits

@@ -1,0 +1,39 @@
+-- The invariants of a world while a call is under way: after its permit is applied, and before what nothing uses is gone.
+use Rattle.std.specs.Prelude.{All, Some, false, nat_eq, true, ℕ, ◌≡◌}
+use Rattle.std.specs.List.{list_all}
+use Rattle.vt_spec.specs.Machine.Apply.{apply_unraised}
+use Rattle.vt_spec.specs.Machine.Lists.{Fresh}
+use Rattle.vt_spec.specs.Machine.Permits.{Permit}
+use Rattle.vt_spec.specs.Machine.Run.{Serves}
+use Rattle.vt_spec.specs.Machine.Settled.{settled}
+use Rattle.vt_spec.specs.Machine.World.{Task, World, is_overlay, task_called}
+use Rattle.vt_spec.specs.Machine.WorldLaws.{IsWorld, MountInvariants, NamespaceInvariants, TaskInvariants, TreeInvariants, has_its_root}
+use Rattle.vt_world_laws.specs.Worlds.Permits.{IsFitPermit}
+
+-- no filesystem is an overlay
+abbrev pub IsPlain : World ℕ → Type 0
+IsPlain world = All (λ filesystem. is_overlay filesystem ≡ false) world.filesystems
+
+-- what mounts show, and where they stand, is there
+abbrev pub MountsShow : World ℕ → Type 0
+MountsShow world = list_all (has_its_root nat_eq world) world.mounts ≡ true
+
+-- a world of plain filesystems in which something may be left that nothing uses
+pub record IsUnsettled (world : World ℕ) : Type 0 where
+  pub plain : IsPlain world
+  pub files : TreeInvariants nat_eq world
+  pub mounts : MountInvariants nat_eq world
+  pub namespaces : NamespaceInvariants nat_eq world
+  pub tasks : TaskInvariants nat_eq world
+  pub roots : MountsShow world
+
+-- a permit that fits is applied, and the invariant holds
+abbrev pub KeptByPermits : (World ℕ → Type 0) → Type 0
+KeptByPermits Invariant =
+    (world : World ℕ) (fresh : Fresh ℕ) (task : Task ℕ) (permit : Permit ℕ) → IsWorld nat_eq world → IsPlain world
+    → Serves nat_eq world fresh → task_called world task.name ≡ Some task → IsFitPermit fresh world task permit
+    → Invariant (apply_unraised nat_eq fresh world task permit).world
+
+-- Where all hold they do when what nothing uses is gone.
+abbrev pub SettlingLeavesAWorld : Type 0
+SettlingLeavesAWorld = (world : World ℕ) → IsUnsettled world → IsWorld nat_eq (settled nat_eq world) × IsPlain (settled nat_eq world)

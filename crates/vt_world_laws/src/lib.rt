@@ -1,0 +1,6 @@
+//! The invariants of a world, kept by every call of a script without overlays.
+//!
+//! Each public function is a theorem of the written policy, and does nothing.
+#![tactic(auto)]
+
+pub mod worlds;
