@@ -7,12 +7,13 @@ use Rattle.std.specs.Cmp.Lexicographic.{bytes_decides}
 use Rattle.std.proofs.lemmas.List.Sums.{sum_by-cons}
 use Rattle.std.proofs.lemmas.Option.{slice_get-map}
 use Rattle.vt_spec.specs.Machine.FileTree.{FileTree}
-use Rattle.vt_spec.specs.Machine.Layers.{OpenLayer, Shown, shown}
-use Rattle.vt_spec.specs.Machine.Lists.{Fresh, holds_of, odds, when}
+use Rattle.vt_spec.specs.Machine.Layers.{OpenLayer, Shown, node_at_path, shown}
+use Rattle.vt_spec.specs.Machine.Lists.{Fresh, holds_of, odds, then_some, when}
 use Rattle.vt_spec.specs.Machine.Merging.{merged_inodes, merged_objects, real_of}
 use Rattle.vt_spec.specs.Machine.Outcome.Mounting.{inode_count, overlay_filesystem}
-use Rattle.vt_spec.specs.Machine.World.{Filesystem, Layer, Overlay, World, filesystem_numbered, is_overlay, no_filesystem, open_layer, shown_layers}
-use Rattle.vt_spec.specs.Machine.WorldLaws.{IsMerged, IsWorld, ListsNumbers, SameObject, is_plain_layer, is_there, node_shown, same_content}
+use Rattle.vt_spec.specs.Machine.World.{Filesystem, Layer, Overlay, Real, World, filesystem_numbered, is_overlay, no_filesystem, open_layer, shown_layers}
+use Rattle.vt_spec.specs.Machine.World.Real.{Below, Upper}
+use Rattle.vt_spec.specs.Machine.WorldLaws.{IsMerged, IsWorld, ListsNumbers, SameObject, is_plain_layer, is_there, node_shown, real_node, same_content}
 use Rattle.vt_spec.specs.Tree.{Content, Node, is_directory_node}
 use Rattle.vt_spec.specs.Tree.Content.{Directory, Regular, Symlink, Whiteout}
 use Rattle.vt_spec.specs.TreeLaws.{IsDirectory, IsTree, entry_at, led}
@@ -23,7 +24,7 @@ use Rattle.vt_layer_laws.proofs.ShownDirectories.{AreOpen, last_of, no_white_dir
 use Rattle.vt_layer_laws.proofs.ShownNames.{last_name}
 use Rattle.vt_layer_laws.proofs.ShownPaths.{depth_of_led, length_longer, not_empty}
 use Rattle.vt_layer_laws.proofs.ShownTree.{real_shown_there, shows_layers}
-use Rattle.vt_layer_laws.proofs.ShownWhole.{merged_no_mark, merged_no_whiteout, merged_one_to_one, merged_upper}
+use Rattle.vt_layer_laws.proofs.ShownWhole.{behind, merged_is_real, merged_no_mark, merged_no_whiteout, merged_one_to_one, merged_upper}
 use Rattle.vt_layer_laws.proofs.UpperChain.{depth_below}
 use Rattle.vt_layer_laws.proofs.UpperLine.{and_first, and_second, has_entries, is_reached_in}
 use Rattle.vt_layer_laws.proofs.UpperWorld.{all_found, overlay_layers}
@@ -132,6 +133,31 @@ module _ (world : World ℕ) (conditions : IsWorld nat_eq world) (overlay : Over
                 (no_white_directory ((filesystem_numbered nat_eq world layer.filesystem).files.tree.node layer.directory) directory),
           )
 
+  -- the inode behind a real object, by the layers that are shown, is the one that the overlay finds
+  in_lower : (layer : ℕ) (path : List (List ℕ))
+      → then_some (slice_get (map (open_layer nat_eq world) overlay.lowers) layer) (λ lower. node_at_path lower path)
+      ≡ then_some (slice_get overlay.lowers layer) (λ lower. node_at_path (open_layer nat_eq world lower) path)
+  in_lower layer path =
+      ap (λ o. then_some o (λ lower. node_at_path lower path)) (slice_get-map (open_layer nat_eq world) overlay.lowers layer)
+      ∙ by (slice_get overlay.lowers layer)
+    where
+      by : (o : Option (Layer ℕ)) → then_some (option_map (open_layer nat_eq world) o) (λ lower. node_at_path lower path)
+          ≡ then_some o (λ lower. node_at_path (open_layer nat_eq world lower) path)
+      by None = refl
+      by (Some lower) = refl
+
+  behind_is_real : (real : Option (Real ℕ)) → then_some real (behind layers (is_some overlay.upper)) ≡ then_some real (real_node nat_eq world overlay)
+  behind_is_real None = refl
+  behind_is_real (Some real) = by real overlay.upper
+    where
+      by : (real : Real ℕ) (upper : Option (Layer ℕ))
+          → behind (map (open_layer nat_eq world) (option_to_list upper ++ overlay.lowers)) (is_some upper) real
+          ≡ real_node nat_eq world (record overlay { upper = upper }) real
+      by (Upper object) None = refl
+      by (Upper object) (Some layer) = refl
+      by (Below layer path) None = in_lower layer path
+      by (Below layer path) (Some top) = in_lower layer path
+
   module _ (fresh : Fresh ℕ) (distinct : (j k : ℕ) → fresh j ≡ fresh k → j ≡ k) where
     odd_distinct : (j k : ℕ) → odds fresh j ≡ odds fresh k → j ≡ k
     odd_distinct j k e = let same = distinct (2 * j + 1) (2 * k + 1) e in omega arith
@@ -143,6 +169,10 @@ module _ (world : World ℕ) (conditions : IsWorld nat_eq world) (overlay : Over
     made_merged = record {
       shows = shows_layers layers are_open (inode_count world) bounded (odds fresh) odd_distinct (is_some overlay.upper) root_shown.0 root_shown.1;
       names = real_shown_there layers are_open (inode_count world) bounded (odds fresh) odd_distinct (is_some overlay.upper) root_shown.0 root_shown.1;
+      real_objects = λ number.
+          subst (SameObject ((overlay_filesystem nat_eq fresh world overlay).files.tree.node number))
+          (behind_is_real (made.real number))
+          (merged_is_real layers are_open (inode_count world) bounded (odds fresh) odd_distinct (is_some overlay.upper) number);
       no_whiteout = merged_no_whiteout layers are_open (inode_count world) bounded (odds fresh) odd_distinct (is_some overlay.upper);
       no_mark = merged_no_mark layers are_open (inode_count world) bounded (odds fresh) odd_distinct (is_some overlay.upper);
       upper_there = λ number object e.

@@ -2,12 +2,10 @@
 use Rattle.std.proofs.Common.{◌≡◌, ◌≢◌, ◌≤◌, refl, sym, ap, subst, ◌∙◌, true≢false, arith, ℕ, zero, suc, ◌+◌, nat_eq, Bool, true, cond, List, [], ◌∷◌, ◌++◌, length, Option, Some, None, option_and_then, slice_get, unwrap_or}
 use Rattle.std.specs.List.{cons_option, filter_map}
 use Rattle.std.specs.Prelude.{option_map}
-use Rattle.std.specs.Str.{bytes_eq}
-use Rattle.std.specs.Cmp.Lexicographic.{bytes_decides}
 use Rattle.vt_spec.specs.Machine.Layers.{OpenLayer, Shown, paths_from, shown}
 use Rattle.vt_spec.specs.Machine.Lists.{Fresh, place_from, then_some}
 use Rattle.vt_spec.specs.Machine.Merging.{Merged, MergedInode, entry_below, is_one_inode, layer_node, merged_at, merged_content, real_object, real_of, tree_of}
-use Rattle.vt_spec.specs.Machine.WorldLaws.{SameObject, same_content}
+use Rattle.vt_spec.specs.Machine.WorldLaws.{SameObject}
 use Rattle.vt_spec.specs.Rights.{is_directory}
 use Rattle.vt_spec.specs.Tree.{Content, Entries, Node, Tree, entries_in, entries_of, entry_named, kind_of}
 use Rattle.vt_spec.specs.Tree.Content.{Directory, Regular, Symlink, Whiteout}
@@ -18,6 +16,7 @@ use Rattle.vt_layer_laws.proofs.ShownMerged.{HasInode, LeadsTo, entry_leads, has
 use Rattle.vt_layer_laws.proofs.ShownNames.{last_name}
 use Rattle.vt_layer_laws.proofs.ShownObjects.{is_object, one_itself}
 use Rattle.vt_layer_laws.proofs.ShownPaths.{length_longer, not_empty}
+use Rattle.vt_layer_laws.proofs.ShownWhole.{same_merged}
 
 module _ (layers : List (OpenLayer ℕ)) (are_open : AreOpen layers) (longest : ℕ) (bounded : (path : List (List ℕ)) (seen : Shown ℕ) → shown layers path ≡ Some seen → length path ≤ longest) (fresh : Fresh ℕ) (distinct : (j k : ℕ) → fresh j ≡ fresh k → j ≡ k) (has_upper : Bool)
     (top : Shown ℕ) (is_top : shown layers [] ≡ Some top) where
@@ -125,15 +124,6 @@ module _ (layers : List (OpenLayer ℕ)) (are_open : AreOpen layers) (longest : 
   arrives path = arrives_in (length path) path (let h : length path ≤ length path = omega arith in h)
 
   -- the object there
-  same_bytes : (bytes : List ℕ) → bytes_eq bytes bytes ≡ true
-  same_bytes bytes = (bytes_decides bytes bytes).1 refl
-
-  same_merged : (path : List (List ℕ)) (content : Content ℕ) → content ≢ Whiteout → same_content (merged_content nat_eq fresh has_upper all path content) content ≡ true
-  same_merged path (Directory parent entries opaque) n = refl
-  same_merged path (Regular bytes) n = same_bytes bytes
-  same_merged path (Symlink text) n = same_bytes text
-  same_merged path Whiteout n = absurd (n refl)
-
   no_white : (path : List (List ℕ)) (seen : Shown ℕ) → shown layers path ≡ Some seen → (inode : HasInode layers are_open longest bounded fresh distinct has_upper (object_at path seen)) → inode.node.content ≢ Whiteout
   no_white path seen s inode =
       let shows = (computed layers path seen).0 s in
@@ -151,7 +141,7 @@ module _ (layers : List (OpenLayer ℕ)) (are_open : AreOpen layers) (longest : 
           subst (λ o. SameObject (then_some o merged_tree.node) (layer_node layers seen)) (sym found)
           (subst (λ o. SameObject o (layer_node layers seen)) (sym inode.is)
           (subst (SameObject (Some (record { attr = inode.node.attr; content = merged_content nat_eq fresh has_upper all inode.other.path inode.node.content }))) (sym inode.seen)
-          (refl, same_merged inode.other.path inode.node.content (no_white path seen s inode))))
+          (refl, same_merged layers are_open longest bounded fresh distinct has_upper inode.other.path inode.node.content (no_white path seen s inode))))
 
   -- with its real object
   pub real_shown_there : (path : List (List ℕ)) (n : ℕ) → led merged_tree (fresh 0) path ≡ Some n → real_of nat_eq made n ≡ option_map (λ object. real_object has_upper object.seen.layer object) (merged_at layers path)

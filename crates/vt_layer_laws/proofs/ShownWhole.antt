@@ -1,13 +1,16 @@
 -- A merged tree has no whiteout and no mark, and two inodes of it have two real objects, which are there.
-use Rattle.std.proofs.Common.{◌≡◌, ◌≢◌, ◌≤◌, inl, inr, refl, sym, ap, ◌∙◌, true≢false, ℕ, zero, suc, nat_eq, eqb-true, Bool, true, false, cond, List, [], ◌∷◌, length, Option, Some, None, is_some, slice_get, unwrap_or}
+use Rattle.std.proofs.Common.{◌≡◌, ◌≢◌, ◌≤◌, inl, inr, refl, sym, ap, subst, ◌∙◌, true≢false, ℕ, zero, suc, nat_eq, eqb-true, Bool, true, false, cond, List, [], ◌∷◌, length, Option, Some, None, is_some, slice_get, unwrap_or}
 use Rattle.std.specs.List.{find}
+use Rattle.std.specs.Cmp.Lexicographic.{bytes_decides}
 use Rattle.std.specs.Prelude.{option_map}
+use Rattle.std.specs.Str.{bytes_eq}
 use Rattle.vt_spec.specs.declared.attributes.Kind.TheVariants.{White}
 use Rattle.vt_spec.specs.Machine.FileTree.{is_kind, is_kind_in, is_opaque_in, opaque_of}
-use Rattle.vt_spec.specs.Machine.Layers.{OpenLayer, Shown, shown}
+use Rattle.vt_spec.specs.Machine.Layers.{OpenLayer, Shown, node_at_path, shown}
 use Rattle.vt_spec.specs.Machine.Lists.{Fresh, place_from, then_some}
 use Rattle.vt_spec.specs.Machine.Merging.{Merged, MergedInode, inode_of, merged_content, merged_inode, real_object, real_of, same_real}
 use Rattle.vt_spec.specs.Machine.World.{Real}
+use Rattle.vt_spec.specs.Machine.WorldLaws.{SameObject, same_content}
 use Rattle.vt_spec.specs.Machine.World.Real.{Below, Upper}
 use Rattle.vt_spec.specs.Tree.{Content, Node, kind_of}
 use Rattle.vt_spec.specs.Tree.Content.{Directory, Regular, Symlink, Whiteout}
@@ -24,6 +27,13 @@ found_in_list test (first ∷ list) a e = by (test first) refl e (found_in_list 
     by : (b : Bool) → test first ≡ b → cond b (Some first) (find test list) ≡ Some a → (find test list ≡ Some a → Among list a × (test a ≡ true)) → Among (first ∷ list) a × (test a ≡ true)
     by true t e rest = let same = some_is_one first a e in (inl same, ap test (sym same) ∙ t)
     by false t e rest = let later = rest e in (inr later.0, later.1)
+
+-- the inode behind a real object, in these layers
+abbrev pub behind : List (OpenLayer ℕ) → Bool → Real ℕ → Option (Node ℕ)
+behind layers true (Upper object) = then_some (slice_get layers 0) (λ layer. layer.tree.node object)
+behind layers false (Upper object) = None
+behind layers true (Below layer path) = then_some (slice_get layers (suc layer)) (λ lower. node_at_path lower path)
+behind layers false (Below layer path) = then_some (slice_get layers layer) (λ lower. node_at_path lower path)
 
 module _ (layers : List (OpenLayer ℕ)) (are_open : AreOpen layers) (longest : ℕ) (bounded : (path : List (List ℕ)) (seen : Shown ℕ) → shown layers path ≡ Some seen → length path ≤ longest) (fresh : Fresh ℕ) (distinct : (j k : ℕ) → fresh j ≡ fresh k → j ≡ k) (has_upper : Bool) where
   abbrev nodes : ℕ → Option (Node ℕ)
@@ -90,6 +100,16 @@ module _ (layers : List (OpenLayer ℕ)) (are_open : AreOpen layers) (longest : 
   mark_merged path (Symlink text) = refl
   mark_merged path Whiteout = refl
 
+  same_bytes : (bytes : List ℕ) → bytes_eq bytes bytes ≡ true
+  same_bytes bytes = (bytes_decides bytes bytes).1 refl
+
+  pub same_merged : (path : List (List ℕ)) (content : Content ℕ) → content ≢ Whiteout
+      → same_content (merged_content nat_eq fresh has_upper all path content) content ≡ true
+  same_merged path (Directory parent entries opaque) n = refl
+  same_merged path (Regular bytes) n = same_bytes bytes
+  same_merged path (Symlink text) n = same_bytes text
+  same_merged path Whiteout n = absurd (n refl)
+
   pub merged_no_whiteout : (n : ℕ) → is_kind_in White (nodes n) ≡ false
   merged_no_whiteout n = by (inode_of made n nat_eq) refl
     where
@@ -123,6 +143,34 @@ module _ (layers : List (OpenLayer ℕ)) (are_open : AreOpen layers) (longest : 
       by (Some inode) f e =
           let is = is_of_object n inode f in
           record { object = is.object; layer = is.layer; numbered = is.numbered; is = some_is_one real inode.real (sym e) ∙ is.real }
+
+  -- it is what the merged one shows
+  behind_object : (object : Merged ℕ) (found : InLayer layers are_open longest bounded fresh distinct has_upper object)
+      (upper : Bool) (layer : ℕ) → object.seen.layer ≡ layer → behind layers upper (real_object upper layer object) ≡ Some found.node
+  behind_object object found true zero e =
+      ap (λ o. then_some o (λ layer. layer.tree.node object.seen.object)) (ap (slice_get layers) (sym e) ∙ found.there) ∙ found.is
+  behind_object object found true (suc layer) e =
+      ap (λ o. then_some o (λ lower. node_at_path lower object.path)) (ap (slice_get layers) (sym e) ∙ found.there)
+      ∙ ap (λ o. then_some o found.layer.tree.node) found.at ∙ found.is
+  behind_object object found false layer e =
+      ap (λ o. then_some o (λ lower. node_at_path lower object.path)) (ap (slice_get layers) (sym e) ∙ found.there)
+      ∙ ap (λ o. then_some o found.layer.tree.node) found.at ∙ found.is
+
+  pub merged_is_real : (n : ℕ) → SameObject (nodes n) (then_some (real_of nat_eq made n) (behind layers has_upper))
+  merged_is_real n = by (inode_of made n nat_eq) refl
+    where
+      by : (o : Option (MergedInode ℕ)) → inode_of made n nat_eq ≡ o
+          → SameObject (option_map (λ inode. inode.node) o) (then_some (option_map (λ inode. inode.real) o) (behind layers has_upper))
+      by None e = tt
+      by (Some inode) e =
+          let is = is_of_object n inode e in
+          subst (SameObject (Some inode.node))
+          (sym (ap (behind layers has_upper) is.real ∙ behind_object is.object is.layer has_upper is.object.seen.layer refl))
+          (
+            ap (λ node. node.attr) is.node,
+            ap (λ node. same_content node.content is.layer.node.content) is.node
+                ∙ same_merged is.object.path is.layer.node.content (not_white is.object is.among is.layer),
+          )
 
   -- two inodes have two real objects
   pub merged_one_to_one : (a b : ℕ) → is_some (real_of nat_eq made a) ≡ true → real_of nat_eq made a ≡ real_of nat_eq made b → a ≡ b
