@@ -10,6 +10,7 @@ pub mod Outcomes
 pub mod Rightful
 pub mod Looks
 pub mod Walking
+pub mod Views
 pub mod Walk
 pub mod Merging
 pub mod CopyUp

@@ -1,12 +1,8 @@
--- What the layers of an overlay show at a path: the kernel's overlayfs document, "upper and lower", "whiteouts and
--- opaque directories" and "multiple lower layers". That a middle layer cuts what is below it is the profile's.
-use Rattle.std.specs.Prelude.{Bool, List, None, Option, Some, [], false, filter, flat_map, if◌then◌else◌, is_some, map, not, suc, true, zero, ℕ, ◌&&◌, ◌++◌, ◌+◌, ◌||◌, ◌∷◌}
-use Rattle.std.specs.List.{list_any}
-use Rattle.vt_spec.specs.declared.attributes.Kind.TheVariants.{White}
-use Rattle.vt_spec.specs.Machine.FileTree.{is_kind_in, is_opaque_in}
-use Rattle.vt_spec.specs.Machine.Lists.{folded, front_of, fronts, then_some, when}
-use Rattle.vt_spec.specs.Rights.{is_directory}
-use Rattle.vt_spec.specs.Tree.{Entries, Node, Tree, entries_in, is_directory_node, kind_of, with_entry}
+-- Layers as directories of plain trees, and what they show by their views (`Views.antt`).
+use Rattle.std.specs.Prelude.{Bool, List, Option, map, ℕ}
+use Rattle.vt_spec.specs.Machine.Views
+pub use Rattle.vt_spec.specs.Machine.Views.{Shown, View, hides}
+use Rattle.vt_spec.specs.Tree.{Entries, Node, Tree}
 use Rattle.vt_spec.specs.TreeLaws.{led}
 
 -- a layer, as it is looked into: a directory of a plain tree
@@ -14,75 +10,44 @@ pub record OpenLayer (N : Type 0) : Type 0 where
   pub tree : Tree N
   pub directory : N
 
--- an object that is shown: the place of its layer, counted from the top, and its number there
-pub record Shown (N : Type 0) : Type 0 where
-  pub layer : ℕ
-  pub object : N
-
 module _ {N : Type 0} where
   -- where the names lead from the layer's directory, through entries alone
   abbrev pub at_path : OpenLayer N → List (List ℕ) → Option N
   at_path layer path = led layer.tree layer.directory path
 
+  abbrev pub view_of : OpenLayer N → View N
+  view_of layer = record { leads = λ path. at_path layer path; node = λ object. layer.tree.node object }
+
   abbrev pub node_at_path : OpenLayer N → List (List ℕ) → Option (Node N)
-  node_at_path layer path = then_some (at_path layer path) layer.tree.node
+  node_at_path layer path = Views.node_led (view_of layer) path
 
-  -- a whiteout, an object that is no directory, and an opaque directory hide what lower layers have there and below
-  abbrev pub hides : Option (Node N) → Bool
-  hides None = false
-  hides (Some node) = not (is_directory (kind_of node.content)) || is_opaque_in (Some node)
-
-  -- the layer cuts lower ones at a path: it hides at a non-empty front of it, or at the path itself
+  -- what is said of views is said of layers
   abbrev pub cuts : OpenLayer N → List (List ℕ) → Bool
-  cuts layer path = list_any (λ front. hides (node_at_path layer front)) (fronts path)
+  cuts layer path = Views.cuts (view_of layer) path
 
-  -- an object of a layer that is not cut, unless it is a whiteout
-  abbrev pub visible : OpenLayer N → ℕ → N → Option (Shown N)
-  visible layer depth object =
-      when (not (is_kind_in White (layer.tree.node object))) (record { layer = depth; object = object })
-
-  -- the object that a layer has, or, where it has none and does not cut, what is shown below it
   abbrev pub shown_over : OpenLayer N → ℕ → Option N → Bool → Option (Shown N) → Option (Shown N)
-  shown_over layer depth (Some object) cut lower = visible layer depth object
-  shown_over layer depth None true lower = None
-  shown_over layer depth None false lower = lower
+  shown_over layer depth object cut lower = Views.shown_over (view_of layer) depth object cut lower
 
-  -- the object of the highest layer that has one and is not cut; nothing if that is a whiteout
   abbrev pub shown_from : ℕ → List (OpenLayer N) → List (List ℕ) → Option (Shown N)
-  shown_from depth [] path = None
-  shown_from depth (layer ∷ lower) path =
-      shown_over layer depth (at_path layer path) (cuts layer path) (shown_from (depth + 1) lower path)
+  shown_from depth layers path = Views.shown_from depth (map view_of layers) path
 
   abbrev pub shown : List (OpenLayer N) → List (List ℕ) → Option (Shown N)
-  shown layers path = shown_from 0 layers path
+  shown layers path = Views.shown (map view_of layers) path
 
-  -- what would be shown at a path if the upper layer had nothing there
   abbrev pub below : OpenLayer N → List (OpenLayer N) → List (List ℕ) → Option (Shown N)
-  below upper lowers path = if cuts upper (front_of path) then None else shown_from 1 lowers path
+  below upper lowers path = Views.below (view_of upper) (map view_of lowers) path
 
-  -- the names that some layer has at a path, each once and in their order
   abbrev pub names_at : List (OpenLayer N) → List (List ℕ) → Entries (Unit {0})
-  names_at [] path = []
-  names_at (layer ∷ lower) path =
-      folded (λ names entry. with_entry entry.0 tt names) (names_at lower path) (entries_in (node_at_path layer path))
+  names_at layers path = Views.names_at (map view_of layers) path
 
-  -- the names for which something is shown
   abbrev pub names_shown : List (OpenLayer N) → List (List ℕ) → List (List ℕ)
-  names_shown layers path =
-      filter (λ name. is_some (shown layers (path ++ (name ∷ [])))) (map (λ entry. entry.0) (names_at layers path))
+  names_shown layers path = Views.names_shown (map view_of layers) path
 
-  -- every path at which something is shown, a directory before what is under it
   abbrev pub paths_from : ℕ → List (OpenLayer N) → List (List ℕ) → List (List (List ℕ))
-  paths_from zero layers path = path ∷ []
-  paths_from (suc depth) layers path =
-      path ∷ flat_map (λ name. paths_from depth layers (path ++ (name ∷ []))) (names_shown layers path)
+  paths_from depth layers path = Views.paths_from depth (map view_of layers) path
 
-  -- O1: a lower layer that is not cut has a directory there: overlayfs, "renaming directories"
   abbrev pub lowers_have_directory : List (OpenLayer N) → List (List ℕ) → Bool
-  lowers_have_directory [] path = false
-  lowers_have_directory (layer ∷ lower) path =
-      is_directory_node (node_at_path layer path) || (not (cuts layer path) && lowers_have_directory lower path)
+  lowers_have_directory layers path = Views.lowers_have_directory (map view_of layers) path
 
   abbrev pub has_lower_directory : List (OpenLayer N) → List (OpenLayer N) → List (List ℕ) → Bool
-  has_lower_directory uppers lowers path =
-      not (list_any (λ upper. cuts upper path) uppers) && lowers_have_directory lowers path
+  has_lower_directory uppers lowers path = Views.has_lower_directory (map view_of uppers) (map view_of lowers) path
