@@ -19,6 +19,7 @@ pub mod MountsReplaced
 pub mod MountsRetyped
 pub mod Receivers
 pub mod Standing
+pub mod Topmost
 pub mod Unmounting
 pub mod UnmountingEnds
 pub mod UnmountingGoes

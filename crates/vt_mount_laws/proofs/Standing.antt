@@ -265,6 +265,10 @@ module _ (world : World ℕ) (one : OneNumberEach world) (all : AllStand world) 
   pub rank : ℕ → ℕ
   rank number = depth world number (stand number)
 
+  pub rank_bounded : (number : ℕ) → rank number ≤ length world.mounts
+  unfolding rank
+  rank_bounded number = not_deep world number (stand number)
+
   pub rank_child : (number : ℕ) (place : Location ℕ) → (mount_numbered nat_eq world number).place ≡ Some place
       → rank number ≡ suc (rank place.mount)
   unfolding depth rank
