@@ -26,3 +26,4 @@ pub mod UnmountingGoes
 pub mod UnmountingNamespaces
 pub mod UnmountingPlaces
 pub mod UnmountingTrees
+pub mod Unsharing
