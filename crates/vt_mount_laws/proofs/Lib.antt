@@ -8,10 +8,12 @@ pub mod GroupsUp
 pub mod MountsApart
 pub mod MountsAttached
 pub mod MountsCalls
+pub mod MountsCounted
 pub mod MountsEnding
 pub mod MountsFound
 pub mod MountsGranted
 pub mod MountsKept
+pub mod MountsInvariants
 pub mod MountsLeft
 pub mod MountsNumbered
 pub mod MountsPlaces
@@ -27,3 +29,4 @@ pub mod UnmountingNamespaces
 pub mod UnmountingPlaces
 pub mod UnmountingTrees
 pub mod Unsharing
+pub mod UnsharingNamespaces

@@ -1,11 +1,16 @@
 -- Mounts of namespaces: mount_namespaces(7), unshare(2), pivot_root(2).
-use Rattle.std.specs.Prelude.{None, ℕ, nat_eq, ◌≡◌}
-use Rattle.vt_spec.specs.Machine.Lists.{Fresh}
-use Rattle.vt_spec.specs.Machine.Mounts.{Location, child_at, topmost}
-use Rattle.vt_spec.specs.Machine.Namespaces.{unshared}
+use Rattle.std.specs.List.{list_all}
+use Rattle.std.specs.Prelude.{Bool, List, None, [], false, filter, is_some, length, map, option_to_list, true, ℕ, nat_eq, ◌≡◌}
+use Rattle.vt_spec.specs.Machine.Calls.{TypeWord}
+use Rattle.vt_spec.specs.Machine.Lists.{Fresh, evens, odds}
+use Rattle.vt_spec.specs.Machine.Mounts.{Location, Mount, MountFlags, child_at, numbers_by, topmost}
+use Rattle.vt_spec.specs.Machine.Namespaces.{copied_mount, unshared}
+use Rattle.vt_spec.specs.Machine.Outcome.Mounting.{with_flags}
 use Rattle.vt_spec.specs.Machine.Run.{Serves}
-use Rattle.vt_spec.specs.Machine.World.{Task, World}
-use Rattle.vt_spec.specs.Machine.WorldLaws.{MountInvariants}
+use Rattle.vt_spec.specs.Machine.Types.{with_type}
+use Rattle.vt_spec.specs.Machine.World.{Task, World, mount_numbered, mounts_of}
+use Rattle.vt_spec.specs.Machine.WorldLaws.{MountInvariants, is_listed, is_root_mount}
+use Rattle.vt_mount_laws.specs.Mounts.Conditions.{OneNumberEach}
 
 -- No mount stands over the topmost one over a place.
 abbrev pub TopmostIsFree : Type 0
@@ -13,8 +18,67 @@ TopmostIsFree =
     (world : World ℕ) (place : Location ℕ) → MountInvariants nat_eq world
     → child_at nat_eq world.mounts (topmost nat_eq world.mounts place) ≡ None
 
+-- a namespace of a world has as many mounts, and as many root mounts, as one of another world
+pub record HasAsMany (world : World ℕ) (namespace : ℕ) (after : World ℕ) (later : ℕ) : Type 0 where
+  pub mounts : length (mounts_of nat_eq after later) ≡ length (mounts_of nat_eq world namespace)
+  pub roots : length (filter (is_root_mount nat_eq) (mounts_of nat_eq after later))
+      ≡ length (filter (is_root_mount nat_eq) (mounts_of nat_eq world namespace))
+
+-- Unsharing
+
 -- An unshare keeps the invariants of mounts: the copies of a namespace's mounts stand on copies.
 abbrev pub UnshareKeepsMounts : Type 0
 UnshareKeepsMounts =
     (world : World ℕ) (fresh : Fresh ℕ) (task : Task ℕ) → Serves nat_eq world fresh → MountInvariants nat_eq world
     → MountInvariants nat_eq (unshared nat_eq world fresh task)
+
+-- Every namespace but the new one has the mounts that it had.
+abbrev pub UnshareLeavesNamespaces : Type 0
+UnshareLeavesNamespaces =
+    (world : World ℕ) (fresh : Fresh ℕ) (task : Task ℕ) (namespace : ℕ) → nat_eq namespace (evens fresh 0) ≡ false
+    → mounts_of nat_eq (unshared nat_eq world fresh task) namespace ≡ mounts_of nat_eq world namespace
+
+-- The new one has no mount before, where the namespaces of mounts are listed,
+abbrev pub NewNamespaceIsEmpty : Type 0
+NewNamespaceIsEmpty =
+    (world : World ℕ) (fresh : Fresh ℕ) → Serves nat_eq world fresh
+    → list_all (λ mount. list_all (is_listed nat_eq world) (option_to_list mount.namespace)) world.mounts ≡ true
+    → mounts_of nat_eq world (evens fresh 0) ≡ []
+
+-- and has the copies after.
+abbrev pub UnshareCopiesMounts : Type 0
+UnshareCopiesMounts =
+    (world : World ℕ) (fresh : Fresh ℕ) (task : Task ℕ) → mounts_of nat_eq world (evens fresh 0) ≡ []
+    → mounts_of nat_eq (unshared nat_eq world fresh task) (evens fresh 0)
+    ≡ map (copied_mount (numbers_by nat_eq (odds fresh) (mounts_of nat_eq world task.namespace)) (evens fresh 0))
+    (mounts_of nat_eq world task.namespace)
+
+abbrev pub UnshareKeepsCounts : Type 0
+UnshareKeepsCounts =
+    (world : World ℕ) (fresh : Fresh ℕ) (task : Task ℕ) → mounts_of nat_eq world (evens fresh 0) ≡ []
+    → HasAsMany world task.namespace (unshared nat_eq world fresh task) (evens fresh 0)
+
+-- Types and flags
+
+-- A change of type keeps the invariants of mounts, where the named mount is in a namespace: one that is in none stays private.
+abbrev pub TypeKeepsMounts : Type 0
+TypeKeepsMounts =
+    (world : World ℕ) (fresh : Fresh ℕ) (one : ℕ) (word : TypeWord) (recursive : Bool) → Serves nat_eq world fresh
+    → is_some (mount_numbered nat_eq world one).namespace ≡ true → MountInvariants nat_eq world
+    → MountInvariants nat_eq (with_type nat_eq fresh world one word recursive)
+
+abbrev pub TypeKeepsCounts : Type 0
+TypeKeepsCounts =
+    (world : World ℕ) (fresh : Fresh ℕ) (one : ℕ) (word : TypeWord) (recursive : Bool) (namespace : ℕ)
+    → HasAsMany world namespace (with_type nat_eq fresh world one word recursive) namespace
+
+-- So does a change of flags.
+abbrev pub FlagsKeepMounts : Type 0
+FlagsKeepMounts =
+    (world : World ℕ) (here : Location ℕ) (flags : MountFlags) → MountInvariants nat_eq world
+    → MountInvariants nat_eq (with_flags nat_eq world here flags)
+
+abbrev pub FlagsKeepCounts : Type 0
+FlagsKeepCounts =
+    (world : World ℕ) (here : Location ℕ) (flags : MountFlags) (namespace : ℕ) → OneNumberEach world
+    → HasAsMany world namespace (with_flags nat_eq world here flags) namespace
