@@ -19,6 +19,8 @@ pub mod MountsNumbered
 pub mod MountsPlaces
 pub mod MountsReplaced
 pub mod MountsRetyped
+pub mod Pivoting
+pub mod PivotingCounts
 pub mod Receivers
 pub mod Standing
 pub mod Topmost

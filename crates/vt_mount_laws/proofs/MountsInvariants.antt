@@ -11,7 +11,7 @@ use Rattle.vt_spec.specs.Machine.Types.{named_mounts, type_after, with_type}
 use Rattle.vt_spec.specs.Machine.World.{World, mount_at, mount_numbered}
 use Rattle.vt_spec.specs.Machine.WorldLaws.{MountInvariants, is_nowhere_or_attached, is_private}
 use Rattle.vt_mount_laws.specs.Mounts.Conditions.{NowhereOrAttached, OneNumberEach}
-use Rattle.vt_mount_laws.specs.Mounts.Namespaces.{FlagsKeepCounts, FlagsKeepMounts, TypeKeepsCounts, TypeKeepsMounts}
+use Rattle.vt_mount_laws.specs.Mounts.Namespaces.{SetFlagsKeepCounts, SetFlagsKeepMounts, SetTypeKeepsCounts, SetTypeKeepsMounts}
 use Rattle.vt_mount_laws.proofs.Groups.{mounts-regrouped}
 use Rattle.vt_mount_laws.proofs.GroupsKept.{flags_keep_groups}
 use Rattle.vt_mount_laws.proofs.GroupsRetyped.{type_keeps_groups}
@@ -80,7 +80,7 @@ module _ (world : World ℕ) (mounts : MountInvariants nat_eq world) where
           (f refl)
       by group named mount m false f = among_from_list_all is_nowhere_or_attached world.mounts mounts.nowhere mount m
 
-pub type_keeps_mounts : TypeKeepsMounts
+pub type_keeps_mounts : SetTypeKeepsMounts
 type_keeps_mounts world fresh number word recursive serves named mounts =
     let after = with_type nat_eq fresh world number word recursive in
     let one = types_keep_numbers world fresh number word recursive mounts.one_number in
@@ -95,7 +95,7 @@ type_keeps_mounts world fresh number word recursive serves named mounts =
       groups = type_keeps_groups world fresh number word recursive serves mounts.groups;
     }
 
-pub flags_keep_mounts : FlagsKeepMounts
+pub flags_keep_mounts : SetFlagsKeepMounts
 flags_keep_mounts world here flags mounts =
     let after = with_flags nat_eq world here flags in
     let one = flags_keep_numbers world here flags mounts.one_number in
@@ -111,7 +111,7 @@ flags_keep_mounts world here flags mounts =
     }
 
 -- Counts
-pub type_keeps_counts : TypeKeepsCounts
+pub type_keeps_counts : SetTypeKeepsCounts
 type_keeps_counts world fresh number word recursive namespace =
     let group = groups_by world fresh number recursive in
     let named = named_mounts nat_eq world number recursive in
@@ -147,7 +147,7 @@ module _ (world : World ℕ) (here : Location ℕ) (flags : MountFlags) (one : O
       by false f =
           (ap (λ x. x.namespace) (replaced_elsewhere new mount f), ap (λ x. x.place) (replaced_elsewhere new mount f))
 
-pub flags_keep_counts : FlagsKeepCounts
+pub flags_keep_counts : SetFlagsKeepCounts
 flags_keep_counts world here flags namespace one =
     as_many world (with_flags nat_eq world here flags)
     (replaced_if_same nat_eq (record (mount_at nat_eq world here) { flags = flags })) refl

@@ -1,14 +1,16 @@
 -- Mounts of namespaces: mount_namespaces(7), unshare(2), pivot_root(2).
 use Rattle.std.specs.List.{list_all}
-use Rattle.std.specs.Prelude.{Bool, List, None, [], false, filter, is_some, length, map, option_to_list, true, ℕ, nat_eq, ◌≡◌}
+use Rattle.std.specs.Prelude.{Bool, List, None, [], false, filter, is_some, length, map, Some, option_to_list, true, ℕ, nat_eq, ◌≡◌}
 use Rattle.vt_spec.specs.Machine.Calls.{TypeWord}
 use Rattle.vt_spec.specs.Machine.Lists.{Fresh, evens, odds}
-use Rattle.vt_spec.specs.Machine.Mounts.{Location, Mount, MountFlags, child_at, numbers_by, topmost}
-use Rattle.vt_spec.specs.Machine.Namespaces.{copied_mount, unshared}
+use Rattle.vt_spec.specs.Machine.Looks.{looks_of}
+use Rattle.vt_spec.specs.Machine.Mounts.{Location, Mount, MountFlags, child_at, numbers_by, root_of, topmost}
+use Rattle.vt_spec.specs.Machine.Namespaces.{copied_mount, pivoted, unshared}
 use Rattle.vt_spec.specs.Machine.Outcome.Mounting.{with_flags}
+use Rattle.vt_spec.specs.Machine.Rules.Mounting.{is_below_mount, lies_under_place}
 use Rattle.vt_spec.specs.Machine.Run.{Serves}
 use Rattle.vt_spec.specs.Machine.Types.{with_type}
-use Rattle.vt_spec.specs.Machine.World.{Task, World, mount_numbered, mounts_of}
+use Rattle.vt_spec.specs.Machine.World.{Task, World, mount_at, mount_numbered, mounts_of}
 use Rattle.vt_spec.specs.Machine.WorldLaws.{MountInvariants, is_listed, is_root_mount}
 use Rattle.vt_mount_laws.specs.Mounts.Conditions.{OneNumberEach}
 
@@ -61,24 +63,51 @@ UnshareKeepsCounts =
 -- Types and flags
 
 -- A change of type keeps the invariants of mounts, where the named mount is in a namespace: one that is in none stays private.
-abbrev pub TypeKeepsMounts : Type 0
-TypeKeepsMounts =
+abbrev pub SetTypeKeepsMounts : Type 0
+SetTypeKeepsMounts =
     (world : World ℕ) (fresh : Fresh ℕ) (one : ℕ) (word : TypeWord) (recursive : Bool) → Serves nat_eq world fresh
     → is_some (mount_numbered nat_eq world one).namespace ≡ true → MountInvariants nat_eq world
     → MountInvariants nat_eq (with_type nat_eq fresh world one word recursive)
 
-abbrev pub TypeKeepsCounts : Type 0
-TypeKeepsCounts =
+abbrev pub SetTypeKeepsCounts : Type 0
+SetTypeKeepsCounts =
     (world : World ℕ) (fresh : Fresh ℕ) (one : ℕ) (word : TypeWord) (recursive : Bool) (namespace : ℕ)
     → HasAsMany world namespace (with_type nat_eq fresh world one word recursive) namespace
 
 -- So does a change of flags.
-abbrev pub FlagsKeepMounts : Type 0
-FlagsKeepMounts =
+abbrev pub SetFlagsKeepMounts : Type 0
+SetFlagsKeepMounts =
     (world : World ℕ) (here : Location ℕ) (flags : MountFlags) → MountInvariants nat_eq world
     → MountInvariants nat_eq (with_flags nat_eq world here flags)
 
-abbrev pub FlagsKeepCounts : Type 0
-FlagsKeepCounts =
+abbrev pub SetFlagsKeepCounts : Type 0
+SetFlagsKeepCounts =
     (world : World ℕ) (here : Location ℕ) (flags : MountFlags) (namespace : ℕ) → OneNumberEach world
     → HasAsMany world namespace (with_flags nat_eq world here flags) namespace
+
+-- Pivoting
+
+-- What pivot_root(2) asks for: the old root mount, the new one and the place for the old one are in one namespace; the new one
+-- stands over the old one, and the place lies over the new one, with no mount at it.
+pub record MayPivot (world : World ℕ) (namespace : ℕ) (root new : Mount ℕ) (put : Location ℕ) : Type 0 where
+  pub root_there : mount_numbered nat_eq world root.number ≡ root
+  pub new_there : mount_numbered nat_eq world new.number ≡ new
+  pub root_inside : root.namespace ≡ Some namespace
+  pub new_inside : new.namespace ≡ Some namespace
+  pub put_inside : (mount_at nat_eq world put).namespace ≡ Some namespace
+  pub new_over : is_below_mount nat_eq (looks_of nat_eq world) root.number (root_of new) ≡ true
+  pub put_over : lies_under_place nat_eq (looks_of nat_eq world) (root_of new) put ≡ true
+  pub put_free : child_at nat_eq world.mounts put ≡ None
+
+-- Then a pivot keeps the invariants of mounts,
+abbrev pub PivotKeepsMounts : Type 0
+PivotKeepsMounts =
+    (world : World ℕ) (namespace : ℕ) (root new : Mount ℕ) (put : Location ℕ) → MayPivot world namespace root new put
+    → MountInvariants nat_eq world → MountInvariants nat_eq (pivoted nat_eq world namespace root new put)
+
+-- and leaves each namespace as many mounts and as many root mounts.
+abbrev pub PivotKeepsCounts : Type 0
+PivotKeepsCounts =
+    (world : World ℕ) (namespace : ℕ) (root new : Mount ℕ) (put : Location ℕ) → MayPivot world namespace root new put
+    → MountInvariants nat_eq world → (other : ℕ)
+    → HasAsMany world other (pivoted nat_eq world namespace root new put) other
