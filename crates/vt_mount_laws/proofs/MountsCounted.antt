@@ -1,9 +1,9 @@
 -- How many mounts a namespace has, and how many root mounts.
-use Rattle.std.proofs.Common.{◌≡◌, refl, sym, ap, ◌∙◌, true, false, nat_eq, ℕ, Bool, List, Option, Some, None, [], cond, filter, inl, inr, is_some, length, map, not, ◌∷◌}
+use Rattle.std.proofs.Common.{◌≡◌, refl, sym, ap, ◌∙◌, true, false, nat_eq, ℕ, Bool, List, [], cond, filter, inl, inr, is_some, length, map, not, ◌∷◌}
 use Rattle.std.proofs.lemmas.List.{length-map}
 use Rattle.vt_spec.proofs.Lists.{Among, among-from_filter, filter_here, filter_skip}
 use Rattle.vt_spec.specs.Machine.Lists.{holds_of}
-use Rattle.vt_spec.specs.Machine.Mounts.{Location, Mount}
+use Rattle.vt_spec.specs.Machine.Mounts.{Mount}
 use Rattle.vt_spec.specs.Machine.World.{World, mounts_of}
 use Rattle.vt_spec.specs.Machine.WorldLaws.{is_root_mount}
 use Rattle.vt_mount_laws.specs.Mounts.Namespaces.{HasAsMany}

@@ -1,5 +1,5 @@
 -- A pivot of the root: the new root mount stands where the old one stood, and that one over it.
-use Rattle.std.proofs.Common.{◌≡◌, refl, sym, ap, subst, ◌∙◌, true, false, zero, suc, nat_eq, ℕ, Bool, List, None, Option, Some, [], arith, cond, eq-eqb, eqb-true, inl, inr, is_some, length, map, not, true≢false, ⊎_elim, ◌&&◌, ◌||◌, ◌<◌, ◌∷◌, ◌⊎◌}
+use Rattle.std.proofs.Common.{◌≡◌, refl, sym, ap, subst, ◌∙◌, true, false, zero, suc, nat_eq, ℕ, Bool, None, Option, Some, arith, cond, eq-eqb, eqb-true, inl, inr, is_some, length, not, true≢false, ⊎_elim, ◌&&◌, ◌||◌, ◌<◌, ◌⊎◌}
 use Rattle.std.specs.Prelude.{if◌then◌else◌}
 use Rattle.std.proofs.lemmas.Bool.{and_parts, false_from_ne_true}
 use Rattle.std.proofs.lemmas.Option.{same_Some}
@@ -221,12 +221,12 @@ module _ (world : World ℕ) (namespace : ℕ) (root new : Mount ℕ) (put : Loc
           → (nat_eq mount.number new.number ≡ false) × (nat_eq mount.number root.number ≡ false)
       other mount low = (
         false_from_ne_true (nat_eq mount.number new.number) (λ e.
-        let equal : level mount.number ≡ level new.number = ap level (eqb-true mount.number new.number e) in
-        let more = new_higher in
-        absurd (omega (arith, equal, more, low))),
+            let equal : level mount.number ≡ level new.number = ap level (eqb-true mount.number new.number e) in
+            let more = new_higher in
+            absurd (omega (arith, equal, more, low))),
         false_from_ne_true (nat_eq mount.number root.number) (λ e.
-        let equal : level mount.number ≡ level root.number = ap level (eqb-true mount.number root.number e) in
-        absurd (omega (arith, equal, low))),
+            let equal : level mount.number ≡ level root.number = ap level (eqb-true mount.number root.number e) in
+            absurd (omega (arith, equal, low))),
       )
 
       by : (number : ℕ) → Stands nat_eq world number → (mount : Mount ℕ) → Among mount world.mounts

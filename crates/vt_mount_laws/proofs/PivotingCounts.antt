@@ -1,9 +1,8 @@
 -- A pivot of the root leaves each namespace as many mounts and as many root mounts.
-use Rattle.std.proofs.Common.{◌≡◌, refl, sym, ap, subst, ◌∙◌, true, false, suc, nat_eq, ℕ, Bool, List, None, Option, Some, [], eq-eqb, eqb-true, filter, inl, inr, is_some, length, map, not, true≢false, ⊎_elim, ◌&&◌, ◌∷◌}
+use Rattle.std.proofs.Common.{◌≡◌, refl, sym, ap, ◌∙◌, true, false, suc, nat_eq, ℕ, Bool, List, Some, [], eq-eqb, eqb-true, filter, is_some, length, not, true≢false, ⊎_elim, ◌&&◌, ◌∷◌}
 use Rattle.std.specs.List.{list_any}
 use Rattle.std.proofs.lemmas.Bool.{false_from_ne_true, or_parts}
 use Rattle.std.proofs.lemmas.List.{length-map}
-use Rattle.std.proofs.lemmas.Option.{same_Some}
 use Rattle.vt_spec.proofs.Lists.{Among, among-filter, among-from_filter, filter_here, filter_skip, none_among, pair-filter}
 use Rattle.vt_spec.specs.Machine.Lists.{any_pair, holds_of}
 use Rattle.vt_spec.specs.Machine.Mounts.{Location, Mount}
@@ -15,7 +14,7 @@ use Rattle.vt_mount_laws.specs.Mounts.Namespaces.{MayPivot, PivotKeepsCounts}
 use Rattle.vt_mount_laws.proofs.MountsCounted.{as_many_mounts, filter-map, filter_alike, is_in}
 use Rattle.vt_mount_laws.proofs.MountsNumbered.{same_number}
 use Rattle.vt_mount_laws.proofs.MountsReplaced.{apart}
-use Rattle.vt_mount_laws.proofs.Pivoting.{is_new, is_root, move, moved_namespace, moved_new, moved_other, moved_root, new_among, new_placed, root_among, two}
+use Rattle.vt_mount_laws.proofs.Pivoting.{is_new, is_root, move, moved_namespace, moved_new, moved_other, moved_root, new_among, new_placed, root_among}
 
 -- but for one mount
 abbrev besides : (Mount ℕ → Bool) → Mount ℕ → Mount ℕ → Bool

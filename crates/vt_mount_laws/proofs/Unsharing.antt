@@ -1,8 +1,8 @@
 -- An unshare: the copies of a namespace's mounts stand on copies.
-use Rattle.std.proofs.Common.{◌≡◌, refl, sym, ap, subst, ◌∙◌, true, false, nat_eq, ℕ, Bool, List, None, Option, Some, eq-eqb, eqb-true, is_some, map, not, option_map, true≢false, ⊎_elim, ◌&&◌, ◌||◌, ◌++◌, ◌+◌, ◌*◌}
+use Rattle.std.proofs.Common.{◌≡◌, refl, sym, ap, subst, ◌∙◌, false, nat_eq, ℕ, List, None, Option, Some, eq-eqb, is_some, map, not, option_map, true≢false, ⊎_elim, ◌&&◌, ◌||◌, ◌+◌, ◌*◌}
 use Rattle.std.proofs.lemmas.Bool.{false_from_ne_true}
 use Rattle.std.proofs.lemmas.Option.{same_Some}
-use Rattle.vt_spec.proofs.Lists.{Among, all_from_among, among-append, among-append_left, among-append_right, among-filter, among-from_filter, among-from_map, among-map, among_from_all, among_from_list_all, is_among_numbers, none_among, pair-filter, pair-map}
+use Rattle.vt_spec.proofs.Lists.{Among, all_from_among, among-append, among-append_left, among-append_right, among-filter, among-from_filter, among-from_map, among-map, among_from_all, among_from_list_all, pair-filter, pair-map}
 use Rattle.vt_spec.specs.Machine.Lists.{Fresh, any_pair, evens, holds_of, odds}
 use Rattle.vt_spec.specs.Machine.Mounts.{Location, Mount, index_of, numbers_by}
 use Rattle.vt_spec.specs.Machine.Namespaces.{copied_mount, location_on_copy, unshared}
@@ -10,7 +10,6 @@ use Rattle.vt_spec.specs.Machine.Run.{Serves}
 use Rattle.vt_spec.specs.Machine.World.{Task, World, mount_numbered, mounts_of}
 use Rattle.vt_spec.specs.Machine.WorldLaws.{MountInvariants, Stands, is_nowhere_or_attached, is_private, stand_at_one_place}
 use Rattle.vt_spec.specs.Machine.WorldLaws.Stands.{at_root, on_parent}
-use Rattle.vt_mount_laws.specs.Mounts.Attaching.{numbers_of}
 use Rattle.vt_mount_laws.specs.Mounts.Namespaces.{UnshareKeepsMounts}
 use Rattle.vt_mount_laws.proofs.GroupsKept.{unshare_keeps_groups}
 use Rattle.vt_mount_laws.proofs.MountsApart.{unshare_keeps_nowhere}

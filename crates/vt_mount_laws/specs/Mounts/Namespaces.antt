@@ -1,6 +1,6 @@
 -- Mounts of namespaces: mount_namespaces(7), unshare(2), pivot_root(2).
 use Rattle.std.specs.List.{list_all}
-use Rattle.std.specs.Prelude.{Bool, List, None, [], false, filter, is_some, length, map, Some, option_to_list, true, ℕ, nat_eq, ◌≡◌}
+use Rattle.std.specs.Prelude.{Bool, None, [], false, filter, is_some, length, map, Some, option_to_list, true, ℕ, nat_eq, ◌≡◌}
 use Rattle.vt_spec.specs.Machine.Calls.{TypeWord}
 use Rattle.vt_spec.specs.Machine.Lists.{Fresh, evens, odds}
 use Rattle.vt_spec.specs.Machine.Looks.{looks_of}
