@@ -36,7 +36,8 @@ module _ (world : World ℕ) (mounts : MountInvariants nat_eq world) where
           → is_some (mount_numbered nat_eq world it).namespace ≡ true
       by (Some namespace) f = ap is_some f
       by None f =
-          absurd (placed_inside world mounts (mount_numbered nat_eq world it) (placed_among world.mounts it place e) place e f)
+          absurd
+          (placed_inside world mounts (mount_numbered nat_eq world it) (placed_among world.mounts it place e) place e f)
 
   named_inside : (number : ℕ) (recursive : Bool) → is_some (mount_numbered nat_eq world number).namespace ≡ true
       → (other : Mount ℕ) → Among other (named_mounts nat_eq world number recursive)
@@ -75,15 +76,17 @@ module _ (world : World ℕ) (mounts : MountInvariants nat_eq world) where
           → (b ≡ true → is_some mount.namespace ≡ true)
           → is_nowhere_or_attached (retyped_if world group word named mount b) ≡ true
       by group named mount m true f =
-          ap (λ s. s || (not (is_some mount.place) && is_private (type_after (group mount.number) word mount.propagation)))
-          (f refl)
+          let kind = type_after (group mount.number) word mount.propagation in
+          ap (λ s. s || (not (is_some mount.place) && is_private kind)) (f refl)
       by group named mount m false f = among_from_list_all is_nowhere_or_attached world.mounts mounts.nowhere mount m
 
 pub type_keeps_mounts : SetTypeKeepsMounts
 type_keeps_mounts world fresh number word recursive serves named mounts =
     let after = with_type nat_eq fresh world number word recursive in
     let one = types_keep_numbers world fresh number word recursive mounts.one_number in
-    let apart = types_keep_apart world fresh number word recursive (record { by_number = mounts.one_number; by_place = mounts.one_child }) in
+    let apart =
+    types_keep_apart world fresh number word recursive
+    (record { by_number = mounts.one_number; by_place = mounts.one_child }) in
     record {
       one_number = one;
       one_child = apart.by_place;
@@ -98,7 +101,8 @@ pub flags_keep_mounts : SetFlagsKeepMounts
 flags_keep_mounts world here flags mounts =
     let after = with_flags nat_eq world here flags in
     let one = flags_keep_numbers world here flags mounts.one_number in
-    let apart = flags_keep_apart world here flags (record { by_number = mounts.one_number; by_place = mounts.one_child }) in
+    let apart =
+    flags_keep_apart world here flags (record { by_number = mounts.one_number; by_place = mounts.one_child }) in
     record {
       one_number = one;
       one_child = apart.by_place;

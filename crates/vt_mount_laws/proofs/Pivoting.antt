@@ -7,10 +7,12 @@ use Rattle.vt_spec.proofs.Lists.{Among, all_from_among, among-from_map, among-ma
 use Rattle.vt_spec.specs.Machine.Lists.{any_pair, chain, rest_of}
 use Rattle.vt_spec.specs.Machine.Mounts.{Location, Mount, root_of, stands_at}
 use Rattle.vt_spec.specs.Machine.Namespaces.{pivoted, pivoted_mount}
+use Rattle.vt_spec.specs.Machine.Looks.{looks_of}
+use Rattle.vt_spec.specs.Machine.Rules.Mounting.{is_below_mount, lies_under_place}
 use Rattle.vt_spec.specs.Machine.World.{World, mount_at, mount_numbered}
 use Rattle.vt_spec.specs.Machine.WorldLaws.{MountInvariants, Stands, is_nowhere_or_attached, is_private, stand_at_one_place}
 use Rattle.vt_spec.specs.Machine.WorldLaws.Stands.{at_root, on_parent}
-use Rattle.vt_mount_laws.specs.Mounts.Namespaces.{MayPivot, PivotKeepsMounts}
+use Rattle.vt_mount_laws.specs.Mounts.Namespaces.{CanPivot, NumberedMountsCanPivot, PivotKeepsMounts}
 use Rattle.vt_mount_laws.proofs.GroupsKept.{pivot_keeps_groups}
 use Rattle.vt_mount_laws.proofs.MountsFound.{found_or_none, number_found, placed_among, unfound}
 use Rattle.vt_mount_laws.proofs.MountsKept.{pivot_keeps_numbers, pivot_number}
@@ -61,7 +63,7 @@ module _ (world : World ℕ) where
           (at, e, on_chain n at place (subst (λ l. Among place (rest_of l)) (chain_goes_on next n here at e) m))
 
 module _ (world : World ℕ) (namespace : ℕ) (root new : Mount ℕ) (put : Location ℕ)
-    (may : MayPivot world namespace root new put) (mounts : MountInvariants nat_eq world) where
+    (may : CanPivot world namespace root new put) (mounts : MountInvariants nat_eq world) where
   abbrev pub after : World ℕ
   after = pivoted nat_eq world namespace root new put
 
@@ -257,7 +259,8 @@ module _ (world : World ℕ) (namespace : ℕ) (root new : Mount ℕ) (put : Loc
           let level_is : level parent.parent.number ≡ level place.mount = ap level parent.number in
           stand_on new parent.parent new_among parent.there place (moved_new ∙ e) parent.number
           (may.new_inside ∙ sym may.root_inside ∙ parent.namespace)
-          (below_root parent.parent.number (stands_itself world mounts parent.parent parent.there) parent.parent parent.there
+          (below_root parent.parent.number (stands_itself world mounts parent.parent parent.there) parent.parent
+          parent.there
           refl (omega (arith, step, level_is)))
 
   -- and what stands over it,
@@ -277,7 +280,9 @@ module _ (world : World ℕ) (namespace : ℕ) (root new : Mount ℕ) (put : Loc
           let step = rank_child world mounts.one_number mounts.standing it place e in
           let new_level : level new.number ≡ level above = ap level (sym same) in
           ⊎_elim
-          (λ equal. let levels : level above ≡ level place.mount = ap level equal in omega (arith, levels, step, new_level))
+          (λ equal.
+          let levels : level above ≡ level place.mount = ap level equal in
+          omega (arith, levels, step, new_level))
           (λ more. omega (arith, more, step, new_level))
           (lies_deeper world mounts.one_number mounts.standing above place.mount way)
 
@@ -382,7 +387,8 @@ module _ (world : World ℕ) (namespace : ℕ) (root new : Mount ℕ) (put : Loc
       (λ t.
       one
       (s.3
-      ∙ ap (λ (x : Mount ℕ). swapped x.number) (one_stander world.mounts mounts.one_child s.0 t.0 s.1 t.1 both.0 s.2 t.2)
+      ∙ ap (λ (x : Mount ℕ). swapped x.number)
+      (one_stander world.mounts mounts.one_child s.0 t.0 s.1 t.1 both.0 s.2 t.2)
       ∙ sym t.3))
       (λ t. none_at_put s.0 s.1 (s.2 ∙ ap Some (sym t.1)))
       (came_from b n both.0 both.2))
@@ -412,8 +418,10 @@ module _ (world : World ℕ) (namespace : ℕ) (root new : Mount ℕ) (put : Loc
       by None e =
           ap is_nowhere_or_attached
           (moved_other mount
-          (false_from_ne_true (nat_eq mount.number new.number) (λ f. not_inside new may.new_inside e (is_new mount m f)))
-          (false_from_ne_true (nat_eq mount.number root.number) (λ f. not_inside root may.root_inside e (is_root mount m f))))
+          (false_from_ne_true (nat_eq mount.number new.number) (λ f.
+          not_inside new may.new_inside e (is_new mount m f)))
+          (false_from_ne_true (nat_eq mount.number root.number) (λ f.
+          not_inside root may.root_inside e (is_root mount m f))))
           ∙ among_from_list_all is_nowhere_or_attached world.mounts mounts.nowhere mount m
 
 pub pivot_keeps_mounts : PivotKeepsMounts
@@ -428,4 +436,23 @@ pivot_keeps_mounts world namespace root new put may mounts =
           let from = among-from_map (pivoted_mount nat_eq root new put) world.mounts mount m in
           ap is_nowhere_or_attached from.2 ∙ nowhere_after world namespace root new put may mounts from.0 from.1);
       groups = pivot_keeps_groups world namespace root new put mounts.groups;
+    }
+
+pub numbered_mounts_can_pivot : NumberedMountsCanPivot
+numbered_mounts_can_pivot world namespace root new put root_inside new_inside put_inside node_is over put_under free =
+    let root_number : (mount_numbered nat_eq world root).number ≡ root = number_found world.mounts root in
+    let new_number : (mount_at nat_eq world new).number ≡ new.mount = number_found world.mounts new.mount in
+    let top : new ≡ root_of (mount_at nat_eq world new) =
+    λ i. record { mount = sym new_number i; node = node_is i } in
+    record {
+      root_there = ap (mount_numbered nat_eq world) root_number;
+      new_there = ap (mount_numbered nat_eq world) new_number;
+      root_inside = root_inside;
+      new_inside = new_inside;
+      put_inside = put_inside;
+      new_over = ap (λ n. is_below_mount nat_eq (looks_of nat_eq world) n (root_of (mount_at nat_eq world new)))
+          root_number
+          ∙ ap (is_below_mount nat_eq (looks_of nat_eq world) root) (sym top) ∙ over;
+      put_over = ap (λ here. lies_under_place nat_eq (looks_of nat_eq world) here put) (sym top) ∙ put_under;
+      put_free = free;
     }

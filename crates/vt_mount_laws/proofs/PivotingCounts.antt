@@ -10,7 +10,7 @@ use Rattle.vt_spec.specs.Machine.Namespaces.{pivoted}
 use Rattle.vt_spec.specs.Machine.World.{World, mounts_of}
 use Rattle.vt_spec.specs.Machine.WorldLaws.{MountInvariants, is_root_mount}
 use Rattle.vt_mount_laws.specs.Mounts.Attaching.{OneNumberAMount}
-use Rattle.vt_mount_laws.specs.Mounts.Namespaces.{MayPivot, PivotKeepsCounts}
+use Rattle.vt_mount_laws.specs.Mounts.Namespaces.{CanPivot, PivotKeepsCounts}
 use Rattle.vt_mount_laws.proofs.MountsCounted.{as_many_mounts, filter-map, filter_alike, is_in}
 use Rattle.vt_mount_laws.proofs.MountsNumbered.{same_number}
 use Rattle.vt_mount_laws.proofs.MountsReplaced.{apart}
@@ -71,7 +71,7 @@ as_many_pass p q xs one a b m n e f same =
     ∙ sym (one_more q xs one b n f)
 
 module _ (world : World ℕ) (namespace : ℕ) (root new : Mount ℕ) (put : Location ℕ)
-    (may : MayPivot world namespace root new put) (mounts : MountInvariants nat_eq world) where
+    (may : CanPivot world namespace root new put) (mounts : MountInvariants nat_eq world) where
   abbrev change : Mount ℕ → Mount ℕ
   change = move world namespace root new put may mounts
 
@@ -159,7 +159,8 @@ module _ (world : World ℕ) (namespace : ℕ) (root new : Mount ℕ) (put : Loc
       by : (b : Bool) → before root ≡ b → (c : Bool) → nat_eq other namespace ≡ c
           → length (filter later (mounts_of nat_eq world other)) ≡ length (filter before (mounts_of nat_eq world other))
       by false e c f =
-          ap length (filter_alike later before (mounts_of nat_eq world other) (λ mount m. alike e mount (here mount m).0))
+          ap length (filter_alike later before (mounts_of nat_eq world other) (λ mount m.
+          alike e mount (here mount m).0))
       by true e false f =
           ap length (filter_alike later before (mounts_of nat_eq world other) (λ mount m.
           elsewhere other f mount (here mount m).0 (here mount m).1))

@@ -46,13 +46,15 @@ module _ (world : World ℕ) (mounts : MountInvariants nat_eq world) where
       → Parent world mount place
   parent_of mount m place e = by (stands_itself mount m) (itself mount m)
     where
-      by : Stands nat_eq world mount.number → mount_numbered nat_eq world mount.number ≡ mount → Parent world mount place
+      by : Stands nat_eq world mount.number → mount_numbered nat_eq world mount.number ≡ mount
+          → Parent world mount place
       by (at_root it f) same =
           absurd (true≢false (sym (ap is_some e) ∙ ap (λ x. is_some x.place) (sym same) ∙ ap is_some f))
       by (on_parent it at f g stands) same =
           let at_is : at ≡ place = same_Some at place (sym f ∙ ap (λ x. x.place) same ∙ e) in
           let inside : mount.namespace ≡ (mount_numbered nat_eq world place.mount).namespace =
-          ap (λ x. x.namespace) (sym same) ∙ g ∙ ap (λ (p : Location ℕ). (mount_numbered nat_eq world p.mount).namespace) at_is in
+          ap (λ x. x.namespace) (sym same) ∙ g
+          ∙ ap (λ (p : Location ℕ). (mount_numbered nat_eq world p.mount).namespace) at_is in
           ⊎_elim
           (λ there. record {
             parent = mount_numbered nat_eq world place.mount;
@@ -111,7 +113,8 @@ module _ (world : World ℕ) (fresh : Fresh ℕ) (task : Task ℕ) (serves : Ser
   old_stands number (at_root it e) mount m same =
       at_root it
       (ap (λ n. (mount_numbered nat_eq after n).place) (sym same) ∙ ap (λ x. x.place) (old_found mount m)
-      ∙ ap (λ x. x.place) (sym (itself world mounts mount m)) ∙ ap (λ n. (mount_numbered nat_eq world n).place) same ∙ e)
+      ∙ ap (λ x. x.place) (sym (itself world mounts mount m))
+      ∙ ap (λ n. (mount_numbered nat_eq world n).place) same ∙ e)
   old_stands number (on_parent it place e f stands) mount m same =
       let back : mount_numbered nat_eq world it ≡ mount =
       ap (mount_numbered nat_eq world) (sym same) ∙ itself world mounts mount m in
@@ -163,7 +166,8 @@ module _ (world : World ℕ) (fresh : Fresh ℕ) (task : Task ℕ) (serves : Ser
     where
       by : (found : Option (Location ℕ)) → mount.place ≡ found
           → (origin : Location ℕ) × (mount.place ≡ Some origin) × (location_on_copy new_number origin ≡ place)
-      by None f = absurd (true≢false (sym (ap is_some e) ∙ ap (λ p. is_some (option_map (location_on_copy new_number) p)) f))
+      by None f =
+          absurd (true≢false (sym (ap is_some e) ∙ ap (λ p. is_some (option_map (location_on_copy new_number) p)) f))
       by (Some origin) f = (
         origin,
         f,
@@ -185,7 +189,8 @@ module _ (world : World ℕ) (fresh : Fresh ℕ) (task : Task ℕ) (serves : Ser
       (ap new_number on_p.2 ∙ ap (λ (l : Location ℕ). l.mount) same ∙ ap new_number (sym on_q.2)) in
       let mount_same : p.0.mount ≡ q.0.mount =
       sym on_p.2
-      ∙ one_index copied on_p.0.number on_q.0.number (is_one_of copied on_p.0 on_p.1) (is_one_of copied on_q.0 on_q.1) index
+      ∙ one_index copied on_p.0.number on_q.0.number (is_one_of copied on_p.0 on_p.1)
+      (is_one_of copied on_q.0 on_q.1) index
       ∙ on_q.2 in
       let node_same : p.0.node ≡ q.0.node = ap (λ (l : Location ℕ). l.node) same in
       let place_same : p.0 ≡ q.0 = λ i. record { mount = mount_same i; node = node_same i } in
@@ -208,8 +213,8 @@ module _ (world : World ℕ) (fresh : Fresh ℕ) (task : Task ℕ) (serves : Ser
   one_child_after =
       pair-append (stand_at_one_place nat_eq) world.mounts (map copy copied) mounts.one_child
       (pair-map (stand_at_one_place nat_eq) (stand_at_one_place nat_eq) copy copied two_copies
-      (pair-filter (stand_at_one_place nat_eq) (λ (x : Mount ℕ). holds_of (nat_eq task.namespace) x.namespace) world.mounts
-      mounts.one_child))
+      (pair-filter (stand_at_one_place nat_eq) (λ (x : Mount ℕ). holds_of (nat_eq task.namespace) x.namespace)
+      world.mounts mounts.one_child))
       (λ a b m n.
       let from = among-from_map copy copied b n in
       ap (stand_at_one_place nat_eq a) from.2 ∙ old_and_copy a from.0 m from.1)

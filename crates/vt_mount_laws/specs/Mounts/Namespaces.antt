@@ -62,7 +62,8 @@ UnshareKeepsCounts =
 
 -- Types and flags
 
--- A change of type keeps the invariants of mounts, where the named mount is in a namespace: one that is in none stays private.
+-- A change of type keeps the invariants of mounts, where the named mount is in a namespace: one that is in none stays
+-- private.
 abbrev pub SetTypeKeepsMounts : Type 0
 SetTypeKeepsMounts =
     (world : World ℕ) (fresh : Fresh ℕ) (one : ℕ) (word : TypeWord) (recursive : Bool) → Serves nat_eq world fresh
@@ -87,9 +88,13 @@ SetFlagsKeepCounts =
 
 -- Pivoting
 
--- What pivot_root(2) asks for: the old root mount, the new one and the place for the old one are in one namespace; the new one
--- stands over the old one, and the place lies over the new one, with no mount at it.
-pub record MayPivot (world : World ℕ) (namespace : ℕ) (root new : Mount ℕ) (put : Location ℕ) : Type 0 where
+-- the mount of this number is in a namespace
+abbrev pub IsIn : World ℕ → ℕ → ℕ → Type 0
+IsIn world namespace mount = (mount_numbered nat_eq world mount).namespace ≡ Some namespace
+
+-- What pivot_root(2) asks for: the old root mount, the new one and the place for the old one are in one namespace; the
+-- new one stands over the old one, and the place lies over the new one, with no mount at it.
+pub record CanPivot (world : World ℕ) (namespace : ℕ) (root new : Mount ℕ) (put : Location ℕ) : Type 0 where
   pub root_there : mount_numbered nat_eq world root.number ≡ root
   pub new_there : mount_numbered nat_eq world new.number ≡ new
   pub root_inside : root.namespace ≡ Some namespace
@@ -102,12 +107,22 @@ pub record MayPivot (world : World ℕ) (namespace : ℕ) (root new : Mount ℕ)
 -- Then a pivot keeps the invariants of mounts,
 abbrev pub PivotKeepsMounts : Type 0
 PivotKeepsMounts =
-    (world : World ℕ) (namespace : ℕ) (root new : Mount ℕ) (put : Location ℕ) → MayPivot world namespace root new put
+    (world : World ℕ) (namespace : ℕ) (root new : Mount ℕ) (put : Location ℕ) → CanPivot world namespace root new put
     → MountInvariants nat_eq world → MountInvariants nat_eq (pivoted nat_eq world namespace root new put)
 
 -- and leaves each namespace as many mounts and as many root mounts.
 abbrev pub PivotKeepsCounts : Type 0
 PivotKeepsCounts =
-    (world : World ℕ) (namespace : ℕ) (root new : Mount ℕ) (put : Location ℕ) → MayPivot world namespace root new put
+    (world : World ℕ) (namespace : ℕ) (root new : Mount ℕ) (put : Location ℕ) → CanPivot world namespace root new put
     → MountInvariants nat_eq world → (other : ℕ)
     → HasAsMany world other (pivoted nat_eq world namespace root new put) other
+
+-- What it asks for, of mounts that are given by their numbers
+abbrev pub NumberedMountsCanPivot : Type 0
+NumberedMountsCanPivot =
+    (world : World ℕ) (namespace root : ℕ) (new put : Location ℕ) → IsIn world namespace root
+    → IsIn world namespace new.mount → IsIn world namespace put.mount
+    → new.node ≡ (mount_at nat_eq world new).root
+    → is_below_mount nat_eq (looks_of nat_eq world) root new ≡ true
+    → lies_under_place nat_eq (looks_of nat_eq world) new put ≡ true → child_at nat_eq world.mounts put ≡ None
+    → CanPivot world namespace (mount_numbered nat_eq world root) (mount_at nat_eq world new) put

@@ -1,4 +1,4 @@
-use Rattle.vt_mount_laws.proofs.Pivoting.{pivot_keeps_mounts}
+use Rattle.vt_mount_laws.proofs.Pivoting.{numbered_mounts_can_pivot, pivot_keeps_mounts}
 use Rattle.vt_mount_laws.proofs.PivotingCounts.{pivot_keeps_counts}
 use Rattle.vt_mount_laws.proofs.namespaces.pivoting_keeps_mounts.Goals as goal
 
@@ -7,3 +7,6 @@ returns-clause-mounts c = pivot_keeps_mounts
 
 pub returns-clause-counts : goal.returns-clause-counts
 returns-clause-counts c = pivot_keeps_counts
+
+pub returns-clause-numbered : goal.returns-clause-numbered
+returns-clause-numbered c = numbered_mounts_can_pivot
