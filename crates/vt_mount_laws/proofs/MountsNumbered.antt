@@ -104,7 +104,7 @@ one_index mounts a b m n e =
     let same : s.1 ≡ t.1 = same_Some s.1 t.1 (sym s.3 ∙ ap (slice_get mounts) (sym s.2 ∙ e ∙ t.2) ∙ t.3) in
     sym s.4 ∙ ap (λ mount. mount.number) same ∙ t.4
 
-pub index_below : (mounts : List (Mount ℕ)) (number : ℕ) → IsOneOf mounts number
+index_below : (mounts : List (Mount ℕ)) (number : ℕ) → IsOneOf mounts number
     → index_of nat_eq mounts number < length mounts
 index_below mounts number one =
     let t = indexed mounts number one in
@@ -162,7 +162,7 @@ module _ (world : World ℕ) (fresh : Fresh ℕ) (serves : Serves nat_eq world f
       serves.apart (2 * j + 1) (2 * k + 1) (eq-eqb (odds fresh j) (odds fresh k) e) in
       omega (arith, same)
 
-  pub evens_odds : (j k : ℕ) → odds fresh j ≡ evens fresh k → ⊥
+  evens_odds : (j k : ℕ) → odds fresh j ≡ evens fresh k → ⊥
   evens_odds j k e =
       let same : 2 * j + 1 ≡ 2 * k = serves.apart (2 * j + 1) (2 * k) (eq-eqb (odds fresh j) (evens fresh k) e) in
       omega (arith, same)
