@@ -2,6 +2,7 @@ pub mod Attaching
 pub mod Changing
 pub mod Conditions
 pub mod Copies
+pub mod Ending
 pub mod Ends
 pub mod FileCalls
 pub mod Granted
