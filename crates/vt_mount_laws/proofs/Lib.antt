@@ -2,6 +2,7 @@ pub mod Attaching
 pub mod AttachingPlaces
 pub mod BindsStand
 pub mod Ending
+pub mod EndingCounts
 pub mod EndingStanding
 pub mod Groups
 pub mod GroupsKept
