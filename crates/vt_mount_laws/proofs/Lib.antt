@@ -1,6 +1,9 @@
 pub mod Attaching
 pub mod AttachingPlaces
 pub mod BindsStand
+pub mod Ending
+pub mod EndingCounts
+pub mod EndingStanding
 pub mod Groups
 pub mod GroupsKept
 pub mod GroupsRetyped

@@ -253,7 +253,7 @@ bindable_child world number child m =
     (children nat_eq world.mounts number) child m).0
 
 module _ (world : World ℕ) (one : OneNumberEach world) (all : AllStand world) where
-  stand : (number : ℕ) → Stands nat_eq world number
+  pub stand : (number : ℕ) → Stands nat_eq world number
   stand number =
       ⊎_elim
       (λ there. subst (Stands nat_eq world) (number_found world.mounts number)

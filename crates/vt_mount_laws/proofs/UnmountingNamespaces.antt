@@ -2,12 +2,12 @@
 use Rattle.std.proofs.Common.{◌≡◌, refl, sym, ap, subst, ◌∙◌, true, false, zero, suc, nat_eq, ℕ, List, None, Option, Some, [], eqb-true, filter, is_some, length, map, not, option_map, true≢false, ◌&&◌, ◌∷◌}
 use Rattle.vt_spec.specs.Machine.Mounts.{Location, Mount, mount_in}
 use Rattle.vt_spec.proofs.Lists.{Among, among-filter, among-from_filter, among-from_map, among-map, among_from_list_all, among_numbers, chain_ends, chain_goes_on, is_among_numbers, last_of_chain}
-use Rattle.vt_mount_laws.specs.Mounts.Conditions.{EndedNamespacesLeaveOneMountAPlace}
+use Rattle.vt_mount_laws.specs.Mounts.Conditions.{EndedNamespacesLeaveOneMountAPlace, OneNumberEach}
 use Rattle.vt_mount_laws.specs.Mounts.Unmounting.{PlacesEnd}
 use Rattle.vt_spec.specs.Machine.World.{World, mount_at, Namespace}
 use Rattle.std.proofs.lemmas.Bool.{and_parts, not-true}
 use Rattle.vt_spec.specs.Machine.Lists.{chain, holds_of, last_or, same_option}
-use Rattle.vt_mount_laws.proofs.UnmountingTrees.{closed_keeps_apart}
+use Rattle.vt_mount_laws.proofs.UnmountingTrees.{AreClosed, closed_keeps_apart}
 use Rattle.vt_mount_laws.proofs.MountsReplaced.{found_itself}
 use Rattle.vt_spec.specs.Machine.Namespaces.{has_tasks, is_in_ended}
 use Rattle.vt_spec.specs.Machine.WorldLaws.{last_below, stands_in_its_namespace}
@@ -76,17 +76,23 @@ module _ (world : World ℕ) (ends : PlacesEnd world) where
       ∙ sym shorter in
       first.1 ∙ sym (other.1 ∙ ap (λ l. l.namespace) same)
 
-pub ended_namespaces_leave_one_mount_a_place : EndedNamespacesLeaveOneMountAPlace
-ended_namespaces_leave_one_mount_a_place world ends both =
-    let numbers = map (λ (mount : Mount ℕ). mount.number) (filter (is_in_ended nat_eq world) world.mounts) in
-    let kept = closed_keeps_apart world numbers (λ x place m e goes.
-    let from = among-from_map (λ (mount : Mount ℕ). mount.number) (filter (is_in_ended nat_eq world) world.mounts) place.mount (among_numbers numbers place.mount goes) in
+-- the mounts of namespaces that end
+abbrev pub in_ended : World ℕ → List ℕ
+in_ended world = map (λ (mount : Mount ℕ). mount.number) (filter (is_in_ended nat_eq world) world.mounts)
+
+pub ended_closed : (world : World ℕ) → PlacesEnd world → OneNumberEach world → AreClosed world (in_ended world)
+ended_closed world ends one x place m e goes =
+    let from = among-from_map (λ (mount : Mount ℕ). mount.number) (filter (is_in_ended nat_eq world) world.mounts) place.mount (among_numbers (in_ended world) place.mount goes) in
     let end = among-from_filter (is_in_ended nat_eq world) world.mounts from.0 from.1 in
-    let it : mount_at nat_eq world place ≡ from.0 = ap (mount_in nat_eq world.mounts) from.2 ∙ found_itself world.mounts both.by_number from.0 end.0 in
+    let it : mount_at nat_eq world place ≡ from.0 = ap (mount_in nat_eq world.mounts) from.2 ∙ found_itself world.mounts one from.0 end.0 in
     let there : Among (mount_at nat_eq world place) world.mounts = subst (λ z. Among z world.mounts) (sym it) end.0 in
     let namespace : x.namespace ≡ from.0.namespace = same_namespace world ends x place m e there ∙ ap (λ z. z.namespace) it in
-    is_among_numbers numbers x.number
+    is_among_numbers (in_ended world) x.number
     (among-map (λ (mount : Mount ℕ). mount.number) (filter (is_in_ended nat_eq world) world.mounts) x
     (among-filter (is_in_ended nat_eq world) world.mounts x m
-    (ap (holds_of (λ number. not (list_any (λ (listed : Namespace ℕ). nat_eq number listed.number && has_tasks nat_eq world listed) world.namespaces))) namespace ∙ end.1)))) both in
+    (ap (holds_of (λ number. not (list_any (λ (listed : Namespace ℕ). nat_eq number listed.number && has_tasks nat_eq world listed) world.namespaces))) namespace ∙ end.1)))
+
+pub ended_namespaces_leave_one_mount_a_place : EndedNamespacesLeaveOneMountAPlace
+ended_namespaces_leave_one_mount_a_place world ends both =
+    let kept = closed_keeps_apart world (in_ended world) (ended_closed world ends both.by_number) both in
     record { by_number = kept.by_number; by_place = kept.by_place }

@@ -1,17 +1,17 @@
 -- An unmount leaves at most one mount at a place.
-use Rattle.std.proofs.Common.{◌≡◌, refl, sym, ap, subst, ◌∙◌, true, false, zero, suc, Bool, List, None, Option, Some, [], cond, eq-eqb, is_some, length, nat_eq, option_map, true≢false, ⊎_elim, ◌∷◌, ◌⊎◌, ℕ, inl, inr}
+use Rattle.std.proofs.Common.{◌≡◌, refl, sym, ap, subst, ◌∙◌, true, false, zero, suc, Bool, List, None, Option, Some, [], eq-eqb, is_some, length, nat_eq, option_map, true≢false, ⊎_elim, ◌∷◌, ◌⊎◌, ℕ, inl, inr}
 use Rattle.vt_spec.proofs.Lists.{Among, among-filter, among-from_filter_map, among-from_map, among_numbers, chain_ends, chain_goes_on, last_of_chain, none_among, pair-map}
 use Rattle.vt_mount_laws.specs.Mounts.Conditions.{AreApart, OneMountEachPlace, UnmountLeavesOneMountAPlace}
-use Rattle.vt_spec.specs.Machine.Mounts.{Location, child_at, children, is_shared, mount_in, stands_at, stands_on, Mount}
+use Rattle.vt_spec.specs.Machine.Mounts.{Location, children, is_shared, mount_in, stands_at, stands_on, Mount}
 use Rattle.vt_spec.specs.Machine.World.{World, mount_at, mount_numbered}
 use Rattle.vt_spec.specs.Machine.Detach.{after_going, goes_at, going, going_at, going_from, is_going, may_go, only_cover, place_below, place_left, taken_away}
 use Rattle.vt_spec.specs.Machine.Lists.{any_pair, chain, holds_of, last_or}
 use Rattle.vt_mount_laws.proofs.UnmountingGoes.{child_goes}
 use Rattle.std.proofs.lemmas.Bool.{false_from_ne_true}
 use Rattle.std.specs.Prelude.{filter_map, if◌then◌else◌}
-use Rattle.vt_mount_laws.proofs.MountsPlaces.{one_place_of_two, one_stander, place_of_both}
+use Rattle.vt_mount_laws.proofs.MountsPlaces.{one_place_of_two, one_stander, place_of_both, stands_there}
 use Rattle.vt_mount_laws.proofs.MountsReplaced.{found_itself}
-use Rattle.vt_mount_laws.proofs.MountsFound.{number_found, placed_among}
+use Rattle.vt_mount_laws.proofs.MountsFound.{found_in, number_found, placed_among}
 use Rattle.vt_mount_laws.proofs.Unmounting.{going_is_detached, middle, staying_is_placed}
 use Rattle.vt_spec.specs.Machine.Receives.{inheriting}
 use Rattle.vt_mount_laws.proofs.Groups.{mounts-regrouped}
@@ -21,10 +21,47 @@ use Rattle.vt_spec.specs.Machine.WorldLaws.{stand_at_one_place}
 use Rattle.vt_mount_laws.proofs.MountsKept.{unmount_keeps_numbers}
 
 -- a mount's place falls to where mounts that go leave it
-data Falls (world : World ℕ) (gone : List ℕ) (mount : Mount ℕ) : Location ℕ → Type 0 where
+pub data Falls (world : World ℕ) (gone : List ℕ) (mount : Mount ℕ) : Location ℕ → Type 0 where
   direct : (rest : Location ℕ) → mount.place ≡ Some rest → Falls world gone mount rest
   down : (place rest : Location ℕ) → Falls world gone mount place → is_going nat_eq gone place.mount ≡ true
       → (mount_at nat_eq world place).place ≡ Some rest → Falls world gone mount rest
+
+module _ (world : World ℕ) (gone : List ℕ) where
+  -- where a place is left, it falls to
+  falls_down : (a : Mount ℕ) (n : ℕ) (place : Location ℕ) → Falls world gone a place
+      → Falls world gone a (last_or place (chain n (place_below nat_eq world gone) place))
+  falls_down a zero place fall = fall
+  falls_down a (suc n) place fall = by (place_below nat_eq world gone place) refl (falls_down a n)
+    where
+      step : (next : Location ℕ) (b : Bool) → is_going nat_eq gone place.mount ≡ b
+          → (if b then (mount_at nat_eq world place).place else None) ≡ Some next → Falls world gone a next
+      step next true goes e = down place next fall goes e
+      step next false goes e = cc
+
+      by : (found : Option (Location ℕ)) → place_below nat_eq world gone place ≡ found
+          → ((next : Location ℕ) → Falls world gone a next → Falls world gone a (last_or next (chain n (place_below nat_eq world gone) next)))
+          → Falls world gone a (last_or place (chain (suc n) (place_below nat_eq world gone) place))
+      by None e later = subst (λ ps. Falls world gone a (last_or place ps)) (sym (chain_ends (place_below nat_eq world gone) n place e)) fall
+      by (Some next) e later =
+          subst (Falls world gone a)
+          (sym (ap (last_or place) (chain_goes_on (place_below nat_eq world gone) n place next e) ∙ last_of_chain (place_below nat_eq world gone) n next place))
+          (later next (step next (is_going nat_eq gone place.mount) refl e))
+
+  -- where a mount stands after the event
+  pub stood : (a : Mount ℕ) (rest : Location ℕ) → (after_going nat_eq world gone a).place ≡ Some rest
+      → (is_going nat_eq gone a.number ≡ false) × Falls world gone a rest
+  stood a rest e = by (is_going nat_eq gone a.number) refl
+    where
+      at : (place : Option (Location ℕ)) → a.place ≡ place → option_map (place_left nat_eq world gone) place ≡ Some rest
+          → Falls world gone a rest
+      at None f g = cc
+      at (Some place) f g =
+          let same : place_left nat_eq world gone place ≡ rest = same_Some (place_left nat_eq world gone place) rest g in
+          subst (Falls world gone a) same (falls_down a (length world.mounts) place (direct place f))
+
+      by : (b : Bool) → is_going nat_eq gone a.number ≡ b → (is_going nat_eq gone a.number ≡ false) × Falls world gone a rest
+      by true f = absurd (true≢false (sym (ap is_some e) ∙ ap (λ m. is_some m.place) (going_is_detached world gone a f)))
+      by false f = (f, at a.place refl (sym (ap (λ m. m.place) (staying_is_placed world gone a f)) ∙ e))
 
 -- one child alone
 one_child_alone : (mount : Mount ℕ) (list : List (Mount ℕ)) → only_cover nat_eq mount list ≡ true → (a b : Mount ℕ) → Among a list
@@ -81,49 +118,13 @@ module _ (world : World ℕ) (gone : List ℕ) (apart_all : AreApart world)
       let y = stander b at_too n fall_too in
       one_falls a b m n stays also at fall at_too fall_too (sym (one_root x.0 y.0 at at_too x.1 y.1 x.2 y.2 goes number))
 
-  -- where a place is left, it falls to
-  falls_down : (a : Mount ℕ) (n : ℕ) (place : Location ℕ) → Falls world gone a place
-      → Falls world gone a (last_or place (chain n (place_below nat_eq world gone) place))
-  falls_down a zero place fall = fall
-  falls_down a (suc n) place fall = by (place_below nat_eq world gone place) refl (falls_down a n)
-    where
-      step : (next : Location ℕ) (b : Bool) → is_going nat_eq gone place.mount ≡ b
-          → (if b then (mount_at nat_eq world place).place else None) ≡ Some next → Falls world gone a next
-      step next true goes e = down place next fall goes e
-      step next false goes e = cc
-
-      by : (found : Option (Location ℕ)) → place_below nat_eq world gone place ≡ found
-          → ((next : Location ℕ) → Falls world gone a next → Falls world gone a (last_or next (chain n (place_below nat_eq world gone) next)))
-          → Falls world gone a (last_or place (chain (suc n) (place_below nat_eq world gone) place))
-      by None e later = subst (λ ps. Falls world gone a (last_or place ps)) (sym (chain_ends (place_below nat_eq world gone) n place e)) fall
-      by (Some next) e later =
-          subst (Falls world gone a)
-          (sym (ap (last_or place) (chain_goes_on (place_below nat_eq world gone) n place next e) ∙ last_of_chain (place_below nat_eq world gone) n next place))
-          (later next (step next (is_going nat_eq gone place.mount) refl e))
-
-  -- where a mount stands after the event
-  stood : (a : Mount ℕ) (rest : Location ℕ) → (after_going nat_eq world gone a).place ≡ Some rest
-      → (is_going nat_eq gone a.number ≡ false) × Falls world gone a rest
-  stood a rest e = by (is_going nat_eq gone a.number) refl
-    where
-      at : (place : Option (Location ℕ)) → a.place ≡ place → option_map (place_left nat_eq world gone) place ≡ Some rest
-          → Falls world gone a rest
-      at None f g = cc
-      at (Some place) f g =
-          let same : place_left nat_eq world gone place ≡ rest = same_Some (place_left nat_eq world gone place) rest g in
-          subst (Falls world gone a) same (falls_down a (length world.mounts) place (direct place f))
-
-      by : (b : Bool) → is_going nat_eq gone a.number ≡ b → (is_going nat_eq gone a.number ≡ false) × Falls world gone a rest
-      by true f = absurd (true≢false (sym (ap is_some e) ∙ ap (λ m. is_some m.place) (going_is_detached world gone a f)))
-      by false f = (f, at a.place refl (sym (ap (λ m. m.place) (staying_is_placed world gone a f)) ∙ e))
-
   -- no two come to one place
   pub one_place_left : (a b : Mount ℕ) → Among a world.mounts → Among b world.mounts → stand_at_one_place nat_eq a b ≡ false
       → stand_at_one_place nat_eq (after_going nat_eq world gone a) (after_going nat_eq world gone b) ≡ false
   one_place_left a b m n differ = false_from_ne_true _ (λ together.
       let place = place_of_both (after_going nat_eq world gone a) (after_going nat_eq world gone b) together in
-      let first = stood a place.0 place.1 in
-      let second = stood b place.0 place.2 in
+      let first = stood world gone a place.0 place.1 in
+      let second = stood world gone b place.0 place.2 in
       let same : a ≡ b = one_falls a b m n first.0 second.0 place.0 first.1 place.0 second.1 refl in
       let had = had_place a place.0 first.1 in
       true≢false (sym (one_place_of_two had.0 a b had.1 (ap (λ x. x.place) (sym same) ∙ had.1)) ∙ differ))
@@ -139,40 +140,32 @@ module _ (world : World ℕ) (gone : List ℕ) (apart_all : AreApart world)
       (pair-map (stand_at_one_place nat_eq) (stand_at_one_place nat_eq) (after_going nat_eq world gone) world.mounts one_place_left apart_all.by_place)
 
 -- At an unmount
-found_child : (mounts : List (Mount ℕ)) (place : Location ℕ) (child : Mount ℕ) → child_at nat_eq mounts place ≡ Some child
-    → Among child mounts
-found_child [] place child e = cc
-found_child (first ∷ rest) place child e = by (stands_at nat_eq place first) refl (found_child rest place child)
-  where
-    by : (b : Bool) → stands_at nat_eq place first ≡ b → (child_at nat_eq rest place ≡ Some child → Among child rest)
-        → Among child (first ∷ rest)
-    by true f later = inl (sym (same_Some first child (sym (ap (λ b. cond b (Some first) (child_at nat_eq rest place)) f) ∙ e)))
-    by false f later = inr (later (sym (ap (λ b. cond b (Some first) (child_at nat_eq rest place)) f) ∙ e))
-
--- what goes is the mount itself, or may go
-goes_or_may : (world : World ℕ) (mount : Mount ℕ) (number : ℕ) → is_going nat_eq (going nat_eq world mount) number ≡ true
-    → (number ≡ mount.number) ⊎ ((child : Mount ℕ) × Among child world.mounts × (may_go nat_eq world child ≡ true) × (number ≡ child.number))
+-- what goes is the mount itself, or one that stands at a place and may go
+pub goes_or_may : (world : World ℕ) (mount : Mount ℕ) (number : ℕ) → is_going nat_eq (going nat_eq world mount) number ≡ true
+    → (number ≡ mount.number) ⊎ ((child : Mount ℕ) × Among child world.mounts × (may_go nat_eq world child ≡ true) × (number ≡ child.number) × (is_some child.place ≡ true))
 goes_or_may world mount number h = by mount.place refl
   where
     alone : Among number (mount.number ∷ [])
-        → (number ≡ mount.number) ⊎ ((child : Mount ℕ) × Among child world.mounts × (may_go nat_eq world child ≡ true) × (number ≡ child.number))
+        → (number ≡ mount.number) ⊎ ((child : Mount ℕ) × Among child world.mounts × (may_go nat_eq world child ≡ true) × (number ≡ child.number) × (is_some child.place ≡ true))
     alone m = inl (⊎_elim (λ e. e) (λ none. absurd none) m)
 
     listed : (numbers : List ℕ) → going nat_eq world mount ≡ numbers → Among number numbers
     listed numbers e = among_numbers numbers number (sym (ap (λ ns. is_going nat_eq ns number) e) ∙ h)
 
     on : (place : Location ℕ) (b : Bool) → Among number (going_from nat_eq world mount place b)
-        → (number ≡ mount.number) ⊎ ((child : Mount ℕ) × Among child world.mounts × (may_go nat_eq world child ≡ true) × (number ≡ child.number))
+        → (number ≡ mount.number) ⊎ ((child : Mount ℕ) × Among child world.mounts × (may_go nat_eq world child ≡ true) × (number ≡ child.number) × (is_some child.place ≡ true))
     on place true m =
         let receiving = receivers_of nat_eq world (mount_at nat_eq world place) in
         let gone = among-from_map (λ (x : Mount ℕ). x.number) (filter_map (goes_at nat_eq world place.node) receiving) number m in
         let heard = among-from_filter_map (goes_at nat_eq world place.node) receiving gone.0 gone.1 in
         let child = child_goes world place.node heard.0 gone.0 heard.2 in
-        inr (gone.0, found_child world.mounts (record { mount = heard.0.number; node = place.node }) gone.0 child.0, child.1, gone.2)
+        let at : Location ℕ = record { mount = heard.0.number; node = place.node } in
+        let found = found_in (stands_at nat_eq at) world.mounts gone.0 child.0 in
+        inr (gone.0, found.0, child.1, gone.2, ap is_some (stands_there at gone.0 found.1))
     on place false m = alone m
 
     by : (place : Option (Location ℕ)) → mount.place ≡ place
-        → (number ≡ mount.number) ⊎ ((child : Mount ℕ) × Among child world.mounts × (may_go nat_eq world child ≡ true) × (number ≡ child.number))
+        → (number ≡ mount.number) ⊎ ((child : Mount ℕ) × Among child world.mounts × (may_go nat_eq world child ≡ true) × (number ≡ child.number) × (is_some child.place ≡ true))
     by None e = alone (listed (mount.number ∷ []) (ap (going_at nat_eq world mount) e))
     by (Some place) e =
         on place (is_shared (mount_at nat_eq world place).propagation)

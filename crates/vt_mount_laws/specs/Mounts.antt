@@ -2,10 +2,12 @@ pub mod Attaching
 pub mod Changing
 pub mod Conditions
 pub mod Copies
+pub mod Ending
 pub mod Ends
 pub mod FileCalls
 pub mod Granted
 pub mod Namespaces
+pub mod Left
 pub mod Places
 pub mod Receivers
 pub mod Standing
