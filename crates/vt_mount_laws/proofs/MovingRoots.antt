@@ -1,20 +1,21 @@
 -- What is attached has a place, and is in the namespace of the mount that it is attached on.
-use Rattle.std.proofs.Common.{◌≡◌, refl, sym, ap, subst, ◌∙◌, true, false, suc, nat_eq, ℕ, Bool, List, None, Option, Some, [], add-zero, cond, filter, flat_map, inl, inr, is_some, length, map, not, true≢false, ⊎_elim, ◌&&◌, ◌++◌, ◌+◌, ◌∷◌}
+use Rattle.std.proofs.Common.{◌≡◌, refl, sym, ap, subst, ◌∙◌, true, false, suc, nat_eq, ℕ, Bool, List, None, Option, Some, [], add-zero, cond, filter, flat_map, inl, inr, is_some, length, map, not, true≢false, ⊎_elim, ◌&&◌, ◌++◌, ◌+◌, ◌∷◌, zero, eqb-true, ◌⊎◌}
 use Rattle.std.proofs.lemmas.List.{length-append}
 use Rattle.std.proofs.lemmas.List.Elements.{filter-append}
 use Rattle.vt_spec.specs.Machine.Attach.{Copies, Graft, added_mounts, attached_by, bind_tree, copies_at, copy_at, parts_of, pushed_onto, receiver_below}
-use Rattle.vt_spec.specs.Machine.Lists.{holds_of, rest_of}
-use Rattle.vt_spec.specs.Machine.Mounts.{Location, Mount, stands_at}
+use Rattle.vt_spec.specs.Machine.Lists.{folded, holds_of, rest_of}
+use Rattle.vt_spec.specs.Machine.Mounts.{Location, Mount, children, mount_in, replaced_if_same, stands_at, stands_on, tree_from, with_mount}
 use Rattle.std.specs.Prelude.{Contains}
-use Rattle.vt_spec.specs.Machine.Outcome.Mounting.{new_mount, with_new_filesystem}
+use Rattle.vt_spec.specs.Machine.Outcome.Mounting.{moved_tree, new_mount, with_new_filesystem}
 use Rattle.vt_spec.specs.Machine.World.{World, mount_at}
 use Rattle.vt_spec.specs.Machine.WorldLaws.{is_root_mount}
-use Rattle.vt_spec.proofs.Lists.{Among, all_from_among, among-append, among-from_flat_map, among-from_map, contains_from_among, filter_here, filter_skip}
+use Rattle.vt_spec.proofs.Lists.{Among, all_from_among, among-append, among-from_filter, among-from_flat_map, among-from_map, contains_from_among, filter_here, filter_skip}
 use Rattle.vt_mount_laws.proofs.Attaching.{taker_there}
-use Rattle.vt_mount_laws.proofs.MountsAttached.{graft, in_front, moved_ones, others, push, push_keeps, supplied}
-use Rattle.vt_mount_laws.proofs.MountsFound.{found_in, found_or_none}
+use Rattle.vt_mount_laws.proofs.MountsAttached.{arrives, arriving, graft, in_front, moved_ones, others, push, push_keeps, supplied}
+use Rattle.vt_mount_laws.proofs.MountsFound.{found_in, found_or_none, placed_among}
 use Rattle.vt_mount_laws.proofs.MountsPlaces.{stands_there}
-use Rattle.vt_mount_laws.specs.Mounts.Moving.{BindsKeepRootMounts, BindsStayInNamespaces, NewMountsKeepRootMounts, NewMountsStayInNamespaces, StaysInNamespaces}
+use Rattle.vt_mount_laws.proofs.MountsReplaced.{found_itself, replaced_elsewhere, replaced_there, tree_among}
+use Rattle.vt_mount_laws.specs.Mounts.Moving.{BindsKeepRootMounts, BindsStayInNamespaces, MovesKeepRootMounts, MovesStayInNamespaces, NewMountsKeepRootMounts, NewMountsStayInNamespaces, StaysInNamespaces}
 
 -- the root mounts of a namespace, and whether a mount is one
 abbrev count : ℕ → List (Mount ℕ) → ℕ
@@ -219,3 +220,111 @@ new_mounts_stay_in_namespaces world fresh place filesystem flags =
     let mounts = new_mount filesystem.number filesystem.files.tree.root flags ∷ [] in
     let new = supplied larger fresh place mounts in
     attached_namespaces larger new place false mounts (still_there larger new place false mounts)
+
+-- Mounts that are replaced one after the other
+among_folded : (mounts copies : List (Mount ℕ)) (x : Mount ℕ) → Among x (folded (with_mount nat_eq) mounts copies)
+    → Among x mounts ⊎ Among x copies
+among_folded mounts [] x m = inl m
+among_folded mounts (copy ∷ copies) x m =
+    ⊎_elim
+    (λ l.
+    let from = among-from_map (replaced_if_same nat_eq copy) mounts x l in
+    by from.0 from.1 from.2 (nat_eq copy.number from.0.number) refl)
+    (λ l. inr (inr l))
+    (among_folded (with_mount nat_eq mounts copy) copies x m)
+  where
+    by : (old : Mount ℕ) → Among old mounts → x ≡ replaced_if_same nat_eq copy old
+        → (b : Bool) → nat_eq copy.number old.number ≡ b → Among x mounts ⊎ Among x (copy ∷ copies)
+    by old l e true f = inr (inl (e ∙ replaced_there copy old f))
+    by old l e false f = inl (subst (λ y. Among y mounts) (sym (e ∙ replaced_elsewhere copy old f)) l)
+
+-- by some with places, where they had places
+count_folded : (namespace : ℕ) (mounts copies : List (Mount ℕ))
+    → ((copy : Mount ℕ) → Among copy copies → is_some copy.place ≡ true)
+    → ((x copy : Mount ℕ) → Among x mounts → Among copy copies → nat_eq copy.number x.number ≡ true
+    → is_some x.place ≡ true)
+    → count namespace (folded (with_mount nat_eq) mounts copies) ≡ count namespace mounts
+count_folded namespace mounts [] placed had = refl
+count_folded namespace mounts (copy ∷ copies) placed had =
+    count_folded namespace (with_mount nat_eq mounts copy) copies (λ c m. placed c (inr m))
+    (λ x c m n e.
+    let from = among-from_map (replaced_if_same nat_eq copy) mounts x m in
+    by from.0 from.1 x from.2 c n e (nat_eq copy.number from.0.number) refl)
+    ∙ count_map namespace (replaced_if_same nat_eq copy) mounts (λ x m.
+    alike x m (nat_eq copy.number x.number) refl)
+  where
+    by : (old : Mount ℕ) → Among old mounts → (x : Mount ℕ) → x ≡ replaced_if_same nat_eq copy old
+        → (c : Mount ℕ) → Among c copies → nat_eq c.number x.number ≡ true
+        → (b : Bool) → nat_eq copy.number old.number ≡ b → is_some x.place ≡ true
+    by old l x e c n same true f =
+        ap (λ (y : Mount ℕ). is_some y.place) (e ∙ replaced_there copy old f) ∙ placed copy (inl refl)
+    by old l x e c n same false f =
+        let kept : x ≡ old = e ∙ replaced_elsewhere copy old f in
+        ap (λ (y : Mount ℕ). is_some y.place) kept
+        ∙ had old c l (inr n) (ap (λ (y : Mount ℕ). nat_eq c.number y.number) (sym kept) ∙ same)
+
+    alike : (x : Mount ℕ) → Among x mounts → (b : Bool) → nat_eq copy.number x.number ≡ b
+        → is_root_in namespace (replaced_if_same nat_eq copy x) ≡ is_root_in namespace x
+    alike x m true f =
+        ap (is_root_in namespace) (replaced_there copy x f)
+        ∙ placed_no_root namespace copy (placed copy (inl refl))
+        ∙ sym (placed_no_root namespace x (had x copy m (inl refl) f))
+    alike x m false f = ap (is_root_in namespace) (replaced_elsewhere copy x f)
+
+-- each mount of a tree has a place, where its top has one
+pub tree_placed : (fuel : ℕ) (mounts : List (Mount ℕ)) (top x : Mount ℕ) → is_some top.place ≡ true
+    → Among x (tree_from nat_eq fuel mounts top) → is_some x.place ≡ true
+tree_placed zero mounts top x e m =
+    ⊎_elim (λ same. ap (λ (y : Mount ℕ). is_some y.place) same ∙ e) (λ none. absurd none) m
+tree_placed (suc fuel) mounts top x e m =
+    ⊎_elim (λ same. ap (λ (y : Mount ℕ). is_some y.place) same ∙ e)
+    (λ later.
+    let from = among-from_flat_map (tree_from nat_eq fuel mounts) (children nat_eq mounts top.number) x later in
+    let on = (among-from_filter (stands_on nat_eq top.number) mounts from.0 from.1).1 in
+    tree_placed fuel mounts from.0 x (by from.0.place on) from.2)
+    m
+  where
+    by : (place : Option (Location ℕ)) → holds_of (λ (p : Location ℕ). nat_eq top.number p.mount) place ≡ true
+        → is_some place ≡ true
+    by None on = absurd (true≢false (sym on))
+    by (Some place) on = refl
+
+pub moves_keep_root_mounts : MovesKeepRootMounts
+moves_keep_root_mounts world fresh source place one placed namespace =
+    let mounts = moved_tree nat_eq world source in
+    let new = supplied world fresh place mounts in
+    attached_roots world new place true mounts namespace
+    (count_folded namespace world.mounts (arriving world new place true mounts)
+    (λ copy m. (copy_has world new place true mounts (mount_at nat_eq world place) copy m).0)
+    (λ x copy m n same.
+    let from = arrives world new place mounts copy n in
+    let of_tree =
+    tree_among (length world.mounts) world.mounts (mount_at nat_eq world source) from.0 from.1 in
+    let number : x.number ≡ from.0.number = sym (eqb-true copy.number x.number same) ∙ from.2.number in
+    let itself : x ≡ from.0 =
+    sym (found_itself world.mounts one x m) ∙ ap (mount_in nat_eq world.mounts) number
+    ∙ found_itself world.mounts one from.0 (there of_tree) in
+    ap (λ (y : Mount ℕ). is_some y.place) itself
+    ∙ tree_placed (length world.mounts) world.mounts (mount_at nat_eq world source) from.0 placed from.1))
+  where
+    top_there : (found : Option (Location ℕ)) → (mount_at nat_eq world source).place ≡ found
+        → Among (mount_at nat_eq world source) world.mounts
+    top_there None e = absurd (true≢false (sym placed ∙ ap is_some e))
+    top_there (Some at) e = placed_among world.mounts source.mount at e
+
+    there : {origin : Mount ℕ} → (origin ≡ mount_at nat_eq world source) ⊎ Among origin world.mounts
+        → Among origin world.mounts
+    there (inl e) = subst (λ y. Among y world.mounts) (sym e) (top_there (mount_at nat_eq world source).place refl)
+    there (inr m) = m
+
+pub moves_stay_in_namespaces : MovesStayInNamespaces
+moves_stay_in_namespaces world fresh source place =
+    let mounts = moved_tree nat_eq world source in
+    let new = supplied world fresh place mounts in
+    attached_namespaces world new place true mounts (λ x m namespace e.
+    ⊎_elim
+    (λ l. still_there world new place true mounts x l namespace e)
+    (λ l.
+    part_has_one world new place true mounts (mount_at nat_eq world place) (inl refl) namespace
+    (sym (copy_has world new place true mounts (mount_at nat_eq world place) x l).1 ∙ e))
+    (among_folded world.mounts (arriving world new place true mounts) x m))
