@@ -19,6 +19,7 @@ pub mod MountsReplaced
 pub mod MountsRetyped
 pub mod MovingLeaves
 pub mod MovingRoots
+pub mod MovingStands
 pub mod Receivers
 pub mod Standing
 pub mod Unmounting
