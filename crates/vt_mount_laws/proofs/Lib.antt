@@ -17,6 +17,7 @@ pub mod MountsNumbered
 pub mod MountsPlaces
 pub mod MountsReplaced
 pub mod MountsRetyped
+pub mod Moving
 pub mod MovingLeaves
 pub mod MovingRoots
 pub mod MovingStands

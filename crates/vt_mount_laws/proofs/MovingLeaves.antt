@@ -1,11 +1,11 @@
 -- What moves, before anything is attached for the receivers: each mount stands, at most one at a place.
-use Rattle.std.proofs.Common.{◌≡◌, refl, sym, ap, subst, ◌∙◌, true, false, nat_eq, ℕ, Bool, List, None, Option, Some, [], eq-eqb, eqb-true, inl, inr, is_some, map, not, option_map, true≢false, ⊎_elim, ◌&&◌, ◌∷◌, ◌||◌}
+use Rattle.std.proofs.Common.{◌≡◌, refl, sym, ap, subst, ◌∙◌, true, false, nat_eq, ℕ, Bool, List, None, Option, Some, [], eq-eqb, inl, inr, is_some, map, not, option_map, true≢false, ⊎_elim, ◌&&◌, ◌∷◌, ◌||◌}
 use Rattle.std.specs.List.{list_any}
 use Rattle.std.specs.Prelude.{if◌then◌else◌, unwrap_or}
-use Rattle.std.proofs.lemmas.Bool.{false_from_ne_true, or_from, or_parts}
+use Rattle.std.proofs.lemmas.Bool.{or_from, or_parts}
 use Rattle.std.proofs.lemmas.Option.{same_Some}
 use Rattle.vt_spec.proofs.Lists.{Among, all_from_among, among-from_map, among-map, among_from_all, among_from_list_all, among_numbers, list_all_from_among, none_among, none_from_among, pair-map}
-use Rattle.vt_spec.specs.Machine.Attach.{Copies, Graft, Twig, copy_at, graft_of, is_top, parts_of, place_on_copy, twig_of}
+use Rattle.vt_spec.specs.Machine.Attach.{Copies, Graft, Twig, copy_at, graft_of, parts_of, place_on_copy, twig_of}
 use Rattle.vt_spec.specs.Machine.Lists.{any_pair, first_of_list, folded, holds_of, is_among}
 use Rattle.vt_spec.specs.Machine.Mounts.{Location, Mount, group_of, mount_in, with_mount}
 use Rattle.vt_spec.specs.Machine.World.{World, mount_at, mount_numbered}
