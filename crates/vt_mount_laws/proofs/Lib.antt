@@ -24,6 +24,10 @@ pub mod MountsReplaced
 pub mod MountsRetyped
 pub mod Pivoting
 pub mod PivotingCounts
+pub mod Moving
+pub mod MovingLeaves
+pub mod MovingRoots
+pub mod MovingStands
 pub mod Receivers
 pub mod Standing
 pub mod Topmost

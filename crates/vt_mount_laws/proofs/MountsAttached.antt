@@ -87,7 +87,7 @@ module _ (world : World ℕ) (new : Copies ℕ) (place : Location ℕ) (moves : 
   abbrev pub others : List (Mount ℕ)
   others = added_mounts moves arriving ++ flat_map (copies_at nat_eq world new graft parts) (rest_of parts)
 
-  in_front : (attached_by nat_eq world new place moves mounts).mounts ≡ map push moved_ones ++ others
+  pub in_front : (attached_by nat_eq world new place moves mounts).mounts ≡ map push moved_ones ++ others
   in_front =
       append_assoc (map push moved_ones) (added_mounts moves arriving)
       (flat_map (copies_at nat_eq world new graft parts) (rest_of parts))
@@ -95,7 +95,7 @@ module _ (world : World ℕ) (new : Copies ℕ) (place : Location ℕ) (moves : 
   push_number : (mount : Mount ℕ) → (push mount).number ≡ mount.number
   push_number mount = (push_keeps world new graft parts mount).number
 
-  numbers_moved : numbers_of moved_ones ≡ numbers_of world.mounts
+  pub numbers_moved : numbers_of moved_ones ≡ numbers_of world.mounts
   numbers_moved = by moves
     where
       by : (b : Bool) → numbers_of (with_moved_mounts nat_eq b world.mounts arriving) ≡ numbers_of world.mounts
@@ -150,11 +150,11 @@ attach_leaves_mounts world fresh place mounts number there h =
 -- What moves
 
 module _ (world : World ℕ) (new : Copies ℕ) (place : Location ℕ) (mounts : List (Mount ℕ)) where
-  abbrev move : Graft ℕ
+  abbrev pub move : Graft ℕ
   move = graft_of nat_eq world new place true mounts
 
   -- at the destination a mount that moves keeps its number
-  keeps_number : (origin : ℕ) → copy_number nat_eq new move (mount_at nat_eq world place).number origin ≡ origin
+  pub keeps_number : (origin : ℕ) → copy_number nat_eq new move (mount_at nat_eq world place).number origin ≡ origin
   keeps_number origin =
       ap (λ b. if b then origin else new.copy (mount_at nat_eq world place).number origin)
       (eq-eqb (mount_at nat_eq world place).number place.mount (number_found world.mounts place.mount))
@@ -179,7 +179,7 @@ module _ (world : World ℕ) (new : Copies ℕ) (place : Location ℕ) (mounts :
         },
       )
 
-  stays_put : (number : ℕ) → is_among nat_eq number (numbers_of mounts) ≡ false
+  pub stays_put : (number : ℕ) → is_among nat_eq number (numbers_of mounts) ≡ false
       → mount_in nat_eq (moved_ones world new place true mounts) number ≡ mount_numbered nat_eq world number
   stays_put number other =
       found-folded_other world.mounts (arriving world new place true mounts) number (λ copy m.

@@ -8,6 +8,7 @@ pub mod FileCalls
 pub mod Granted
 pub mod Namespaces
 pub mod Left
+pub mod Moving
 pub mod Places
 pub mod Receivers
 pub mod Standing

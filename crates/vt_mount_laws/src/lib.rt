@@ -6,3 +6,4 @@
 pub mod ends;
 pub mod mounts;
 pub mod namespaces;
+pub mod moves;

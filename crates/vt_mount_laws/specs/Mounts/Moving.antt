@@ -1,0 +1,87 @@
+-- Mounts after a move stand, one at a place, and after an attachment each namespace has as many root mounts as before.
+-- mount_namespaces(7), sharedsubtree, "Move semantics".
+use Rattle.std.specs.Prelude.{All, Bool, Contains, None, Some, false, filter, is_some, length, true, ℕ, nat_eq, ◌≡◌}
+use Rattle.std.specs.List.{list_any}
+use Rattle.vt_spec.specs.Machine.Lists.{Fresh}
+use Rattle.vt_spec.specs.Machine.Mounts.{Location, Mount, MountFlags, child_at}
+use Rattle.vt_spec.specs.Machine.Outcome.Mounting.{bound_at, mounted, moved_to, moved_tree}
+use Rattle.vt_spec.specs.Machine.Run.{Serves}
+use Rattle.vt_spec.specs.Machine.World.{Filesystem, World, mount_at, mounts_of}
+use Rattle.vt_spec.specs.Machine.WorldLaws.{MountInvariants, is_root_mount}
+use Rattle.vt_mount_laws.specs.Mounts.Attaching.{is_mount}
+use Rattle.vt_mount_laws.specs.Mounts.Conditions.{OneMountEachPlace, OneNumberEach}
+use Rattle.vt_mount_laws.specs.Mounts.Standing.{AllStand}
+
+-- Root mounts
+
+-- a namespace has as many root mounts after as before
+abbrev pub KeepsRootMounts : World ℕ → World ℕ → Type 0
+KeepsRootMounts before later =
+    (namespace : ℕ)
+    → length (filter (is_root_mount nat_eq) (mounts_of nat_eq later namespace))
+    ≡ length (filter (is_root_mount nat_eq) (mounts_of nat_eq before namespace))
+
+-- each mount is in a namespace in which some mount was, or in none
+abbrev pub StaysInNamespaces : World ℕ → World ℕ → Type 0
+StaysInNamespaces before later =
+    All (λ mount. (namespace : ℕ) → mount.namespace ≡ Some namespace
+    → (old : Mount ℕ) × Contains before.mounts old × (old.namespace ≡ Some namespace)) later.mounts
+
+-- What is attached has a place: so a bind makes no root mount,
+abbrev pub BindsKeepRootMounts : Type 0
+BindsKeepRootMounts =
+    (world : World ℕ) (fresh : Fresh ℕ) (source place : Location ℕ) (recursive : Bool)
+    → KeepsRootMounts world (bound_at nat_eq fresh world source place recursive)
+
+abbrev pub BindsStayInNamespaces : Type 0
+BindsStayInNamespaces =
+    (world : World ℕ) (fresh : Fresh ℕ) (source place : Location ℕ) (recursive : Bool)
+    → StaysInNamespaces world (bound_at nat_eq fresh world source place recursive)
+
+-- nor does a new mount,
+abbrev pub NewMountsKeepRootMounts : Type 0
+NewMountsKeepRootMounts =
+    (world : World ℕ) (fresh : Fresh ℕ) (place : Location ℕ) (filesystem : Filesystem ℕ) (flags : MountFlags)
+    → KeepsRootMounts world (mounted nat_eq fresh world place filesystem flags)
+
+abbrev pub NewMountsStayInNamespaces : Type 0
+NewMountsStayInNamespaces =
+    (world : World ℕ) (fresh : Fresh ℕ) (place : Location ℕ) (filesystem : Filesystem ℕ) (flags : MountFlags)
+    → StaysInNamespaces world (mounted nat_eq fresh world place filesystem flags)
+
+-- and a move of a mount that has a place takes none away.
+abbrev pub MovesKeepRootMounts : Type 0
+MovesKeepRootMounts =
+    (world : World ℕ) (fresh : Fresh ℕ) (source place : Location ℕ) → OneNumberEach world
+    → is_some (mount_at nat_eq world source).place ≡ true
+    → KeepsRootMounts world (moved_to nat_eq fresh world source place)
+
+abbrev pub MovesStayInNamespaces : Type 0
+MovesStayInNamespaces =
+    (world : World ℕ) (fresh : Fresh ℕ) (source place : Location ℕ)
+    → StaysInNamespaces world (moved_to nat_eq fresh world source place)
+
+-- Where mounts stand after a move
+
+-- A mount that has a place is moved, to a place that is on no mount of the tree that moves, in the same namespace: mount(2)
+-- with MS_MOVE.
+pub record CanMove (world : World ℕ) (source place : Location ℕ) : Type 0 where
+  pub source_there : is_mount world source.mount ≡ true
+  pub placed : is_some (mount_at nat_eq world source).place ≡ true
+  pub destination_there : is_mount world place.mount ≡ true
+  pub one_namespace : (mount_at nat_eq world place).namespace ≡ (mount_at nat_eq world source).namespace
+  pub outside : list_any (λ (other : Mount ℕ). nat_eq other.number place.mount) (moved_tree nat_eq world source) ≡ false
+
+-- Then each mount stands after the move, the copies at all receivers included, and what they push up,
+abbrev pub MovesKeepStanding : Type 0
+MovesKeepStanding =
+    (world : World ℕ) (fresh : Fresh ℕ) (source place : Location ℕ) → Serves nat_eq world fresh
+    → MountInvariants nat_eq world → CanMove world source place
+    → AllStand (moved_to nat_eq fresh world source place)
+
+-- at most one at a place, where none stands at the destination.
+abbrev pub MovesKeepPlaces : Type 0
+MovesKeepPlaces =
+    (world : World ℕ) (fresh : Fresh ℕ) (source place : Location ℕ) → Serves nat_eq world fresh
+    → MountInvariants nat_eq world → CanMove world source place → child_at nat_eq world.mounts place ≡ None
+    → OneMountEachPlace (moved_to nat_eq fresh world source place)

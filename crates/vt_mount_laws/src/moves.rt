@@ -1,0 +1,19 @@
+//! Where mounts stand after a move, and root mounts after an attachment.
+ghost use Rattle.vt_mount_laws.specs.Mounts.Moving.{BindsKeepRootMounts, BindsStayInNamespaces, MovesKeepRootMounts, MovesKeepStanding, MovesStayInNamespaces, NewMountsKeepRootMounts, NewMountsStayInNamespaces};
+
+/// A bind, a new mount and a move of a mount that has a place leave each namespace as many root mounts as it had, and each mount in a namespace in which some
+/// mount was.
+pub fn attaching_keeps_root_mounts()
+    ensures bind { BindsKeepRootMounts }
+    ensures bind_namespaces { BindsStayInNamespaces }
+    ensures new_mount { NewMountsKeepRootMounts }
+    ensures new_mount_namespaces { NewMountsStayInNamespaces }
+    ensures moves { MovesKeepRootMounts }
+    ensures move_namespaces { MovesStayInNamespaces }
+{}
+
+/// A move of a mount that has a place, to a place of its namespace that is on none of the mounts that move, leaves each mount
+/// standing.
+pub fn moves_keep_mounts_standing()
+    ensures standing { MovesKeepStanding }
+{}
