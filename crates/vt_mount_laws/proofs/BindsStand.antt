@@ -146,7 +146,7 @@ new_mounts_keep_numbers world fresh place filesystem flags serves one =
     (new_mount filesystem.number filesystem.files.tree.root flags ∷ []) serves refl one
 
 -- What a bind takes but for its top are mounts of the world
-bindable_there : (world : World ℕ) (fuel : ℕ) (mount x : Mount ℕ)
+pub bindable_there : (world : World ℕ) (fuel : ℕ) (mount x : Mount ℕ)
     → Among x (bindable_tree nat_eq fuel world.mounts mount) → (x ≡ mount) ⊎ Among x world.mounts
 bindable_there world zero mount x m = ⊎_elim inl (λ none. absurd none) m
 bindable_there world (suc fuel) mount x m =

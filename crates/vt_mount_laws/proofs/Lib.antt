@@ -1,3 +1,4 @@
+pub mod AttachedMasters
 pub mod AttachedNowhere
 pub mod Attaching
 pub mod AttachingPlaces

@@ -154,7 +154,7 @@ module _ (world : World ℕ) (new : Copies ℕ) (place : Location ℕ) (mounts :
   move = graft_of nat_eq world new place true mounts
 
   -- at the destination a mount that moves keeps its number
-  keeps_number : (origin : ℕ) → copy_number nat_eq new move (mount_at nat_eq world place).number origin ≡ origin
+  pub keeps_number : (origin : ℕ) → copy_number nat_eq new move (mount_at nat_eq world place).number origin ≡ origin
   keeps_number origin =
       ap (λ b. if b then origin else new.copy (mount_at nat_eq world place).number origin)
       (eq-eqb (mount_at nat_eq world place).number place.mount (number_found world.mounts place.mount))

@@ -242,7 +242,7 @@ module _ (world : World ℕ) (place : Location ℕ) where
       (pair-filter same_number (receives nat_eq world group) world.mounts one)
 
   -- a receiver that takes part is not the destination
-  taker_elsewhere : (mount : Mount ℕ) → takes_part nat_eq world place mount ≡ true
+  pub taker_elsewhere : (mount : Mount ℕ) → takes_part nat_eq world place mount ≡ true
       → nat_eq place.mount mount.number ≡ false
   taker_elsewhere mount h =
       let elsewhere = not (nat_eq place.mount mount.number) in
