@@ -236,3 +236,62 @@ module _ (world : World ℕ) (new : Copies ℕ) (place : Location ℕ) (moves : 
       sym (found_itself mounts own from.0 from.1) ∙ ap (mount_in nat_eq mounts) (sym same.1)
       ∙ found_itself mounts own origin m in
       t.3 ∙ from.2.3 ∙ ap (λ g. image_master g from.0) (sym same.0) ∙ ap (image_master group) it
+
+  -- what a mount of the tree makes at a part is made
+  pub made_at : (part origin : Mount ℕ) → Among part parts → Among origin mounts → (entry : ℕ × Option ℕ)
+      → group_made nat_eq world new tree parts part (twig origin) ≡ Some entry → Among entry all_made
+  made_at part origin m n entry e =
+      among-flat_map (λ other. filter_map (group_made nat_eq world new tree parts other) tree.twigs) parts part entry m
+      (among-filter_map (group_made nat_eq world new tree parts part) tree.twigs (twig origin) entry
+      (among-map twig mounts origin n) e)
+
+  pub at_destination : is_destination nat_eq tree destination.number ≡ true
+  at_destination = eq-eqb destination.number place.mount (number_found world.mounts place.mount)
+
+  -- the master of a group that a mount of the tree makes at the destination
+  pub master_there : (origin : Mount ℕ) → Among origin mounts → (group : ℕ)
+      → group_of destination.propagation ≡ Some group → (kind : Propagation ℕ) → origin.propagation ≡ kind
+      → makes (type_on_shared (new.image group origin.number)) kind
+      ≡ Some (new.image group origin.number, master_after kind)
+      → after.master (new.image group origin.number) ≡ master_after kind
+  master_there origin m group e kind f is =
+      new_master group origin (takes_part_in destination group (inl refl) e) m (master_after kind)
+      (made_at destination origin (inl refl) m (new.image group origin.number, master_after kind)
+      (ap (λ b. if b then twig_master (twig origin) else made_elsewhere origin (group_of destination.propagation))
+      at_destination
+      ∙ ap (λ o. twig_master (twig_of new o origin)) e
+      ∙ ap (makes (type_on_shared (new.image group origin.number))) f ∙ is))
+      ∙ ap (λ b. if b then master_after origin.propagation else nearest origin (world.master group))
+      (member_by_group destination group e)
+      ∙ ap master_after f
+
+  -- a member of another group than the destination's is elsewhere
+  pub is_elsewhere : (part : Mount ℕ) (group : ℕ) → Among part parts → is_member_of nat_eq group part ≡ true
+      → is_member_of nat_eq group destination ≡ false → is_destination nat_eq tree part.number ≡ false
+  is_elsewhere part group m has lacks =
+      ⊎_elim
+      (λ same. absurd (true≢false (sym has ∙ ap (is_member_of nat_eq group) same ∙ lacks)))
+      (λ later.
+      apart place.mount part.number
+      (taker_elsewhere world place part
+      (among-from_filter (takes_part nat_eq world place) (receivers_of nat_eq world destination) part later).1))
+      m
+
+  -- the master of a group that is made at another part
+  pub master_elsewhere : (part origin : Mount ℕ) → Among part parts → Among origin mounts → (group : ℕ)
+      → is_member_of nat_eq group part ≡ true → is_member_of nat_eq group destination ≡ false
+      → after.master (image nat_eq new destination (twig origin) group) ≡ nearest origin (world.master group)
+  master_elsewhere part origin m n group has lacks =
+      let above = nearest origin (world.master group) in
+      let same = image_elsewhere group origin lacks in
+      let shared : part.propagation ≡ Shared group = member_shared group part has in
+      let made : Among (image nat_eq new destination (twig origin) group, above) all_made =
+      made_at part origin m n (made_pair origin group)
+      (ap (λ b. if b then twig_master (twig origin) else made_elsewhere origin (group_of part.propagation))
+      (is_elsewhere part group m has lacks)
+      ∙ ap (λ k. made_elsewhere origin (group_of k)) shared
+      ∙ ap (λ b. when (not b) (made_pair origin group)) lacks) in
+      ap after.master same
+      ∙ new_master group origin (takes_part_in part group m (ap group_of shared)) n above
+      (subst (λ g. Among (g, above) all_made) same made)
+      ∙ ap (λ b. if b then master_after origin.propagation else nearest origin (world.master group)) lacks

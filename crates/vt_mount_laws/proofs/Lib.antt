@@ -1,3 +1,4 @@
+pub mod AttachedGroups
 pub mod AttachedMasters
 pub mod AttachedNowhere
 pub mod Attaching
