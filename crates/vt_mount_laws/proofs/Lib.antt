@@ -1,6 +1,7 @@
 pub mod AttachedGroups
 pub mod AttachedMasters
 pub mod AttachedNowhere
+pub mod AttachedTypes
 pub mod Attaching
 pub mod AttachingPlaces
 pub mod BindsStand
