@@ -1,4 +1,5 @@
 pub mod AttachedGroups
+pub mod AttachedKept
 pub mod AttachedMasters
 pub mod AttachedNowhere
 pub mod AttachedTypes
