@@ -1,5 +1,5 @@
 -- Groups live on where a tree of mounts is attached: those that were there, and the images of those that take part.
-use Rattle.std.proofs.Common.{◌≡◌, refl, sym, ap, subst, ◌∙◌, true, false, nat_eq, ℕ, Bool, List, None, Option, Some, find, inl, inr, is_some, length, option_map, true≢false, unwrap_or, ⊎_elim, ◌⊎◌}
+use Rattle.std.proofs.Common.{◌≡◌, refl, sym, ap, subst, ◌∙◌, true, false, nat_eq, ℕ, Bool, List, None, Option, Some, find, inl, is_some, length, option_map, true≢false, unwrap_or, ⊎_elim, ◌⊎◌}
 use Rattle.std.proofs.lemmas.Option.{same_Some}
 use Rattle.std.specs.Prelude.{if◌then◌else◌}
 use Rattle.vt_spec.proofs.Lists.{Among, any_among, any_from_among}
@@ -269,7 +269,8 @@ module _ (world : World ℕ) (new : Copies ℕ) (place : Location ℕ) (moves : 
           of_twig (group_of destination.propagation) refl (sym (ap source_of (there part origin f)) ∙ e)
       by false f = of_copy part.propagation refl (sym (ap source_of (away part origin f)) ∙ e)
 
-  pub groups_live_after : ((mount : Mount ℕ) → Among mount after.mounts → IsOldOrCopy world new place moves mounts mount)
+  pub groups_live_after :
+      ((mount : Mount ℕ) → Among mount after.mounts → IsOldOrCopy world new place moves mounts mount)
       → GroupsLive after
   groups_live_after from = groups_live_by after (λ mount m source e.
       ⊎_elim

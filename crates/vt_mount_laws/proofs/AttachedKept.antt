@@ -1,42 +1,21 @@
 -- Groups live on through a bind, a new mount and a move.
-use Rattle.std.proofs.Common.{◌≡◌, sym, ap, subst, ◌∙◌, refl, true, false, nat_eq, ℕ, Bool, Some, [], filter, inl, inr, is_some, length, true≢false, ⊎_elim, ◌∷◌, ◌⊎◌}
-use Rattle.vt_spec.proofs.Lists.{Among, among-from_filter, among-from_flat_map}
-use Rattle.vt_spec.specs.Machine.Attach.{bind_tree, bindable_children, bindable_tree, bound, parts_of, stands_under}
-use Rattle.vt_spec.specs.Machine.Mounts.{Location, Mount, source_of, stands_on}
+use Rattle.std.proofs.Common.{◌≡◌, sym, ap, subst, ◌∙◌, refl, true, false, nat_eq, ℕ, Bool, Some, [], is_some, length, true≢false, ⊎_elim, ◌∷◌}
+use Rattle.vt_spec.proofs.Lists.{Among}
+use Rattle.vt_spec.specs.Machine.Attach.{bind_tree, parts_of}
+use Rattle.vt_spec.specs.Machine.Mounts.{Location, Mount, source_of}
 use Rattle.vt_spec.specs.Machine.Outcome.Mounting.{moved_tree, new_mount, with_new_filesystem}
 use Rattle.vt_spec.specs.Machine.World.{World, mount_at}
 use Rattle.vt_mount_laws.specs.Mounts.Attached.{BindsKeepGroups, MovesKeepGroups, NewMountsKeepGroups}
 use Rattle.vt_mount_laws.specs.Mounts.Receivers.{GroupsLive}
 use Rattle.vt_mount_laws.proofs.AttachedGroups.{groups_live_after}
 use Rattle.vt_mount_laws.proofs.AttachedTypes.{copies_arrive, copies_there, members_move, members_stay, old_or_copies}
-use Rattle.vt_mount_laws.proofs.BindsStand.{bindable_there}
+use Rattle.vt_mount_laws.proofs.BindsStand.{bind_there_or_source}
 use Rattle.vt_mount_laws.proofs.GroupsUp.{LivesIn, lives_in}
 use Rattle.vt_mount_laws.proofs.MountsAttached.{supplied}
 use Rattle.vt_mount_laws.proofs.MountsFound.{found_or_none, found_there}
 use Rattle.vt_mount_laws.proofs.MountsNumbered.{supplies_serve_as_images}
 use Rattle.vt_mount_laws.proofs.MountsReplaced.{tree_among}
-use Rattle.vt_mount_laws.proofs.Standing.{bindable_child, binds_take_each_once, trees_have_each_once}
-
--- what a bind takes is a mount of the world, or has the type of the source
-bind_there_or_source : (world : World ℕ) (source : Location ℕ) (recursive : Bool) (origin : Mount ℕ)
-    → Among origin (bind_tree nat_eq world source recursive)
-    → (origin ≡ bound nat_eq world source) ⊎ Among origin world.mounts
-bind_there_or_source world source false origin m = ⊎_elim inl (λ none. absurd none) m
-bind_there_or_source world source true origin m =
-    ⊎_elim inl
-    (λ later.
-    let under = bindable_children nat_eq world.mounts source.mount in
-    let from =
-    among-from_flat_map (bindable_tree nat_eq (length world.mounts) world.mounts)
-    (filter (stands_under nat_eq world source) under) origin later in
-    let child = (among-from_filter (stands_under nat_eq world source) under from.0 from.1).0 in
-    let kept = bindable_child world source.mount from.0 child in
-    let there = (among-from_filter (stands_on nat_eq source.mount) world.mounts from.0 kept).0 in
-    inr (⊎_elim
-    (λ e. subst (λ y. Among y world.mounts) (sym e) there)
-    (λ l. l)
-    (bindable_there world (length world.mounts) from.0 origin from.2)))
-    m
+use Rattle.vt_mount_laws.proofs.Standing.{binds_take_each_once, trees_have_each_once}
 
 bind_sourced : (world : World ℕ) (source : Location ℕ) (recursive : Bool) → GroupsLive world → (origin : Mount ℕ)
     → Among origin (bind_tree nat_eq world source recursive)

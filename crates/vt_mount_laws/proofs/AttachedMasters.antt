@@ -1,9 +1,9 @@
 -- The groups that are new where a tree of mounts is attached, and their masters.
-use Rattle.std.proofs.Common.{◌≡◌, refl, sym, ap, subst, ◌∙◌, true, false, nat_eq, ℕ, Bool, List, None, Option, Some, [], eq-eqb, inl, inr, is_some, not, true≢false, ⊎_elim, ◌∷◌, ◌⊎◌, filter_map, flat_map, option_map}
+use Rattle.std.proofs.Common.{◌≡◌, refl, sym, ap, subst, ◌∙◌, true, false, nat_eq, ℕ, Bool, List, None, Option, Some, [], eq-eqb, inl, inr, is_some, not, true≢false, ⊎_elim, ◌∷◌, ◌⊎◌, filter_map, option_map}
 use Rattle.std.proofs.lemmas.Bool.Decides.{eqb_tells}
 use Rattle.std.proofs.lemmas.Option.{same_Some}
 use Rattle.std.specs.Prelude.{if◌then◌else◌, unwrap_or}
-use Rattle.vt_spec.proofs.Lists.{Among, among-filter_map, among-flat_map, among-from_filter, among-from_filter_map, among-from_flat_map, among-from_map, among-map, any_among, any_from_among}
+use Rattle.vt_spec.proofs.Lists.{Among, among-filter_map, among-flat_map, among-from_filter, among-from_filter_map, among-from_flat_map, among-from_map, among-map, any_from_among}
 use Rattle.vt_spec.specs.Machine.Attach.{Copies, Graft, Twig, all_groups_made, attached_by, graft_of, group_made, image, is_destination, masters_with, nearest_image, parts_of, receivers_of, takes_part, twig_master, twig_of, type_on_shared}
 use Rattle.vt_spec.specs.Machine.Lists.{folded, holds_of, then_some, when}
 use Rattle.vt_spec.specs.Machine.Mounts.{Location, Mount, Propagation, group_of, is_shared, mount_in}
@@ -174,7 +174,8 @@ module _ (world : World ℕ) (new : Copies ℕ) (place : Location ℕ) (moves : 
               (sym e ∙ ap (made_elsewhere origin) f ∙ ap (λ b. when (not b) (made_pair origin group)) g)))
           in_group false g =
               let same : made_pair origin group ≡ entry =
-              same_Some (made_pair origin group) entry (sym (ap (made_elsewhere origin) f ∙ ap (λ b. when (not b) (made_pair origin group)) g) ∙ e) in (
+              same_Some (made_pair origin group) entry
+              (sym (ap (made_elsewhere origin) f ∙ ap (λ b. when (not b) (made_pair origin group)) g) ∙ e) in (
                 group,
                 takes_part_in part group m f,
                 sym (ap (λ (x : ℕ × Option ℕ). x.0) same) ∙ image_elsewhere group origin g,
@@ -193,9 +194,12 @@ module _ (world : World ℕ) (new : Copies ℕ) (place : Location ℕ) (moves : 
       let at = among-from_flat_map (λ part. filter_map (group_made nat_eq world new tree parts part) tree.twigs) parts
       entry m in
       let from = among-from_filter_map (group_made nat_eq world new tree parts at.0) tree.twigs entry at.2 in
-      let origin = among-from_map twig mounts from.0 from.1 in
-      (origin.0, origin.1, by at.0 at.1 origin.0 (is_destination nat_eq tree at.0.number) refl
-      (sym (ap (group_made nat_eq world new tree parts at.0) origin.2) ∙ from.2))
+      let origin = among-from_map twig mounts from.0 from.1 in (
+        origin.0,
+        origin.1,
+        by at.0 at.1 origin.0 (is_destination nat_eq tree at.0.number) refl
+            (sym (ap (group_made nat_eq world new tree parts at.0) origin.2) ∙ from.2),
+      )
     where
       by : (part : Mount ℕ) → Among part parts → (origin : Mount ℕ) (b : Bool)
           → is_destination nat_eq tree part.number ≡ b

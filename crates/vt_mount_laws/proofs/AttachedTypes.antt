@@ -1,13 +1,13 @@
--- The types of mounts where a tree of mounts is attached: each mount that was there keeps its type, or moves and takes that
--- of the tree, and each mount of the tree has a copy at each part.
+-- The types of mounts where a tree of mounts is attached: each mount that was there keeps its type, or moves and takes
+-- that of the tree, and each mount of the tree has a copy at each part.
 use Rattle.std.proofs.Common.{◌≡◌, refl, sym, ap, subst, ◌∙◌, true, false, nat_eq, ℕ, Bool, List, None, Option, Some, [], eq-eqb, eqb-true, flat_map, inl, inr, map, ⊎_elim, ◌++◌, ◌∷◌, ◌⊎◌}
 use Rattle.std.specs.Prelude.{if◌then◌else◌}
 use Rattle.vt_spec.proofs.Lists.{Among, among-append, among-append_left, among-append_right, among-flat_map, among-from_flat_map, among-from_map, among-map, among_numbers, any_among, any_from_among}
-use Rattle.vt_spec.specs.Machine.Attach.{Copies, Graft, Twig, added_mounts, attached_by, copies_at, copy_at, copy_number, copy_type, graft_of, is_destination, parts_of, pushed_up, twig_of, type_at, type_at_part, type_on_shared, with_moved_mounts}
+use Rattle.vt_spec.specs.Machine.Attach.{Copies, Graft, Twig, added_mounts, attached_by, copies_at, copy_at, copy_number, copy_type, graft_of, parts_of, pushed_up, twig_of, type_at, type_at_part, type_on_shared, with_moved_mounts}
 use Rattle.vt_spec.specs.Machine.Lists.{folded, is_among, rest_of}
 use Rattle.vt_spec.specs.Machine.Mounts.{Location, Mount, Propagation, group_of, mount_in, replaced_if_same, with_mount}
 use Rattle.vt_spec.specs.Machine.Mounts.Propagation.{Shared}
-use Rattle.vt_spec.specs.Machine.Receives.{has_members, is_member_of}
+use Rattle.vt_spec.specs.Machine.Receives.{is_member_of}
 use Rattle.vt_spec.specs.Machine.World.{World, mount_at}
 use Rattle.vt_mount_laws.specs.Mounts.Attaching.{OneNumberAMount, numbers_of}
 use Rattle.vt_mount_laws.proofs.AttachedGroups.{HasCopies, IsOldOrCopy, MembersStay, kind_at}
@@ -16,7 +16,7 @@ use Rattle.vt_mount_laws.proofs.GroupsKept.{member_shared, shared_member}
 use Rattle.vt_mount_laws.proofs.MountsAttached.{keeps_number, push_keeps}
 use Rattle.vt_mount_laws.proofs.MountsFound.{number_found}
 use Rattle.vt_mount_laws.proofs.MountsNumbered.{is_one_of}
-use Rattle.vt_mount_laws.proofs.MountsReplaced.{found_itself, number_replaced, numbers-with_mount, replaced_elsewhere, replaced_there}
+use Rattle.vt_mount_laws.proofs.MountsReplaced.{found_itself, numbers-with_mount, replaced_elsewhere, replaced_there}
 
 -- Mounts that are put in the place of others
 module _ (new : Mount ℕ) where
@@ -45,7 +45,8 @@ there_or_put mounts (copy ∷ copies) old m =
     by (nat_eq copy.number old.number) refl (there_or_put (with_mount nat_eq mounts copy) copies)
   where
     by : (b : Bool) → nat_eq copy.number old.number ≡ b
-        → ((x : Mount ℕ) → Among x (with_mount nat_eq mounts copy) → IsThereOrPut (with_mount nat_eq mounts copy) copies x)
+        → ((x : Mount ℕ) → Among x (with_mount nat_eq mounts copy)
+        → IsThereOrPut (with_mount nat_eq mounts copy) copies x)
         → IsThereOrPut mounts (copy ∷ copies) old
     by true e later =
         let same : copy.number ≡ old.number = eqb-true copy.number old.number e in
@@ -150,7 +151,8 @@ module _ (world : World ℕ) (new : Copies ℕ) (place : Location ℕ) (moves : 
 
   -- copies at receivers, and at the destination
   copied_there : (part origin : Mount ℕ) → Among part (rest_of parts) → Among origin mounts
-      → (copy : Mount ℕ) × Among copy after.mounts × (copy.propagation ≡ kind_at world new place moves mounts part origin)
+      → (copy : Mount ℕ) × Among copy after.mounts
+      × (copy.propagation ≡ kind_at world new place moves mounts part origin)
   copied_there part origin m n = (
     made part (twig origin),
     among-append_right (old ++ added) rest (made part (twig origin))

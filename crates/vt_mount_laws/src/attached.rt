@@ -8,8 +8,8 @@ pub fn attaching_keeps_mounts_nowhere()
     ensures moves { MovesKeepNowhere }
 {}
 
-/// The group or master of each mount has members, and so has each group up the masters, which come to an end: what is attached
-/// keeps that, with the new groups of its copies and their masters.
+/// The group or master of each mount has members, and so has each group up the masters, which come to an end: what is
+/// attached keeps that, with the new groups of its copies and their masters.
 pub fn attaching_keeps_groups_living()
     ensures bind { BindsKeepGroups }
     ensures new_mount { NewMountsKeepGroups }
