@@ -166,27 +166,35 @@ bindable_there world (suc fuel) mount x m =
 not_itself : (a b : Mount ℕ) → nat_eq a.number b.number ≡ false → a ≡ b → ⊥
 not_itself a b differ e = true≢false (sym (eq-eqb a.number b.number (ap (λ (y : Mount ℕ). y.number) e)) ∙ differ)
 
-bind_there : (world : World ℕ) (source : Location ℕ) (recursive : Bool) (x : Mount ℕ)
-    → Among x (bind_tree nat_eq world source recursive)
-    → nat_eq x.number (bound nat_eq world source).number ≡ false → Among x world.mounts
-bind_there world source false x m differ =
-    ⊎_elim (λ e. absurd (not_itself x (bound nat_eq world source) differ e)) (λ none. absurd none) m
-bind_there world source true x m differ =
-    ⊎_elim
-    (λ e. absurd (not_itself x (bound nat_eq world source) differ e))
+-- what a bind takes is a mount of the world, or the one at the source
+pub bind_there_or_source : (world : World ℕ) (source : Location ℕ) (recursive : Bool) (origin : Mount ℕ)
+    → Among origin (bind_tree nat_eq world source recursive)
+    → (origin ≡ bound nat_eq world source) ⊎ Among origin world.mounts
+bind_there_or_source world source false origin m = ⊎_elim inl (λ none. absurd none) m
+bind_there_or_source world source true origin m =
+    ⊎_elim inl
     (λ later.
     let under = bindable_children nat_eq world.mounts source.mount in
     let from =
     among-from_flat_map (bindable_tree nat_eq (length world.mounts) world.mounts)
-    (filter (stands_under nat_eq world source) under) x later in
+    (filter (stands_under nat_eq world source) under) origin later in
     let child = (among-from_filter (stands_under nat_eq world source) under from.0 from.1).0 in
     let kept = bindable_child world source.mount from.0 child in
     let there = (among-from_filter (stands_on nat_eq source.mount) world.mounts from.0 kept).0 in
-    ⊎_elim
+    inr (⊎_elim
     (λ e. subst (λ y. Among y world.mounts) (sym e) there)
     (λ l. l)
-    (bindable_there world (length world.mounts) from.0 x from.2))
+    (bindable_there world (length world.mounts) from.0 origin from.2)))
     m
+
+bind_there : (world : World ℕ) (source : Location ℕ) (recursive : Bool) (x : Mount ℕ)
+    → Among x (bind_tree nat_eq world source recursive)
+    → nat_eq x.number (bound nat_eq world source).number ≡ false → Among x world.mounts
+bind_there world source recursive x m differ =
+    ⊎_elim
+    (λ e. absurd (not_itself x (bound nat_eq world source) differ e))
+    (λ l. l)
+    (bind_there_or_source world source recursive x m)
 
 pub binds_keep_places : BindsKeepPlaces
 binds_keep_places world fresh source place recursive serves one nowhere all there free places =

@@ -27,7 +27,7 @@ use Rattle.std.proofs.lemmas.Option.{same_Some}
 use Rattle.vt_spec.specs.Machine.Outcome.Mounting.{with_flags}
 
 -- what is found passes, and is there
-found_passes : (p : ℕ → Bool) (xs : List ℕ) (x : ℕ) → find p xs ≡ Some x → (p x ≡ true) × (is_among nat_eq x xs ≡ true)
+pub found_passes : (p : ℕ → Bool) (xs : List ℕ) (x : ℕ) → find p xs ≡ Some x → (p x ≡ true) × (is_among nat_eq x xs ≡ true)
 found_passes p [] x e = absurd (true≢false (sym (ap is_some e)))
 found_passes p (y ∷ ys) x e = by (p y) refl (found_passes p ys x)
   where

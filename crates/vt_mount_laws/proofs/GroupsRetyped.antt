@@ -150,7 +150,7 @@ module _ (world : World ℕ) (group : ℕ → ℕ) (word : TypeWord) (named : Li
           (sym (ap (λ b. source_of (retyped_if world group word named old b).propagation) e) ∙ f))
 
 -- numbers that are not in use have no members
-unused_members : (world : World ℕ) (number : ℕ) → is_among nat_eq number (numbers_in_use world) ≡ false
+pub unused_members : (world : World ℕ) (number : ℕ) → is_among nat_eq number (numbers_in_use world) ≡ false
     → has_members nat_eq world.mounts number ≡ false
 unused_members world number h = false_from_ne_true (has_members nat_eq world.mounts number) (λ has.
     let member = any_among (is_member_of nat_eq number) world.mounts has in

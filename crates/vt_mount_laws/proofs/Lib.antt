@@ -1,3 +1,8 @@
+pub mod AttachedGroups
+pub mod AttachedKept
+pub mod AttachedMasters
+pub mod AttachedNowhere
+pub mod AttachedTypes
 pub mod Attaching
 pub mod AttachingPlaces
 pub mod BindsStand

@@ -1,3 +1,4 @@
+pub mod Attached
 pub mod Attaching
 pub mod Changing
 pub mod Conditions

@@ -4,6 +4,7 @@
 #![tactic(auto)]
 
 pub mod ends;
+pub mod attached;
 pub mod mounts;
 pub mod namespaces;
 pub mod moves;

@@ -1,0 +1,17 @@
+//! Binds, new mounts and moves: what they keep of mounts outside every namespace and of groups.
+ghost use Rattle.vt_mount_laws.specs.Mounts.Attached.{BindsKeepGroups, BindsKeepNowhere, MovesKeepGroups, MovesKeepNowhere, NewMountsKeepGroups, NewMountsKeepNowhere};
+
+/// A mount outside every namespace has no place and is private: what is attached in a namespace keeps that.
+pub fn attaching_keeps_mounts_nowhere()
+    ensures bind { BindsKeepNowhere }
+    ensures new_mount { NewMountsKeepNowhere }
+    ensures moves { MovesKeepNowhere }
+{}
+
+/// The group or master of each mount has members, and so has each group up the masters, which come to an end: what is
+/// attached keeps that, with the new groups of its copies and their masters.
+pub fn attaching_keeps_groups_living()
+    ensures bind { BindsKeepGroups }
+    ensures new_mount { NewMountsKeepGroups }
+    ensures moves { MovesKeepGroups }
+{}
