@@ -169,7 +169,7 @@ unmount_keeps_roots world one each placed namespace =
     (goes_or_may world itself mount.number goes)))
 
 -- what lies in a tree is its top, or stands at a place
-tree_placed : (depth : ℕ) (mounts : List (Mount ℕ)) (top x : Mount ℕ) → Among x (tree_from nat_eq depth mounts top)
+pub tree_placed : (depth : ℕ) (mounts : List (Mount ℕ)) (top x : Mount ℕ) → Among x (tree_from nat_eq depth mounts top)
     → (x ≡ top) ⊎ (Among x mounts × (is_some x.place ≡ true))
 tree_placed zero mounts top x m = ⊎_elim inl (λ none. absurd none) m
 tree_placed (suc depth) mounts top x m =
