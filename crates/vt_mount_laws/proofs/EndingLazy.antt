@@ -2,18 +2,18 @@
 use Rattle.std.proofs.Common.{◌≡◌, refl, sym, ap, subst, ◌∙◌, true, false, nat_eq, ℕ, Bool, List, None, Option, Some, [], arith, eqb-true, inl, inr, is_some, not, suc, true≢false, ⊎_elim, ◌∷◌, ◌<◌, ◌≤◌, ◌⊎◌, ◌&&◌, ◌||◌}
 use Rattle.std.proofs.lemmas.Bool.{false_from_ne_true}
 use Rattle.std.specs.Prelude.{if◌then◌else◌}
-use Rattle.vt_spec.proofs.Lists.{Among, among-from_map, among_cases, among_from_list_all, among_numbers, head_among, none_from_among}
-use Rattle.vt_spec.specs.Machine.Detach.{after_going, depth_of, going, going_at, has_child, is_going, taken_away, unmounted, unmounted_if_there}
+use Rattle.vt_spec.proofs.Lists.{Among, among-from_map, among_cases, among_from_list_all, among_numbers, none_from_among}
+use Rattle.vt_spec.specs.Machine.Detach.{depth_of, going, has_child, taken_away, unmounted, unmounted_if_there}
 use Rattle.vt_spec.specs.Machine.Lists.{folded, holds_of, is_among}
 use Rattle.vt_spec.specs.Machine.Mounts.{Location, Mount, stands_on}
-use Rattle.vt_spec.specs.Machine.World.{World, mount_at, mount_numbered}
+use Rattle.vt_spec.specs.Machine.World.{World, mount_numbered}
 use Rattle.vt_spec.specs.Machine.WorldLaws.{MountInvariants, is_nowhere_or_attached, is_private}
 use Rattle.vt_mount_laws.specs.Mounts.Attaching.{numbers_of}
 use Rattle.vt_mount_laws.specs.Mounts.Conditions.{NowhereOrAttached}
 use Rattle.vt_mount_laws.specs.Mounts.Ending.{LazyUnmountKeepsMounts}
 use Rattle.vt_mount_laws.proofs.Ending.{unmount_keeps_mounts}
 use Rattle.vt_mount_laws.proofs.EndingOrder.{AreDeepestFirst, in_order, is_itself, is_taken_in_turn, lies_in_it, taken_in_turn}
-use Rattle.vt_mount_laws.proofs.MountsFound.{found_or_none, number_found}
+use Rattle.vt_mount_laws.proofs.MountsFound.{found_or_none}
 use Rattle.vt_mount_laws.proofs.MountsReplaced.{found_itself}
 use Rattle.vt_mount_laws.proofs.Standing.{LiesIn, depth_by_rank, further_in, rank, rank_child}
 use Rattle.vt_mount_laws.proofs.Standing.LiesIn.{itself, under}
@@ -24,10 +24,12 @@ use Rattle.vt_mount_laws.proofs.UnmountingPlaces.Falls.{direct, down}
 
 -- a mount outside every namespace has no place
 no_place_outside : (world : World ℕ) → NowhereOrAttached world → (number : ℕ)
-    → is_some (mount_numbered nat_eq world number).namespace ≡ false → (mount_numbered nat_eq world number).place ≡ None
+    → is_some (mount_numbered nat_eq world number).namespace ≡ false
+    → (mount_numbered nat_eq world number).place ≡ None
 no_place_outside world nowhere number e =
     ⊎_elim
-    (λ there. by mount.place (sym (ap (λ b. b || (not (is_some mount.place) && is_private mount.propagation)) e) ∙ among_from_list_all is_nowhere_or_attached world.mounts nowhere mount there))
+    (λ there. by mount.place (sym (ap (λ b. b || (not (is_some mount.place) && is_private mount.propagation)) e)
+    ∙ among_from_list_all is_nowhere_or_attached world.mounts nowhere mount there))
     (λ none. ap (λ m. m.place) none)
     (found_or_none world.mounts number)
   where
@@ -59,11 +61,12 @@ module _ (start : World ℕ) (at_first : MountInvariants nat_eq start) (one : �
   abbrev StoodOver : ℕ → ℕ → Type 0
   StoodOver below number = LiesIn start below number × (rank_of below < rank_of number)
 
-  -- The events that are left, when a part of them is over: each mount stands on one over which it stood, and those of the tree whose
-  -- event is over stand nowhere
+  -- The events that are left, when a part of them is over: each mount stands on one over which it stood, and those of
+  -- the tree whose event is over stand nowhere
   record IsUnderWay (world : World ℕ) (left : List (Mount ℕ)) : Type 0 where
     kept : MountInvariants nat_eq world
-    over : (number : ℕ) (place : Location ℕ) → (mount_numbered nat_eq world number).place ≡ Some place → StoodOver place.mount number
+    over : (number : ℕ) (place : Location ℕ) → (mount_numbered nat_eq world number).place ≡ Some place
+        → StoodOver place.mount number
     done : (number : ℕ) → LiesIn start one number
         → (is_among nat_eq number (numbers_of left) ≡ true) ⊎ ((mount_numbered nat_eq world number).place ≡ None)
     order : AreDeepestFirst start left
@@ -79,12 +82,14 @@ module _ (start : World ℕ) (at_first : MountInvariants nat_eq start) (one : �
   -- none that is left lies deeper than the next one
   no_deeper : (mount : Mount ℕ) (left : List (Mount ℕ)) → AreDeepestFirst start (mount ∷ left)
       → ((m : Mount ℕ) → Among m (mount ∷ left) → mount_numbered nat_eq start m.number ≡ m)
-      → (number : ℕ) → is_among nat_eq number (numbers_of (mount ∷ left)) ≡ true → rank_of number ≤ rank_of mount.number
+      → (number : ℕ) → is_among nat_eq number (numbers_of (mount ∷ left)) ≡ true
+      → rank_of number ≤ rank_of mount.number
   no_deeper mount left order its number m =
       ⊎_elim
       (λ same. let equal = ap rank_of same in omega (arith, equal))
       (λ later.
-      let from = among-from_map (λ (x : Mount ℕ). x.number) left number (among_numbers (numbers_of left) number later) in
+      let from =
+      among-from_map (λ (x : Mount ℕ). x.number) left number (among_numbers (numbers_of left) number later) in
       let x = from.0 in
       let first : depth_of nat_eq start mount ≡ suc (rank_of mount.number) =
       ap (depth_of nat_eq start) (sym (its mount (inl refl)))
@@ -99,7 +104,9 @@ module _ (start : World ℕ) (at_first : MountInvariants nat_eq start) (one : �
 
   module _ (world : World ℕ) (mount : Mount ℕ) (left : List (Mount ℕ)) (way : IsUnderWay world (mount ∷ left)) where
     childless : has_child nat_eq world mount.number ≡ false
-    childless = none_from_among (stands_on nat_eq mount.number) world.mounts (λ x m. false_from_ne_true _ (λ on. none x m x.place refl on))
+    childless =
+        none_from_among (stands_on nat_eq mount.number) world.mounts
+        (λ x m. false_from_ne_true _ (λ on. none x m x.place refl on))
       where
         none : (x : Mount ℕ) → Among x world.mounts → (place : Option (Location ℕ)) → x.place ≡ place
             → stands_on nat_eq mount.number x ≡ true → ⊥
@@ -111,7 +118,9 @@ module _ (start : World ℕ) (at_first : MountInvariants nat_eq start) (one : �
             let over = way.over x.number p (ap (λ z. z.place) found ∙ e) in
             let high = over.1 in
             let equal : rank_of mount.number ≡ rank_of p.mount = ap rank_of same in
-            let lies = further_in start one mount.number x.number (way.lies mount (inl refl)) (subst (λ k. LiesIn start k x.number) (sym same) over.0) in
+            let lies =
+            further_in start one mount.number x.number (way.lies mount (inl refl))
+            (subst (λ k. LiesIn start k x.number) (sym same) over.0) in
             ⊎_elim
             (λ later.
             let low = no_deeper mount left way.order way.itself x.number later in
@@ -123,20 +132,24 @@ module _ (start : World ℕ) (at_first : MountInvariants nat_eq start) (one : �
     gone = going nat_eq world (mount_numbered nat_eq world mount.number)
 
     -- what falls stood over what it falls to
-    falls_over : (number : ℕ) (rest : Location ℕ) → Falls world gone (mount_numbered nat_eq world number) rest → StoodOver rest.mount number
+    falls_over : (number : ℕ) (rest : Location ℕ) → Falls world gone (mount_numbered nat_eq world number) rest
+        → StoodOver rest.mount number
     falls_over number rest (direct at e) = way.over number at e
     falls_over number rest (down place below fall goes e) =
         further below.mount place.mount number (way.over place.mount below e) (falls_over number place fall)
 
-    over_then : (number : ℕ) (place : Location ℕ) → (mount_numbered nat_eq (taken_away nat_eq world gone) number).place ≡ Some place
+    over_then : (number : ℕ) (place : Location ℕ)
+        → (mount_numbered nat_eq (taken_away nat_eq world gone) number).place ≡ Some place
         → StoodOver place.mount number
     over_then number place e =
         falls_over number place
-        (stood world gone (mount_numbered nat_eq world number) place (sym (ap (λ m. m.place) (taken world gone number)) ∙ e)).1
+        (stood world gone (mount_numbered nat_eq world number) place
+        (sym (ap (λ m. m.place) (taken world gone number)) ∙ e)).1
 
     -- of a mount without a place nothing is left to do
     done_then : (after : World ℕ) → (mount_numbered nat_eq after mount.number).place ≡ None
-        → ((number : ℕ) → (mount_numbered nat_eq world number).place ≡ None → (mount_numbered nat_eq after number).place ≡ None)
+        → ((number : ℕ) → (mount_numbered nat_eq world number).place ≡ None
+        → (mount_numbered nat_eq after number).place ≡ None)
         → (number : ℕ) → LiesIn start one number
         → (is_among nat_eq number (numbers_of left) ≡ true) ⊎ ((mount_numbered nat_eq after number).place ≡ None)
     done_then after here stays number lies =
@@ -157,7 +170,9 @@ module _ (start : World ℕ) (at_first : MountInvariants nat_eq start) (one : �
         by true e = record {
           kept = unmount_keeps_mounts world mount.number way.kept childless;
           over = over_then;
-          done = done_then (unmounted nat_eq world mount.number) (no_place_then world way.kept mount.number childless) (root_stays world gone);
+          done =
+              done_then (unmounted nat_eq world mount.number) (no_place_then world way.kept mount.number childless)
+              (root_stays world gone);
           order = way.order.1;
           lies = λ x m. way.lies x (inr m);
           itself = λ x m. way.itself x (inr m);
@@ -174,7 +189,8 @@ module _ (start : World ℕ) (at_first : MountInvariants nat_eq start) (one : �
   all_events : (left : List (Mount ℕ)) (world : World ℕ) → IsUnderWay world left
       → MountInvariants nat_eq (folded (unmounted_if_there nat_eq) world left)
   all_events [] world way = way.kept
-  all_events (mount ∷ left) world way = all_events left (unmounted_if_there nat_eq world mount) (next world mount left way)
+  all_events (mount ∷ left) world way =
+      all_events left (unmounted_if_there nat_eq world mount) (next world mount left way)
 
   begun : IsUnderWay start (taken_in_turn start one)
   begun = record {
@@ -189,4 +205,5 @@ module _ (start : World ℕ) (at_first : MountInvariants nat_eq start) (one : �
   }
 
 pub lazy_unmount_keeps_mounts : LazyUnmountKeepsMounts
-lazy_unmount_keeps_mounts world one kept = all_events world kept one (taken_in_turn world one) world (begun world kept one)
+lazy_unmount_keeps_mounts world one kept =
+    all_events world kept one (taken_in_turn world one) world (begun world kept one)

@@ -1,14 +1,14 @@
 -- What namespaces have left of their mounts after a lazy unmount.
-use Rattle.std.proofs.Common.{◌≡◌, refl, sym, ap, subst, ◌∙◌, true, false, nat_eq, ℕ, Bool, List, None, Option, Some, [], arith, inl, inr, is_some, length, option_map, true≢false, ⊎_elim, ◌∷◌, ◌⊎◌, ◌≤◌}
+use Rattle.std.proofs.Common.{◌≡◌, refl, sym, ap, ◌∙◌, true, false, nat_eq, ℕ, Bool, List, None, Option, Some, [], arith, inl, inr, is_some, length, option_map, true≢false, ⊎_elim, ◌∷◌, ◌⊎◌, ◌≤◌}
 use Rattle.std.proofs.lemmas.Bool.{le-leb, leb-true}
-use Rattle.std.specs.Prelude.{Contains, if◌then◌else◌}
+use Rattle.std.specs.Prelude.{if◌then◌else◌}
 use Rattle.vt_spec.proofs.Lists.{Among, all_from_among, among_from_all, among_from_contains}
-use Rattle.vt_spec.specs.Machine.Detach.{after_going, going, is_going, place_left, taken_away, unmounted, unmounted_if_there}
+use Rattle.vt_spec.specs.Machine.Detach.{going, is_going, place_left, taken_away, unmounted, unmounted_if_there}
 use Rattle.vt_spec.specs.Machine.Lists.{folded}
-use Rattle.vt_spec.specs.Machine.Mounts.{Location, Mount, mount_in}
+use Rattle.vt_spec.specs.Machine.Mounts.{Location, Mount}
 use Rattle.vt_spec.specs.Machine.World.{World, mount_numbered, mounts_of}
 use Rattle.vt_mount_laws.specs.Mounts.Conditions.{OneNumberEach}
-use Rattle.vt_mount_laws.specs.Mounts.Left.{ByLazyUnmount, HasNoMoreMounts, IsOutOrStays, KeepsRootMounts, LazyUnmountKeepsRootMounts, TakesNoMountsIn, root_mounts_in}
+use Rattle.vt_mount_laws.specs.Mounts.Ending.{ByLazyUnmount, HasNoMoreMounts, IsOutOrStays, KeepsRootMounts, LazyUnmountKeepsRootMounts, TakesNoMountsIn, root_mounts_in}
 use Rattle.vt_mount_laws.proofs.EndingCounts.{stays_in, tree_placed, unmount_has_no_more, unmount_keeps_roots, unmount_takes_none_in}
 use Rattle.vt_mount_laws.proofs.EndingOrder.{from_tree, taken_in_turn}
 use Rattle.vt_mount_laws.proofs.MountsFound.{number_found}
@@ -35,7 +35,8 @@ all_have_no_more (mount ∷ mounts) world namespace =
     let between = length (mounts_of nat_eq middle namespace) in
     let after = length (mounts_of nat_eq end namespace) in
     let first : between ≤ before =
-    leb-true between before (event_by HasNoMoreMounts world mount (λ n. le-leb _ _ (omega arith)) (unmount_has_no_more world mount.number) namespace) in
+    leb-true between before (event_by HasNoMoreMounts world mount (λ n. le-leb _ _ (omega arith))
+    (unmount_has_no_more world mount.number) namespace) in
     let later : after ≤ between = leb-true after between (all_have_no_more mounts middle namespace) in
     le-leb after before (omega (arith, first, later))
 
@@ -43,9 +44,11 @@ pub lazy_unmount_has_no_more : ByLazyUnmount HasNoMoreMounts
 lazy_unmount_has_no_more world one = all_have_no_more (taken_in_turn world one) world
 
 -- a mount that stays in turn
-stays_on : (world middle end : World ℕ) → TakesNoMountsIn world middle → TakesNoMountsIn middle end → TakesNoMountsIn world end
+stays_on : (world middle end : World ℕ) → TakesNoMountsIn world middle → TakesNoMountsIn middle end
+    → TakesNoMountsIn world end
 stays_on world middle end first second =
-    all_from_among (IsOutOrStays world) end.mounts (λ mount m. by mount (among_from_all (IsOutOrStays middle) end.mounts second mount m))
+    all_from_among (IsOutOrStays world) end.mounts
+    (λ mount m. by mount (among_from_all (IsOutOrStays middle) end.mounts second mount m))
   where
     on : (mount old : Mount ℕ) → mount.number ≡ old.number → mount.namespace ≡ old.namespace → IsOutOrStays world old
         → IsOutOrStays world mount
@@ -73,7 +76,8 @@ lazy_unmount_takes_none_in world one = all_take_none_in (taken_in_turn world one
 -- Root mounts: what goes in turn has a place, or has gone
 abbrev IsPlacedOrOut : World ℕ → ℕ → Type 0
 IsPlacedOrOut world number =
-    (is_some (mount_numbered nat_eq world number).place ≡ true) ⊎ ((mount_numbered nat_eq world number).namespace ≡ None)
+    (is_some (mount_numbered nat_eq world number).place ≡ true)
+    ⊎ ((mount_numbered nat_eq world number).namespace ≡ None)
 
 placed_or_out_then : (world : World ℕ) (gone : List ℕ) (number : ℕ) → IsPlacedOrOut world number
     → IsPlacedOrOut (taken_away nat_eq world gone) number
@@ -106,14 +110,16 @@ all_keep_roots (mount ∷ mounts) world each placed namespace =
     by : (b : Bool) → is_some (mount_numbered nat_eq world mount.number).namespace ≡ b
         → ((left : World ℕ) → OneNumberEach left → ((x : Mount ℕ) → Among x mounts → IsPlacedOrOut left x.number)
         → KeepsRootMounts left (folded (unmounted_if_there nat_eq) left mounts))
-        → root_mounts_in (folded (unmounted_if_there nat_eq) (if b then unmounted nat_eq world mount.number else world) mounts) namespace
+        → root_mounts_in (folded (unmounted_if_there nat_eq)
+        (if b then unmounted nat_eq world mount.number else world) mounts) namespace
         ≡ root_mounts_in world namespace
     by false e later = later world each (λ x m. placed x (inr m)) namespace
     by true e later =
         let there : is_some (mount_numbered nat_eq world mount.number).place ≡ true =
         ⊎_elim (λ f. f) (λ none. absurd (true≢false (sym e ∙ ap is_some none))) (placed mount (inl refl)) in
         later (unmounted nat_eq world mount.number) (unmount_keeps_numbers world mount.number each)
-        (λ x m. placed_or_out_then world (going nat_eq world (mount_numbered nat_eq world mount.number)) x.number (placed x (inr m)))
+        (λ x m. placed_or_out_then world (going nat_eq world (mount_numbered nat_eq world mount.number)) x.number
+        (placed x (inr m)))
         namespace
         ∙ unmount_keeps_roots world mount.number each there namespace
 
@@ -121,6 +127,8 @@ pub lazy_unmount_keeps_roots : LazyUnmountKeepsRootMounts
 lazy_unmount_keeps_roots world one each placed =
     all_keep_roots (taken_in_turn world one) world each (λ mount m.
     inl (⊎_elim
-    (λ top. ap (λ (x : Mount ℕ). is_some (mount_numbered nat_eq world x.number).place) top ∙ ap (λ n. is_some (mount_numbered nat_eq world n).place) (number_found world.mounts one) ∙ placed)
+    (λ top. ap (λ (x : Mount ℕ). is_some (mount_numbered nat_eq world x.number).place) top
+    ∙ ap (λ n. is_some (mount_numbered nat_eq world n).place) (number_found world.mounts one) ∙ placed)
     (λ t. ap (λ x. is_some x.place) (found_itself world.mounts each mount t.0) ∙ t.1)
-    (tree_placed (length world.mounts) world.mounts (mount_numbered nat_eq world one) mount (from_tree world one mount m))))
+    (tree_placed (length world.mounts) world.mounts (mount_numbered nat_eq world one) mount
+    (from_tree world one mount m))))

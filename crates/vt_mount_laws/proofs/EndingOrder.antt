@@ -1,12 +1,12 @@
 -- The mounts of a lazy unmount: each of the tree, the deepest first.
-use Rattle.std.proofs.Common.{◌≡◌, refl, sym, ap, subst, ◌∙◌, true, false, nat_eq, nat_lt, ℕ, Bool, List, Some, [], arith, flat_map, inl, inr, length, map, zero, suc, ⊎_elim, ◌∷◌, ◌≤◌, ◌<◌, ◌⊎◌}
+use Rattle.std.proofs.Common.{◌≡◌, refl, sym, ap, subst, ◌∙◌, true, false, nat_eq, nat_lt, ℕ, Bool, List, [], arith, flat_map, inl, inr, length, map, zero, suc, ⊎_elim, ◌∷◌, ◌≤◌, ◌<◌, ◌⊎◌}
 use Rattle.std.proofs.lemmas.Bool.{ltb-false, ltb-true}
 use Rattle.std.specs.Prelude.{if◌then◌else◌, ⊤}
 use Rattle.vt_spec.proofs.Lists.{Among, among-from_flat_map, among-from_map, among-map, among-flat_map, among_numbers, is_among_numbers}
 use Rattle.vt_spec.specs.Machine.Detach.{deepest_first, depth_of, insert_deepest, is_going}
 use Rattle.vt_spec.specs.Machine.Lists.{folded, is_among}
 use Rattle.vt_spec.specs.Machine.Mounts.{Mount, mount_in, mount_tree, tree_from}
-use Rattle.vt_spec.specs.Machine.World.{World, mount_at, mount_numbered}
+use Rattle.vt_spec.specs.Machine.World.{World, mount_numbered}
 use Rattle.vt_mount_laws.specs.Mounts.Attaching.{numbers_of}
 use Rattle.vt_mount_laws.specs.Mounts.Conditions.{OneNumberEach}
 use Rattle.vt_mount_laws.specs.Mounts.Standing.{AllStand}
@@ -37,7 +37,8 @@ module _ (world : World ℕ) where
   among_inserted mount [] x m = m
   among_inserted mount (other ∷ rest) x m = by (is_less_deep mount other) m (among_inserted mount rest x)
     where
-      by : (b : Bool) → Among x (inserts_by mount other rest b) → (Among x (insert mount rest) → Among x (mount ∷ rest))
+      by : (b : Bool) → Among x (inserts_by mount other rest b)
+          → (Among x (insert mount rest) → Among x (mount ∷ rest))
           → Among x (mount ∷ other ∷ rest)
       by true (inl e) next = inr (inl e)
       by true (inr l) next = ⊎_elim inl (λ k. inr (inr k)) (next l)
@@ -55,7 +56,8 @@ module _ (world : World ℕ) where
       by true (inr (inr l)) next = inr (next (inr l))
       by false l next = l
 
-  inserted_in_order : (mount : Mount ℕ) (sorted : List (Mount ℕ)) → AreDeepestFirst sorted → AreDeepestFirst (insert mount sorted)
+  inserted_in_order : (mount : Mount ℕ) (sorted : List (Mount ℕ)) → AreDeepestFirst sorted
+      → AreDeepestFirst (insert mount sorted)
   inserted_in_order mount [] order = (λ x m. absurd m, tt)
   inserted_in_order mount (other ∷ rest) order =
       by (is_less_deep mount other) refl (inserted_in_order mount rest order.1)
@@ -63,22 +65,29 @@ module _ (world : World ℕ) where
       by : (b : Bool) → is_less_deep mount other ≡ b → AreDeepestFirst (insert mount rest)
           → AreDeepestFirst (inserts_by mount other rest b)
       by true e later =
-          let deep : depth_of nat_eq world mount < depth_of nat_eq world other = ltb-true (depth_of nat_eq world mount) (depth_of nat_eq world other) e in
-          (λ x m. ⊎_elim
-          (λ same. let equal = ap (depth_of nat_eq world) same in omega (arith, equal, deep))
-          (order.0 x)
-          (among_inserted mount rest x m), later)
+          let deep : depth_of nat_eq world mount < depth_of nat_eq world other =
+          ltb-true (depth_of nat_eq world mount) (depth_of nat_eq world other) e in (
+            λ x m. ⊎_elim
+                (λ same. let equal = ap (depth_of nat_eq world) same in omega (arith, equal, deep))
+                (order.0 x)
+                (among_inserted mount rest x m),
+            later,
+          )
       by false e later =
-          let deep : depth_of nat_eq world other ≤ depth_of nat_eq world mount = ltb-false (depth_of nat_eq world mount) (depth_of nat_eq world other) e in
-          (λ x m. ⊎_elim
-          (λ same. let equal = ap (depth_of nat_eq world) same in omega (arith, equal, deep))
-          (λ l. let below = order.0 x l in omega (arith, below, deep))
-          m, order)
+          let deep : depth_of nat_eq world other ≤ depth_of nat_eq world mount =
+          ltb-false (depth_of nat_eq world mount) (depth_of nat_eq world other) e in (
+            λ x m. ⊎_elim
+                (λ same. let equal = ap (depth_of nat_eq world) same in omega (arith, equal, deep))
+                (λ l. let below = order.0 x l in omega (arith, below, deep))
+                m,
+            order,
+          )
 
   abbrev all_inserted : List (Mount ℕ) → List (Mount ℕ) → List (Mount ℕ)
   all_inserted sorted mounts = folded (λ list mount. insert mount list) sorted mounts
 
-  all_in_order : (mounts sorted : List (Mount ℕ)) → AreDeepestFirst sorted → AreDeepestFirst (all_inserted sorted mounts)
+  all_in_order : (mounts sorted : List (Mount ℕ)) → AreDeepestFirst sorted
+      → AreDeepestFirst (all_inserted sorted mounts)
   all_in_order [] sorted order = order
   all_in_order (mount ∷ mounts) sorted order =
       all_in_order mounts (insert mount sorted) (inserted_in_order mount sorted order)
@@ -119,9 +128,11 @@ module _ (world : World ℕ) where
     pub lies_in_it : (number : ℕ) (x : Mount ℕ) → Among x (taken_in_turn number) → LiesIn world number x.number
     lies_in_it number x m =
         subst (λ k. LiesIn world k x.number) (number_found world.mounts number)
-        (lies_in_tree world one all (length world.mounts) (mount_numbered nat_eq world number) x (from_tree number x m))
+        (lies_in_tree world one all (length world.mounts) (mount_numbered nat_eq world number) x
+        (from_tree number x m))
 
-    pub is_itself : (number : ℕ) (x : Mount ℕ) → Among x (taken_in_turn number) → mount_numbered nat_eq world x.number ≡ x
+    pub is_itself : (number : ℕ) (x : Mount ℕ) → Among x (taken_in_turn number)
+        → mount_numbered nat_eq world x.number ≡ x
     is_itself number x m =
         ⊎_elim
         (λ top.
@@ -146,7 +157,8 @@ module _ (world : World ℕ) where
         is_among_numbers (numbers_under it) it
         (subst (λ k. Among k (numbers_under it)) (number_found world.mounts it)
         (among-map (λ (mount : Mount ℕ). mount.number) (flat_map (mount_tree nat_eq world.mounts) (top ∷ [])) top
-        (among-flat_map (mount_tree nat_eq world.mounts) (top ∷ []) top top (inl refl) (top_in_tree (length world.mounts) top))))
+        (among-flat_map (mount_tree nat_eq world.mounts) (top ∷ []) top top (inl refl)
+        (top_in_tree (length world.mounts) top))))
     lies_under number x (under top it place e way) =
         subst (λ k. is_going nat_eq (numbers_under top) k ≡ true) (number_found world.mounts it)
         (trees_closed world one ((standing_is_computed world one).0 all) (mount_numbered nat_eq world top ∷ [])

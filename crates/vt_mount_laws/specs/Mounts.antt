@@ -6,7 +6,6 @@ pub mod Ending
 pub mod Ends
 pub mod FileCalls
 pub mod Granted
-pub mod Left
 pub mod Places
 pub mod Receivers
 pub mod Standing

@@ -1,9 +1,8 @@
 //! What takes mounts away: the invariants of mounts that it keeps, and what namespaces have left.
-ghost use Rattle.vt_mount_laws.specs.Mounts.Ending.{UnmountKeepsMounts, LazyUnmountKeepsMounts, TreesKeepMounts, PointsKeepMounts, ReplacedKeepsMounts, EndedNamespacesKeepMounts};
-ghost use Rattle.vt_mount_laws.specs.Mounts.Left.{ByUnmount, ByLazyUnmount, ByTrees, ByPoints, ByReplaced, ByEndedNamespaces, HasNoMoreMounts, TakesNoMountsIn, UnmountKeepsRootMounts, LazyUnmountKeepsRootMounts, TreesKeepRootMounts, PointsKeepRootMounts, ReplacedKeepsRootMounts, EndedNamespacesKeepRootMounts};
+ghost use Rattle.vt_mount_laws.specs.Mounts.Ending.{UnmountKeepsMounts, LazyUnmountKeepsMounts, TreesKeepMounts, PointsKeepMounts, ReplacedKeepsMounts, EndedNamespacesKeepMounts, ByUnmount, ByLazyUnmount, ByTrees, ByPoints, ByReplaced, ByEndedNamespaces, HasNoMoreMounts, TakesNoMountsIn, UnmountKeepsRootMounts, LazyUnmountKeepsRootMounts, TreesKeepRootMounts, PointsKeepRootMounts, ReplacedKeepsRootMounts, EndedNamespacesKeepRootMounts};
 
-/// An unmount, also a lazy one, and the end of trees of mounts and of namespaces keep the invariants of mounts: numbers, places,
-/// standing and groups.
+/// An unmount, also a lazy one, and the end of trees of mounts and of namespaces keep the invariants of mounts: numbers,
+/// places, standing and groups.
 pub fn what_takes_mounts_away_keeps_their_invariants()
     ensures unmount { UnmountKeepsMounts }
     ensures lazy { LazyUnmountKeepsMounts }
