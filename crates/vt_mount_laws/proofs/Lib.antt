@@ -19,6 +19,7 @@ pub mod MountsReplaced
 pub mod MountsRetyped
 pub mod Moving
 pub mod MovingLeaves
+pub mod MovingPlaces
 pub mod MovingRoots
 pub mod MovingStands
 pub mod Receivers

@@ -9,7 +9,7 @@ use Rattle.vt_spec.specs.Machine.World.{World, mount_at, mount_numbered}
 use Rattle.vt_spec.specs.Machine.WorldLaws.{MountInvariants, Stands, is_nowhere_or_attached, is_private}
 use Rattle.vt_spec.specs.Machine.WorldLaws.Stands.{at_root, on_parent}
 use Rattle.vt_mount_laws.specs.Mounts.Attaching.{numbers_of}
-use Rattle.vt_mount_laws.specs.Mounts.Moving.{CanMove, MovesKeepStanding}
+use Rattle.vt_mount_laws.specs.Mounts.Moving.{CanMove, MovesKeepPlaces, MovesKeepStanding}
 use Rattle.vt_mount_laws.proofs.Attaching.{Hangs}
 use Rattle.vt_mount_laws.proofs.Attaching.Hangs.{from_top}
 use Rattle.vt_mount_laws.proofs.BindsStand.{child_hangs}
@@ -18,6 +18,7 @@ use Rattle.vt_mount_laws.proofs.MountsFound.{found_there}
 use Rattle.vt_mount_laws.proofs.MountsNumbered.{supplies_serve_as_copies}
 use Rattle.vt_mount_laws.proofs.MountsReplaced.{apart, found_itself, tree_among}
 use Rattle.vt_mount_laws.proofs.MovingLeaves.{MayMove}
+use Rattle.vt_mount_laws.proofs.MovingPlaces.{places_moved}
 use Rattle.vt_mount_laws.proofs.MovingStands.{all_after}
 use Rattle.vt_mount_laws.proofs.Standing.{standing_is_computed, trees_have_each_once}
 use Rattle.vt_mount_laws.proofs.UnmountingTrees.{AreClosed, trees_closed}
@@ -144,3 +145,9 @@ moves_keep_standing world fresh source place serves invariants can =
     let mounts = moved_tree nat_eq world source in
     all_after world (supplied world fresh place mounts) place mounts (may_move world invariants source place can)
     (supplies_serve_as_copies world fresh (parts_of nat_eq world place) mounts serves)
+
+pub moves_keep_places : MovesKeepPlaces
+moves_keep_places world fresh source place serves invariants can free =
+    let mounts = moved_tree nat_eq world source in
+    places_moved world (supplied world fresh place mounts) place mounts (may_move world invariants source place can)
+    (supplies_serve_as_copies world fresh (parts_of nat_eq world place) mounts serves) invariants.one_child free
