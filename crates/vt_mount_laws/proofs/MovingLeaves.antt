@@ -189,7 +189,8 @@ module _ (world : World ℕ) (new : Copies ℕ) (place : Location ℕ) (mounts :
       by mount (stayed m) = among_from_list_all is_nowhere_or_attached world.mounts may.nowhere mount m
       by mount (came origin m e) =
           ap is_nowhere_or_attached e
-          ∙ ap (λ b. b || (not (is_some (arrived origin).place) && is_private (arrived origin).propagation)) may.attached
+          ∙ ap (λ b. b || (not (is_some (arrived origin).place) && is_private (arrived origin).propagation))
+          may.attached
 
   -- it is in the namespace in which it was
   pub namespace_kept : (mount : Mount ℕ) → Among mount world.mounts
@@ -375,7 +376,8 @@ module _ (world : World ℕ) (new : Copies ℕ) (place : Location ℕ) (mounts :
       by : (a b : Mount ℕ) → LeftPlace a → LeftPlace b → same_number a b ≡ false → test a b ≡ false
       by a b (at_destination e f) (at_destination g h) differ =
           absurd (true≢false
-          (sym (eq-eqb a.number b.number (eqb-true a.number may.top.number e ∙ sym (eqb-true b.number may.top.number g)))
+          (sym (eq-eqb a.number b.number
+          (eqb-true a.number may.top.number e ∙ sym (eqb-true b.number may.top.number g)))
           ∙ differ))
       by a b (at_destination e f) (as_it_was old m g h) differ =
           false_from_ne_true (test a b) (λ both.

@@ -1,5 +1,5 @@
--- After a move at most one mount stands at a place: of what moved, of the copies at receivers, and of what they push up.
-use Rattle.std.proofs.Common.{◌≡◌, refl, sym, ap, subst, ◌∙◌, true, false, nat_eq, ℕ, Bool, List, None, Option, Some, [], append-nil, eq-eqb, eqb-true, flat_map, inl, inr, is_some, map, option_map, true≢false, ⊎_elim, ◌&&◌, ◌++◌, ◌∷◌}
+-- After a move at most one mount stands at a place: of what moved, the copies at receivers, and what they push up.
+use Rattle.std.proofs.Common.{◌≡◌, refl, sym, ap, subst, ◌∙◌, true, false, nat_eq, ℕ, Bool, List, None, Option, Some, [], append-nil, eq-eqb, eqb-true, flat_map, inl, inr, is_some, map, option_map, true≢false, ◌++◌, ◌∷◌}
 use Rattle.std.specs.List.{list_any}
 use Rattle.std.specs.Prelude.{if◌then◌else◌, unwrap_or}
 use Rattle.std.proofs.lemmas.Bool.{false_from_ne_true, or_parts}
@@ -12,7 +12,7 @@ use Rattle.vt_spec.specs.Machine.Run.{numbers_in_use}
 use Rattle.vt_spec.specs.Machine.World.{World, mount_at, mount_numbered}
 use Rattle.vt_spec.specs.Machine.WorldLaws.{Stands}
 use Rattle.vt_spec.specs.Machine.WorldLaws.Stands.{at_root, on_parent}
-use Rattle.vt_mount_laws.specs.Mounts.Attaching.{OneNumberAMount, is_mount}
+use Rattle.vt_mount_laws.specs.Mounts.Attaching.{is_mount}
 use Rattle.vt_mount_laws.specs.Mounts.Copies.{ServeAsCopies}
 use Rattle.vt_mount_laws.specs.Mounts.Places.{OneMountAPlace}
 use Rattle.vt_mount_laws.proofs.Attaching.{Hangs, hanging, taker_there, top_among}
