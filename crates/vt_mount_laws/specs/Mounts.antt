@@ -8,7 +8,6 @@ pub mod Ends
 pub mod FileCalls
 pub mod Granted
 pub mod Namespaces
-pub mod Left
 pub mod Moving
 pub mod Places
 pub mod Receivers
