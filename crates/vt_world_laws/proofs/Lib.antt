@@ -1,1 +1,2 @@
-pub mod Sketch
+pub mod Reached
+pub mod ReachedWalks
