@@ -1,2 +1,3 @@
 pub mod Reached
 pub mod ReachedWalks
+pub mod ReachedPlaces

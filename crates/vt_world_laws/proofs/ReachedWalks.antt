@@ -26,13 +26,13 @@ found_among test list a e =
     found_all (λ x. Among x list) test list a (all_from_among (λ x. Among x list) list (λ x m. m)) e
 
 module _ (world : World ℕ) (whole : IsWorld nat_eq world) (task : Task ℕ) (called : task_called world task.name ≡ Some task) where
-  abbrev Found : Location ℕ → Type 0
+  abbrev pub Found : Location ℕ → Type 0
   Found location = IsFound world whole task location
 
-  abbrev FoundDirectory : Location ℕ → Type 0
+  abbrev pub FoundDirectory : Location ℕ → Type 0
   FoundDirectory location = IsFoundDirectory world whole task location
 
-  abbrev End : Location ℕ → Type 0
+  abbrev pub End : Location ℕ → Type 0
   End location = IsEnd world whole task location
 
   pub task_among : Among task world.tasks
@@ -57,7 +57,7 @@ module _ (world : World ℕ) (whole : IsWorld nat_eq world) (task : Task ℕ) (c
   pub own_directory_found : FoundDirectory task.directory
   own_directory_found = own_place task.directory (inr (inl refl)) (and_parts _ _ stands).1
 
-  start_end : (directory : Location ℕ) (path : List ℕ) → End directory → End (start_of task directory path)
+  pub start_end : (directory : Location ℕ) (path : List ℕ) → End directory → End (start_of task directory path)
   start_end directory path is = by (is_absolute path)
     where
       by : (b : Bool) → End (cond b task.root directory)
@@ -70,7 +70,7 @@ module _ (world : World ℕ) (whole : IsWorld nat_eq world) (task : Task ℕ) (c
   abbrev pub EndsAtEnd : Result (Here ℕ) (Stop ℕ) → Type 0
   EndsAtEnd walk = Ends (λ here. End here.location) walk
 
-  walk_start_end : (path : List ℕ) → End (walk_start task path).location
+  pub walk_start_end : (path : List ℕ) → End (walk_start task path).location
   walk_start_end path =
       start_end task.directory path (directory_end world whole task task.directory own_directory_found)
 
@@ -137,7 +137,7 @@ module _ (world : World ℕ) (whole : IsWorld nat_eq world) (task : Task ℕ) (c
       ends_unless (λ next. FoundDirectory next.location) here.steps ((not (is_directory_at nat_eq world here.location), W3) ∷ []) here
       (λ passed. (end.0.0, not_true (is_directory_at nat_eq world here.location) passed.0)))
 
-  front_end : (here : Here ℕ) → End here.location → (list : List (List ℕ))
+  pub front_end : (here : Here ℕ) → End here.location → (list : List (List ℕ))
       → EndsAtEnd (front_walked nat_eq world task (followed nat_eq world task) here list)
   front_end here is [] = is
   front_end here is (word ∷ front) = words_end (followed nat_eq world task) followed_end here is front
