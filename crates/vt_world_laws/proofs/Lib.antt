@@ -5,3 +5,6 @@ pub mod FitPermits
 pub mod FitPermitsOfNames
 pub mod FitPermitsOfTasks
 pub mod FitPermitsOfMounts
+pub mod FewMounts
+pub mod FewMountsLeft
+pub mod FitPermitsNamed
