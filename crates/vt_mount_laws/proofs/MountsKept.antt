@@ -45,7 +45,7 @@ pub flags_keep_numbers : KeptByFlags OneNumberEach
 flags_keep_numbers world here flags e =
     one_number_by_numbers world.mounts (with_flags nat_eq world here flags).mounts (numbers-with_mount (record (mount_at nat_eq world here) { flags = flags }) world.mounts) e
 
-pivot_number : (root new : Mount ℕ) (put : Location ℕ) (mount : Mount ℕ) → (pivoted_mount nat_eq root new put mount).number ≡ mount.number
+pub pivot_number : (root new : Mount ℕ) (put : Location ℕ) (mount : Mount ℕ) → (pivoted_mount nat_eq root new put mount).number ≡ mount.number
 pivot_number root new put mount = by (nat_eq mount.number new.number) (nat_eq mount.number root.number)
   where
     by : (a b : Bool) → (if a then (record mount { place = root.place }) else if b then (record mount { place = Some put }) else mount).number ≡ mount.number

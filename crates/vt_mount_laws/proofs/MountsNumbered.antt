@@ -50,7 +50,7 @@ pub number_in_use : (world : World ℕ) (mount : Mount ℕ) → Among mount worl
 number_in_use world mount m = mount_uses world mount m mount.number (inl refl)
 
 -- so it is none that is handed in
-number_is_old : (world : World ℕ) (fresh : Fresh ℕ) → Serves nat_eq world fresh → (number : ℕ)
+pub number_is_old : (world : World ℕ) (fresh : Fresh ℕ) → Serves nat_eq world fresh → (number : ℕ)
     → Among number (numbers_of world.mounts) → (k : ℕ) → nat_eq number (fresh k) ≡ false
 number_is_old world fresh serves number m k =
     apart (fresh k) number (false_from_ne_true (nat_eq (fresh k) number) (λ same.
@@ -96,7 +96,7 @@ indexed mounts number one =
     let t = place_found (λ (mount : Mount ℕ). nat_eq number mount.number) 0 mounts from.0 from.1 same in
     (t.0, t.1, ap (λ found. unwrap_or found 0) t.2 ∙ omega arith, t.3, sym (eqb-true number t.1.number t.4))
 
-one_index : (mounts : List (Mount ℕ)) (a b : ℕ) → IsOneOf mounts a → IsOneOf mounts b
+pub one_index : (mounts : List (Mount ℕ)) (a b : ℕ) → IsOneOf mounts a → IsOneOf mounts b
     → index_of nat_eq mounts a ≡ index_of nat_eq mounts b → a ≡ b
 one_index mounts a b m n e =
     let s = indexed mounts a m in
@@ -156,7 +156,7 @@ module _ (world : World ℕ) (fresh : Fresh ℕ) (serves : Serves nat_eq world f
       let same : 2 * j ≡ 2 * k = serves.apart (2 * j) (2 * k) (eq-eqb (evens fresh j) (evens fresh k) e) in
       omega (arith, same)
 
-  odds_apart : (j k : ℕ) → odds fresh j ≡ odds fresh k → j ≡ k
+  pub odds_apart : (j k : ℕ) → odds fresh j ≡ odds fresh k → j ≡ k
   odds_apart j k e =
       let same : 2 * j + 1 ≡ 2 * k + 1 =
       serves.apart (2 * j + 1) (2 * k + 1) (eq-eqb (odds fresh j) (odds fresh k) e) in

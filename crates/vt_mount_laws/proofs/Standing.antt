@@ -236,7 +236,7 @@ pub standing_is_computed : StandingIsComputed
 standing_is_computed world one = (test_of_standing world one, standing_by_test world one)
 
 -- Trees of mounts: a mount, and each that stands on one of them
-data LiesIn (world : World ℕ) : ℕ → ℕ → Type 0 where
+pub data LiesIn (world : World ℕ) : ℕ → ℕ → Type 0 where
   itself : (number : ℕ) → LiesIn world number number
   under : (above number : ℕ) (place : Location ℕ) → (mount_numbered nat_eq world number).place ≡ Some place
       → LiesIn world above place.mount → LiesIn world above number
@@ -265,6 +265,10 @@ module _ (world : World ℕ) (one : OneNumberEach world) (all : AllStand world) 
   pub rank : ℕ → ℕ
   rank number = depth world number (stand number)
 
+  pub rank_bounded : (number : ℕ) → rank number ≤ length world.mounts
+  unfolding rank
+  rank_bounded number = not_deep world number (stand number)
+
   pub rank_child : (number : ℕ) (place : Location ℕ) → (mount_numbered nat_eq world number).place ≡ Some place
       → rank number ≡ suc (rank place.mount)
   unfolding depth rank
@@ -278,7 +282,7 @@ module _ (world : World ℕ) (one : OneNumberEach world) (all : AllStand world) 
       by (on_parent it at f g x) =
           g ∙ ap (λ (p : Location ℕ). (mount_numbered nat_eq world p.mount).namespace) (same_Some at place (sym f ∙ e))
 
-  lies_deeper : (above number : ℕ) → LiesIn world above number → (above ≡ number) ⊎ (rank above < rank number)
+  pub lies_deeper : (above number : ℕ) → LiesIn world above number → (above ≡ number) ⊎ (rank above < rank number)
   lies_deeper above number (itself it) = inl refl
   lies_deeper above number (under top it place e way) =
       let child = rank_child it place e in
@@ -321,7 +325,7 @@ module _ (world : World ℕ) (one : OneNumberEach world) (all : AllStand world) 
         sym (eqb-true mount.number place.mount (sym (ap (holds_of (λ p. nat_eq mount.number p.mount)) e) ∙ on)),
       )
 
-  lies_in_tree : (fuel : ℕ) (mount x : Mount ℕ) → Among x (tree_from nat_eq fuel world.mounts mount)
+  pub lies_in_tree : (fuel : ℕ) (mount x : Mount ℕ) → Among x (tree_from nat_eq fuel world.mounts mount)
       → LiesIn world mount.number x.number
   lies_in_tree zero mount x m =
       ⊎_elim

@@ -5,6 +5,7 @@ pub mod Copies
 pub mod Ends
 pub mod FileCalls
 pub mod Granted
+pub mod Namespaces
 pub mod Places
 pub mod Receivers
 pub mod Standing

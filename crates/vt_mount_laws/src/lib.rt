@@ -4,3 +4,4 @@
 #![tactic(auto)]
 
 pub mod mounts;
+pub mod namespaces;

@@ -1,0 +1,69 @@
+-- How many mounts a namespace has, and how many root mounts.
+use Rattle.std.proofs.Common.{◌≡◌, refl, sym, ap, ◌∙◌, true, false, nat_eq, ℕ, Bool, List, [], cond, filter, inl, inr, is_some, length, map, not, ◌∷◌}
+use Rattle.std.proofs.lemmas.List.{length-map}
+use Rattle.vt_spec.proofs.Lists.{Among, among-from_filter, filter_here, filter_skip}
+use Rattle.vt_spec.specs.Machine.Lists.{holds_of}
+use Rattle.vt_spec.specs.Machine.Mounts.{Mount}
+use Rattle.vt_spec.specs.Machine.World.{World, mounts_of}
+use Rattle.vt_spec.specs.Machine.WorldLaws.{is_root_mount}
+use Rattle.vt_mount_laws.specs.Mounts.Namespaces.{HasAsMany}
+
+-- what a filter keeps of changed elements is what it kept, changed
+pub filter-map : {A B : Type 0} (later : B → Bool) (p : A → Bool) (f : A → B) (xs : List A)
+    → ((x : A) → Among x xs → later (f x) ≡ p x) → filter later (map f xs) ≡ map f (filter p xs)
+filter-map later p f [] same = refl
+filter-map later p f (y ∷ ys) same =
+    by (p y) refl (same y (inl refl)) (filter-map later p f ys (λ x m. same x (inr m)))
+  where
+    by : (b : Bool) → p y ≡ b → later (f y) ≡ p y → filter later (map f ys) ≡ map f (filter p ys)
+        → filter later (map f (y ∷ ys)) ≡ map f (filter p (y ∷ ys))
+    by true e here rest =
+        filter_here later (f y) (map f ys) (here ∙ e) ∙ ap (λ l. f y ∷ l) rest
+        ∙ ap (map f) (sym (filter_here p y ys e))
+    by false e here rest =
+        filter_skip later (f y) (map f ys) (here ∙ e) ∙ rest ∙ ap (map f) (sym (filter_skip p y ys e))
+
+pub filter_all : {A : Type 0} (p : A → Bool) (xs : List A) → ((x : A) → Among x xs → p x ≡ true) → filter p xs ≡ xs
+filter_all p [] all = refl
+filter_all p (y ∷ ys) all =
+    filter_here p y ys (all y (inl refl)) ∙ ap (λ l. y ∷ l) (filter_all p ys (λ x m. all x (inr m)))
+
+-- two tests that agree on a list
+pub filter_alike : {A : Type 0} (p q : A → Bool) (xs : List A) → ((x : A) → Among x xs → p x ≡ q x)
+    → filter p xs ≡ filter q xs
+filter_alike p q [] same = refl
+filter_alike p q (y ∷ ys) same =
+    ap (λ b. cond b (y ∷ filter p ys) (filter p ys)) (same y (inl refl))
+    ∙ ap (λ l. cond (q y) (y ∷ l) l) (filter_alike p q ys (λ x m. same x (inr m)))
+
+abbrev pub is_in : ℕ → Mount ℕ → Bool
+is_in namespace mount = holds_of (nat_eq namespace) mount.namespace
+
+pub same_root : (a b : Mount ℕ) → a.place ≡ b.place → is_root_mount nat_eq a ≡ is_root_mount nat_eq b
+same_root a b e = ap (λ p. not (is_some p)) e
+
+-- mounts that keep their namespaces stay as many in each
+pub as_many_mounts : (world after : World ℕ) (f : Mount ℕ → Mount ℕ) → after.mounts ≡ map f world.mounts
+    → ((mount : Mount ℕ) → Among mount world.mounts → (f mount).namespace ≡ mount.namespace)
+    → (namespace : ℕ) → mounts_of nat_eq after namespace ≡ map f (mounts_of nat_eq world namespace)
+as_many_mounts world after f changed inside namespace =
+    ap (filter (is_in namespace)) changed
+    ∙ filter-map (is_in namespace) (is_in namespace) f world.mounts
+    (λ mount m. ap (holds_of (nat_eq namespace)) (inside mount m))
+
+-- and those that keep their places, too, as many root mounts
+pub as_many : (world after : World ℕ) (f : Mount ℕ → Mount ℕ) → after.mounts ≡ map f world.mounts
+    → ((mount : Mount ℕ) → Among mount world.mounts → (f mount).namespace ≡ mount.namespace)
+    → ((mount : Mount ℕ) → Among mount world.mounts → (f mount).place ≡ mount.place)
+    → (namespace : ℕ) → HasAsMany world namespace after namespace
+as_many world after f changed inside placed namespace =
+    let before = mounts_of nat_eq world namespace in
+    let these = as_many_mounts world after f changed inside namespace in
+    record {
+      mounts = ap length these ∙ length-map before f;
+      roots = ap (λ l. length (filter (is_root_mount nat_eq) l)) these
+          ∙ ap length (filter-map (is_root_mount nat_eq) (is_root_mount nat_eq) f before
+          (λ mount m.
+          same_root (f mount) mount (placed mount (among-from_filter (is_in namespace) world.mounts mount m).0)))
+          ∙ length-map (filter (is_root_mount nat_eq) before) f;
+    }
