@@ -15,14 +15,13 @@ use Rattle.vt_spec.specs.Machine.WorldLaws.{IsWorld}
 use Rattle.vt_tree_laws.specs.Trees.Calls.{mounts_overlay}
 use Rattle.vt_world_laws.specs.Worlds.Calls.{PermitsFit}
 use Rattle.vt_world_laws.specs.Worlds.Permits.{IsFitPermit}
-use Rattle.vt_world_laws.specs.Worlds.Topmost.{TopmostIsFree}
 use Rattle.vt_world_laws.proofs.FewMountsLeft.{few_left}
 use Rattle.vt_world_laws.proofs.FitPermits.{Fits, Permits, attaches, permitted}
 use Rattle.vt_world_laws.proofs.FitPermitsOfMounts.{bind_fits, lazy_fits, mount_plain_fits, move_fits, pivot_fits, remount_fits, type_fits, umount_fits}
 use Rattle.vt_world_laws.proofs.FitPermitsOfNames.{chmod_fits, chown_fits, exec_fits, link_fits, list_fits, lstat_fits, mkdir_fits, opaque_fits, read_fits, readlink_fits, rename_fits, rmdir_fits, stat_fits, symlink_fits, unlink_fits, whiteout_fits, write_fits}
 use Rattle.vt_world_laws.proofs.FitPermitsOfTasks.{chdir_fits, chroot_fits, close_fits, fork_fits, open_fits, pread_fits, pwrite_fits, setns_fits, unshare_fits}
 
-module _ (topmost_is_free : TopmostIsFree) (fresh : Fresh ℕ) (world : World ℕ) (whole : IsWorld nat_eq world) (task : Task ℕ) (called : task_called world task.name ≡ Some task) where
+module _ (fresh : Fresh ℕ) (world : World ℕ) (whole : IsWorld nat_eq world) (task : Task ℕ) (called : task_called world task.name ≡ Some task) where
   -- each call
   call_fits : (call : Call) → mounts_overlay call ≡ false → Permits fresh world task (judge_in nat_eq fresh world task call)
   call_fits (Ls path) plain = list_fits fresh world whole task called path
@@ -55,15 +54,15 @@ module _ (topmost_is_free : TopmostIsFree) (fresh : Fresh ℕ) (world : World �
   call_fits Exit plain = permitted fresh world task ToExit refl tt
   call_fits Unshare plain = unshare_fits fresh world whole task called
   call_fits (Setns name) plain = setns_fits fresh world whole task called name
-  call_fits (MountPlain path flags) plain = mount_plain_fits topmost_is_free fresh world whole task called path flags
+  call_fits (MountPlain path flags) plain = mount_plain_fits fresh world whole task called path flags
   call_fits (MountOverlay path options flags) plain = absurd (true≢false plain)
-  call_fits (Bind source path recursive) plain = bind_fits topmost_is_free fresh world whole task called source path recursive
-  call_fits (MoveMount source path) plain = move_fits topmost_is_free fresh world whole task called source path
-  call_fits (Umount path) plain = umount_fits topmost_is_free fresh world whole task called path
-  call_fits (Lazy path) plain = lazy_fits topmost_is_free fresh world whole task called path
-  call_fits (Remount path flags) plain = remount_fits topmost_is_free fresh world whole task called path flags
-  call_fits (SetType path word recursive) plain = type_fits topmost_is_free fresh world whole task called path word recursive
-  call_fits (PivotRoot new put) plain = pivot_fits topmost_is_free fresh world whole task called new put
+  call_fits (Bind source path recursive) plain = bind_fits fresh world whole task called source path recursive
+  call_fits (MoveMount source path) plain = move_fits fresh world whole task called source path
+  call_fits (Umount path) plain = umount_fits fresh world whole task called path
+  call_fits (Lazy path) plain = lazy_fits fresh world whole task called path
+  call_fits (Remount path flags) plain = remount_fits fresh world whole task called path flags
+  call_fits (SetType path word recursive) plain = type_fits fresh world whole task called path word recursive
+  call_fits (PivotRoot new put) plain = pivot_fits fresh world whole task called new put
   call_fits ListMounts plain = permitted fresh world task ToListMounts refl tt
 
   -- what is attached leaves what M9 saw: no filesystem's change number is raised
@@ -108,7 +107,7 @@ module _ (topmost_is_free : TopmostIsFree) (fresh : Fresh ℕ) (world : World �
       by true is = attached_few permit is (fits.1 is)
       by false is = few_left fresh world whole serves task called permit is
 
-pub permits_fit : TopmostIsFree → PermitsFit
-permits_fit topmost_is_free world fresh task call permit whole plain serves called files judged =
-    fitting topmost_is_free fresh world whole task called serves permit
-    (subst (Permits fresh world task) judged (call_fits topmost_is_free fresh world whole task called call files))
+pub permits_fit : PermitsFit
+permits_fit world fresh task call permit whole plain serves called files judged =
+    fitting fresh world whole task called serves permit
+    (subst (Permits fresh world task) judged (call_fits fresh world whole task called call files))

@@ -18,9 +18,9 @@ use Rattle.vt_spec.specs.Machine.Walking.{directory_walk}
 use Rattle.vt_spec.specs.Machine.World.{Task, World, mount_at, mount_numbered, task_called}
 use Rattle.vt_spec.specs.Machine.WorldLaws.{IsWorld}
 use Rattle.vt_spec.proofs.Nodes.{none_is_not}
+use Rattle.vt_mount_laws.proofs.Topmost.{topmost_is_free}
 use Rattle.vt_tree_laws.proofs.TreesWalked.{Passed, ends_anyhow, not_true}
 use Rattle.vt_world_laws.specs.Worlds.Permits.{IsDestination, IsOwn, IsReachedDirectory, MayMoveTo, MayPivot}
-use Rattle.vt_world_laws.specs.Worlds.Topmost.{TopmostIsFree}
 use Rattle.vt_world_laws.proofs.FitPermits.{Permits, any_of_option, permits_unless, permits_walk, permitted}
 use Rattle.vt_world_laws.proofs.Reached.{directory_found, is_reached_directory}
 use Rattle.vt_world_laws.proofs.ReachedPlaces.{HereDirectory, IsTopmost, destination_walk_end, source_walk_end}
@@ -44,7 +44,7 @@ rest_same {A} (suc most) next a b e =
     by None = refl
     by (Some c) = refl
 
-module _ (topmost_is_free : TopmostIsFree) (fresh : Fresh ℕ) (world : World ℕ) (whole : IsWorld nat_eq world) (task : Task ℕ) (called : task_called world task.name ≡ Some task) where
+module _ (fresh : Fresh ℕ) (world : World ℕ) (whole : IsWorld nat_eq world) (task : Task ℕ) (called : task_called world task.name ≡ Some task) where
   abbrev looks : Looks ℕ
   looks = looks_of nat_eq world
 

@@ -2,4 +2,3 @@
 pub mod Calls
 pub mod Kept
 pub mod Permits
-pub mod Topmost
