@@ -1,7 +1,6 @@
 -- Where no namespace gets mounts, none has too many.
-use Rattle.std.proofs.Common.{◌≡◌, refl, sym, ap, subst, ◌∙◌, true≢false, arith, inl, inr, ⊎_elim, ◌⊎◌, eqb-true, eq-eqb, ℕ, nat_eq, nat_lt, Bool, true, false, cond, not, List, [], ◌∷◌, ◌++◌, ◌+◌, ◌≤◌, ◌||◌, filter, map, length, flat_map, Option, Some, None, is_some, option_map}
-use Rattle.std.specs.Prelude.{option_to_list}
-use Rattle.std.specs.List.{list_all, list_any}
+use Rattle.std.proofs.Common.{◌≡◌, refl, sym, ap, subst, ◌∙◌, true≢false, arith, inl, inr, ⊎_elim, ◌⊎◌, ℕ, nat_eq, nat_lt, Bool, true, false, cond, List, [], ◌∷◌, ◌≤◌, filter, map, length, Option, Some, None, option_map}
+use Rattle.std.specs.List.{list_any}
 use Rattle.std.proofs.lemmas.Bool.{le-ltb, ltb-false}
 use Rattle.vt_spec.specs.Machine.Attach.{has_too_many, most_mounts}
 use Rattle.vt_spec.specs.Machine.Changes.{Change}
@@ -11,7 +10,7 @@ use Rattle.vt_spec.specs.Machine.Lists.{Fresh, folded, holds_of}
 use Rattle.vt_spec.specs.Machine.Mounts.{Location, Mount, detached, mount_tree}
 use Rattle.vt_spec.specs.Machine.Namespaces.{has_tasks, is_in_ended, namespaces_ended}
 use Rattle.vt_spec.specs.Machine.Receives.{inheriting, lost_a_group, regrouped, regrouped_by}
-use Rattle.vt_spec.specs.Machine.World.{Filesystem, Layer, Namespace, Overlay, World, filesystem_at, mount_numbered, mounts_of, with_mounts}
+use Rattle.vt_spec.specs.Machine.World.{Filesystem, Layer, Namespace, Overlay, World, filesystem_at, mount_numbered, with_mounts}
 use Rattle.vt_spec.proofs.Lists.{Among, among-from_filter, none_among, none_from_among}
 
 abbrev pub is_in : ℕ → Mount ℕ → Bool
@@ -55,7 +54,8 @@ filtered_no_more test (first ∷ rest) = by (test first) (filtered_no_more test 
     by true le = omega (arith, le)
     by false le = omega (arith, le)
 
-pub none_counted : (mounts : List (Mount ℕ)) (number : ℕ) → ((mount : Mount ℕ) → Among mount mounts → is_in number mount ≡ false)
+pub none_counted : (mounts : List (Mount ℕ)) (number : ℕ) → ((mount : Mount ℕ) → Among mount mounts
+    → is_in number mount ≡ false)
     → count mounts number ≡ 0
 none_counted [] number h = refl
 none_counted (first ∷ rest) number h =
@@ -69,7 +69,8 @@ not_too_many a b le few = le-ltb most_mounts a (below (ltb-false most_mounts b f
     below : b ≤ most_mounts → a ≤ most_mounts
     below few = omega (arith, le, few)
 
-pub few_of : (world : World ℕ) → has_too_many nat_eq world ≡ false → (namespace : Namespace ℕ) → Among namespace world.namespaces
+pub few_of : (world : World ℕ) → has_too_many nat_eq world ≡ false → (namespace : Namespace ℕ)
+    → Among namespace world.namespaces
     → nat_lt most_mounts (count world.mounts namespace.number) ≡ false
 few_of world few namespace m =
     none_among (λ (n : Namespace ℕ). nat_lt most_mounts (count world.mounts n.number)) world.namespaces few namespace m
@@ -78,7 +79,8 @@ pub few_after : (world after : World ℕ) → NoMore after.mounts world.mounts
     → ((namespace : Namespace ℕ) → Among namespace after.namespaces → Among namespace world.namespaces)
     → has_too_many nat_eq world ≡ false → has_too_many nat_eq after ≡ false
 few_after world after no_more within few =
-    none_from_among (λ (n : Namespace ℕ). nat_lt most_mounts (count after.mounts n.number)) after.namespaces (λ namespace m.
+    none_from_among (λ (n : Namespace ℕ). nat_lt most_mounts (count after.mounts n.number)) after.namespaces
+    (λ namespace m.
     not_too_many (count after.mounts namespace.number) (count world.mounts namespace.number) (no_more namespace.number)
     (few_of world few namespace (within namespace m)))
 
@@ -130,8 +132,14 @@ gone_stays : (world : World ℕ) (gone : List ℕ) (mount : Mount ℕ) → Stays
 gone_stays world gone mount = by (is_going nat_eq gone mount.number)
   where
     by : (b : Bool)
-        → ((cond b (detached mount) (record mount { place = option_map (place_left nat_eq world gone) mount.place })).namespace ≡ mount.namespace)
-        ⊎ ((cond b (detached mount) (record mount { place = option_map (place_left nat_eq world gone) mount.place })).namespace ≡ None)
+        → ((cond b (detached mount) (record mount {
+          place = option_map
+              (place_left nat_eq world gone) mount.place;
+        })).namespace ≡ mount.namespace)
+        ⊎ ((cond b (detached mount) (record mount {
+          place = option_map
+              (place_left nat_eq world gone) mount.place;
+        })).namespace ≡ None)
     by true = inr refl
     by false = inl refl
 
@@ -141,10 +149,12 @@ taken_shrinks world gone =
     shrinks_then world left (taken_away nat_eq world gone) (regrouped_shrinks left)
     (mapped_no_more (after_going nat_eq world gone) world.mounts (λ mount m. gone_stays world gone mount), refl)
 
-lazily_folded : (mounts : List (Mount ℕ)) (world : World ℕ) → Shrinks (folded (unmounted_if_there nat_eq) world mounts) world
+lazily_folded : (mounts : List (Mount ℕ)) (world : World ℕ) → Shrinks (folded
+    (unmounted_if_there nat_eq) world mounts) world
 lazily_folded [] world = shrinks_itself world
 lazily_folded (mount ∷ mounts) world =
-    shrinks_then world (unmounted_if_there nat_eq world mount) (folded (unmounted_if_there nat_eq) (unmounted_if_there nat_eq world mount) mounts)
+    shrinks_then world (unmounted_if_there nat_eq world mount) (folded (unmounted_if_there nat_eq)
+    (unmounted_if_there nat_eq world mount) mounts)
     (lazily_folded mounts (unmounted_if_there nat_eq world mount)) (by _)
   where
     by : (b : Bool) → Shrinks (cond b (unmounted nat_eq world mount.number) world) world
@@ -153,10 +163,12 @@ lazily_folded (mount ∷ mounts) world =
 
 pub lazily_shrinks : (world : World ℕ) (number : ℕ) → Shrinks (lazily_unmounted nat_eq world number) world
 lazily_shrinks world number =
-    lazily_folded (deepest_first nat_eq world (mount_tree nat_eq world.mounts (mount_numbered nat_eq world number))) world
+    lazily_folded (deepest_first nat_eq world (mount_tree nat_eq world.mounts (mount_numbered nat_eq world number)))
+    world
 
 -- Namespaces that end
-pub ended_few : (world : World ℕ) → has_too_many nat_eq world ≡ false → has_too_many nat_eq (namespaces_ended nat_eq world) ≡ false
+pub ended_few : (world : World ℕ) → has_too_many nat_eq world ≡ false → has_too_many nat_eq
+    (namespaces_ended nat_eq world) ≡ false
 ended_few world few =
     few_after world (namespaces_ended nat_eq world)
     (taken_shrinks world (map (λ (mount : Mount ℕ). mount.number) (filter (is_in_ended nat_eq world) world.mounts))).0

@@ -1,5 +1,5 @@
 -- What a judgement permits, behind its rules and walks.
-use Rattle.std.proofs.Common.{◌≡◌, refl, sym, ap, subst, ◌∙◌, true≢false, ℕ, nat_eq, Bool, true, false, not, List, [], ◌∷◌, ◌||◌, Option, Some, None, is_some, Ok, Err, Result}
+use Rattle.std.proofs.Common.{◌≡◌, refl, sym, ◌∙◌, true≢false, ℕ, nat_eq, Bool, true, false, [], ◌∷◌, ◌||◌, Option, Some, None, is_some, Ok, Err, Result}
 use Rattle.std.specs.Prelude.{⊤, option_to_list, unwrap_or}
 use Rattle.std.specs.List.{list_any}
 use Rattle.vt_spec.specs.declared.errors.Deny.{Deny}

@@ -1,5 +1,5 @@
 -- Whatever is permitted in a world that has the invariants fits it.
-use Rattle.std.proofs.Common.{◌≡◌, refl, sym, ap, subst, ◌∙◌, true≢false, ℕ, nat_eq, Bool, true, false, ◌||◌, Option, Some, None, Ok, Err, Result}
+use Rattle.std.proofs.Common.{◌≡◌, refl, sym, subst, true≢false, ℕ, nat_eq, Bool, true, false, Some}
 use Rattle.vt_spec.specs.Machine.Apply.{apply_unraised, overfills}
 use Rattle.vt_spec.specs.Machine.Attach.{has_too_many}
 use Rattle.vt_spec.specs.Machine.Calls.{Call}
@@ -21,9 +21,11 @@ use Rattle.vt_world_laws.proofs.FitPermitsOfMounts.{bind_fits, lazy_fits, mount_
 use Rattle.vt_world_laws.proofs.FitPermitsOfNames.{chmod_fits, chown_fits, exec_fits, link_fits, list_fits, lstat_fits, mkdir_fits, opaque_fits, read_fits, readlink_fits, rename_fits, rmdir_fits, stat_fits, symlink_fits, unlink_fits, whiteout_fits, write_fits}
 use Rattle.vt_world_laws.proofs.FitPermitsOfTasks.{chdir_fits, chroot_fits, close_fits, fork_fits, open_fits, pread_fits, pwrite_fits, setns_fits, unshare_fits}
 
-module _ (fresh : Fresh ℕ) (world : World ℕ) (whole : IsWorld nat_eq world) (task : Task ℕ) (called : task_called world task.name ≡ Some task) where
+module _ (fresh : Fresh ℕ) (world : World ℕ) (whole : IsWorld nat_eq world) (task : Task ℕ)
+    (called : task_called world task.name ≡ Some task) where
   -- each call
-  call_fits : (call : Call) → mounts_overlay call ≡ false → Permits fresh world task (judge_in nat_eq fresh world task call)
+  call_fits : (call : Call) → mounts_overlay call ≡ false → Permits fresh world task
+      (judge_in nat_eq fresh world task call)
   call_fits (Ls path) plain = list_fits fresh world whole task called path
   call_fits (Stat path) plain = stat_fits fresh world whole task called path
   call_fits (Lstat path) plain = lstat_fits fresh world whole task called path
@@ -49,7 +51,8 @@ module _ (fresh : Fresh ℕ) (world : World ℕ) (whole : IsWorld nat_eq world) 
   call_fits (Chroot path) plain = chroot_fits fresh world whole task called path
   call_fits (Umask mode) plain = permitted fresh world task (ToSetUmask (permission_bits mode)) refl tt
   call_fits (Drop which) plain =
-      permitted fresh world task (ToSetCredentials (with_dropped task.credentials (capabilities_of which task.credentials))) refl tt
+      permitted fresh world task (ToSetCredentials (with_dropped task.credentials
+      (capabilities_of which task.credentials))) refl tt
   call_fits (Fork words) plain = fork_fits fresh world whole task called words
   call_fits Exit plain = permitted fresh world task ToExit refl tt
   call_fits Unshare plain = unshare_fits fresh world whole task called
@@ -100,10 +103,12 @@ module _ (fresh : Fresh ℕ) (world : World ℕ) (whole : IsWorld nat_eq world) 
   attached_few (ToPivot new put) is few = absurd (true≢false (sym is))
   attached_few ToListMounts is few = absurd (true≢false (sym is))
 
-  fitting : Serves nat_eq world fresh → (permit : Permit ℕ) → Fits fresh world task permit → IsFitPermit fresh world task permit
+  fitting : Serves nat_eq world fresh → (permit : Permit ℕ) → Fits fresh world task permit
+      → IsFitPermit fresh world task permit
   fitting serves permit fits = record { names = fits.0; few_mounts = by (attaches permit) refl }
     where
-      by : (b : Bool) → attaches permit ≡ b → has_too_many nat_eq (apply_unraised nat_eq fresh world task permit).world ≡ false
+      by : (b : Bool) → attaches permit ≡ b → has_too_many nat_eq (apply_unraised nat_eq fresh world task
+          permit).world ≡ false
       by true is = attached_few permit is (fits.1 is)
       by false is = few_left fresh world whole serves task called permit is
 

@@ -1,6 +1,6 @@
 -- Calls on open files and on tasks name what is there.
-use Rattle.std.proofs.Common.{◌≡◌, refl, sym, ap, subst, ◌∙◌, true≢false, ⊎_elim, inl, inr, ℕ, nat_eq, ◌==◌, Bool, true, false, not, List, [], ◌∷◌, ◌||◌, Option, Some, None, is_some, ok_or, Ok, Err, Result}
-use Rattle.std.specs.Prelude.{⊤, option_to_list}
+use Rattle.std.proofs.Common.{◌≡◌, refl, sym, ap, ◌∙◌, true≢false, ⊎_elim, ℕ, nat_eq, ◌==◌, Bool, true, false, List, [], ◌∷◌, ◌||◌, Option, Some, None, ok_or, Ok, Err, Result}
+use Rattle.std.specs.Prelude.{option_to_list}
 use Rattle.std.specs.List.{find}
 use Rattle.vt_spec.specs.declared.attributes.Kind.TheVariants.{File}
 use Rattle.vt_spec.specs.declared.errors.Deny.{Deny}
@@ -27,7 +27,7 @@ use Rattle.vt_spec.specs.Machine.World.{Descriptor, Task, TaskName, World, node_
 use Rattle.vt_spec.specs.Machine.WorldLaws.{IsWorld, has_regular_files_open, is_listed}
 use Rattle.vt_spec.specs.Rights.{cap_sys_admin, cap_sys_chroot}
 use Rattle.vt_spec.proofs.Lists.{Among, among_from_list_all}
-use Rattle.vt_tree_laws.proofs.TreesWalked.{Passed, first_false, ok_same}
+use Rattle.vt_tree_laws.proofs.TreesWalked.{first_false, ok_same}
 use Rattle.vt_world_laws.specs.Worlds.Permits.{IsReachedDirectory}
 use Rattle.vt_world_laws.proofs.FitPermits.{Permits, permits_then, permits_unless, permits_walk, permitted}
 use Rattle.vt_world_laws.proofs.FitPermitsOfNames.{end_is_file, parent_directory}
@@ -44,7 +44,8 @@ ok_or_some {A} None deny a e = absurd (true≢false (sym (ap is_answer e)))
     is_answer (Err d) = false
 ok_or_some (Some x) deny a e = ap Some (ok_same x a (Ok x) refl e)
 
-module _ (fresh : Fresh ℕ) (world : World ℕ) (whole : IsWorld nat_eq world) (task : Task ℕ) (called : task_called world task.name ≡ Some task) where
+module _ (fresh : Fresh ℕ) (world : World ℕ) (whole : IsWorld nat_eq world) (task : Task ℕ)
+    (called : task_called world task.name ≡ Some task) where
   abbrev looks : Looks ℕ
   looks = looks_of nat_eq world
 
@@ -78,7 +79,8 @@ module _ (fresh : Fresh ℕ) (world : World ℕ) (whole : IsWorld nat_eq world) 
       → IsPlaceIn world whole task called P place → is_special place.last ≡ false
       → Fit (create_file_permit nat_eq looks task place access mode)
   new_file_fits place access mode is plain =
-      permits_unless fresh world task (make_rules looks task place (unnumbered place (new_file task mode []))) _ (λ passed.
+      permits_unless fresh world task (make_rules looks task place (unnumbered place (new_file task mode []))) _
+      (λ passed.
       permitted fresh world task (open_new_permit task place access mode) refl
       (parent_directory fresh world whole task called place is plain, refl))
 
@@ -91,14 +93,18 @@ module _ (fresh : Fresh ℕ) (world : World ℕ) (whole : IsWorld nat_eq world) 
   open_by_fits : (path : List ℕ) (access : Access) (creation : Creation)
       → Fit (open_by_permit nat_eq looks task path access creation)
   open_by_fits path access NoCreation =
-      permits_walk fresh world task EndHere (object_walk nat_eq looks task path) _ (object_end world whole task called path) (λ here is.
+      permits_walk fresh world task EndHere (object_walk nat_eq looks task path) _
+      (object_end world whole task called path) (λ here is.
       file_fits here.location access is)
   open_by_fits path access (OrCreate mode) =
-      permits_walk fresh world task EndPlace (file_walk nat_eq looks task path) _ (file_walk_end world whole task called path) (λ place is.
+      permits_walk fresh world task EndPlace (file_walk nat_eq looks task path) _
+      (file_walk_end world whole task called path) (λ place is.
       permits_unless fresh world task (file_word_rules place) _ (λ passed.
-      file_or_new_fits place access mode is (first_false (is_special place.last) place.slash passed.0) place.object refl))
+      file_or_new_fits place access mode is (first_false (is_special place.last) place.slash passed.0) place.object
+      refl))
   open_by_fits path access (Exclusive mode) =
-      permits_walk fresh world task FoundPlace (new_walk nat_eq looks task path) _ (new_walk_found world whole task called path) (λ place is.
+      permits_walk fresh world task FoundPlace (new_walk nat_eq looks task path) _
+      (new_walk_found world whole task called path) (λ place is.
       permits_unless fresh world task (exclusive_word_rules place) _ (λ passed.
       new_file_fits place access mode is passed.0))
 
@@ -127,7 +133,8 @@ module _ (fresh : Fresh ℕ) (world : World ℕ) (whole : IsWorld nat_eq world) 
       by None f m = absurd m
       by (Some other) f m =
           ⊎_elim
-          (λ same. found_among (λ (d : Descriptor ℕ). number == d.number) task.descriptors descriptor (f ∙ ap Some (sym same)))
+          (λ same. found_among (λ (d : Descriptor ℕ). number == d.number) task.descriptors descriptor
+          (f ∙ ap Some (sym same)))
           (λ none. absurd none) m
 
   pub pwrite_fits : (number offset : ℕ) (bytes : List ℕ) → Fit (pwrite_permit looks task number offset bytes)
@@ -137,7 +144,8 @@ module _ (fresh : Fresh ℕ) (world : World ℕ) (whole : IsWorld nat_eq world) 
       permits_unless fresh world task (pwrite_rules looks descriptor.location offset bytes) _ (λ passed.
       permitted fresh world task (ToWritePart descriptor.location offset bytes) refl
       (among_from_list_all (λ (d : Descriptor ℕ). is_kind_in File (node_at nat_eq world d.location)) task.descriptors
-      (among_from_list_all (has_regular_files_open nat_eq world) world.tasks whole.tasks.open_files task (task_among world whole task called))
+      (among_from_list_all (has_regular_files_open nat_eq world) world.tasks whole.tasks.open_files task
+      (task_among world whole task called))
       descriptor (descriptor_among number (λ d. d.writes) descriptor e))))
 
   pub close_fits : (number : ℕ) → Fit (close_permit task number)
@@ -155,7 +163,8 @@ module _ (fresh : Fresh ℕ) (world : World ℕ) (whole : IsWorld nat_eq world) 
   pub chdir_fits : (path : List ℕ) → Fit (chdir_permit nat_eq looks task path)
   unfolding chdir_permit
   chdir_fits path =
-      permits_walk fresh world task DirectoryHere (directory_walk nat_eq looks task path) _ (directory_walk_end world whole task called path) (λ here is.
+      permits_walk fresh world task DirectoryHere (directory_walk nat_eq looks task path) _
+      (directory_walk_end world whole task called path) (λ here is.
       permits_unless fresh world task (enter_rules looks task here.location) _ (λ passed.
       permitted fresh world task (ToSetDirectory here.location) refl (reached_here here is)))
 
@@ -163,7 +172,8 @@ module _ (fresh : Fresh ℕ) (world : World ℕ) (whole : IsWorld nat_eq world) 
   unfolding chroot_permit
   chroot_fits path =
       permits_unless fresh world task ((lacks task cap_sys_chroot, K1) ∷ []) _ (λ allowed.
-      permits_walk fresh world task DirectoryHere (directory_walk nat_eq looks task path) _ (directory_walk_end world whole task called path) (λ here is.
+      permits_walk fresh world task DirectoryHere (directory_walk nat_eq looks task path) _
+      (directory_walk_end world whole task called path) (λ here is.
       permits_unless fresh world task (enter_rules looks task here.location) _ (λ passed.
       permitted fresh world task (ToSetRoot here.location) refl (reached_here here is))))
 
@@ -175,7 +185,8 @@ module _ (fresh : Fresh ℕ) (world : World ℕ) (whole : IsWorld nat_eq world) 
 
   pub unshare_fits : Fit (unshare_permit task)
   unfolding unshare_permit
-  unshare_fits = permits_unless fresh world task (admin_rules task) _ (λ passed. permitted fresh world task ToUnshare refl tt)
+  unshare_fits = permits_unless fresh world task (admin_rules task) _ (λ passed. permitted fresh world task ToUnshare
+      refl tt)
 
   pub setns_fits : (name : TaskName) → Fit (setns_permit looks task name)
   unfolding setns_permit
@@ -183,6 +194,7 @@ module _ (fresh : Fresh ℕ) (world : World ℕ) (whole : IsWorld nat_eq world) 
       permits_then fresh world task (ok_or (task_called world name) (denial S2)) _ (λ target e.
       permits_unless fresh world task ((lacks task cap_sys_admin || lacks task cap_sys_chroot, K1) ∷ []) _ (λ passed.
       permitted fresh world task (ToEnterNamespace target.namespace) refl
-      (among_from_list_all (λ (t : Task ℕ). is_listed nat_eq world t.namespace) world.tasks whole.namespaces.tasks_listed target
+      (among_from_list_all (λ (t : Task ℕ). is_listed nat_eq world t.namespace) world.tasks
+      whole.namespaces.tasks_listed target
       (found_among (λ (t : Task ℕ). same_name name t.name) world.tasks target
       (ok_or_some (task_called world name) (denial S2) target e)))))

@@ -1,18 +1,18 @@
 -- Where one step of a walk leads: to what is there, on a mount of the task's namespace or on one that is in none.
-use Rattle.std.proofs.Common.{◌≡◌, refl, sym, ap, subst, ◌∙◌, true≢false, ⊎_elim, ℕ, nat_eq, Bool, true, false, not, cond, List, [], ◌∷◌, ◌&&◌, ◌||◌, map, length, Option, Some, None, is_some, option_map, ok_or, Ok, Err, Result}
-use Rattle.std.specs.Prelude.{All, option_to_list, unwrap_or}
-use Rattle.std.specs.List.{find, list_all}
-use Rattle.std.proofs.lemmas.Bool.{and_from, and_parts}
+use Rattle.std.proofs.Common.{◌≡◌, refl, sym, ap, subst, ◌∙◌, true≢false, ⊎_elim, ℕ, nat_eq, Bool, true, false, not, cond, List, [], ◌∷◌, ◌&&◌, ◌||◌, length, Option, Some, None, is_some, option_map, ok_or, Ok, Err, Result}
+use Rattle.std.specs.Prelude.{option_to_list}
+use Rattle.std.specs.List.{list_all}
+use Rattle.std.proofs.lemmas.Bool.{and_from}
 use Rattle.std.proofs.lemmas.Option.{same_Some}
 use Rattle.vt_spec.specs.declared.attributes.Kind.TheVariants.{File, White}
 use Rattle.vt_spec.specs.declared.errors.Deny.{Deny}
 use Rattle.vt_spec.specs.declared.errors.Rule.TheVariants.{W6, W8}
 use Rattle.vt_spec.specs.Errors.{denial, unless}
-use Rattle.vt_spec.specs.Tree.{Content, Node, entries_in, entry_named, is_directory_node, kind_of}
+use Rattle.vt_spec.specs.Tree.{Content, Node, entries_in, entry_named, is_directory_node}
 use Rattle.vt_spec.specs.Tree.Content.{Directory, Regular, Symlink, Whiteout}
 use Rattle.vt_spec.specs.TreeLaws.{IsTree}
 use Rattle.vt_spec.specs.Machine.FileTree.{is_kind_in, link_text}
-use Rattle.vt_spec.specs.Machine.Lists.{chain, is_among, last_or}
+use Rattle.vt_spec.specs.Machine.Lists.{is_among, last_or}
 use Rattle.vt_spec.specs.Machine.Mounts.{Location, Mount, child_at, root_of, same_location, stands_at, topmost}
 use Rattle.vt_spec.specs.Machine.Walk.{LastWord, entry_location, hop, hops, is_lost, is_top, parent_location, stepped, up_from}
 use Rattle.vt_spec.specs.Machine.Walk.LastWord.{Dot, DotDot, Named, NoWord}
@@ -30,7 +30,7 @@ use Rattle.vt_tree_laws.proofs.TreesEntered.{chain_ends}
 use Rattle.vt_tree_laws.proofs.TreesOfMounts.{worlds_are_standing}
 use Rattle.vt_tree_laws.proofs.TreesOfWorlds.{numbered_all}
 use Rattle.vt_tree_laws.proofs.TreesWalked.{ok_same}
-use Rattle.vt_world_laws.specs.Worlds.Permits.{IsReached, IsReachedDirectory, IsReachedFile}
+use Rattle.vt_world_laws.specs.Worlds.Permits.{IsReached, IsReachedDirectory}
 
 -- a directory is no link
 pub directory_no_link : (o : Option (Node ℕ)) → is_directory_node o ≡ true → link_text o ≡ None
@@ -114,8 +114,10 @@ module _ (world : World ℕ) (whole : IsWorld nat_eq world) (task : Task ℕ) wh
   tree_there : (location : Location ℕ) → IsDirectory location → IsTree (files_at nat_eq world location).tree
   tree_there location is =
       ⊎_elim (λ tree. tree)
-      (λ missing. absurd (true≢false (sym is ∙ ap (λ (f : Filesystem ℕ). is_directory_node (f.files.tree.node location.node)) missing.0)))
-      (numbered_all (λ filesystem. IsTree filesystem.files.tree) (mount_at nat_eq world location).filesystem world.filesystems whole.files.trees)
+      (λ missing. absurd (true≢false (sym is ∙ ap (λ (f : Filesystem ℕ). is_directory_node
+      (f.files.tree.node location.node)) missing.0)))
+      (numbered_all (λ filesystem. IsTree filesystem.files.tree) (mount_at nat_eq world location).filesystem
+      world.filesystems whole.files.trees)
 
   -- a mount over a place
   child_found : (a b : Location ℕ) → IsOn a.mount → option_map root_of (child_at nat_eq world.mounts a) ≡ Some b
@@ -130,12 +132,17 @@ module _ (world : World ℕ) (whole : IsWorld nat_eq world) (task : Task ℕ) wh
           found_in (stands_at nat_eq a) world.mounts mount is in
           let itself = found_itself world.mounts whole.mounts.one_number mount found.0 in
           let below = namespace_below world mount.number a
-          (among_from_all (λ (m : Mount ℕ). Stands nat_eq world m.number) world.mounts whole.mounts.standing mount found.0)
+          (among_from_all (λ (m : Mount ℕ). Stands nat_eq world m.number) world.mounts whole.mounts.standing mount
+          found.0)
           (ap (λ (m : Mount ℕ). m.place) itself ∙ stands_there a mount found.1) in
-          subst IsFoundDirectory (same_Some (root_of mount) b h)
-          ((is_one_of world.mounts mount found.0,
-          ap (λ o. list_all (nat_eq task.namespace) (option_to_list o)) below ∙ on.1),
-          among_from_all (λ m. is_directory_at nat_eq world (root_of m) ≡ true) world.mounts (worlds_are_standing world whole).roots mount found.0)
+          subst IsFoundDirectory (same_Some (root_of mount) b h) (
+            (
+              is_one_of world.mounts mount found.0,
+              ap (λ o. list_all (nat_eq task.namespace) (option_to_list o)) below ∙ on.1,
+            ),
+            among_from_all (λ m. is_directory_at nat_eq world (root_of m) ≡ true) world.mounts
+                (worlds_are_standing world whole).roots mount found.0,
+          )
 
   pub topmost_found : (location : Location ℕ) → IsFound location → IsFound (topmost nat_eq world.mounts location)
   topmost_found location is =
@@ -163,7 +170,8 @@ module _ (world : World ℕ) (whole : IsWorld nat_eq world) (task : Task ℕ) wh
       ∙ ap (λ q. not (is_some q) && is_private mount.propagation) e)
 
   -- the place of a mount
-  pub place_found : (number : ℕ) (place : Location ℕ) → IsOn number → (mount_numbered nat_eq world number).place ≡ Some place
+  pub place_found : (number : ℕ) (place : Location ℕ) → IsOn number → (mount_numbered nat_eq world
+      number).place ≡ Some place
       → IsFoundDirectory place
   place_found number place on e =
       let mount = mount_numbered nat_eq world number in
@@ -172,15 +180,21 @@ module _ (world : World ℕ) (whole : IsWorld nat_eq world) (task : Task ℕ) wh
       let below : mount.namespace ≡ (mount_numbered nat_eq world place.mount).namespace =
       namespace_below world number place
       (subst (Stands nat_eq world) same
-      (among_from_all (λ (m : Mount ℕ). Stands nat_eq world m.number) world.mounts whole.mounts.standing mount there)) e in
-      ((⊎_elim
-      (λ found. subst (λ n. is_among nat_eq n (numbers_of world.mounts) ≡ true) (number_found world.mounts place.mount)
-      (is_one_of world.mounts (mount_numbered nat_eq world place.mount) found))
-      (λ none. absurd (nowhere_unplaced mount there place e (below ∙ ap (λ (m : Mount ℕ). m.namespace) none)))
-      (found_or_none world.mounts place.mount),
-      ap (λ o. list_all (nat_eq task.namespace) (option_to_list o)) (sym below) ∙ on.1),
-      among_from_all (λ (m : Mount ℕ). (at : Location ℕ) → m.place ≡ Some at → is_directory_at nat_eq world at ≡ true) world.mounts
-      (worlds_are_standing world whole).places mount there place e)
+      (among_from_all (λ (m : Mount ℕ). Stands nat_eq world m.number) world.mounts whole.mounts.standing mount
+      there)) e in (
+        (
+          ⊎_elim
+              (λ found. subst (λ n. is_among nat_eq n (numbers_of world.mounts) ≡ true)
+              (number_found world.mounts place.mount)
+              (is_one_of world.mounts (mount_numbered nat_eq world place.mount) found))
+              (λ none. absurd (nowhere_unplaced mount there place e (below ∙ ap (λ (m : Mount ℕ). m.namespace) none)))
+              (found_or_none world.mounts place.mount),
+          ap (λ o. list_all (nat_eq task.namespace) (option_to_list o)) (sym below) ∙ on.1,
+        ),
+        among_from_all (λ (m : Mount ℕ). (at : Location ℕ) → m.place ≡ Some at
+            → is_directory_at nat_eq world at ≡ true) world.mounts
+            (worlds_are_standing world whole).places mount there place e,
+      )
 
   hop_found : (a b : Location ℕ) → IsFoundDirectory a → hop nat_eq world task a ≡ Some b → IsFoundDirectory b
   hop_found a b is e = by (same_location nat_eq a task.root) (nat_eq a.node (mount_at nat_eq world a).root) e
@@ -201,12 +215,14 @@ module _ (world : World ℕ) (whole : IsWorld nat_eq world) (task : Task ℕ) wh
       is_answer (Ok l) = true
       is_answer (Err d) = false
 
-  up_found : (location reached : Location ℕ) → IsFoundDirectory location → up_from nat_eq world task location ≡ Ok reached
+  up_found : (location reached : Location ℕ) → IsFoundDirectory location
+      → up_from nat_eq world task location ≡ Ok reached
       → IsFound reached
   up_found location reached is e = by (is_top nat_eq world task location) (is_lost nat_eq world location) e
     where
       by : (p q : Bool)
-          → cond p (Ok location) (unless ((q, W8) ∷ []) (Ok (topmost nat_eq world.mounts (parent_location nat_eq world location)))) ≡ Ok reached
+          → cond p (Ok location) (unless ((q, W8) ∷ []) (Ok (topmost nat_eq world.mounts
+          (parent_location nat_eq world location)))) ≡ Ok reached
           → IsFound reached
       by true q h = subst IsFound (ok_same location reached (Ok location) refl h) (directory_found location is)
       by false true h = absurd (no_denial (denial W8) reached h)
