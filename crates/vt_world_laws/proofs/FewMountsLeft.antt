@@ -31,11 +31,11 @@ and_first : (a : Bool) → (a && true) ≡ true → a ≡ true
 and_first true e = refl
 and_first false e = e
 
-module _ (world : World ℕ) (whole : IsWorld nat_eq world) where
+module _ (world : World ℕ) where
   -- other flags of a mount
-  flags_stay : (number : ℕ) (flags : MountFlags) (mount : Mount ℕ) → Among mount world.mounts
+  flags_stay : IsWorld nat_eq world → (number : ℕ) (flags : MountFlags) (mount : Mount ℕ) → Among mount world.mounts
       → StaysOrLeaves (replaced_if_same nat_eq (record (mount_numbered nat_eq world number) { flags = flags })) mount
-  flags_stay number flags mount m = by (nat_eq (mount_numbered nat_eq world number).number mount.number) refl
+  flags_stay whole number flags mount m = by (nat_eq (mount_numbered nat_eq world number).number mount.number) refl
     where
       by : (b : Bool) → nat_eq (mount_numbered nat_eq world number).number mount.number ≡ b
           → ((cond b (record (mount_numbered nat_eq world number) { flags = flags }) mount).namespace ≡ mount.namespace)
@@ -227,16 +227,16 @@ module _ (fresh : Fresh ℕ) (world : World ℕ) (whole : IsWorld nat_eq world) 
   few_left (ToRename from old to name object replaced) other =
       shrinks_few (without_replaced nat_eq world replaced) (after (ToRename from old to name object replaced))
       (change_shrinks (λ n. n) fresh (without_replaced nat_eq world replaced) from _)
-      (shrinks_few world (without_replaced nat_eq world replaced) (replaced_shrinks world whole replaced)
+      (shrinks_few world (without_replaced nat_eq world replaced) (replaced_shrinks world replaced)
       whole.namespaces.few_mounts)
   few_left (ToOpen file access) other =
       shrinks_few world (with_copy_counted nat_eq (is_copied_up nat_eq world file access) (λ n. n) fresh world file)
-      (copy_shrinks world whole (is_copied_up nat_eq world file access) (λ n. n) fresh file) whole.namespaces.few_mounts
+      (copy_shrinks world (is_copied_up nat_eq world file access) (λ n. n) fresh file) whole.namespaces.few_mounts
   few_left (ToOpenNew directory name node access) other =
       shrinks_few world (after (ToOpenNew directory name node access))
       (change_shrinks (λ n. n) (odds fresh) world directory _) whole.namespaces.few_mounts
   few_left (ToWritePart file offset bytes) other =
-      shrinks_few world (after (ToWritePart file offset bytes)) (pwritten_shrinks world whole
+      shrinks_few world (after (ToWritePart file offset bytes)) (pwritten_shrinks world
       (λ n. n) fresh file offset bytes) whole.namespaces.few_mounts
   few_left (ToClose descriptor) other = whole.namespaces.few_mounts
   few_left (ToSetDirectory directory) other = whole.namespaces.few_mounts
@@ -264,13 +264,13 @@ module _ (fresh : Fresh ℕ) (world : World ℕ) (whole : IsWorld nat_eq world) 
         refl,
       ) whole.namespaces.few_mounts
   few_left (ToSetType mount word recursive) other =
-      shrinks_few world (after (ToSetType mount word recursive)) (typed_shrinks world whole fresh mount word
+      shrinks_few world (after (ToSetType mount word recursive)) (typed_shrinks world fresh mount word
       recursive) whole.namespaces.few_mounts
   few_left (ToPivot root put) other =
       shrinks_few world (after (ToPivot root put)) (
         mapped_no_more (pivoted_mount nat_eq (mount_at nat_eq world task.root)
             (mount_numbered nat_eq world root) put) world.mounts
-            (λ mount m. pivot_stays world whole (mount_at nat_eq world task.root)
+            (λ mount m. pivot_stays world (mount_at nat_eq world task.root)
             (mount_numbered nat_eq world root) put mount),
         refl,
       ) whole.namespaces.few_mounts

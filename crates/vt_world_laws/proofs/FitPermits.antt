@@ -4,7 +4,8 @@ use Rattle.std.specs.Prelude.{⊤, option_to_list, unwrap_or}
 use Rattle.std.specs.List.{list_any}
 use Rattle.vt_spec.specs.declared.errors.Deny.{Deny}
 use Rattle.vt_spec.specs.Errors.{Rules, and_then, unless}
-use Rattle.vt_spec.specs.Machine.Apply.{overfills}
+use Rattle.vt_spec.specs.Machine.Apply.{apply_unraised}
+use Rattle.vt_spec.specs.Machine.Attach.{has_too_many}
 use Rattle.vt_spec.specs.Machine.Judge.{Judgement}
 use Rattle.vt_spec.specs.Machine.Lists.{Fresh, holds_of}
 use Rattle.vt_spec.specs.Machine.Permits.{Permit}
@@ -14,7 +15,7 @@ use Rattle.vt_spec.specs.Machine.World.{Task, World}
 use Rattle.vt_tree_laws.proofs.TreesWalked.{Ends, Passed}
 use Rattle.vt_world_laws.specs.Worlds.Permits.{NamesWhatIsThere}
 
--- the permits that attach mounts: those for which M9 is judged
+-- the permits that attach mounts: those for which M9 is judged, and which raise no filesystem's change number
 abbrev pub attaches : Permit ℕ → Bool
 attaches (ToMountPlain place flags) = true
 attaches (ToMountOverlay place overlay flags) = true
@@ -26,7 +27,8 @@ module _ (fresh : Fresh ℕ) (world : World ℕ) (task : Task ℕ) where
   -- what is named is there, and what is attached leaves no namespace with too many mounts
   abbrev pub Fits : Permit ℕ → Type 0
   Fits permit =
-      NamesWhatIsThere world task permit × (attaches permit ≡ true → overfills nat_eq fresh world task permit ≡ false)
+      NamesWhatIsThere world task permit
+      × (attaches permit ≡ true → has_too_many nat_eq (apply_unraised nat_eq fresh world task permit).world ≡ false)
 
   abbrev pub Permits : Judgement ℕ → Type 0
   Permits (Ok permit) = Fits permit

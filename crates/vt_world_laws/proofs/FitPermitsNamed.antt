@@ -1,6 +1,6 @@
 -- Whatever is permitted in a world that has the invariants fits it.
-use Rattle.std.proofs.Common.{◌≡◌, refl, sym, subst, true≢false, ℕ, nat_eq, Bool, true, false, Some}
-use Rattle.vt_spec.specs.Machine.Apply.{apply_unraised, overfills}
+use Rattle.std.proofs.Common.{◌≡◌, refl, subst, true≢false, ℕ, nat_eq, Bool, true, false, Some}
+use Rattle.vt_spec.specs.Machine.Apply.{apply_unraised}
 use Rattle.vt_spec.specs.Machine.Attach.{has_too_many}
 use Rattle.vt_spec.specs.Machine.Calls.{Call}
 use Rattle.vt_spec.specs.Machine.Calls.Call.{Bind, Chdir, Chmod, Chown, Chroot, Close, Drop, Exec, Exit, Fork, Lazy, LinkTo, ListMounts, Ls, Lstat, MakeWhiteout, Mkdir, MountOverlay, MountPlain, MoveMount, Opaque, OpenFile, PivotRoot, Pread, Pwrite, Read, Readlink, Remount, Rename, Rmdir, SetType, Setns, Stat, SymlinkAt, Umask, Umount, Unlink, Unshare, Write}
@@ -8,7 +8,7 @@ use Rattle.vt_spec.specs.Machine.Judge.{judge_in}
 use Rattle.vt_spec.specs.Machine.Lists.{Fresh}
 use Rattle.vt_spec.specs.Machine.Outcome.Tasks.{capabilities_of, permission_bits, with_dropped}
 use Rattle.vt_spec.specs.Machine.Permits.{Permit}
-use Rattle.vt_spec.specs.Machine.Permits.Permit.{Allowed, ToBind, ToChange, ToClose, ToEnterNamespace, ToExit, ToFork, ToList, ToListMounts, ToMake, ToMountOverlay, ToMountPlain, ToMove, ToOpen, ToOpenNew, ToPivot, ToRead, ToReadPart, ToRemoveDirectory, ToRename, ToSetCredentials, ToSetDirectory, ToSetFlags, ToSetRoot, ToSetType, ToSetUmask, ToStat, ToUnmount, ToUnmountLazily, ToUnshare, ToWritePart}
+use Rattle.vt_spec.specs.Machine.Permits.Permit.{ToExit, ToListMounts, ToSetCredentials, ToSetUmask}
 use Rattle.vt_spec.specs.Machine.Run.{Serves}
 use Rattle.vt_spec.specs.Machine.World.{Task, World, task_called}
 use Rattle.vt_spec.specs.Machine.WorldLaws.{IsWorld}
@@ -68,48 +68,13 @@ module _ (fresh : Fresh ℕ) (world : World ℕ) (whole : IsWorld nat_eq world) 
   call_fits (PivotRoot new put) plain = pivot_fits fresh world whole task called new put
   call_fits ListMounts plain = permitted fresh world task ToListMounts refl tt
 
-  -- what is attached leaves what M9 saw: no filesystem's change number is raised
-  attached_few : (permit : Permit ℕ) → attaches permit ≡ true → overfills nat_eq fresh world task permit ≡ false
-      → has_too_many nat_eq (apply_unraised nat_eq fresh world task permit).world ≡ false
-  attached_few (ToMountPlain place flags) is few = few
-  attached_few (ToMountOverlay place overlay flags) is few = few
-  attached_few (ToBind source place recursive) is few = few
-  attached_few (ToMove mount place) is few = few
-  attached_few Allowed is few = absurd (true≢false (sym is))
-  attached_few (ToList directory) is few = absurd (true≢false (sym is))
-  attached_few (ToStat object) is few = absurd (true≢false (sym is))
-  attached_few (ToRead file) is few = absurd (true≢false (sym is))
-  attached_few (ToReadPart file offset size) is few = absurd (true≢false (sym is))
-  attached_few (ToChange location change) is few = absurd (true≢false (sym is))
-  attached_few (ToMake directory name node) is few = absurd (true≢false (sym is))
-  attached_few (ToRemoveDirectory parent name directory) is few = absurd (true≢false (sym is))
-  attached_few (ToRename from old to new object replaced) is few = absurd (true≢false (sym is))
-  attached_few (ToOpen file access) is few = absurd (true≢false (sym is))
-  attached_few (ToOpenNew directory name node access) is few = absurd (true≢false (sym is))
-  attached_few (ToWritePart file offset bytes) is few = absurd (true≢false (sym is))
-  attached_few (ToClose descriptor) is few = absurd (true≢false (sym is))
-  attached_few (ToSetDirectory directory) is few = absurd (true≢false (sym is))
-  attached_few (ToSetRoot root) is few = absurd (true≢false (sym is))
-  attached_few (ToSetUmask umask) is few = absurd (true≢false (sym is))
-  attached_few (ToSetCredentials credentials) is few = absurd (true≢false (sym is))
-  attached_few (ToFork credentials) is few = absurd (true≢false (sym is))
-  attached_few ToExit is few = absurd (true≢false (sym is))
-  attached_few ToUnshare is few = absurd (true≢false (sym is))
-  attached_few (ToEnterNamespace namespace) is few = absurd (true≢false (sym is))
-  attached_few (ToUnmount mount) is few = absurd (true≢false (sym is))
-  attached_few (ToUnmountLazily mount) is few = absurd (true≢false (sym is))
-  attached_few (ToSetFlags mount flags) is few = absurd (true≢false (sym is))
-  attached_few (ToSetType mount word recursive) is few = absurd (true≢false (sym is))
-  attached_few (ToPivot new put) is few = absurd (true≢false (sym is))
-  attached_few ToListMounts is few = absurd (true≢false (sym is))
-
   fitting : Serves nat_eq world fresh → (permit : Permit ℕ) → Fits fresh world task permit
       → IsFitPermit fresh world task permit
   fitting serves permit fits = record { names = fits.0; few_mounts = by (attaches permit) refl }
     where
       by : (b : Bool) → attaches permit ≡ b → has_too_many nat_eq (apply_unraised nat_eq fresh world task
           permit).world ≡ false
-      by true is = attached_few permit is (fits.1 is)
+      by true is = fits.1 is
       by false is = few_left fresh world whole serves task called permit is
 
 pub permits_fit : PermitsFit

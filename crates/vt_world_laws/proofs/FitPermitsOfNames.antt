@@ -135,8 +135,7 @@ module _ (fresh : Fresh ℕ) (world : World ℕ) (whole : IsWorld nat_eq world) 
       (new_walk_found world whole task called path) (λ place is.
       made_fits place (record {
         attr = new_attr task (unwrap_or mode directory_mode);
-        content = new_directory
-            place.parent.node;
+        content = new_directory place.parent.node;
       }) is)
 
   pub symlink_fits : (text path : List ℕ) → Fit (symlink_permit nat_eq looks task text path)
