@@ -1,1 +1,10 @@
-pub mod Sketch
+pub mod Reached
+pub mod ReachedWalks
+pub mod ReachedPlaces
+pub mod FitPermits
+pub mod FitPermitsOfNames
+pub mod FitPermitsOfTasks
+pub mod FitPermitsOfMounts
+pub mod FewMounts
+pub mod FewMountsLeft
+pub mod FitPermitsNamed
