@@ -24,7 +24,7 @@ use Rattle.vt_spec.specs.Machine.Outcome.Removing.{is_one_object, object_there, 
 use Rattle.vt_spec.specs.Machine.Outcome.Tasks.{chdir_outcome, child_credentials, chroot_outcome, drop_outcome, enter_rules, exit_outcome, fork_outcome, fork_rules, setns_outcome, umask_outcome, unshare_outcome}
 use Rattle.vt_spec.specs.Machine.Outcomes.{Outcome, after, judged}
 use Rattle.vt_spec.specs.Machine.Permits.{Permit}
-use Rattle.vt_spec.specs.Machine.Policy.{call_outcome, finished}
+use Rattle.vt_spec.specs.Machine.Policy.{call_outcome, filesystems_changed_by, finished}
 use Rattle.vt_spec.specs.Machine.Rows.{lacks, making}
 use Rattle.vt_spec.specs.Machine.Walk.{Place, directory_walk, file_walk, is_directory_there, is_special, link_walk, new_leaf_walk, new_walk, object_walk, old_leaf_walk, old_walk, walk_end}
 use Rattle.vt_spec.specs.Machine.World.{Task, TaskName, World, task_called}
@@ -415,11 +415,14 @@ call_is_judged_then_applied fresh world task call = call_judged fresh world task
 pub policy_judges_then_applies : PolicyJudgesThenApplies
 policy_judges_then_applies fresh world name call = by (task_called world name)
   where
+    changed : Task ℕ → List ℕ
+    changed task = filesystems_changed_by nat_eq world (judge_in nat_eq fresh world task call)
+
     by : (found : Option (Task ℕ))
         → after world (ok_or found (denial S2)) (λ task.
-        finished nat_eq world name call (call_outcome nat_eq fresh world task call))
+        finished nat_eq world name call (changed task) (call_outcome nat_eq fresh world task call))
         ≡ after world (ok_or found (denial S2)) (λ task.
-        finished nat_eq world name call
+        finished nat_eq world name call (changed task)
         (after world (judge_in nat_eq fresh world task call) (apply nat_eq fresh world task)))
     by None = refl
-    by (Some task) = ap (finished nat_eq world name call) (call_judged fresh world task call)
+    by (Some task) = ap (finished nat_eq world name call (changed task)) (call_judged fresh world task call)

@@ -1,21 +1,21 @@
 -- A call is judged by what a world shows, and what is permitted is then applied.
-use Rattle.std.specs.Prelude.{Bool, List, nat_eq, ok_or, ◌≡◌, ℕ}
+use Rattle.std.specs.Prelude.{Bool, List, Some, [], if◌then◌else◌, is_ok, map, nat_eq, not, ok_or, ℕ, ⊤, ◌+◌, ◌++◌, ◌∷◌, ◌≡◌, ◌||◌, ◌⊎◌}
 use Rattle.vt_spec.specs.declared.errors.Rule.TheVariants.{S2}
 use Rattle.vt_spec.specs.Errors.{denial}
-use Rattle.vt_spec.specs.Machine.Apply.{apply, apply_unraised, filesystems_changed}
+use Rattle.vt_spec.specs.Machine.Apply.{apply}
 use Rattle.vt_spec.specs.Machine.Calls.{Call}
 use Rattle.vt_spec.specs.Machine.Changes.{Change}
-use Rattle.vt_spec.specs.Machine.Filesystems.{filesystems_raised}
 use Rattle.vt_spec.specs.Machine.Judge.{judge, judge_in}
 use Rattle.vt_spec.specs.Machine.Lists.{Fresh}
 use Rattle.vt_spec.specs.Machine.Looks.{Looks}
 use Rattle.vt_spec.specs.Machine.Mounts.{Location}
-use Rattle.vt_spec.specs.Machine.Outcomes.{after}
+use Rattle.vt_spec.specs.Machine.Outcomes.{Outcome, after}
 use Rattle.vt_spec.specs.Machine.Permits.{Permit}
-use Rattle.vt_spec.specs.Machine.Policy.{call_outcome, finished, policy}
+use Rattle.vt_spec.specs.Machine.Policy.{call_outcome, filesystems_changed_by, finished, only_looks, policy}
 use Rattle.vt_spec.specs.Machine.Rules.Mounting.{destination_walk, source_walk}
+use Rattle.vt_spec.specs.Machine.Settled.{settled}
 use Rattle.vt_spec.specs.Machine.Walking.{directory_walk, file_walk, link_walk, new_leaf_walk, new_walk, object_walk, old_leaf_walk, old_walk}
-use Rattle.vt_spec.specs.Machine.World.{Layer, Overlay, Task, TaskName, World, task_called}
+use Rattle.vt_spec.specs.Machine.World.{Filesystem, Layer, Namespace, Overlay, Task, TaskName, World, task_called}
 
 -- the outcome of each call is its judgement, then its permit applied; a refused call leaves the world
 abbrev pub CallIsJudgedThenApplied : Type 0
@@ -30,7 +30,7 @@ PolicyJudgesThenApplies =
     (fresh : Fresh ℕ) (world : World ℕ) (name : TaskName) (call : Call)
     → policy nat_eq fresh world name call
     ≡ after world (ok_or (task_called world name) (denial S2)) (λ task.
-    finished nat_eq world name call
+    finished nat_eq world name call (filesystems_changed_by nat_eq world (judge_in nat_eq fresh world task call))
     (after world (judge_in nat_eq fresh world task call) (apply nat_eq fresh world task)))
 
 -- two worlds look alike: whatever is looked at, they show the same
@@ -81,12 +81,43 @@ AlikeAreJudgedAlike =
     → (overfills : Permit ℕ → Bool) (task : Task ℕ) (call : Call)
     → judge nat_eq one overfills task call ≡ judge nat_eq other overfills task call
 
--- The change numbers of filesystems are raised last: a permit is applied without them, and then those of the
--- filesystems that it changes are raised, by one each (profile).
-abbrev pub NumbersAreRaisedLast : Type 0
-NumbersAreRaisedLast =
-    (fresh : Fresh ℕ) (world : World ℕ) (task : Task ℕ) (permit : Permit ℕ)
-    → ((apply nat_eq fresh world task permit).answer ≡ (apply_unraised nat_eq fresh world task permit).answer)
-    × ((apply nat_eq fresh world task permit).world
-    ≡ filesystems_raised nat_eq (filesystems_changed nat_eq world permit)
-    (apply_unraised nat_eq fresh world task permit).world)
+-- Worlds that differ in change numbers alone
+
+-- a world with all its change numbers at zero
+abbrev pub without_changes : World ℕ → World ℕ
+without_changes world = record world {
+  filesystems = map (λ (filesystem : Filesystem ℕ). record filesystem { change = 0 }) world.filesystems;
+  namespaces = map (λ (namespace : Namespace ℕ). record namespace { change = 0 }) world.namespaces;
+  tasks = map (λ (task : Task ℕ). record task { change = 0 }) world.tasks;
+  change = 0;
+}
+
+-- each number is the one that stood there before, or one more
+abbrev pub AreRaised : List ℕ → List ℕ → Type 0
+AreRaised [] [] = ⊤
+AreRaised [] (new ∷ news) = ⊥
+AreRaised (old ∷ olds) [] = ⊥
+AreRaised (old ∷ olds) (new ∷ news) = ((new ≡ old) ⊎ (new ≡ old + 1)) × AreRaised olds news
+
+-- all change numbers of a world, each in its place
+abbrev pub change_numbers : World ℕ → List ℕ
+change_numbers world =
+    world.change ∷ (map (λ filesystem. filesystem.change) world.filesystems
+    ++ map (λ namespace. namespace.change) world.namespaces ++ map (λ task. task.change) world.tasks)
+
+-- what a call leaves before change numbers are raised: nothing that nothing uses, where it changed something
+abbrev pub left_by : Call → Outcome ℕ → World ℕ
+left_by call outcome =
+    if only_looks call || not (is_ok outcome.answer) then outcome.world else settled nat_eq outcome.world
+
+-- The last step raises change numbers alone (profile): the answer is that of the call, and so is the world that it
+-- leaves but for change numbers, each of which is the one before or one more.
+abbrev pub LastStepRaisesNumbersAlone : Type 0
+LastStepRaisesNumbersAlone =
+    (fresh : Fresh ℕ) (world : World ℕ) (name : TaskName) (task : Task ℕ) (call : Call)
+    → task_called world name ≡ Some task
+    → ((policy nat_eq fresh world name call).answer ≡ (call_outcome nat_eq fresh world task call).answer)
+    × (without_changes (policy nat_eq fresh world name call).world
+    ≡ without_changes (left_by call (call_outcome nat_eq fresh world task call)))
+    × AreRaised (change_numbers (left_by call (call_outcome nat_eq fresh world task call)))
+    (change_numbers (policy nat_eq fresh world name call).world)
