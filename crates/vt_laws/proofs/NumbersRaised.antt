@@ -1,13 +1,14 @@
 -- The policy's last step raises change numbers alone.
 use Rattle.std.proofs.Common.{◌≡◌, refl, sym, subst, ◌⊎◌, inl, inr, ℕ, ◌+◌, nat_eq, Bool, true, false, cond, ◌||◌, not, List, [], ◌∷◌, ◌++◌, map, is_ok, ok_or}
 use Rattle.std.specs.List.{list_any}
-use Rattle.vt_laws.specs.Judged.{AreRaised, LastStepRaisesNumbersAlone, change_numbers, left_by, without_changes}
+use Rattle.vt_laws.specs.Judged.{AreRaised, LastStepRaisesNumbersAlone, change_numbers, left_by}
 use Rattle.vt_spec.specs.declared.errors.Rule.TheVariants.{S2}
 use Rattle.vt_spec.specs.Errors.{denial}
 use Rattle.vt_spec.specs.Machine.Filesystems.{raised, raised_if_changed}
 use Rattle.vt_spec.specs.Machine.Judge.{judge_in}
 use Rattle.vt_spec.specs.Machine.Outcomes.{Outcome, after}
 use Rattle.vt_spec.specs.Machine.Policy.{call_outcome, filesystems_changed_by, finished, finished_by, numbers_raised, only_looks, raised_namespace, raised_task, same_mounts_in}
+use Rattle.vt_spec.specs.Machine.SameWorlds.{without_changes}
 use Rattle.vt_spec.specs.Machine.Settled.{settled}
 use Rattle.vt_spec.specs.Machine.World.{Filesystem, Namespace, Task, TaskName, World, same_name}
 

@@ -13,9 +13,10 @@ use Rattle.vt_spec.specs.Machine.Outcomes.{Outcome, after}
 use Rattle.vt_spec.specs.Machine.Permits.{Permit}
 use Rattle.vt_spec.specs.Machine.Policy.{call_outcome, filesystems_changed_by, finished, only_looks, policy}
 use Rattle.vt_spec.specs.Machine.Rules.Mounting.{destination_walk, source_walk}
+use Rattle.vt_spec.specs.Machine.SameWorlds.{without_changes}
 use Rattle.vt_spec.specs.Machine.Settled.{settled}
 use Rattle.vt_spec.specs.Machine.Walking.{directory_walk, file_walk, link_walk, new_leaf_walk, new_walk, object_walk, old_leaf_walk, old_walk}
-use Rattle.vt_spec.specs.Machine.World.{Filesystem, Layer, Namespace, Overlay, Task, TaskName, World, task_called}
+use Rattle.vt_spec.specs.Machine.World.{Layer, Overlay, Task, TaskName, World, task_called}
 
 -- the outcome of each call is its judgement, then its permit applied; a refused call leaves the world
 abbrev pub CallIsJudgedThenApplied : Type 0
@@ -35,7 +36,7 @@ PolicyJudgesThenApplies =
 
 -- two worlds look alike: whatever is looked at, they show the same
 pub record LookAlike (one other : Looks ℕ) : Type 0 where
-  pub task_called : (name : TaskName) → one.task_called name ≡ other.task_called name
+  pub namespace_called : (name : TaskName) → one.namespace_called name ≡ other.namespace_called name
   pub mount : (number : ℕ) → one.mount number ≡ other.mount number
   pub mount_count : one.mount_count ≡ other.mount_count
   pub mount_tree : (number : ℕ) → one.mount_tree number ≡ other.mount_tree number
@@ -81,16 +82,7 @@ AlikeAreJudgedAlike =
     → (overfills : Permit ℕ → Bool) (task : Task ℕ) (call : Call)
     → judge nat_eq one overfills task call ≡ judge nat_eq other overfills task call
 
--- Worlds that differ in change numbers alone
-
--- a world with all its change numbers at zero
-abbrev pub without_changes : World ℕ → World ℕ
-without_changes world = record world {
-  filesystems = map (λ (filesystem : Filesystem ℕ). record filesystem { change = 0 }) world.filesystems;
-  namespaces = map (λ (namespace : Namespace ℕ). record namespace { change = 0 }) world.namespaces;
-  tasks = map (λ (task : Task ℕ). record task { change = 0 }) world.tasks;
-  change = 0;
-}
+-- Change numbers
 
 -- each number is the one that stood there before, or one more
 abbrev pub AreRaised : List ℕ → List ℕ → Type 0
