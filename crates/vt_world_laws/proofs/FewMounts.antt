@@ -5,7 +5,7 @@ use Rattle.std.proofs.lemmas.Bool.{le-ltb, ltb-false}
 use Rattle.vt_spec.specs.Machine.Attach.{has_too_many, most_mounts}
 use Rattle.vt_spec.specs.Machine.Changes.{Change}
 use Rattle.vt_spec.specs.Machine.Detach.{after_going, deepest_first, is_going, lazily_unmounted, place_left, taken_away, unmounted, unmounted_if_there}
-use Rattle.vt_spec.specs.Machine.Filesystems.{filesystem_changed_counted, overlay_changed_counted, with_change_counted}
+use Rattle.vt_spec.specs.Machine.Filesystems.{filesystem_changed, overlay_changed, with_change}
 use Rattle.vt_spec.specs.Machine.Lists.{Fresh, folded, holds_of}
 use Rattle.vt_spec.specs.Machine.Mounts.{Location, Mount, detached, mount_tree}
 use Rattle.vt_spec.specs.Machine.Namespaces.{has_tasks, is_in_ended, namespaces_ended}
@@ -105,18 +105,18 @@ shrinks_then a b c later first =
     below number x y = omega (arith, x, y)
 
 -- A change of a filesystem
-pub change_shrinks : (counted : ℕ → ℕ) (fresh : Fresh ℕ) (world : World ℕ) (location : Location ℕ) (change : Change ℕ)
-    → Shrinks (with_change_counted nat_eq counted fresh world location change) world
-change_shrinks counted fresh world location change =
+pub change_shrinks : (fresh : Fresh ℕ) (world : World ℕ) (location : Location ℕ) (change : Change ℕ)
+    → Shrinks (with_change nat_eq fresh world location change) world
+change_shrinks fresh world location change =
     by (filesystem_at nat_eq world location) (filesystem_at nat_eq world location).overlay
   where
     upper : (filesystem : Filesystem ℕ) (overlay : Overlay ℕ) (layer : Option (Layer ℕ))
-        → Shrinks (overlay_changed_counted nat_eq counted fresh world filesystem overlay layer change) world
+        → Shrinks (overlay_changed nat_eq fresh world filesystem overlay layer change) world
     upper filesystem overlay None = shrinks_itself world
     upper filesystem overlay (Some layer) = (λ number. omega arith, refl)
 
     by : (filesystem : Filesystem ℕ) (overlay : Option (Overlay ℕ))
-        → Shrinks (filesystem_changed_counted nat_eq counted fresh world filesystem overlay change) world
+        → Shrinks (filesystem_changed nat_eq fresh world filesystem overlay change) world
     by filesystem None = (λ number. omega arith, refl)
     by filesystem (Some overlay) = upper filesystem overlay overlay.upper
 

@@ -4,7 +4,7 @@ use Rattle.std.specs.Prelude.{option_to_list}
 use Rattle.std.specs.List.{list_all, list_any}
 use Rattle.std.proofs.lemmas.List.{length-append, length-map}
 use Rattle.std.proofs.lemmas.List.Elements.{filter-append}
-use Rattle.vt_spec.specs.Machine.Apply.{apply_unraised}
+use Rattle.vt_spec.specs.Machine.Apply.{apply}
 use Rattle.vt_spec.specs.Machine.Attach.{has_too_many, most_mounts}
 use Rattle.vt_spec.specs.Machine.Calls.{TypeWord}
 use Rattle.vt_spec.specs.Machine.Changes.Change.{CopyUp}
@@ -12,7 +12,7 @@ use Rattle.vt_spec.specs.Machine.Detach.{without_mounts_on}
 use Rattle.vt_spec.specs.Machine.Lists.{Fresh, evens, holds_of, is_among, odds}
 use Rattle.vt_spec.specs.Machine.Mounts.{Location, Mount, MountFlags, numbers_by, replaced_if_same}
 use Rattle.vt_spec.specs.Machine.Namespaces.{copied_mount, namespace_entered, pivoted_mount, unshared}
-use Rattle.vt_spec.specs.Machine.Outcome.Descriptors.{is_copied_up, pwritten_counted, with_copy_counted}
+use Rattle.vt_spec.specs.Machine.Outcome.Descriptors.{is_copied_up, pwritten, with_copy}
 use Rattle.vt_spec.specs.Machine.Outcome.Removing.{without_replaced}
 use Rattle.vt_spec.specs.Machine.Permits.{Permit}
 use Rattle.vt_spec.specs.Machine.Permits.Permit.{Allowed, ToBind, ToChange, ToClose, ToEnterNamespace, ToExit, ToFork, ToList, ToListMounts, ToMake, ToMountOverlay, ToMountPlain, ToMove, ToOpen, ToOpenNew, ToPivot, ToRead, ToReadPart, ToRemoveDirectory, ToRename, ToSetCredentials, ToSetDirectory, ToSetFlags, ToSetRoot, ToSetType, ToSetUmask, ToStat, ToUnmount, ToUnmountLazily, ToUnshare, ToWritePart}
@@ -86,15 +86,15 @@ module _ (world : World ℕ) where
       by false true = inl refl
       by false false = inl refl
 
-  copy_shrinks : (b : Bool) (counted : ℕ → ℕ) (fresh : Fresh ℕ) (file : Location ℕ)
-      → Shrinks (with_copy_counted nat_eq b counted fresh world file) world
-  copy_shrinks true counted fresh file = change_shrinks counted fresh world file (CopyUp file.node)
-  copy_shrinks false counted fresh file = shrinks_itself world
+  copy_shrinks : (b : Bool) (fresh : Fresh ℕ) (file : Location ℕ)
+      → Shrinks (with_copy nat_eq b fresh world file) world
+  copy_shrinks true fresh file = change_shrinks fresh world file (CopyUp file.node)
+  copy_shrinks false fresh file = shrinks_itself world
 
-  pwritten_shrinks : (counted : ℕ → ℕ) (fresh : Fresh ℕ) (file : Location ℕ) (offset : ℕ) (bytes : List ℕ)
-      → Shrinks (pwritten_counted nat_eq counted fresh world file offset bytes) world
-  pwritten_shrinks counted fresh file offset [] = shrinks_itself world
-  pwritten_shrinks counted fresh file offset (byte ∷ bytes) = change_shrinks counted fresh world file _
+  pwritten_shrinks : (fresh : Fresh ℕ) (file : Location ℕ) (offset : ℕ) (bytes : List ℕ)
+      → Shrinks (pwritten nat_eq fresh world file offset bytes) world
+  pwritten_shrinks fresh file offset [] = shrinks_itself world
+  pwritten_shrinks fresh file offset (byte ∷ bytes) = change_shrinks fresh world file _
 
   replaced_shrinks : (o : Option (Location ℕ)) → Shrinks (without_replaced nat_eq world o) world
   replaced_shrinks None = shrinks_itself world
@@ -205,39 +205,39 @@ module _ (fresh : Fresh ℕ) (world : World ℕ) (whole : IsWorld nat_eq world) 
 
   -- each permit
   abbrev after : Permit ℕ → World ℕ
-  after permit = (apply_unraised nat_eq fresh world task permit).world
+  after permit = (apply nat_eq fresh world task permit).world
 
   pub few_left : (permit : Permit ℕ) → attaches permit ≡ false
-      → has_too_many nat_eq (apply_unraised nat_eq fresh world task permit).world ≡ false
+      → has_too_many nat_eq (apply nat_eq fresh world task permit).world ≡ false
   few_left Allowed other = whole.namespaces.few_mounts
   few_left (ToList directory) other = whole.namespaces.few_mounts
   few_left (ToStat object) other = whole.namespaces.few_mounts
   few_left (ToRead file) other = whole.namespaces.few_mounts
   few_left (ToReadPart file offset size) other = whole.namespaces.few_mounts
   few_left (ToChange location change) other =
-      shrinks_few world (after (ToChange location change)) (change_shrinks (λ n. n) fresh world location change)
+      shrinks_few world (after (ToChange location change)) (change_shrinks fresh world location change)
       whole.namespaces.few_mounts
   few_left (ToMake directory name node) other =
-      shrinks_few world (after (ToMake directory name node)) (change_shrinks (λ n. n) (odds fresh) world directory _)
+      shrinks_few world (after (ToMake directory name node)) (change_shrinks (odds fresh) world directory _)
       whole.namespaces.few_mounts
   few_left (ToRemoveDirectory parent name directory) other =
       shrinks_few (without_mounts_on nat_eq world directory) (after (ToRemoveDirectory parent name directory))
-      (change_shrinks (λ n. n) fresh (without_mounts_on nat_eq world directory) parent _)
+      (change_shrinks fresh (without_mounts_on nat_eq world directory) parent _)
       (shrinks_few world (without_mounts_on nat_eq world directory) (taken_shrinks world _) whole.namespaces.few_mounts)
   few_left (ToRename from old to name object replaced) other =
       shrinks_few (without_replaced nat_eq world replaced) (after (ToRename from old to name object replaced))
-      (change_shrinks (λ n. n) fresh (without_replaced nat_eq world replaced) from _)
+      (change_shrinks fresh (without_replaced nat_eq world replaced) from _)
       (shrinks_few world (without_replaced nat_eq world replaced) (replaced_shrinks world replaced)
       whole.namespaces.few_mounts)
   few_left (ToOpen file access) other =
-      shrinks_few world (with_copy_counted nat_eq (is_copied_up nat_eq world file access) (λ n. n) fresh world file)
-      (copy_shrinks world (is_copied_up nat_eq world file access) (λ n. n) fresh file) whole.namespaces.few_mounts
+      shrinks_few world (with_copy nat_eq (is_copied_up nat_eq world file access) fresh world file)
+      (copy_shrinks world (is_copied_up nat_eq world file access) fresh file) whole.namespaces.few_mounts
   few_left (ToOpenNew directory name node access) other =
       shrinks_few world (after (ToOpenNew directory name node access))
-      (change_shrinks (λ n. n) (odds fresh) world directory _) whole.namespaces.few_mounts
+      (change_shrinks (odds fresh) world directory _) whole.namespaces.few_mounts
   few_left (ToWritePart file offset bytes) other =
       shrinks_few world (after (ToWritePart file offset bytes)) (pwritten_shrinks world
-      (λ n. n) fresh file offset bytes) whole.namespaces.few_mounts
+      fresh file offset bytes) whole.namespaces.few_mounts
   few_left (ToClose descriptor) other = whole.namespaces.few_mounts
   few_left (ToSetDirectory directory) other = whole.namespaces.few_mounts
   few_left (ToSetRoot root) other = whole.namespaces.few_mounts

@@ -4,7 +4,7 @@ use Rattle.std.specs.Prelude.{⊤, option_to_list, unwrap_or}
 use Rattle.std.specs.List.{list_any}
 use Rattle.vt_spec.specs.declared.errors.Deny.{Deny}
 use Rattle.vt_spec.specs.Errors.{Rules, and_then, unless}
-use Rattle.vt_spec.specs.Machine.Apply.{apply_unraised}
+use Rattle.vt_spec.specs.Machine.Apply.{apply}
 use Rattle.vt_spec.specs.Machine.Attach.{has_too_many}
 use Rattle.vt_spec.specs.Machine.Judge.{Judgement}
 use Rattle.vt_spec.specs.Machine.Lists.{Fresh, holds_of}
@@ -28,7 +28,7 @@ module _ (fresh : Fresh ℕ) (world : World ℕ) (task : Task ℕ) where
   abbrev pub Fits : Permit ℕ → Type 0
   Fits permit =
       NamesWhatIsThere world task permit
-      × (attaches permit ≡ true → has_too_many nat_eq (apply_unraised nat_eq fresh world task permit).world ≡ false)
+      × (attaches permit ≡ true → has_too_many nat_eq (apply nat_eq fresh world task permit).world ≡ false)
 
   abbrev pub Permits : Judgement ℕ → Type 0
   Permits (Ok permit) = Fits permit

@@ -1,6 +1,6 @@
 -- Whatever is permitted in a world that has the invariants fits it.
 use Rattle.std.proofs.Common.{◌≡◌, refl, subst, true≢false, ℕ, nat_eq, Bool, true, false, Some}
-use Rattle.vt_spec.specs.Machine.Apply.{apply_unraised}
+use Rattle.vt_spec.specs.Machine.Apply.{apply}
 use Rattle.vt_spec.specs.Machine.Attach.{has_too_many}
 use Rattle.vt_spec.specs.Machine.Calls.{Call}
 use Rattle.vt_spec.specs.Machine.Calls.Call.{Bind, Chdir, Chmod, Chown, Chroot, Close, Drop, Exec, Exit, Fork, Lazy, LinkTo, ListMounts, Ls, Lstat, MakeWhiteout, Mkdir, MountOverlay, MountPlain, MoveMount, Opaque, OpenFile, PivotRoot, Pread, Pwrite, Read, Readlink, Remount, Rename, Rmdir, SetType, Setns, Stat, SymlinkAt, Umask, Umount, Unlink, Unshare, Write}
@@ -72,7 +72,7 @@ module _ (fresh : Fresh ℕ) (world : World ℕ) (whole : IsWorld nat_eq world) 
       → IsFitPermit fresh world task permit
   fitting serves permit fits = record { names = fits.0; few_mounts = by (attaches permit) refl }
     where
-      by : (b : Bool) → attaches permit ≡ b → has_too_many nat_eq (apply_unraised nat_eq fresh world task
+      by : (b : Bool) → attaches permit ≡ b → has_too_many nat_eq (apply nat_eq fresh world task
           permit).world ≡ false
       by true is = fits.1 is
       by false is = few_left fresh world whole serves task called permit is

@@ -1,5 +1,5 @@
 -- Calls on open files and on tasks name what is there.
-use Rattle.std.proofs.Common.{◌≡◌, refl, sym, ap, ◌∙◌, true≢false, ⊎_elim, ℕ, nat_eq, ◌==◌, Bool, true, false, List, [], ◌∷◌, ◌||◌, Option, Some, None, ok_or, Ok, Err, Result}
+use Rattle.std.proofs.Common.{◌≡◌, refl, sym, ap, ◌∙◌, true≢false, ⊎_elim, ℕ, nat_eq, ◌==◌, Bool, true, false, List, [], ◌∷◌, ◌||◌, Option, Some, None, option_map, ok_or, Ok, Err, Result}
 use Rattle.std.specs.Prelude.{option_to_list}
 use Rattle.std.specs.List.{find}
 use Rattle.vt_spec.specs.declared.attributes.Kind.TheVariants.{File}
@@ -26,7 +26,9 @@ use Rattle.vt_spec.specs.Machine.Walking.{directory_walk, file_walk, new_walk, o
 use Rattle.vt_spec.specs.Machine.World.{Descriptor, Task, TaskName, World, node_at, same_name, task_called}
 use Rattle.vt_spec.specs.Machine.WorldLaws.{IsWorld, has_regular_files_open, is_listed}
 use Rattle.vt_spec.specs.Rights.{cap_sys_admin, cap_sys_chroot}
+use Rattle.std.proofs.lemmas.Option.{same_Some}
 use Rattle.vt_spec.proofs.Lists.{Among, among_from_list_all}
+use Rattle.vt_spec.proofs.Nodes.{none_is_not}
 use Rattle.vt_tree_laws.proofs.TreesWalked.{first_false, ok_same}
 use Rattle.vt_world_laws.specs.Worlds.Permits.{IsReachedDirectory}
 use Rattle.vt_world_laws.proofs.FitPermits.{Permits, permits_then, permits_unless, permits_walk, permitted}
@@ -191,10 +193,17 @@ module _ (fresh : Fresh ℕ) (world : World ℕ) (whole : IsWorld nat_eq world) 
   pub setns_fits : (name : TaskName) → Fit (setns_permit looks task name)
   unfolding setns_permit
   setns_fits name =
-      permits_then fresh world task (ok_or (task_called world name) (denial S2)) _ (λ target e.
+      permits_then fresh world task (ok_or (option_map (λ (t : Task ℕ). t.namespace) (task_called world name)) (denial S2)) _
+      (λ namespace e.
       permits_unless fresh world task ((lacks task cap_sys_admin || lacks task cap_sys_chroot, K1) ∷ []) _ (λ passed.
-      permitted fresh world task (ToEnterNamespace target.namespace) refl
-      (among_from_list_all (λ (t : Task ℕ). is_listed nat_eq world t.namespace) world.tasks
-      whole.namespaces.tasks_listed target
-      (found_among (λ (t : Task ℕ). same_name name t.name) world.tasks target
-      (ok_or_some (task_called world name) (denial S2) target e)))))
+      permitted fresh world task (ToEnterNamespace namespace) refl
+      (listed (task_called world name) refl namespace
+      (ok_or_some (option_map (λ (t : Task ℕ). t.namespace) (task_called world name)) (denial S2) namespace e))))
+    where
+      listed : (found : Option (Task ℕ)) → task_called world name ≡ found → (namespace : ℕ)
+          → option_map (λ (t : Task ℕ). t.namespace) found ≡ Some namespace → is_listed nat_eq world namespace ≡ true
+      listed None f namespace e = none_is_not None namespace refl e
+      listed (Some target) f namespace e =
+          ap (is_listed nat_eq world) (sym (same_Some target.namespace namespace e))
+          ∙ among_from_list_all (λ (t : Task ℕ). is_listed nat_eq world t.namespace) world.tasks
+          whole.namespaces.tasks_listed target (found_among (λ (t : Task ℕ). same_name name t.name) world.tasks target f)
