@@ -1,3 +1,4 @@
 pub mod Seen
+pub mod SeenMounts
 pub mod SeenTrees
 pub mod Sketch
