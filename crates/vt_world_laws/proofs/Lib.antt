@@ -1,3 +1,4 @@
+pub mod Placed
 pub mod Seen
 pub mod SeenMounts
 pub mod SeenTrees
