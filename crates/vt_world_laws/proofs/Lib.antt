@@ -1,3 +1,4 @@
+pub mod PermitsSeen
 pub mod Placed
 pub mod Seen
 pub mod SeenMounts
