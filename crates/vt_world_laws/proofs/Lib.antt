@@ -1,5 +1,6 @@
 pub mod PermitsSeen
 pub mod Placed
+pub mod Roots
 pub mod Seen
 pub mod SeenMounts
 pub mod SeenTrees
