@@ -1,3 +1,4 @@
+pub mod PermitsPlaced
 pub mod PermitsSeen
 pub mod Placed
 pub mod Roots

@@ -224,7 +224,7 @@ module _ (count : ℕ → ℕ) (fresh : Fresh ℕ) (world : World ℕ) (plain : 
   abbrev old : Filesystem ℕ
   old = filesystem_at nat_eq world location
 
-  abbrev changed_one : Filesystem ℕ
+  abbrev pub changed_one : Filesystem ℕ
   changed_one = with_files_counted count old (changed nat_eq old.files change)
 
   pub change_of_plain : with_change_counted nat_eq count fresh world location change ≡ with_filesystem nat_eq world changed_one
@@ -232,7 +232,7 @@ module _ (count : ℕ → ℕ) (fresh : Fresh ℕ) (world : World ℕ) (plain : 
       ap (λ o. filesystem_changed_counted nat_eq count fresh world old o change)
       (no_some old.overlay (numbered_anyhow (λ filesystem. is_overlay filesystem ≡ false) (mount_at nat_eq world location).filesystem world.filesystems plain refl))
 
-  old_number : old.number ≡ (mount_at nat_eq world location).filesystem
+  pub old_number : old.number ≡ (mount_at nat_eq world location).filesystem
   old_number = number_numbered (mount_at nat_eq world location).filesystem world.filesystems
 
   pub change_seen : MakesNew old.files change → KeepsWhatIsSeen world (with_change_counted nat_eq count fresh world location change)
