@@ -1,3 +1,4 @@
+pub mod PermitsNamed
 pub mod PermitsPlaced
 pub mod PermitsSeen
 pub mod Placed
@@ -5,4 +6,5 @@ pub mod Roots
 pub mod Seen
 pub mod SeenMounts
 pub mod SeenTrees
+pub mod TasksNamed
 pub mod Sketch

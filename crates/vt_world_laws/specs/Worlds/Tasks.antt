@@ -1,9 +1,14 @@
 -- The invariants of tasks, one by one: credentials(7), path_resolution(7), open(2).
-use Rattle.std.specs.Prelude.{Contains, false, nat_eq, true, ℕ, ◌++◌, ◌≡◌, ◌≤◌, ◌∷◌}
+use Rattle.std.specs.Prelude.{Contains, Some, false, nat_eq, true, ℕ, ◌++◌, ◌≡◌, ◌≤◌, ◌∷◌}
 use Rattle.std.specs.List.{list_all}
-use Rattle.vt_spec.specs.Machine.Lists.{any_pair}
-use Rattle.vt_spec.specs.Machine.World.{Task, TaskName, World, all_locations, same_name}
-use Rattle.vt_spec.specs.Machine.WorldLaws.{has_regular_files_open, is_located_well, is_within_limits, stands_on_directories}
+use Rattle.vt_spec.specs.Machine.Apply.{apply_unraised}
+use Rattle.vt_spec.specs.Machine.Lists.{Fresh, any_pair}
+use Rattle.vt_spec.specs.Machine.Permits.{Permit}
+use Rattle.vt_spec.specs.Machine.Run.{Serves}
+use Rattle.vt_spec.specs.Machine.World.{Task, TaskName, World, all_locations, same_name, task_called}
+use Rattle.vt_spec.specs.Machine.WorldLaws.{IsWorld, has_regular_files_open, is_located_well, is_within_limits, stands_on_directories}
+use Rattle.vt_world_laws.specs.Worlds.Kept.{IsPlain}
+use Rattle.vt_world_laws.specs.Worlds.Permits.{IsFitPermit}
 
 abbrev pub OneTaskAName : World ℕ → Type 0
 OneTaskAName world = any_pair (λ (a b : Task ℕ). same_name a.name b.name) world.tasks ≡ false
@@ -25,3 +30,10 @@ abbrev pub ForksAreCounted : World ℕ → Type 0
 ForksAreCounted world =
     (task other : Task ℕ) (number : ℕ) (rest : TaskName) → Contains world.tasks task → Contains world.tasks other
     → other.name ≡ task.name ++ (number ∷ rest) → number ≤ task.forks
+
+-- as `KeptByPermits`, where each task has counted its forks
+abbrev pub KeptWhereForksAreCounted : (World ℕ → Type 0) → Type 0
+KeptWhereForksAreCounted Invariant =
+    (world : World ℕ) (fresh : Fresh ℕ) (task : Task ℕ) (permit : Permit ℕ) → IsWorld nat_eq world → IsPlain world
+    → ForksAreCounted world → Serves nat_eq world fresh → task_called world task.name ≡ Some task
+    → IsFitPermit fresh world task permit → Invariant (apply_unraised nat_eq fresh world task permit).world
