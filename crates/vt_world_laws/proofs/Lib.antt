@@ -1,3 +1,4 @@
+pub mod PermitsFilesystems
 pub mod PermitsNamed
 pub mod PermitsPlaced
 pub mod PermitsSeen
@@ -7,4 +8,5 @@ pub mod Seen
 pub mod SeenMounts
 pub mod SeenTrees
 pub mod TasksNamed
+pub mod Shows
 pub mod Sketch

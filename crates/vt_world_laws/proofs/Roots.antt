@@ -196,7 +196,7 @@ module _ (world : World ℕ) (fresh : Fresh ℕ) (task : Task ℕ) (is : IsWorld
       ap (mount_numbered nat_eq world) same
       ∙ itself world is mount (among-from_filter (λ (x : Mount ℕ). holds_of (nat_eq task.namespace) x.namespace) world.mounts mount m).0
 
-  copy_stands : (location : Location ℕ) → StandsAt world task.namespace location → (mount : Mount ℕ) → Among mount copied
+  pub copy_stands : (location : Location ℕ) → StandsAt world task.namespace location → (mount : Mount ℕ) → Among mount copied
       → location.mount ≡ mount.number → StandsAt after (evens fresh 0) (location_on_copy copy location)
   copy_stands location at mount m same =
       let number : copy location.mount ≡ copy mount.number = ap copy same in

@@ -10,10 +10,10 @@ use Rattle.vt_spec.specs.Machine.Lists.{Fresh, any_pair, first_of_list, rest_of}
 use Rattle.vt_spec.specs.Machine.Mounts.{Mount}
 use Rattle.vt_spec.specs.Machine.Namespaces.{pivoted_location, pivoted_task}
 use Rattle.vt_spec.specs.Machine.Outcome.Tasks.{child_name, child_of}
-use Rattle.vt_spec.specs.Machine.World.{Task, TaskName, World, replaced_if_called, same_name}
+use Rattle.vt_spec.specs.Machine.World.{Task, TaskName, World, first_task, opening, replaced_if_called, same_name}
 use Rattle.vt_spec.specs.Rights.{Credentials}
 use Rattle.vt_spec.proofs.Lists.{Among, among-append, among-from_filter, among-from_map, among_from_contains, contains_from_among, none_among, none_from_among, pair-filter, pair-map}
-use Rattle.vt_world_laws.specs.Worlds.Tasks.{ForksAreCounted, OneTaskAName}
+use Rattle.vt_world_laws.specs.Worlds.Tasks.{ForksAreCounted, OneTaskAName, OpeningCountsForks, SettlingKeepsCountingForks}
 
 -- A name that is put together in two ways
 module _ where
@@ -252,3 +252,13 @@ module _ (task : Task ℕ) (before : List (Task ℕ)) (there : Among task before
           too_many (counted task from.0 (task.forks + 1) (number ∷ rest) there from.1
           (sym (name_replaced parent from.0) ∙ ap (λ (t : Task ℕ). t.name) (sym from.2) ∙ h
           ∙ append_assoc task.name ((task.forks + 1) ∷ []) (number ∷ rest)))
+
+pub opening_counts_forks : OpeningCountsForks
+opening_counts_forks fresh =
+    counted_from (opening nat_eq fresh) (λ task other number rest m n e.
+    ⊎_elim
+    (λ (one : other ≡ first_task nat_eq fresh). absurd (none_append task.name number rest (ap (λ (t : Task ℕ). t.name) (sym one) ∙ e)))
+    (λ none. absurd none) n)
+
+pub settling_keeps_counting_forks : SettlingKeepsCountingForks
+settling_keeps_counting_forks world counted = counted

@@ -5,7 +5,8 @@ use Rattle.vt_spec.specs.Machine.Apply.{apply_unraised}
 use Rattle.vt_spec.specs.Machine.Lists.{Fresh, any_pair}
 use Rattle.vt_spec.specs.Machine.Permits.{Permit}
 use Rattle.vt_spec.specs.Machine.Run.{Serves}
-use Rattle.vt_spec.specs.Machine.World.{Task, TaskName, World, all_locations, same_name, task_called}
+use Rattle.vt_spec.specs.Machine.Settled.{settled}
+use Rattle.vt_spec.specs.Machine.World.{Task, TaskName, World, all_locations, opening, same_name, task_called}
 use Rattle.vt_spec.specs.Machine.WorldLaws.{IsWorld, has_regular_files_open, is_located_well, is_within_limits, stands_on_directories}
 use Rattle.vt_world_laws.specs.Worlds.Kept.{IsPlain}
 use Rattle.vt_world_laws.specs.Worlds.Permits.{IsFitPermit}
@@ -37,3 +38,11 @@ KeptWhereForksAreCounted Invariant =
     (world : World ℕ) (fresh : Fresh ℕ) (task : Task ℕ) (permit : Permit ℕ) → IsWorld nat_eq world → IsPlain world
     → ForksAreCounted world → Serves nat_eq world fresh → task_called world task.name ≡ Some task
     → IsFitPermit fresh world task permit → Invariant (apply_unraised nat_eq fresh world task permit).world
+
+-- The opening world counts no fork, and has one task.
+abbrev pub OpeningCountsForks : Type 0
+OpeningCountsForks = (fresh : Fresh ℕ) → ForksAreCounted (opening nat_eq fresh)
+
+-- What nothing uses is no task.
+abbrev pub SettlingKeepsCountingForks : Type 0
+SettlingKeepsCountingForks = (world : World ℕ) → ForksAreCounted world → ForksAreCounted (settled nat_eq world)
