@@ -9,4 +9,5 @@ pub mod SeenMounts
 pub mod SeenTrees
 pub mod TasksNamed
 pub mod Shows
+pub mod ShowsAttached
 pub mod Sketch
