@@ -10,4 +10,5 @@ pub mod SeenTrees
 pub mod TasksNamed
 pub mod Shows
 pub mod ShowsAttached
+pub mod ShowsGrafts
 pub mod Sketch
