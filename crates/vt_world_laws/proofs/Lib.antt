@@ -2,6 +2,7 @@ pub mod PermitsFilesystems
 pub mod PermitsNamed
 pub mod PermitsPlaced
 pub mod PermitsSeen
+pub mod PermitsShow
 pub mod Placed
 pub mod Roots
 pub mod Seen
