@@ -1,5 +1,5 @@
 -- A permit that fits keeps filesystems plain, with numbers of their own.
-use Rattle.std.proofs.Common.{◌≡◌, refl, sym, ap, subst, ◌∙◌, inl, inr, ⊎_elim, ℕ, nat_eq, Bool, true, false, List, [], ◌∷◌, ◌++◌, ◌||◌, Option, Some, None, is_some, map}
+use Rattle.std.proofs.Common.{◌≡◌, refl, sym, ap, subst, ◌∙◌, inl, inr, ⊎_elim, ℕ, nat_eq, Bool, true, false, List, [], ◌∷◌, ◌++◌, ◌||◌, Option, Some, None, map}
 use Rattle.std.specs.Prelude.{All}
 use Rattle.std.specs.List.{list_any}
 use Rattle.std.proofs.lemmas.Bool.{or_parts}
@@ -17,14 +17,12 @@ use Rattle.vt_spec.specs.Machine.Outcome.Removing.{without_replaced}
 use Rattle.vt_spec.specs.Machine.Permits.{Permit}
 use Rattle.vt_spec.specs.Machine.Permits.Permit.{Allowed, ToBind, ToChange, ToClose, ToEnterNamespace, ToExit, ToFork, ToList, ToListMounts, ToMake, ToMountOverlay, ToMountPlain, ToMove, ToOpen, ToOpenNew, ToPivot, ToRead, ToReadPart, ToRemoveDirectory, ToRename, ToSetCredentials, ToSetDirectory, ToSetFlags, ToSetRoot, ToSetType, ToSetUmask, ToStat, ToUnmount, ToUnmountLazily, ToUnshare, ToWritePart}
 use Rattle.vt_spec.specs.Machine.Run.{Serves}
-use Rattle.vt_spec.specs.Machine.World.{Filesystem, Task, World, filesystem_at, is_overlay, mount_at, mount_numbered, replaced_if_numbered, without_task}
-use Rattle.vt_spec.specs.Machine.WorldLaws.{IsWorld}
+use Rattle.vt_spec.specs.Machine.World.{Filesystem, Task, World, is_overlay, mount_at, mount_numbered, replaced_if_numbered, without_task}
 use Rattle.vt_spec.proofs.Lists.{Among, all_from_among, among-append, among_from_all, none_among, none_from_among}
 use Rattle.vt_mount_laws.proofs.MountsReplaced.{apart}
 use Rattle.vt_mount_laws.proofs.MountsRetyped.{types_are_of_mounts}
 use Rattle.vt_mount_laws.proofs.UnmountingEnds.{lazy_is_of_mounts}
 use Rattle.vt_tree_laws.proofs.TreesOfWorlds.{numbered_anyhow, replaced_all, taken_filesystems}
-use Rattle.vt_tree_laws.proofs.TreesWalked.{no_some}
 use Rattle.vt_world_laws.specs.Worlds.Filesystems.{OneFilesystemANumber}
 use Rattle.vt_world_laws.specs.Worlds.Kept.{IsPlain, KeptByPermits}
 use Rattle.vt_world_laws.specs.Worlds.Permits.{NamesWhatIsThere}

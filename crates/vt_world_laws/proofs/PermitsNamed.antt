@@ -1,5 +1,5 @@
 -- A permit that fits keeps the names of tasks apart, where tasks have counted their forks; and they go on counting them.
-use Rattle.std.proofs.Common.{◌≡◌, refl, ap, ◌∙◌, ℕ, nat_eq, Bool, true, false, List, [], ◌∷◌, Option, Some, None, map}
+use Rattle.std.proofs.Common.{◌≡◌, refl, ap, ◌∙◌, ℕ, nat_eq, Bool, true, false, List, [], ◌∷◌, map}
 use Rattle.std.specs.Prelude.{unwrap_or}
 use Rattle.vt_spec.specs.Machine.Apply.{apply_unraised}
 use Rattle.vt_spec.specs.Machine.Changes.Change.{CopyUp, Make, Move, Remove}
@@ -13,11 +13,11 @@ use Rattle.vt_spec.specs.Machine.Outcome.Descriptors.{is_copied_up, pwritten_cou
 use Rattle.vt_spec.specs.Machine.Outcome.Removing.{without_replaced}
 use Rattle.vt_spec.specs.Machine.Permits.{Permit}
 use Rattle.vt_spec.specs.Machine.Permits.Permit.{Allowed, ToBind, ToChange, ToClose, ToEnterNamespace, ToExit, ToFork, ToList, ToListMounts, ToMake, ToMountOverlay, ToMountPlain, ToMove, ToOpen, ToOpenNew, ToPivot, ToRead, ToReadPart, ToRemoveDirectory, ToRename, ToSetCredentials, ToSetDirectory, ToSetFlags, ToSetRoot, ToSetType, ToSetUmask, ToStat, ToUnmount, ToUnmountLazily, ToUnshare, ToWritePart}
-use Rattle.vt_spec.specs.Machine.World.{Task, World, mount_at, mount_numbered, mounts_of, replaced_if_called, same_name, task_called, without_task}
-use Rattle.vt_spec.specs.Machine.WorldLaws.{IsWorld, TaskInvariants}
+use Rattle.vt_spec.specs.Machine.World.{Task, World, mount_at, mount_numbered, mounts_of, replaced_if_called, same_name, without_task}
+use Rattle.vt_spec.specs.Machine.WorldLaws.{TaskInvariants}
 use Rattle.vt_mount_laws.proofs.MountsRetyped.{types_are_of_mounts}
 use Rattle.vt_mount_laws.proofs.UnmountingEnds.{lazy_is_of_mounts}
-use Rattle.vt_world_laws.specs.Worlds.Kept.{IsPlain, KeptByPermits}
+use Rattle.vt_world_laws.specs.Worlds.Kept.{IsPlain}
 use Rattle.vt_world_laws.specs.Worlds.Permits.{NamesWhatIsThere}
 use Rattle.vt_world_laws.specs.Worlds.Tasks.{ForksAreCounted, KeptWhereForksAreCounted, OneTaskAName, TasksAreWithinLimits}
 use Rattle.vt_world_laws.proofs.PermitsPlaced.{found_among, permits_keep_directories, permits_keep_locations, permits_keep_open_files}
@@ -118,11 +118,11 @@ permits_keep_counting_forks world fresh task permit is plain counted serves call
     is.tasks.one_task (counted_among world counted) (after world fresh task plain permit).tasks
     (tasks_go_on world fresh task plain permit fits.names))
 
--- All invariants of tasks, given that tasks stay within their limits
-pub permits_keep_tasks : KeptByPermits TasksAreWithinLimits → KeptWhereForksAreCounted (TaskInvariants nat_eq)
-permits_keep_tasks limits world fresh task permit is plain counted serves called fits = record {
+-- All invariants of tasks, where tasks stay within their limits
+pub permits_keep_tasks : KeptWhereForksAreCounted (λ after. TasksAreWithinLimits after → TaskInvariants nat_eq after)
+permits_keep_tasks world fresh task permit is plain counted serves called fits limits = record {
   one_task = permits_keep_names world fresh task permit is plain counted serves called fits;
-  small_tasks = limits world fresh task permit is plain serves called fits;
+  small_tasks = limits;
   locations_live = permits_keep_locations world fresh task permit is plain serves called fits;
   directories = permits_keep_directories world fresh task permit is plain serves called fits;
   open_files = permits_keep_open_files world fresh task permit is plain serves called fits;

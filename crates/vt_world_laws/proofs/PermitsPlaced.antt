@@ -1,18 +1,17 @@
 -- A permit that fits leaves each task on directories that are there, with regular files open.
-use Rattle.std.proofs.Common.{◌≡◌, refl, sym, ap, subst, ◌∙◌, inl, inr, ⊎_elim, ℕ, nat_eq, Bool, true, false, cond, true≢false, find, filter, not, List, [], ◌∷◌, ◌++◌, ◌&&◌, Option, Some, None, is_some, map}
-use Rattle.std.specs.Prelude.{All, option_to_list, unwrap_or, ◌==◌, ◌+◌}
-use Rattle.std.specs.List.{list_all}
+use Rattle.std.proofs.Common.{◌≡◌, refl, sym, ap, subst, ◌∙◌, inl, inr, ⊎_elim, ℕ, nat_eq, Bool, true, false, cond, true≢false, find, not, List, [], ◌∷◌, Some, is_some, map}
+use Rattle.std.specs.Prelude.{unwrap_or, ◌==◌, ◌+◌}
 use Rattle.std.proofs.lemmas.Bool.{and_from, and_parts}
 use Rattle.vt_spec.specs.declared.attributes.Kind.TheVariants.{File}
-use Rattle.vt_spec.specs.Machine.Apply.{apply_unraised, with_new_inode}
+use Rattle.vt_spec.specs.Machine.Apply.{apply_unraised}
 use Rattle.vt_spec.specs.Machine.Calls.{Access}
 use Rattle.vt_spec.specs.Machine.Changes.{Change}
 use Rattle.vt_spec.specs.Machine.Changes.Change.{CopyUp, Make, Move, Remove}
 use Rattle.vt_spec.specs.Machine.Detach.{going, without_mounts_on}
 use Rattle.vt_spec.specs.Machine.Filesystems.{with_change_counted}
-use Rattle.vt_spec.specs.Machine.FileTree.{is_kind, is_kind_in}
+use Rattle.vt_spec.specs.Machine.FileTree.{is_kind}
 use Rattle.vt_spec.specs.Machine.Lists.{Fresh, evens, holds_of, odds}
-use Rattle.vt_spec.specs.Machine.Mounts.{Location, Mount, numbers_by}
+use Rattle.vt_spec.specs.Machine.Mounts.{Location, numbers_by}
 use Rattle.vt_spec.specs.Machine.Namespaces.{entered_at, namespace_entered, namespace_root, namespaces_ended, pivoted_task, unshared, unshared_task}
 use Rattle.vt_spec.specs.Machine.Outcome.Descriptors.{is_copied_up, pwritten_counted, with_copy_counted, with_descriptor, without_descriptor}
 use Rattle.vt_spec.specs.Machine.Outcome.Removing.{without_replaced}
@@ -20,7 +19,7 @@ use Rattle.vt_spec.specs.Machine.Outcome.Tasks.{child_of}
 use Rattle.vt_spec.specs.Machine.Permits.{Permit}
 use Rattle.vt_spec.specs.Machine.Permits.Permit.{Allowed, ToBind, ToChange, ToClose, ToEnterNamespace, ToExit, ToFork, ToList, ToListMounts, ToMake, ToMountOverlay, ToMountPlain, ToMove, ToOpen, ToOpenNew, ToPivot, ToRead, ToReadPart, ToRemoveDirectory, ToRename, ToSetCredentials, ToSetDirectory, ToSetFlags, ToSetRoot, ToSetType, ToSetUmask, ToStat, ToUnmount, ToUnmountLazily, ToUnshare, ToWritePart}
 use Rattle.vt_spec.specs.Machine.Run.{Serves}
-use Rattle.vt_spec.specs.Machine.World.{Descriptor, Filesystem, Task, World, filesystem_at, is_directory_at, mount_at, mount_numbered, mounts_of, no_filesystem, node_at, replaced_if_called, same_name, task_called, with_filesystem, without_task}
+use Rattle.vt_spec.specs.Machine.World.{Descriptor, Filesystem, Task, World, filesystem_at, is_directory_at, mount_at, mount_numbered, mounts_of, node_at, replaced_if_called, same_name, task_called, with_filesystem, without_task}
 use Rattle.vt_spec.specs.Machine.WorldLaws.{IsWorld}
 use Rattle.vt_spec.specs.Tree.{Node, is_directory_node, kind_of}
 use Rattle.vt_spec.proofs.Lists.{Among, among-append, among-from_filter, among-from_map}
@@ -29,11 +28,11 @@ use Rattle.vt_mount_laws.proofs.MountsRetyped.{types_are_of_mounts}
 use Rattle.vt_mount_laws.proofs.UnmountingEnds.{lazy_is_of_mounts}
 use Rattle.vt_tree_laws.proofs.TreesOfWorlds.{numbered}
 use Rattle.vt_world_laws.specs.Worlds.Kept.{IsPlain, KeptByPermits}
-use Rattle.vt_world_laws.specs.Worlds.Permits.{IsReached, IsReachedDirectory, NamesWhatIsThere}
+use Rattle.vt_world_laws.specs.Worlds.Permits.{IsReachedDirectory, NamesWhatIsThere}
 use Rattle.vt_world_laws.specs.Worlds.Tasks.{LocationsAreThere, OpenFilesAreRegular, TasksStandOnDirectories}
-use Rattle.vt_world_laws.proofs.PermitsSeen.{makes_none, namespaces_ended_seen, new_at, permits_keep_what_is_seen, replaced_plain, replaced_tasks, taken_plain, gone_on, taken_tasks, unshared_seen}
+use Rattle.vt_world_laws.proofs.PermitsSeen.{namespaces_ended_seen, permits_keep_what_is_seen, replaced_plain, replaced_tasks, taken_plain, gone_on, taken_tasks, unshared_seen}
 use Rattle.vt_world_laws.proofs.Placed.{ArePlaced, IsPlaced, OpensAt, StandsAt, all_are_placed, all_placed_after, among-inserted, locations_are_there, open_files_are_regular, opens_after, placed_after, placed_with, stands_after, tasks_stand_on_directories}
-use Rattle.vt_world_laws.proofs.Roots.{directory_there, namespace_root_stands, own_there, in_own, pivoted_placed, root_stands, unshared_placed}
+use Rattle.vt_world_laws.proofs.Roots.{namespace_root_stands, own_there, in_own, pivoted_placed, root_stands, unshared_placed}
 use Rattle.vt_world_laws.proofs.Seen.{KeepsWhatIsSeen, kind_is, kind_seen, seen_alike, there_is}
 use Rattle.vt_world_laws.proofs.SeenTrees.{change_of_plain, change_tasks, changed_one, found_new, made_kind, old_number}
 

@@ -1,9 +1,8 @@
 -- A permit that fits keeps what is seen.
-use Rattle.std.proofs.Common.{◌≡◌, refl, sym, ap, subst, ◌∙◌, ℕ, nat_eq, Bool, true, false, filter, flat_map, List, [], ◌∷◌, ◌++◌, Option, Some, None, map}
+use Rattle.std.proofs.Common.{◌≡◌, refl, sym, subst, ◌∙◌, ℕ, nat_eq, Bool, true, false, filter, flat_map, List, [], ◌∷◌, Option, Some, None, map}
 use Rattle.std.specs.Prelude.{All}
 use Rattle.vt_spec.specs.Machine.Apply.{apply_unraised}
 use Rattle.vt_spec.specs.Machine.Attach.{bind_tree}
-use Rattle.vt_spec.specs.Machine.Calls.{Access}
 use Rattle.vt_spec.specs.Machine.Changes.{Change}
 use Rattle.vt_spec.specs.Machine.Changes.Change.{AddName, CopyUp, Make, Move, Remove, SetAttr, SetBytes, SetMark}
 use Rattle.vt_spec.specs.Machine.Detach.{going, taken_away, mounts_on, without_mounts_on}
@@ -18,7 +17,7 @@ use Rattle.vt_spec.specs.Machine.Permits.Permit.{Allowed, ToBind, ToChange, ToCl
 use Rattle.vt_spec.specs.Machine.Run.{Serves}
 use Rattle.vt_spec.specs.Machine.World.{Task, World, files_at, is_overlay, mount_at, mount_numbered, mounts_of, without_task}
 use Rattle.vt_spec.specs.Machine.WorldLaws.{IsWorld, Stands}
-use Rattle.vt_spec.proofs.Lists.{Among, among_from_all}
+use Rattle.vt_spec.proofs.Lists.{among_from_all}
 use Rattle.vt_mount_laws.proofs.Unmounting.{all_but_mounts}
 use Rattle.vt_tree_laws.proofs.TreesOfWorlds.{taken_filesystems}
 use Rattle.vt_world_laws.specs.Worlds.Kept.{IsPlain}

@@ -1,5 +1,5 @@
 -- A permit that fits leaves each mount with a root and a place that are directories.
-use Rattle.std.proofs.Common.{◌≡◌, refl, ◌∙◌, ap, ℕ, nat_eq, Bool, true, false, List, [], ◌∷◌, Option, Some, None, is_some}
+use Rattle.std.proofs.Common.{◌≡◌, refl, ℕ, nat_eq, Bool, true, false, List, [], ◌∷◌, Option, Some, None, is_some}
 use Rattle.std.proofs.lemmas.Bool.{and_parts}
 use Rattle.vt_spec.specs.Machine.Apply.{apply_unraised}
 use Rattle.vt_spec.specs.Machine.Changes.Change.{CopyUp, Make, Move, Remove}
@@ -18,11 +18,11 @@ use Rattle.vt_spec.specs.Machine.World.{Task, World, mount_at, mount_numbered, n
 use Rattle.vt_spec.specs.Machine.WorldLaws.{IsWorld}
 use Rattle.vt_mount_laws.specs.Mounts.Attaching.{is_mount}
 use Rattle.vt_world_laws.specs.Worlds.Kept.{IsPlain, KeptByPermits, MountsShow}
-use Rattle.vt_world_laws.specs.Worlds.Permits.{IsDestination, IsReachedDirectory, NamesWhatIsThere}
+use Rattle.vt_world_laws.specs.Worlds.Permits.{IsReachedDirectory, NamesWhatIsThere}
 use Rattle.vt_world_laws.proofs.PermitsSeen.{copy_seen, gone_on, makes_none, new_at, permits_keep_what_is_seen, replaced_plain, taken_plain, written_seen}
 use Rattle.vt_world_laws.proofs.Roots.{own_there}
 use Rattle.vt_world_laws.proofs.Seen.{KeepsWhatIsSeen, seen_alike}
-use Rattle.vt_world_laws.proofs.SeenTrees.{MakesNew, change_mounts, change_seen}
+use Rattle.vt_world_laws.proofs.SeenTrees.{change_mounts, change_seen}
 use Rattle.vt_world_laws.proofs.Shows.{AllShow, IsPlace, all_show_after, ended_show, flags_show, lazy_show, mounts_show, own_shows, pivoted_show, retyped_show, taken_show, unshared_show, world_shows}
 use Rattle.vt_world_laws.proofs.ShowsGrafts.{bound_show, mounted_show, moved_show}
 

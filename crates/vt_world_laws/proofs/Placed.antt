@@ -1,6 +1,5 @@
 -- Where tasks stand, and what they have open, is there in each world that keeps what is seen.
-use Rattle.std.proofs.Common.{◌≡◌, refl, sym, ap, subst, ◌∙◌, ◌⊎◌, inl, inr, ⊎_elim, ℕ, nat_eq, Bool, true, false, cond, ◌&&◌, ◌++◌, flat_map, List, [], ◌∷◌, map, nat_lt, filter, not, ◌==◌}
-use Rattle.std.specs.List.{list_all}
+use Rattle.std.proofs.Common.{◌≡◌, refl, sym, ap, subst, ◌∙◌, ◌⊎◌, inl, inr, ⊎_elim, ℕ, nat_eq, Bool, true, false, cond, List, [], ◌∷◌, map, nat_lt}
 use Rattle.std.proofs.lemmas.Bool.{and_from, and_parts}
 use Rattle.vt_spec.specs.declared.attributes.Kind.TheVariants.{File}
 use Rattle.vt_spec.specs.Machine.FileTree.{is_kind_in}
@@ -8,7 +7,7 @@ use Rattle.vt_spec.specs.Machine.Mounts.{Location}
 use Rattle.vt_spec.specs.Machine.Outcome.Descriptors.{inserted}
 use Rattle.vt_spec.specs.Machine.World.{Descriptor, Task, World, all_locations, is_directory_at, locations_of, mount_at, node_at, replaced_if_called, same_name}
 use Rattle.vt_spec.specs.Machine.WorldLaws.{has_regular_files_open, is_directory_seen_in, is_located_well, stands_on_directories}
-use Rattle.vt_spec.proofs.Lists.{Among, among-append_left, among-flat_map, among-from_flat_map, among-from_map, among-map, among_from_list_all, list_all_from_among}
+use Rattle.vt_spec.proofs.Lists.{Among, among-flat_map, among-from_flat_map, among-from_map, among-map, among_from_list_all, list_all_from_among}
 use Rattle.vt_world_laws.specs.Worlds.Tasks.{LocationsAreThere, OpenFilesAreRegular, TasksStandOnDirectories}
 use Rattle.vt_world_laws.proofs.Seen.{KeepsWhatIsSeen, directory_after, file_after, is_in, located_after, mount_of_located}
 
@@ -71,10 +70,10 @@ all_are_placed world there directories files task m =
       root = record { located = located task.root (inl refl); directory = root.0; inside = root.1 };
       directory = record { located = located task.directory (inr (inl refl)); directory = directory.0; inside = directory.1 };
       files = λ descriptor n. record {
-          located = located descriptor.location (inr (inr (among-map (λ (d : Descriptor ℕ). d.location) task.descriptors descriptor n)));
-          regular = among_from_list_all (λ (d : Descriptor ℕ). is_kind_in File (node_at nat_eq world d.location)) task.descriptors
-              (among_from_list_all (has_regular_files_open nat_eq world) world.tasks files task m) descriptor n;
-        };
+        located = located descriptor.location (inr (inr (among-map (λ (d : Descriptor ℕ). d.location) task.descriptors descriptor n)));
+        regular = among_from_list_all (λ (d : Descriptor ℕ). is_kind_in File (node_at nat_eq world d.location)) task.descriptors
+            (among_from_list_all (has_regular_files_open nat_eq world) world.tasks files task m) descriptor n;
+      };
     }
   where
     located : (location : Location ℕ) → Among location (locations_of task) → is_located_well nat_eq world location ≡ true

@@ -1,14 +1,14 @@
 -- Directories at which a task may come to stand: the root of a mount of its namespace, also through mounts over it, and the
 -- copies of where it stood.
-use Rattle.std.proofs.Common.{◌≡◌, refl, sym, ap, subst, ◌∙◌, inl, inr, ⊎_elim, ℕ, zero, suc, nat_eq, eqb-true, eq-eqb, Bool, true, false, cond, true≢false, find, filter, length, not, List, [], ◌∷◌, ◌++◌, ◌&&◌, ◌==◌, Option, Some, None, is_some, map, option_map}
+use Rattle.std.proofs.Common.{◌≡◌, refl, sym, ap, subst, ◌∙◌, inl, inr, ⊎_elim, ℕ, zero, suc, nat_eq, eqb-true, eq-eqb, Bool, true, false, cond, true≢false, find, filter, length, List, [], ◌∷◌, ◌==◌, Option, Some, None, is_some, map, option_map}
 use Rattle.std.specs.Prelude.{if◌then◌else◌, option_to_list, unwrap_or}
-use Rattle.std.specs.List.{list_all, list_any}
+use Rattle.std.specs.List.{list_all}
 use Rattle.std.proofs.lemmas.Bool.{and_from, and_parts}
-use Rattle.vt_spec.specs.Machine.Lists.{Fresh, chain, evens, holds_of, is_among, last_or, odds}
+use Rattle.vt_spec.specs.Machine.Lists.{Fresh, chain, evens, holds_of, last_or, odds}
 use Rattle.vt_spec.specs.Machine.Mounts.{Location, Mount, child_at, numbers_by, root_of, stands_at, topmost}
-use Rattle.vt_spec.specs.Machine.Namespaces.{copied_mount, is_copied, location_on_copy, moved_location, namespace_root, pivoted, pivoted_location, pivoted_task, unshared, unshared_task}
+use Rattle.vt_spec.specs.Machine.Namespaces.{copied_mount, is_copied, location_on_copy, moved_location, namespace_root, pivoted_location, pivoted_task, unshared, unshared_task}
 use Rattle.vt_spec.specs.Machine.World.{Namespace, Task, World, filesystem_numbered, is_directory_at, mount_at, mount_numbered, mounts_of, node_at, root_mount}
-use Rattle.vt_spec.specs.Machine.WorldLaws.{IsWorld, Stands, has_its_root, has_one_root, is_listed, is_located_well, is_root_mount}
+use Rattle.vt_spec.specs.Machine.WorldLaws.{IsWorld, Stands, has_its_root, has_one_root, is_listed, is_root_mount}
 use Rattle.vt_spec.specs.Machine.WorldLaws.Stands.{at_root, on_parent}
 use Rattle.vt_spec.specs.Tree.{Node, is_directory_node}
 use Rattle.vt_spec.proofs.Lists.{Among, among-append_right, among-filter, among-from_filter, among-from_map, among-map, among_from_all, among_from_list_all, among_numbers, any_among, chain_ends, chain_goes_on, is_among_numbers, none_among}
@@ -19,7 +19,7 @@ use Rattle.vt_mount_laws.proofs.MountsPlaces.{stands_there}
 use Rattle.vt_mount_laws.proofs.MountsReplaced.{found_itself}
 use Rattle.vt_spec.specs.Machine.Run.{Serves}
 use Rattle.vt_world_laws.proofs.PermitsSeen.{unshared_seen}
-use Rattle.vt_world_laws.proofs.Placed.{IsPlaced, OpensAt, StandsAt, opens_after, stands_after}
+use Rattle.vt_world_laws.proofs.Placed.{IsPlaced, StandsAt, opens_after, stands_after}
 use Rattle.vt_world_laws.proofs.Seen.{KeepsWhatIsSeen, is_in, mount_of_located}
 
 pub directory_there : (o : Option (Node ℕ)) → is_directory_node o ≡ true → is_some o ≡ true
@@ -122,6 +122,12 @@ module _ (world : World ℕ) (is : IsWorld nat_eq world) where
               subst (StandsAt world own) (ap (λ o. unwrap_or o b) f)
               (root_stands own child t.0 (child_in own child t.0 a (stands_there a child t.1) stands.inside))
 
+  found_root : (own : ℕ) (default : Location ℕ) (found : Option (Mount ℕ)) (mount : Mount ℕ) → found ≡ Some mount
+      → StandsAt world own (topmost nat_eq world.mounts (root_of mount))
+      → StandsAt world own (unwrap_or (option_map (λ (m : Mount ℕ). topmost nat_eq world.mounts (root_of m)) found) default)
+  found_root own default found mount e =
+      subst (λ o. StandsAt world own (unwrap_or (option_map (λ (m : Mount ℕ). topmost nat_eq world.mounts (root_of m)) o) default)) (sym e)
+
   -- the root of a namespace that is there
   pub namespace_root_stands : (namespace : ℕ) (task : Task ℕ) → is_listed nat_eq world namespace ≡ true
       → StandsAt world namespace (unwrap_or (namespace_root nat_eq world namespace) task.root)
@@ -134,7 +140,7 @@ module _ (world : World ℕ) (is : IsWorld nat_eq world) where
       let first = among-from_filter (is_root_mount nat_eq) mounts only.0 only.1 in
       let found = found_some (is_root_mount nat_eq) mounts only.0 first.0 first.1 in
       let mount = among-from_filter (λ (m : Mount ℕ). holds_of (nat_eq namespace) m.namespace) world.mounts found.0 found.2 in
-      subst (λ o. StandsAt world namespace (unwrap_or (option_map (λ (m : Mount ℕ). topmost nat_eq world.mounts (root_of m)) o) task.root)) (sym found.1)
+      found_root namespace task.root (root_mount nat_eq world namespace) found.0 found.1
       (over_stands namespace (root_of found.0)
       (root_stands namespace found.0 mount.0 (in_own namespace found.0 (holds_is namespace found.0.namespace mount.1))))
 

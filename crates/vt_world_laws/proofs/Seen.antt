@@ -1,16 +1,16 @@
 -- What a change of a world keeps of what is seen: mounts stay and show what they showed, in their namespace or in none, and
 -- inodes stay and keep their kind.
-use Rattle.std.proofs.Common.{◌≡◌, refl, sym, ap, subst, ◌∙◌, ℕ, nat_eq, Bool, true, false, true≢false, List, [], ◌∷◌, ◌&&◌, Option, Some, None, is_some, map}
+use Rattle.std.proofs.Common.{◌≡◌, refl, sym, ap, subst, ◌∙◌, ℕ, nat_eq, Bool, true, ◌&&◌, Option, Some, None, is_some}
 use Rattle.std.specs.Prelude.{option_to_list}
 use Rattle.std.specs.List.{list_all}
 use Rattle.std.proofs.lemmas.Bool.{and_parts}
 use Rattle.vt_spec.specs.declared.attributes.Kind.{Kind}
 use Rattle.vt_spec.specs.declared.attributes.Kind.TheVariants.{File}
 use Rattle.vt_spec.specs.Machine.FileTree.{is_kind, is_kind_in}
-use Rattle.vt_spec.specs.Machine.Lists.{folded, holds_of, is_among}
+use Rattle.vt_spec.specs.Machine.Lists.{holds_of, is_among}
 use Rattle.vt_spec.specs.Machine.Mounts.{Location, Mount, mount_in}
 use Rattle.vt_spec.specs.Machine.World.{World, filesystem_numbered, is_directory_at, mount_at, mount_numbered, node_at}
-use Rattle.vt_spec.specs.Machine.WorldLaws.{is_directory_seen_in, is_located_well, is_there}
+use Rattle.vt_spec.specs.Machine.WorldLaws.{is_located_well, is_there}
 use Rattle.vt_spec.specs.Rights.{is_directory}
 use Rattle.vt_spec.specs.Tree.{Node, is_directory_node, kind_of}
 use Rattle.vt_mount_laws.specs.Mounts.Attaching.{is_mount, numbers_of}

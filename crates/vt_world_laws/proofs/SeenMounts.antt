@@ -1,29 +1,27 @@
 -- Changes of mounts keep what is seen: mounts that are taken away, attached, moved, copied or changed.
-use Rattle.std.proofs.Common.{◌≡◌, refl, sym, ap, subst, ◌∙◌, ◌⊎◌, inl, inr, ⊎_elim, ℕ, zero, suc, nat_eq, eqb-true, eq-eqb, Bool, true, false, cond, true≢false, find, flat_map, filter, length, List, [], ◌∷◌, ◌++◌, Option, Some, None, is_some, map}
+use Rattle.std.proofs.Common.{◌≡◌, refl, sym, ap, subst, ◌∙◌, inl, inr, ⊎_elim, ℕ, zero, suc, nat_eq, eqb-true, Bool, true, false, cond, true≢false, find, length, List, [], ◌∷◌, ◌++◌, Some, is_some, map}
 use Rattle.std.specs.Prelude.{if◌then◌else◌, unwrap_or}
-use Rattle.vt_spec.specs.Machine.Attach.{Copies, attach, attached_by, copy_at, graft_of, parts_of, twig_of}
+use Rattle.vt_spec.specs.Machine.Attach.{Copies, attach, copy_at, graft_of, parts_of, twig_of}
 use Rattle.vt_spec.specs.Machine.Calls.{TypeWord}
-use Rattle.vt_spec.specs.Machine.Detach.{deepest_first, going, is_going, lazily_unmounted, taken_away, trees_taken_away, unmounted, unmounted_if_there, without_mounts_on}
-use Rattle.vt_spec.specs.Machine.Lists.{Fresh, evens, folded, holds_of, is_among, odds}
-use Rattle.vt_spec.specs.Machine.Mounts.{Location, Mount, MountFlags, children, group_of, mount_in, mount_tree, numbers_by, stands_on, tree_from, with_mount}
-use Rattle.vt_spec.specs.Machine.Namespaces.{copied_mount, namespaces_ended, pivoted, pivoted_mount, unshared}
-use Rattle.vt_spec.specs.Machine.Outcome.Mounting.{bound_at, mounted, new_mount, with_new_filesystem}
+use Rattle.vt_spec.specs.Machine.Detach.{deepest_first, going, is_going, lazily_unmounted, taken_away, unmounted, unmounted_if_there}
+use Rattle.vt_spec.specs.Machine.Lists.{Fresh, folded, holds_of, is_among}
+use Rattle.vt_spec.specs.Machine.Mounts.{Location, Mount, MountFlags, children, group_of, mount_in, mount_tree, stands_on, tree_from, with_mount}
+use Rattle.vt_spec.specs.Machine.Namespaces.{pivoted, pivoted_mount}
+use Rattle.vt_spec.specs.Machine.Outcome.Mounting.{mounted, new_mount, with_new_filesystem}
 use Rattle.vt_spec.specs.Machine.Types.{with_type}
-use Rattle.vt_spec.specs.Machine.World.{Filesystem, Task, World, mount_at, mount_numbered, mounts_of, no_filesystem, with_mounts}
+use Rattle.vt_spec.specs.Machine.World.{Filesystem, World, mount_at, mount_numbered, no_filesystem, with_mounts}
 use Rattle.vt_spec.specs.Machine.WorldLaws.{Stands}
 use Rattle.vt_spec.specs.Machine.WorldLaws.Stands.{at_root, on_parent}
 use Rattle.vt_spec.proofs.Lists.{Among, among-append_left, among-from_filter, among-from_flat_map, among-from_map, among_numbers, is_among_numbers}
 use Rattle.vt_mount_laws.specs.Mounts.Attaching.{OneNumberAMount, is_mount, numbers_of}
-use Rattle.vt_mount_laws.specs.Mounts.Standing.{AllStand}
-use Rattle.vt_mount_laws.specs.Mounts.Unmounting.{KeepsAllButPlaceAndType}
-use Rattle.vt_mount_laws.proofs.MountsAttached.{arrives, arriving, attach_keeps_mounts, found_attached, moved_mounts_show, moved_ones, numbers_attached, others, push, push_keeps, supplied}
+use Rattle.vt_mount_laws.proofs.MountsAttached.{arrives, arriving, attach_keeps_mounts, found_attached, moved_mounts_show, moved_ones, numbers_attached, others, push_keeps, supplied}
 use Rattle.vt_mount_laws.proofs.MountsFound.{found-map_there, number_found, numbers-map}
 use Rattle.vt_mount_laws.proofs.MountsReplaced.{found-append, found_itself, numbers-with_mount, related-with_mount, tree_among}
 use Rattle.vt_mount_laws.proofs.MountsRetyped.{numbers_with_type, type_is_all_that_changes, types_are_of_mounts}
 use Rattle.vt_mount_laws.proofs.Unmounting.{numbers_taken}
 use Rattle.vt_mount_laws.proofs.UnmountingEnds.{others_are_kept, taken_are_detached}
 use Rattle.vt_tree_laws.proofs.TreesOfWorlds.{numbered, taken_filesystems}
-use Rattle.vt_world_laws.proofs.Seen.{KeepsKind, KeepsView, KeepsWhatIsSeen, is_in, kind_seen, node_in, same_seen, same_view, seen_alike, seen_by_mounts, seen_on}
+use Rattle.vt_world_laws.proofs.Seen.{KeepsKind, KeepsView, KeepsWhatIsSeen, is_in, kind_seen, same_seen, same_view, seen_alike, seen_by_mounts, seen_on}
 
 -- more mounts behind those that were there
 listed_in_front : (number : ℕ) (numbers more : List ℕ) → is_among nat_eq number numbers ≡ true → is_among nat_eq number (numbers ++ more) ≡ true

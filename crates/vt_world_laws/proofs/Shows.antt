@@ -1,13 +1,13 @@
 -- What mounts show, and where they stand, stays there when mounts are taken away, changed or copied.
-use Rattle.std.proofs.Common.{◌≡◌, refl, sym, ap, subst, ◌∙◌, inl, inr, ⊎_elim, ℕ, nat_eq, eqb-true, eq-eqb, Bool, true, false, cond, true≢false, filter, not, List, [], ◌∷◌, ◌++◌, ◌&&◌, ◌||◌, Option, Some, None, is_some, length, map, option_map}
+use Rattle.std.proofs.Common.{◌≡◌, refl, sym, ap, subst, ◌∙◌, ⊎_elim, ℕ, nat_eq, eqb-true, eq-eqb, Bool, true, false, true≢false, not, List, [], ◌∷◌, ◌&&◌, ◌||◌, Option, Some, None, is_some, length, map, option_map}
 use Rattle.std.specs.Prelude.{if◌then◌else◌, option_to_list, unwrap_or}
-use Rattle.std.specs.List.{list_all, list_any}
+use Rattle.std.specs.List.{list_all}
 use Rattle.std.proofs.lemmas.Bool.{and_from, and_parts}
 use Rattle.std.proofs.lemmas.Option.{same_Some}
 use Rattle.vt_spec.specs.Machine.Calls.{TypeWord}
 use Rattle.vt_spec.specs.Machine.Detach.{after_going, deepest_first, going, is_going, lazily_unmounted, place_below, place_left, taken_away, unmounted, unmounted_if_there}
-use Rattle.vt_spec.specs.Machine.Lists.{Fresh, chain, evens, folded, holds_of, last_or, odds}
-use Rattle.vt_spec.specs.Machine.Mounts.{Location, Mount, MountFlags, detached, mount_tree, numbers_by, replaced_if_same, root_of, with_mount}
+use Rattle.vt_spec.specs.Machine.Lists.{Fresh, evens, folded, holds_of, odds}
+use Rattle.vt_spec.specs.Machine.Mounts.{Location, Mount, MountFlags, detached, mount_tree, numbers_by, replaced_if_same, with_mount}
 use Rattle.vt_spec.specs.Machine.Namespaces.{copied_mount, location_on_copy, namespaces_ended, pivoted, pivoted_mount, unshared}
 use Rattle.vt_spec.specs.Machine.Receives.{inheriting}
 use Rattle.vt_spec.specs.Machine.Run.{Serves}
@@ -24,7 +24,6 @@ use Rattle.vt_mount_laws.proofs.MountsRetyped.{between, groups_by, retype, retyp
 use Rattle.vt_mount_laws.proofs.Unmounting.{middle}
 use Rattle.vt_world_laws.specs.Worlds.Kept.{MountsShow}
 use Rattle.vt_world_laws.proofs.PermitsSeen.{unshared_seen}
-use Rattle.vt_world_laws.proofs.Placed.{StandsAt}
 use Rattle.vt_world_laws.proofs.Roots.{copy_stands, directory_there, in_own, is_numbered, itself, last_has, own_there}
 use Rattle.vt_world_laws.proofs.Seen.{KeepsWhatIsSeen, directory_after, directory_kept, node_in, seen_alike}
 use Rattle.vt_world_laws.proofs.SeenMounts.{flags_seen, pivoted_seen, retyped_seen, taken_seen}
@@ -125,10 +124,10 @@ module _ (world : World ℕ) (is : IsWorld nat_eq world) where
       record {
         root = parts.0;
         place = λ place at. record {
-            listed = place_listed mount m place at;
-            directory = (and_parts (is_directory_at nat_eq world place) true
-                (sym (ap (λ o. list_all (is_directory_at nat_eq world) (option_to_list o)) at) ∙ parts.1)).0;
-          };
+          listed = place_listed mount m place at;
+          directory = (and_parts (is_directory_at nat_eq world place) true
+              (sym (ap (λ o. list_all (is_directory_at nat_eq world) (option_to_list o)) at) ∙ parts.1)).0;
+        };
       }
 
   pub own_shows : (mount own : ℕ) → (mount_numbered nat_eq world mount).namespace ≡ Some own → ShowsWell world (mount_numbered nat_eq world mount)

@@ -4,17 +4,17 @@ use Rattle.std.specs.Prelude.{if◌then◌else◌, unwrap_or}
 use Rattle.std.proofs.lemmas.Bool.{and_from, and_parts}
 use Rattle.std.proofs.lemmas.Option.{same_Some}
 use Rattle.vt_spec.specs.Machine.Attach.{Copies, Graft, Twig, added_mounts, attached_by, copies_at, copy_at, copy_number, copy_place, is_top, place_on_copy, pushed_onto, reaches, receiver_below, receivers_of, takes_part, top_of_copies, twig_of, with_moved_mounts}
-use Rattle.vt_spec.specs.Machine.Lists.{folded, holds_of, rest_of}
-use Rattle.vt_spec.specs.Machine.Mounts.{Location, Mount, child_at, group_of, replaced_if_same, root_of, stands_at, stands_on, with_mount}
-use Rattle.vt_spec.specs.Machine.World.{World, is_directory_at, mount_at, mount_numbered, node_at}
+use Rattle.vt_spec.specs.Machine.Lists.{folded, rest_of}
+use Rattle.vt_spec.specs.Machine.Mounts.{Location, Mount, child_at, group_of, replaced_if_same, root_of, stands_at, with_mount}
+use Rattle.vt_spec.specs.Machine.World.{World, is_directory_at, mount_at, mount_numbered}
 use Rattle.vt_spec.specs.Tree.{is_directory_node}
 use Rattle.vt_spec.proofs.Lists.{Among, among-append, among-append_left, among-append_right, among-flat_map, among-from_filter, among-from_flat_map, among-from_map, among-map, is_among_numbers}
 use Rattle.vt_mount_laws.specs.Mounts.Attaching.{OneNumberAMount, is_mount, numbers_of}
 use Rattle.vt_mount_laws.proofs.Attaching.{taker_there}
-use Rattle.vt_mount_laws.proofs.MountsAttached.{arriving, graft, moved_ones, parts, push}
+use Rattle.vt_mount_laws.proofs.MountsAttached.{graft, moved_ones, parts, push}
 use Rattle.vt_mount_laws.proofs.MountsFound.{found_in, number_found}
 use Rattle.vt_mount_laws.proofs.MountsReplaced.{found_itself}
-use Rattle.vt_world_laws.proofs.Roots.{directory_there, last_has}
+use Rattle.vt_world_laws.proofs.Roots.{last_has}
 use Rattle.vt_world_laws.proofs.Seen.{KeepsWhatIsSeen, node_in}
 use Rattle.vt_world_laws.proofs.Shows.{AllShow, IsPlace, ShowsWell, place_after, shows_after}
 

@@ -1,16 +1,15 @@
 -- Binds, new mounts and moves leave mounts that show what is there, and stand on what is there.
-use Rattle.std.proofs.Common.{◌≡◌, refl, sym, ap, subst, ◌∙◌, ◌⊎◌, inl, inr, ⊎_elim, ℕ, zero, suc, ◌+◌, ◌*◌, arith, nat_eq, eqb-true, eq-eqb, Bool, true, false, cond, true≢false, find, flat_map, filter, List, [], ◌∷◌, ◌++◌, Option, Some, None, is_some, length, map}
+use Rattle.std.proofs.Common.{◌≡◌, refl, sym, ap, subst, ◌∙◌, ◌⊎◌, inl, inr, ⊎_elim, ℕ, zero, suc, ◌+◌, ◌*◌, arith, nat_eq, eqb-true, eq-eqb, Bool, true, false, cond, true≢false, find, flat_map, filter, List, [], ◌∷◌, ◌++◌, Some, None, length, map}
 use Rattle.std.specs.Prelude.{unwrap_or}
 use Rattle.vt_spec.specs.Machine.Attach.{attach, bind_tree, bindable_children, bindable_tree, bound, is_top, stands_under, twig_of}
-use Rattle.vt_spec.specs.Machine.Lists.{Fresh, evens, first_of_list, holds_of, is_among, odds}
+use Rattle.vt_spec.specs.Machine.Lists.{Fresh, first_of_list, holds_of, odds}
 use Rattle.vt_spec.specs.Machine.Mounts.{Location, Mount, MountFlags, children, group_of, mount_tree, stands_on, tree_from}
 use Rattle.vt_spec.specs.Machine.Outcome.Mounting.{bound_at, mounted, new_mount, plain_filesystem, with_new_filesystem}
 use Rattle.vt_spec.specs.Machine.Run.{Serves, numbers_in_use, used_by_filesystem, used_by_mount}
 use Rattle.vt_spec.specs.Machine.World.{Filesystem, World, is_directory_at, mount_at, mount_numbered, no_filesystem, root_attr}
 use Rattle.vt_spec.specs.Machine.WorldLaws.{IsWorld}
-use Rattle.vt_spec.specs.Tree.{Node, is_directory_node, new_directory}
+use Rattle.vt_spec.specs.Tree.{is_directory_node, new_directory}
 use Rattle.vt_spec.proofs.Lists.{Among, among-append, among-append_left, among-append_right, among-flat_map, among-from_filter, among-from_flat_map, none_from_among}
-use Rattle.vt_mount_laws.specs.Mounts.Attaching.{is_mount}
 use Rattle.vt_mount_laws.proofs.BindsStand.{binds_keep_numbers, moves_keep_numbers, new_mounts_keep_numbers}
 use Rattle.vt_mount_laws.proofs.MountsAttached.{graft, supplied}
 use Rattle.vt_mount_laws.proofs.MountsFound.{number_found}

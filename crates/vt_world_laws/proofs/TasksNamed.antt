@@ -1,19 +1,17 @@
 -- Tasks keep names of their own: what a fork names is a new name, where tasks have counted their forks.
-use Rattle.std.proofs.Common.{◌≡◌, refl, sym, ap, subst, ◌∙◌, ◌⊎◌, inl, inr, ⊎_elim, ℕ, suc, nat_eq, Bool, true, false, cond, true≢false, filter, not, length, List, [], ◌∷◌, ◌++◌, ◌+◌, ◌≤◌, ◌||◌, append_assoc, arith, Option, Some, None, is_some, map}
+use Rattle.std.proofs.Common.{◌≡◌, refl, sym, ap, subst, ◌∙◌, ◌⊎◌, inl, inr, ⊎_elim, ℕ, nat_eq, Bool, true, false, cond, true≢false, filter, not, List, [], ◌∷◌, ◌++◌, ◌+◌, ◌≤◌, ◌||◌, append_assoc, arith, is_some, map}
 use Rattle.std.specs.Prelude.{if◌then◌else◌}
 use Rattle.std.specs.List.{list_any}
-use Rattle.std.specs.Str.{bytes_eq}
 use Rattle.std.specs.Cmp.Lexicographic.{bytes_decides}
 use Rattle.std.proofs.lemmas.Bool.{or_parts}
-use Rattle.vt_spec.specs.Machine.Apply.{apply_unraised}
-use Rattle.vt_spec.specs.Machine.Lists.{Fresh, any_pair, first_of_list, rest_of}
+use Rattle.vt_spec.specs.Machine.Lists.{any_pair, first_of_list, rest_of}
 use Rattle.vt_spec.specs.Machine.Mounts.{Mount}
 use Rattle.vt_spec.specs.Machine.Namespaces.{pivoted_location, pivoted_task}
 use Rattle.vt_spec.specs.Machine.Outcome.Tasks.{child_name, child_of}
 use Rattle.vt_spec.specs.Machine.World.{Task, TaskName, World, first_task, opening, replaced_if_called, same_name}
 use Rattle.vt_spec.specs.Rights.{Credentials}
 use Rattle.vt_spec.proofs.Lists.{Among, among-append, among-from_filter, among-from_map, among_from_contains, contains_from_among, none_among, none_from_among, pair-filter, pair-map}
-use Rattle.vt_world_laws.specs.Worlds.Tasks.{ForksAreCounted, OneTaskAName, OpeningCountsForks, SettlingKeepsCountingForks}
+use Rattle.vt_world_laws.specs.Worlds.Tasks.{ForksAreCounted, OpeningCountsForks, SettlingKeepsCountingForks}
 
 -- A name that is put together in two ways
 module _ where
