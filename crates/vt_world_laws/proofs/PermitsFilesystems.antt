@@ -32,10 +32,12 @@ use Rattle.vt_world_laws.proofs.SeenTrees.{change_of_plain, changed_one, numbers
 -- How the filesystems go on: as they were, with one in the place of the one with its number, or with one more
 pub data FilesystemsGoOn (before : List (Filesystem ℕ)) : List (Filesystem ℕ) → Type 0 where
   same_ones : (after : List (Filesystem ℕ)) → after ≡ before → FilesystemsGoOn before after
-  one_changed : (new : Filesystem ℕ) (after : List (Filesystem ℕ)) → is_overlay new ≡ false → after ≡ map (replaced_if_numbered nat_eq new) before
+  one_changed : (new : Filesystem ℕ) (after : List (Filesystem ℕ)) → is_overlay new ≡ false
+      → after ≡ map (replaced_if_numbered nat_eq new) before
       → FilesystemsGoOn before after
   one_more : (new : Filesystem ℕ) (after : List (Filesystem ℕ)) → is_overlay new ≡ false
-      → ((old : Filesystem ℕ) → Among old before → nat_eq old.number new.number ≡ false) → after ≡ before ++ (new ∷ []) → FilesystemsGoOn before after
+      → ((old : Filesystem ℕ) → Among old before → nat_eq old.number new.number ≡ false)
+      → after ≡ before ++ (new ∷ []) → FilesystemsGoOn before after
 
 abbrev ArePlain : List (Filesystem ℕ) → Type 0
 ArePlain list = All (λ filesystem. is_overlay filesystem ≡ false) list
@@ -62,11 +64,13 @@ appended_apart : (list : List (Filesystem ℕ)) (new : Filesystem ℕ) → AreAp
     → ((old : Filesystem ℕ) → Among old list → nat_eq old.number new.number ≡ false) → AreApart (list ++ (new ∷ []))
 appended_apart [] new e differ = refl
 appended_apart (first ∷ rest) new e differ =
-    let parts = or_parts (list_any (λ (b : Filesystem ℕ). nat_eq first.number b.number) rest) (any_pair (λ (a b : Filesystem ℕ). nat_eq a.number b.number) rest) e in
+    let parts = or_parts (list_any (λ (b : Filesystem ℕ). nat_eq first.number b.number) rest)
+    (any_pair (λ (a b : Filesystem ℕ). nat_eq a.number b.number) rest) e in
     ap (λ b. b || any_pair (λ (a b : Filesystem ℕ). nat_eq a.number b.number) (rest ++ (new ∷ [])))
     (none_from_among (λ (b : Filesystem ℕ). nat_eq first.number b.number) (rest ++ (new ∷ [])) (λ b m.
     ⊎_elim (none_among (λ (x : Filesystem ℕ). nat_eq first.number x.number) rest parts.0 b)
-    (λ r. ⊎_elim (λ same. ap (λ (x : Filesystem ℕ). nat_eq first.number x.number) same ∙ differ first (inl refl)) (λ none. absurd none) r)
+    (λ r. ⊎_elim (λ same. ap (λ (x : Filesystem ℕ). nat_eq first.number x.number) same ∙ differ first (inl refl))
+    (λ none. absurd none) r)
     (among-append rest (new ∷ []) b m)))
     ∙ appended_apart rest new parts.1 (λ old m. differ old (inr m))
 
@@ -85,11 +89,14 @@ go_on_apart : (before after : List (Filesystem ℕ)) → FilesystemsGoOn before 
 go_on_apart before after (same_ones list e) apart_all = subst AreApart (sym e) apart_all
 go_on_apart before after (one_changed new list one e) apart_all =
     subst AreApart (sym e)
-    (pair_by_numbers (map (replaced_if_numbered nat_eq new) before) ∙ ap (any_pair nat_eq) (numbers-replaced new before)
+    (pair_by_numbers (map (replaced_if_numbered nat_eq new) before)
+    ∙ ap (any_pair nat_eq) (numbers-replaced new before)
     ∙ sym (pair_by_numbers before) ∙ apart_all)
-go_on_apart before after (one_more new list one differ e) apart_all = subst AreApart (sym e) (appended_apart before new apart_all differ)
+go_on_apart before after (one_more new list one differ e) apart_all =
+    subst AreApart (sym e) (appended_apart before new apart_all differ)
 
-module _ (world : World ℕ) (fresh : Fresh ℕ) (task : Task ℕ) (plain : IsPlain world) (serves : Serves nat_eq world fresh) where
+module _ (world : World ℕ) (fresh : Fresh ℕ) (task : Task ℕ) (plain : IsPlain world)
+    (serves : Serves nat_eq world fresh) where
   abbrev after : Permit ℕ → World ℕ
   after permit = (apply_unraised nat_eq fresh world task permit).world
 
@@ -97,12 +104,15 @@ module _ (world : World ℕ) (fresh : Fresh ℕ) (task : Task ℕ) (plain : IsPl
   Goes permit = FilesystemsGoOn world.filesystems (after permit).filesystems
 
   -- a change is of one filesystem
-  changing : (supply : Fresh ℕ) (middle : World ℕ) → IsPlain middle → middle.filesystems ≡ world.filesystems → (location : Location ℕ) (change : Change ℕ)
-      → FilesystemsGoOn world.filesystems (with_change_counted nat_eq (λ number. number) supply middle location change).filesystems
+  changing : (supply : Fresh ℕ) (middle : World ℕ) → IsPlain middle → middle.filesystems ≡ world.filesystems
+      → (location : Location ℕ) (change : Change ℕ)
+      → FilesystemsGoOn world.filesystems
+      (with_change_counted nat_eq (λ number. number) supply middle location change).filesystems
   changing supply middle also same location change =
       let new = changed_one (λ number. number) supply middle also location change in
       one_changed new (with_change_counted nat_eq (λ number. number) supply middle location change).filesystems
-      (numbered_anyhow (λ filesystem. is_overlay filesystem ≡ false) (mount_at nat_eq middle location).filesystem middle.filesystems also refl)
+      (numbered_anyhow (λ filesystem. is_overlay filesystem ≡ false)
+      (mount_at nat_eq middle location).filesystem middle.filesystems also refl)
       (ap (λ (w : World ℕ). w.filesystems) (change_of_plain (λ number. number) supply middle also location change)
       ∙ ap (map (replaced_if_numbered nat_eq new)) same)
 
@@ -112,11 +122,13 @@ module _ (world : World ℕ) (fresh : Fresh ℕ) (task : Task ℕ) (plain : IsPl
   copying false file = same_ones world.filesystems refl
 
   writing : (file : Location ℕ) (offset : ℕ) (bytes : List ℕ)
-      → FilesystemsGoOn world.filesystems (pwritten_counted nat_eq (λ number. number) fresh world file offset bytes).filesystems
+      → FilesystemsGoOn world.filesystems
+      (pwritten_counted nat_eq (λ number. number) fresh world file offset bytes).filesystems
   writing file offset [] = same_ones world.filesystems refl
   writing file offset (byte ∷ bytes) = changing fresh world plain refl file _
 
-  replacing : (replaced : Option (Location ℕ)) → (without_replaced nat_eq world replaced).filesystems ≡ world.filesystems
+  replacing : (replaced : Option (Location ℕ))
+      → (without_replaced nat_eq world replaced).filesystems ≡ world.filesystems
   replacing None = refl
   replacing (Some location) = taken_filesystems world (gone_on world location)
 
@@ -133,7 +145,8 @@ module _ (world : World ℕ) (fresh : Fresh ℕ) (task : Task ℕ) (plain : IsPl
       changing fresh (without_mounts_on nat_eq world directory) (taken_plain world (gone_on world directory) plain)
       (taken_filesystems world (gone_on world directory)) parent (Remove parent.node name directory.node)
   filesystems_go_on (ToRename from old to new object replaced) fits =
-      changing fresh (without_replaced nat_eq world replaced) (replaced_plain world replaced plain) (replacing replaced) from
+      changing fresh (without_replaced nat_eq world replaced) (replaced_plain world replaced plain)
+      (replacing replaced) from
       (Move from.node old to.node new object.node)
   filesystems_go_on (ToOpen file access) fits = copying (is_copied_up nat_eq world file access) file
   filesystems_go_on (ToOpenNew directory name node access) fits =
@@ -145,22 +158,29 @@ module _ (world : World ℕ) (fresh : Fresh ℕ) (task : Task ℕ) (plain : IsPl
   filesystems_go_on (ToSetUmask umask) fits = same_ones world.filesystems refl
   filesystems_go_on (ToSetCredentials credentials) fits = same_ones world.filesystems refl
   filesystems_go_on (ToFork credentials) fits = same_ones world.filesystems refl
-  filesystems_go_on ToExit fits = same_ones (after ToExit).filesystems (taken_filesystems (without_task world task.name) _)
-  filesystems_go_on ToUnshare fits = same_ones (after ToUnshare).filesystems (taken_filesystems (unshared nat_eq world fresh task) _)
+  filesystems_go_on ToExit fits = same_ones (after ToExit).filesystems
+      (taken_filesystems (without_task world task.name) _)
+  filesystems_go_on ToUnshare fits = same_ones (after ToUnshare).filesystems
+      (taken_filesystems (unshared nat_eq world fresh task) _)
   filesystems_go_on (ToEnterNamespace namespace) fits =
-      same_ones (after (ToEnterNamespace namespace)).filesystems (taken_filesystems (namespace_entered nat_eq world task namespace) _)
+      same_ones (after (ToEnterNamespace namespace)).filesystems
+      (taken_filesystems (namespace_entered nat_eq world task namespace) _)
   filesystems_go_on (ToMountPlain place flags) fits =
       one_more (plain_filesystem nat_eq fresh) (after (ToMountPlain place flags)).filesystems refl
-      (λ old m. apart (evens fresh 0) old.number (unused_by_filesystem world fresh serves 0 old m old.number (inl refl))) refl
+      (λ old m. apart (evens fresh 0) old.number
+      (unused_by_filesystem world fresh serves 0 old m old.number (inl refl))) refl
   filesystems_go_on (ToMountOverlay place overlay flags) fits = absurd fits
   filesystems_go_on (ToBind source place recursive) fits = same_ones world.filesystems refl
   filesystems_go_on (ToMove mount place) fits = same_ones world.filesystems refl
   filesystems_go_on (ToUnmount mount) fits =
-      same_ones (after (ToUnmount mount)).filesystems (taken_filesystems world (going nat_eq world (mount_numbered nat_eq world mount)))
-  filesystems_go_on (ToUnmountLazily mount) fits = same_ones (after (ToUnmountLazily mount)).filesystems (lazy_is_of_mounts world mount).filesystems
+      same_ones (after (ToUnmount mount)).filesystems
+      (taken_filesystems world (going nat_eq world (mount_numbered nat_eq world mount)))
+  filesystems_go_on (ToUnmountLazily mount) fits =
+      same_ones (after (ToUnmountLazily mount)).filesystems (lazy_is_of_mounts world mount).filesystems
   filesystems_go_on (ToSetFlags mount flags) fits = same_ones world.filesystems refl
   filesystems_go_on (ToSetType mount word recursive) fits =
-      same_ones (after (ToSetType mount word recursive)).filesystems (types_are_of_mounts world fresh mount word recursive).filesystems
+      same_ones (after (ToSetType mount word recursive)).filesystems
+      (types_are_of_mounts world fresh mount word recursive).filesystems
   filesystems_go_on (ToPivot new put) fits = same_ones world.filesystems refl
   filesystems_go_on ToListMounts fits = same_ones world.filesystems refl
 

@@ -40,7 +40,8 @@ pub found_among : {A : Type 0} (test : A → Bool) (xs : List A) (x : A) → fin
 found_among test [] x e = absurd (true≢false (sym (ap is_some e)))
 found_among {A = A} test (first ∷ rest) x e = by (test first) e (found_among test rest x)
   where
-    by : (b : Bool) → cond b (Some first) (find test rest) ≡ Some x → (find test rest ≡ Some x → Among x rest) → Among x (first ∷ rest)
+    by : (b : Bool) → cond b (Some first) (find test rest) ≡ Some x → (find test rest ≡ Some x → Among x rest)
+        → Among x (first ∷ rest)
     by true h later = inl (sym (ap (λ o. unwrap_or o first) h))
     by false h later = inr (later h)
 
@@ -54,7 +55,8 @@ same_tasks : (world : World ℕ) (a b : List (Task ℕ)) → a ≡ b → ArePlac
 same_tasks world a b same = subst (ArePlaced world) (sym same)
 
 -- a task with a further file open
-opened_placed : (world : World ℕ) (task : Task ℕ) (file : Location ℕ) (access : Access) → IsPlaced world task → OpensAt world file
+opened_placed : (world : World ℕ) (task : Task ℕ) (file : Location ℕ) (access : Access) → IsPlaced world task
+    → OpensAt world file
     → IsPlaced world (with_descriptor task file access)
 opened_placed world task file access at opens =
     record {
@@ -66,7 +68,8 @@ opened_placed world task file access at opens =
     }
 
 -- A new file
-module _ (count : ℕ → ℕ) (fresh : Fresh ℕ) (world : World ℕ) (plain : IsPlain world) (directory : Location ℕ) (name : List ℕ)
+module _ (count : ℕ → ℕ) (fresh : Fresh ℕ) (world : World ℕ) (plain : IsPlain world) (directory : Location ℕ)
+    (name : List ℕ)
     (number : ℕ) (node : Node ℕ) (is_directory : is_directory_at nat_eq world directory ≡ true) where
   abbrev made : Change ℕ
   made = Make directory.node name number node
@@ -79,7 +82,8 @@ module _ (count : ℕ → ℕ) (fresh : Fresh ℕ) (world : World ℕ) (plain : 
 
   pub new_kind : kind_seen (node_at nat_eq (with_filesystem nat_eq world grown) there) ≡ Some (kind_of node.content)
   new_kind =
-      ap (λ n. kind_seen ((numbered n (with_filesystem nat_eq world grown).filesystems).files.tree.node number)) (sym same)
+      ap (λ n. kind_seen ((numbered n (with_filesystem nat_eq world grown).filesystems).files.tree.node number))
+      (sym same)
       ∙ ⊎_elim
       (λ found. ap (λ (f : Filesystem ℕ). kind_seen (f.files.tree.node number)) found
       ∙ made_kind (filesystem_at nat_eq world directory).files directory.node name number node)
@@ -113,7 +117,8 @@ module _ (world : World ℕ) (fresh : Fresh ℕ) (task : Task ℕ) (is : IsWorld
   seen permit fits = permits_keep_what_is_seen world fresh task is plain serves permit fits
 
   -- the tasks are those that were there
-  unchanged : (permit : Permit ℕ) → Fits permit → (after permit).tasks ≡ world.tasks → ArePlaced (after permit) (after permit).tasks
+  unchanged : (permit : Permit ℕ) → Fits permit → (after permit).tasks ≡ world.tasks
+      → ArePlaced (after permit) (after permit).tasks
   unchanged permit fits same =
       same_tasks (after permit) (after permit).tasks world.tasks same
       (all_placed_after world (after permit) (seen permit fits) world.tasks all_placed)
@@ -131,16 +136,19 @@ module _ (world : World ℕ) (fresh : Fresh ℕ) (task : Task ℕ) (is : IsWorld
   placed_still permit fits = placed_after world (after permit) (seen permit fits) task placed
 
   -- namespaces end after the tasks changed
-  ended : (middle : World ℕ) → ArePlaced middle middle.tasks → ArePlaced (namespaces_ended nat_eq middle) (namespaces_ended nat_eq middle).tasks
+  ended : (middle : World ℕ) → ArePlaced middle middle.tasks
+      → ArePlaced (namespaces_ended nat_eq middle) (namespaces_ended nat_eq middle).tasks
   ended middle at =
-      same_tasks (namespaces_ended nat_eq middle) (namespaces_ended nat_eq middle).tasks middle.tasks (taken_tasks middle _)
+      same_tasks (namespaces_ended nat_eq middle) (namespaces_ended nat_eq middle).tasks middle.tasks
+      (taken_tasks middle _)
       (all_placed_after middle (namespaces_ended nat_eq middle) (namespaces_ended_seen middle) middle.tasks at)
 
   change_keeps_tasks : (location : Location ℕ) (change : Change ℕ)
       → (with_change_counted nat_eq (λ number. number) fresh world location change).tasks ≡ world.tasks
   change_keeps_tasks location change = change_tasks (λ number. number) fresh world plain location change
 
-  copy_keeps_tasks : (b : Bool) (file : Location ℕ) → (with_copy_counted nat_eq b (λ number. number) fresh world file).tasks ≡ world.tasks
+  copy_keeps_tasks : (b : Bool) (file : Location ℕ)
+      → (with_copy_counted nat_eq b (λ number. number) fresh world file).tasks ≡ world.tasks
   copy_keeps_tasks true file = change_keeps_tasks file (CopyUp file.node)
   copy_keeps_tasks false file = refl
 
@@ -150,14 +158,17 @@ module _ (world : World ℕ) (fresh : Fresh ℕ) (task : Task ℕ) (is : IsWorld
   writing_keeps_tasks file offset (byte ∷ bytes) = change_keeps_tasks file _
 
   -- a new file is open
-  new_file_opens : (directory : Location ℕ) (name : List ℕ) (node : Node ℕ) (access : Access) → Fits (ToOpenNew directory name node access)
-      → OpensAt (after (ToOpenNew directory name node access)) (record { mount = directory.mount; node = evens fresh 0 })
+  new_file_opens : (directory : Location ℕ) (name : List ℕ) (node : Node ℕ) (access : Access)
+      → Fits (ToOpenNew directory name node access)
+      → OpensAt (after (ToOpenNew directory name node access))
+      (record { mount = directory.mount; node = evens fresh 0 })
   new_file_opens directory name node access fits =
       let permit = ToOpenNew directory name node access in
       let location : Location ℕ = record { mount = directory.mount; node = evens fresh 0 } in
       let kind : kind_seen (node_at nat_eq (after permit) location) ≡ Some (kind_of node.content) =
       ap (λ (w : World ℕ). kind_seen (node_at nat_eq w location))
-      (change_of_plain (λ number. number) (odds fresh) world plain directory (Make directory.node name (evens fresh 0) node))
+      (change_of_plain (λ number. number) (odds fresh) world plain directory
+      (Make directory.node name (evens fresh 0) node))
       ∙ new_kind (λ number. number) (odds fresh) world plain directory name (evens fresh 0) node fits.0.directory in
       let listed : is_mount world directory.mount ≡ true =
       (and_parts (is_mount world directory.mount) (is_some (node_at nat_eq world directory)) fits.0.reached.there).0 in
@@ -174,33 +185,41 @@ module _ (world : World ℕ) (fresh : Fresh ℕ) (task : Task ℕ) (is : IsWorld
   permits_keep_tasks_placed (ToStat object) fits = all_placed
   permits_keep_tasks_placed (ToRead file) fits = all_placed
   permits_keep_tasks_placed (ToReadPart file offset size) fits = all_placed
-  permits_keep_tasks_placed (ToChange location change) fits = unchanged (ToChange location change) fits (change_keeps_tasks location change)
+  permits_keep_tasks_placed (ToChange location change) fits =
+      unchanged (ToChange location change) fits (change_keeps_tasks location change)
   permits_keep_tasks_placed (ToMake directory name node) fits =
       unchanged (ToMake directory name node) fits
-      (change_tasks (λ number. number) (odds fresh) world plain directory (Make directory.node name (evens fresh 0) node))
+      (change_tasks (λ number. number) (odds fresh) world plain directory
+      (Make directory.node name (evens fresh 0) node))
   permits_keep_tasks_placed (ToRemoveDirectory parent name directory) fits =
       unchanged (ToRemoveDirectory parent name directory) fits
-      (change_tasks (λ number. number) fresh (without_mounts_on nat_eq world directory) (taken_plain world (gone_on world directory) plain) parent
+      (change_tasks (λ number. number) fresh (without_mounts_on nat_eq world directory)
+      (taken_plain world (gone_on world directory) plain) parent
       (Remove parent.node name directory.node)
       ∙ taken_tasks world (gone_on world directory))
   permits_keep_tasks_placed (ToRename from old to new object replaced) fits =
       unchanged (ToRename from old to new object replaced) fits
-      (change_tasks (λ number. number) fresh (without_replaced nat_eq world replaced) (replaced_plain world replaced plain) from
+      (change_tasks (λ number. number) fresh (without_replaced nat_eq world replaced)
+      (replaced_plain world replaced plain) from
       (Move from.node old to.node new object.node)
       ∙ replaced_tasks world replaced)
   permits_keep_tasks_placed (ToOpen file access) fits =
       let permit = ToOpen file access in
       changed_task permit fits (with_descriptor task file access)
-      (ap (map (replaced_if_called (with_descriptor task file access))) (copy_keeps_tasks (is_copied_up nat_eq world file access) file))
+      (ap (map (replaced_if_called (with_descriptor task file access)))
+      (copy_keeps_tasks (is_copied_up nat_eq world file access) file))
       (opened_placed (after permit) task file access (placed_still permit fits)
-      (opens_after world (after permit) (seen permit fits) file (record { located = fits.reached.there; regular = fits.regular })))
+      (opens_after world (after permit) (seen permit fits) file
+      (record { located = fits.reached.there; regular = fits.regular })))
   permits_keep_tasks_placed (ToOpenNew directory name node access) fits =
       let permit = ToOpenNew directory name node access in
       let file : Location ℕ = record { mount = directory.mount; node = evens fresh 0 } in
       changed_task permit fits (with_descriptor task file access)
       (ap (map (replaced_if_called (with_descriptor task file access)))
-      (change_tasks (λ number. number) (odds fresh) world plain directory (Make directory.node name (evens fresh 0) node)))
-      (opened_placed (after permit) task file access (placed_still permit fits) (new_file_opens directory name node access fits))
+      (change_tasks (λ number. number) (odds fresh) world plain directory
+      (Make directory.node name (evens fresh 0) node)))
+      (opened_placed (after permit) task file access (placed_still permit fits)
+      (new_file_opens directory name node access fits))
   permits_keep_tasks_placed (ToWritePart file offset bytes) fits =
       unchanged (ToWritePart file offset bytes) fits (writing_keeps_tasks file offset bytes)
   permits_keep_tasks_placed (ToClose descriptor) fits =
@@ -210,7 +229,8 @@ module _ (world : World ℕ) (fresh : Fresh ℕ) (task : Task ℕ) (is : IsWorld
       (record {
         root = still.root;
         directory = still.directory;
-        files = λ d m. still.files d (among-from_filter (λ (x : Descriptor ℕ). not (descriptor == x.number)) task.descriptors d m).0;
+        files = λ d m. still.files d
+            (among-from_filter (λ (x : Descriptor ℕ). not (descriptor == x.number)) task.descriptors d m).0;
       })
   permits_keep_tasks_placed (ToSetDirectory directory) fits =
       let permit = ToSetDirectory directory in
@@ -218,7 +238,8 @@ module _ (world : World ℕ) (fresh : Fresh ℕ) (task : Task ℕ) (is : IsWorld
       changed_task permit fits (record task { directory = directory }) refl
       (record {
         root = still.root;
-        directory = stands_after world (after permit) (seen permit fits) task.namespace directory (reached_stands world task directory fits);
+        directory = stands_after world (after permit) (seen permit fits) task.namespace directory
+            (reached_stands world task directory fits);
         files = still.files;
       })
   permits_keep_tasks_placed (ToSetRoot root) fits =
@@ -226,7 +247,8 @@ module _ (world : World ℕ) (fresh : Fresh ℕ) (task : Task ℕ) (is : IsWorld
       let still = placed_still permit fits in
       changed_task permit fits (record task { root = root }) refl
       (record {
-        root = stands_after world (after permit) (seen permit fits) task.namespace root (reached_stands world task root fits);
+        root = stands_after world (after permit) (seen permit fits) task.namespace root
+            (reached_stands world task root fits);
         directory = still.directory;
         files = still.files;
       })
@@ -249,7 +271,8 @@ module _ (world : World ℕ) (fresh : Fresh ℕ) (task : Task ℕ) (is : IsWorld
       λ other m.
       ⊎_elim (parents other)
       (λ new. ⊎_elim
-      (λ e. subst (IsPlaced (after permit)) (sym e) (record { root = still.root; directory = still.directory; files = λ d n. absurd n }))
+      (λ e. subst (IsPlaced (after permit)) (sym e)
+      (record { root = still.root; directory = still.directory; files = λ d n. absurd n }))
       (λ none. absurd none) new)
       (among-append (map (replaced_if_called parent) world.tasks) (child ∷ []) other m)
   permits_keep_tasks_placed ToExit fits =
@@ -260,14 +283,16 @@ module _ (world : World ℕ) (fresh : Fresh ℕ) (task : Task ℕ) (is : IsWorld
   permits_keep_tasks_placed ToUnshare fits =
       let copied = unshared nat_eq world fresh task in
       ended copied
-      (placed_with copied (unshared_task nat_eq (mounts_of nat_eq world task.namespace) (numbers_by nat_eq (odds fresh) (mounts_of nat_eq world task.namespace)) (evens fresh 0) task) world.tasks
+      (placed_with copied (unshared_task nat_eq (mounts_of nat_eq world task.namespace)
+      (numbers_by nat_eq (odds fresh) (mounts_of nat_eq world task.namespace)) (evens fresh 0) task) world.tasks
       (all_placed_after world copied (unshared_seen world fresh task) world.tasks all_placed)
       (unshared_placed world fresh task is serves placed))
   permits_keep_tasks_placed (ToEnterNamespace namespace) fits =
       let entered = namespace_entered nat_eq world task namespace in
       let same_world = seen_alike world entered refl refl in
       let root = unwrap_or (namespace_root nat_eq world namespace) task.root in
-      let at = stands_after world entered same_world namespace root (namespace_root_stands world is namespace task fits) in
+      let at = stands_after world entered same_world namespace root
+      (namespace_root_stands world is namespace task fits) in
       let still = placed_after world entered same_world task placed in
       ended entered
       (placed_with entered (entered_at task namespace root) world.tasks
@@ -279,7 +304,8 @@ module _ (world : World ℕ) (fresh : Fresh ℕ) (task : Task ℕ) (is : IsWorld
   permits_keep_tasks_placed (ToMove mount place) fits = unchanged (ToMove mount place) fits refl
   permits_keep_tasks_placed (ToUnmount mount) fits =
       unchanged (ToUnmount mount) fits (taken_tasks world (going nat_eq world (mount_numbered nat_eq world mount)))
-  permits_keep_tasks_placed (ToUnmountLazily mount) fits = unchanged (ToUnmountLazily mount) fits (lazy_is_of_mounts world mount).tasks
+  permits_keep_tasks_placed (ToUnmountLazily mount) fits =
+      unchanged (ToUnmountLazily mount) fits (lazy_is_of_mounts world mount).tasks
   permits_keep_tasks_placed (ToSetFlags mount flags) fits = unchanged (ToSetFlags mount flags) fits refl
   permits_keep_tasks_placed (ToSetType mount word recursive) fits =
       unchanged (ToSetType mount word recursive) fits (types_are_of_mounts world fresh mount word recursive).tasks
@@ -287,11 +313,13 @@ module _ (world : World ℕ) (fresh : Fresh ℕ) (task : Task ℕ) (is : IsWorld
       let permit = ToPivot new put in
       let root = mount_at nat_eq world task.root in
       let top = mount_numbered nat_eq world new in
-      let at_new = root_stands world is task.namespace top (own_there world is new task.namespace fits.own) (in_own task.namespace top fits.own) in
+      let at_new = root_stands world is task.namespace top (own_there world is new task.namespace fits.own)
+      (in_own task.namespace top fits.own) in
       λ other m.
       let from = among-from_map (pivoted_task nat_eq task.namespace root top) world.tasks other m in
       subst (IsPlaced (after permit)) (sym from.2)
-      (pivoted_placed world (after permit) (seen permit fits) root top task.namespace at_new from.0 (all_placed from.0 from.1))
+      (pivoted_placed world (after permit) (seen permit fits) root top task.namespace at_new from.0
+      (all_placed from.0 from.1))
   permits_keep_tasks_placed ToListMounts fits = all_placed
 
 -- So the invariants of locations, of where tasks stand, and of open files are kept.

@@ -37,12 +37,14 @@ module _ (world : World ℕ) (fresh : Fresh ℕ) (task : Task ℕ) (is : IsWorld
   reached_place : (location : Location ℕ) → IsReachedDirectory world task location → IsPlace world location
   reached_place location at =
       record {
-        listed = (and_parts (is_mount world location.mount) (is_some (node_at nat_eq world location)) at.reached.there).0;
+        listed = (and_parts (is_mount world location.mount)
+            (is_some (node_at nat_eq world location)) at.reached.there).0;
         directory = at.directory;
       }
 
   -- a change of a tree
-  changing : (supply : Fresh ℕ) (middle : World ℕ) (also : IsPlain middle) → AllShow middle → (location : Location ℕ) (change : Change ℕ)
+  changing : (supply : Fresh ℕ) (middle : World ℕ) (also : IsPlain middle) → AllShow middle
+      → (location : Location ℕ) (change : Change ℕ)
       → KeepsWhatIsSeen middle (with_change_counted nat_eq (λ number. number) supply middle location change)
       → AllShow (with_change_counted nat_eq (λ number. number) supply middle location change)
   changing supply middle also show location change seen =
@@ -50,21 +52,26 @@ module _ (world : World ℕ) (fresh : Fresh ℕ) (task : Task ℕ) (is : IsWorld
       (change_mounts (λ number. number) supply middle also location change) show
 
   copying : (b : Bool) (file : Location ℕ) → AllShow (with_copy_counted nat_eq b (λ number. number) fresh world file)
-  copying true file = changing fresh world plain shows file (CopyUp file.node) (copy_seen (λ number. number) fresh world plain true file)
+  copying true file = changing fresh world plain shows file (CopyUp file.node)
+      (copy_seen (λ number. number) fresh world plain true file)
   copying false file = shows
 
-  writing : (file : Location ℕ) (offset : ℕ) (bytes : List ℕ) → AllShow (pwritten_counted nat_eq (λ number. number) fresh world file offset bytes)
+  writing : (file : Location ℕ) (offset : ℕ) (bytes : List ℕ)
+      → AllShow (pwritten_counted nat_eq (λ number. number) fresh world file offset bytes)
   writing file offset [] = shows
   writing file offset (byte ∷ bytes) =
-      changing fresh world plain shows file _ (written_seen (λ number. number) fresh world plain file offset (byte ∷ bytes))
+      changing fresh world plain shows file _
+      (written_seen (λ number. number) fresh world plain file offset (byte ∷ bytes))
 
   replacing : (replaced : Option (Location ℕ)) → AllShow (without_replaced nat_eq world replaced)
   replacing None = shows
   replacing (Some location) = taken_show world (gone_on world location) shows
 
   -- mounts and filesystems are as they were
-  alike : (before later : World ℕ) → later.mounts ≡ before.mounts → later.filesystems ≡ before.filesystems → AllShow before → AllShow later
-  alike before later mounts filesystems = all_show_after before later (seen_alike before later mounts filesystems) mounts
+  alike : (before later : World ℕ) → later.mounts ≡ before.mounts → later.filesystems ≡ before.filesystems
+      → AllShow before → AllShow later
+  alike before later mounts filesystems = all_show_after before later
+      (seen_alike before later mounts filesystems) mounts
 
   pub permits_keep_all_shown : (permit : Permit ℕ) → NamesWhatIsThere world task permit → AllShow (after permit)
   permits_keep_all_shown Allowed fits = shows
@@ -77,36 +84,46 @@ module _ (world : World ℕ) (fresh : Fresh ℕ) (task : Task ℕ) (is : IsWorld
       (change_seen (λ number. number) fresh world plain location change (makes_none world location change fits.1))
   permits_keep_all_shown (ToMake directory name node) fits =
       changing (odds fresh) world plain shows directory (Make directory.node name (evens fresh 0) node)
-      (change_seen (λ number. number) (odds fresh) world plain directory (Make directory.node name (evens fresh 0) node)
+      (change_seen (λ number. number) (odds fresh) world plain directory
+      (Make directory.node name (evens fresh 0) node)
       (new_at world fresh task is plain serves directory))
   permits_keep_all_shown (ToRemoveDirectory parent name directory) fits =
       let also = taken_plain world (gone_on world directory) plain in
-      changing fresh (without_mounts_on nat_eq world directory) also (taken_show world (gone_on world directory) shows) parent
+      changing fresh (without_mounts_on nat_eq world directory) also
+      (taken_show world (gone_on world directory) shows) parent
       (Remove parent.node name directory.node)
-      (change_seen (λ number. number) fresh (without_mounts_on nat_eq world directory) also parent (Remove parent.node name directory.node) tt)
+      (change_seen (λ number. number) fresh (without_mounts_on nat_eq world directory) also parent
+      (Remove parent.node name directory.node) tt)
   permits_keep_all_shown (ToRename from old to new object replaced) fits =
       let also = replaced_plain world replaced plain in
-      changing fresh (without_replaced nat_eq world replaced) also (replacing replaced) from (Move from.node old to.node new object.node)
-      (change_seen (λ number. number) fresh (without_replaced nat_eq world replaced) also from (Move from.node old to.node new object.node) tt)
+      changing fresh (without_replaced nat_eq world replaced) also (replacing replaced) from
+      (Move from.node old to.node new object.node)
+      (change_seen (λ number. number) fresh (without_replaced nat_eq world replaced) also from
+      (Move from.node old to.node new object.node) tt)
   permits_keep_all_shown (ToOpen file access) fits =
-      alike (with_copy_counted nat_eq (is_copied_up nat_eq world file access) (λ number. number) fresh world file) (after (ToOpen file access))
+      alike (with_copy_counted nat_eq (is_copied_up nat_eq world file access) (λ number. number) fresh world file)
+      (after (ToOpen file access))
       refl refl (copying (is_copied_up nat_eq world file access) file)
   permits_keep_all_shown (ToOpenNew directory name node access) fits =
       alike (after (ToMake directory name node)) (after (ToOpenNew directory name node access)) refl refl
       (changing (odds fresh) world plain shows directory (Make directory.node name (evens fresh 0) node)
-      (change_seen (λ number. number) (odds fresh) world plain directory (Make directory.node name (evens fresh 0) node)
+      (change_seen (λ number. number) (odds fresh) world plain directory
+      (Make directory.node name (evens fresh 0) node)
       (new_at world fresh task is plain serves directory)))
   permits_keep_all_shown (ToWritePart file offset bytes) fits = writing file offset bytes
   permits_keep_all_shown (ToClose descriptor) fits = alike world (after (ToClose descriptor)) refl refl shows
-  permits_keep_all_shown (ToSetDirectory directory) fits = alike world (after (ToSetDirectory directory)) refl refl shows
+  permits_keep_all_shown (ToSetDirectory directory) fits =
+      alike world (after (ToSetDirectory directory)) refl refl shows
   permits_keep_all_shown (ToSetRoot root) fits = alike world (after (ToSetRoot root)) refl refl shows
   permits_keep_all_shown (ToSetUmask umask) fits = alike world (after (ToSetUmask umask)) refl refl shows
-  permits_keep_all_shown (ToSetCredentials credentials) fits = alike world (after (ToSetCredentials credentials)) refl refl shows
+  permits_keep_all_shown (ToSetCredentials credentials) fits =
+      alike world (after (ToSetCredentials credentials)) refl refl shows
   permits_keep_all_shown (ToFork credentials) fits = alike world (after (ToFork credentials)) refl refl shows
   permits_keep_all_shown ToExit fits =
       let left = without_task world task.name in
       ended_show left (alike world left refl refl shows)
-  permits_keep_all_shown ToUnshare fits = ended_show (unshared nat_eq world fresh task) (unshared_show world fresh task is serves)
+  permits_keep_all_shown ToUnshare fits = ended_show (unshared nat_eq world fresh task)
+      (unshared_show world fresh task is serves)
   permits_keep_all_shown (ToEnterNamespace namespace) fits =
       let entered = namespace_entered nat_eq world task namespace in
       ended_show entered (alike world entered refl refl shows)
@@ -117,10 +134,13 @@ module _ (world : World ℕ) (fresh : Fresh ℕ) (task : Task ℕ) (is : IsWorld
       bound_show world is fresh source place recursive serves fits.0.directory (reached_place place fits.2.directory)
   permits_keep_all_shown (ToMove mount place) fits =
       moved_show world is fresh mount place serves (own_there world is mount task.namespace fits.own)
-      (permits_keep_what_is_seen world fresh task is plain serves (ToMove mount place) fits) (reached_place place fits.destination.directory)
-  permits_keep_all_shown (ToUnmount mount) fits = taken_show world (going nat_eq world (mount_numbered nat_eq world mount)) shows
+      (permits_keep_what_is_seen world fresh task is plain serves (ToMove mount place) fits)
+      (reached_place place fits.destination.directory)
+  permits_keep_all_shown (ToUnmount mount) fits =
+      taken_show world (going nat_eq world (mount_numbered nat_eq world mount)) shows
   permits_keep_all_shown (ToUnmountLazily mount) fits = lazy_show world mount shows
-  permits_keep_all_shown (ToSetFlags mount flags) fits = flags_show world mount flags shows (own_shows world is mount task.namespace fits)
+  permits_keep_all_shown (ToSetFlags mount flags) fits =
+      flags_show world mount flags shows (own_shows world is mount task.namespace fits)
   permits_keep_all_shown (ToSetType mount word recursive) fits = retyped_show world fresh mount word recursive shows
   permits_keep_all_shown (ToPivot new put) fits =
       pivoted_show world task.namespace (mount_at nat_eq world task.root) (mount_numbered nat_eq world new) put shows
@@ -129,4 +149,5 @@ module _ (world : World ℕ) (fresh : Fresh ℕ) (task : Task ℕ) (is : IsWorld
 
 pub permits_keep_mounts_showing : KeptByPermits MountsShow
 permits_keep_mounts_showing world fresh task permit is plain serves called fits =
-    mounts_show (after world fresh task is plain serves permit) (permits_keep_all_shown world fresh task is plain serves permit fits.names)
+    mounts_show (after world fresh task is plain serves permit)
+    (permits_keep_all_shown world fresh task is plain serves permit fits.names)

@@ -30,7 +30,8 @@ abbrev pub ArePlaced : World ℕ → List (Task ℕ) → Type 0
 ArePlaced world tasks = (task : Task ℕ) → Among task tasks → IsPlaced world task
 
 module _ (before after : World ℕ) (seen : KeepsWhatIsSeen before after) where
-  pub stands_after : (namespace : ℕ) (location : Location ℕ) → StandsAt before namespace location → StandsAt after namespace location
+  pub stands_after : (namespace : ℕ) (location : Location ℕ) → StandsAt before namespace location
+      → StandsAt after namespace location
   stands_after namespace location at =
       let is = mount_of_located before after seen location at.located in
       record {
@@ -43,7 +44,8 @@ module _ (before after : World ℕ) (seen : KeepsWhatIsSeen before after) where
   opens_after location at =
       record {
         located = located_after before after seen location at.located;
-        regular = file_after before after seen location (mount_of_located before after seen location at.located) at.regular;
+        regular = file_after before after seen location
+            (mount_of_located before after seen location at.located) at.regular;
       }
 
   pub placed_after : (task : Task ℕ) → IsPlaced before task → IsPlaced after task
@@ -59,24 +61,36 @@ module _ (before after : World ℕ) (seen : KeepsWhatIsSeen before after) where
   all_placed_after tasks placed task m = placed_after task (placed task m)
 
 -- The invariants say that all tasks are placed
-pub all_are_placed : (world : World ℕ) → LocationsAreThere world → TasksStandOnDirectories world → OpenFilesAreRegular world
+pub all_are_placed : (world : World ℕ) → LocationsAreThere world → TasksStandOnDirectories world
+    → OpenFilesAreRegular world
     → ArePlaced world world.tasks
 all_are_placed world there directories files task m =
-    let on = and_parts (is_directory_seen_in nat_eq world task.namespace task.root) (is_directory_seen_in nat_eq world task.namespace task.directory)
+    let on = and_parts (is_directory_seen_in nat_eq world task.namespace task.root)
+    (is_directory_seen_in nat_eq world task.namespace task.directory)
     (among_from_list_all (stands_on_directories nat_eq world) world.tasks directories task m) in
-    let root = and_parts (is_directory_at nat_eq world task.root) (is_in task.namespace (mount_at nat_eq world task.root)) on.0 in
-    let directory = and_parts (is_directory_at nat_eq world task.directory) (is_in task.namespace (mount_at nat_eq world task.directory)) on.1 in
+    let root = and_parts (is_directory_at nat_eq world task.root)
+    (is_in task.namespace (mount_at nat_eq world task.root)) on.0 in
+    let directory = and_parts (is_directory_at nat_eq world task.directory)
+    (is_in task.namespace (mount_at nat_eq world task.directory)) on.1 in
     record {
       root = record { located = located task.root (inl refl); directory = root.0; inside = root.1 };
-      directory = record { located = located task.directory (inr (inl refl)); directory = directory.0; inside = directory.1 };
+      directory = record {
+        located = located task.directory
+            (inr (inl refl));
+        directory = directory.0;
+        inside = directory.1;
+      };
       files = λ descriptor n. record {
-        located = located descriptor.location (inr (inr (among-map (λ (d : Descriptor ℕ). d.location) task.descriptors descriptor n)));
-        regular = among_from_list_all (λ (d : Descriptor ℕ). is_kind_in File (node_at nat_eq world d.location)) task.descriptors
+        located = located descriptor.location
+            (inr (inr (among-map (λ (d : Descriptor ℕ). d.location) task.descriptors descriptor n)));
+        regular = among_from_list_all
+            (λ (d : Descriptor ℕ). is_kind_in File (node_at nat_eq world d.location)) task.descriptors
             (among_from_list_all (has_regular_files_open nat_eq world) world.tasks files task m) descriptor n;
       };
     }
   where
-    located : (location : Location ℕ) → Among location (locations_of task) → is_located_well nat_eq world location ≡ true
+    located : (location : Location ℕ) → Among location (locations_of task)
+        → is_located_well nat_eq world location ≡ true
     located location n =
         among_from_list_all (is_located_well nat_eq world) (all_locations world) there location
         (among-flat_map locations_of world.tasks task location m n)
@@ -101,9 +115,12 @@ module _ (world : World ℕ) (placed : ArePlaced world world.tasks) where
   tasks_stand_on_directories =
       list_all_from_among (stands_on_directories nat_eq world) world.tasks (λ task m.
       let at = placed task m in
-      and_from (is_directory_seen_in nat_eq world task.namespace task.root) (is_directory_seen_in nat_eq world task.namespace task.directory)
-      (and_from (is_directory_at nat_eq world task.root) (is_in task.namespace (mount_at nat_eq world task.root)) at.root.directory at.root.inside)
-      (and_from (is_directory_at nat_eq world task.directory) (is_in task.namespace (mount_at nat_eq world task.directory)) at.directory.directory at.directory.inside))
+      and_from (is_directory_seen_in nat_eq world task.namespace task.root)
+      (is_directory_seen_in nat_eq world task.namespace task.directory)
+      (and_from (is_directory_at nat_eq world task.root)
+      (is_in task.namespace (mount_at nat_eq world task.root)) at.root.directory at.root.inside)
+      (and_from (is_directory_at nat_eq world task.directory)
+      (is_in task.namespace (mount_at nat_eq world task.directory)) at.directory.directory at.directory.inside))
 
   pub open_files_are_regular : OpenFilesAreRegular world
   open_files_are_regular =
@@ -122,10 +139,12 @@ placed_with world new tasks placed at task m =
     by old true was = at
     by old false was = was
 
-pub among-inserted : (new : Descriptor ℕ) (list : List (Descriptor ℕ)) (descriptor : Descriptor ℕ) → Among descriptor (inserted new list)
+pub among-inserted : (new : Descriptor ℕ) (list : List (Descriptor ℕ)) (descriptor : Descriptor ℕ)
+    → Among descriptor (inserted new list)
     → (descriptor ≡ new) ⊎ Among descriptor list
 among-inserted new [] descriptor m = ⊎_elim inl (λ none. absurd none) m
-among-inserted new (first ∷ rest) descriptor m = by (nat_lt new.number first.number) m (among-inserted new rest descriptor)
+among-inserted new (first ∷ rest) descriptor m =
+    by (nat_lt new.number first.number) m (among-inserted new rest descriptor)
   where
     by : (b : Bool) → Among descriptor (cond b (new ∷ first ∷ rest) (first ∷ inserted new rest))
         → (Among descriptor (inserted new rest) → (descriptor ≡ new) ⊎ Among descriptor rest)

@@ -1,4 +1,5 @@
--- What a change of a world keeps of what is seen: mounts stay and show what they showed, in their namespace or in none, and
+-- What a change of a world keeps of what is seen: mounts stay and show what they showed, in their namespace or in
+-- none, and
 -- inodes stay and keep their kind.
 use Rattle.std.proofs.Common.{◌≡◌, refl, sym, ap, subst, ◌∙◌, ℕ, nat_eq, Bool, true, ◌&&◌, Option, Some, None, is_some}
 use Rattle.std.specs.Prelude.{option_to_list}
@@ -21,7 +22,8 @@ kind_seen (Some node) = Some (kind_of node.content)
 
 -- an inode that is there stays, and keeps its kind
 abbrev pub KeepsKind : Option (Node ℕ) → Option (Node ℕ) → Type 0
-KeepsKind before after = (test : Kind → Bool) → holds_of test (kind_seen before) ≡ true → holds_of test (kind_seen after) ≡ true
+KeepsKind before after = (test : Kind → Bool) → holds_of test (kind_seen before) ≡ true
+    → holds_of test (kind_seen after) ≡ true
 
 abbrev pub node_in : World ℕ → ℕ → ℕ → Option (Node ℕ)
 node_in world filesystem number = (filesystem_numbered nat_eq world filesystem).files.tree.node number
@@ -177,6 +179,7 @@ module _ (before after : World ℕ) (seen : KeepsWhatIsSeen before after) where
       directory_kept (node_at nat_eq before location) (node_at nat_eq after location) (node_kept location is)
 
   pub file_after : (location : Location ℕ) → is_mount before location.mount ≡ true
-      → is_kind_in File (node_at nat_eq before location) ≡ true → is_kind_in File (node_at nat_eq after location) ≡ true
+      → is_kind_in File (node_at nat_eq before location) ≡ true
+      → is_kind_in File (node_at nat_eq after location) ≡ true
   file_after location is =
       kind_kept (node_at nat_eq before location) (node_at nat_eq after location) (node_kept location is) File

@@ -1,4 +1,5 @@
--- A change of a tree keeps each inode that is there, and its kind; so do changes of filesystems in a world without overlays.
+-- A change of a tree keeps each inode that is there, and its kind; so do changes of filesystems in a world without
+-- overlays.
 use Rattle.std.proofs.Common.{◌≡◌, refl, sym, ap, subst, ◌∙◌, ◌⊎◌, inl, inr, ⊎_elim, ℕ, nat_eq, eqb-true, eq-eqb, Bool, true, false, cond, true≢false, find, flat_map, List, [], ◌∷◌, ◌++◌, Option, Some, None, map}
 use Rattle.std.specs.Prelude.{All, unwrap_or, ⊤}
 use Rattle.vt_spec.specs.declared.attributes.Attr.{Attr}
@@ -21,19 +22,23 @@ use Rattle.vt_world_laws.specs.Worlds.Kept.{IsPlain}
 use Rattle.vt_world_laws.proofs.Seen.{KeepsKind, KeepsWhatIsSeen, kind_seen, node_in, same_kind, seen_by_nodes}
 
 -- Changes of an inode
-kind-with_entries : (content : Content ℕ) (entries : List (List ℕ × ℕ)) → kind_of (with_entries content entries) ≡ kind_of content
+kind-with_entries : (content : Content ℕ) (entries : List (List ℕ × ℕ))
+    → kind_of (with_entries content entries) ≡ kind_of content
 kind-with_entries (Directory parent old opaque) entries = refl
 kind-with_entries (Regular bytes) entries = refl
 kind-with_entries (Symlink text) entries = refl
 kind-with_entries Whiteout entries = refl
 
-kind-with_entry : (name : List ℕ) (number : ℕ) (o : Option (Node ℕ)) → kind_seen (node_with_entry name number o) ≡ kind_seen o
+kind-with_entry : (name : List ℕ) (number : ℕ) (o : Option (Node ℕ))
+    → kind_seen (node_with_entry name number o) ≡ kind_seen o
 kind-with_entry name number None = refl
-kind-with_entry name number (Some node) = ap Some (kind-with_entries node.content (with_entry name number (entries_of node.content)))
+kind-with_entry name number (Some node) = ap Some
+    (kind-with_entries node.content (with_entry name number (entries_of node.content)))
 
 kind-without_entry : (name : List ℕ) (o : Option (Node ℕ)) → kind_seen (node_without_entry name o) ≡ kind_seen o
 kind-without_entry name None = refl
-kind-without_entry name (Some node) = ap Some (kind-with_entries node.content (without_entry name (entries_of node.content)))
+kind-without_entry name (Some node) =
+    ap Some (kind-with_entries node.content (without_entry name (entries_of node.content)))
 
 kind-with_bytes : (bytes : List ℕ) (o : Option (Node ℕ)) → kind_seen (node_with_bytes bytes o) ≡ kind_seen o
 kind-with_bytes bytes None = refl
@@ -78,7 +83,8 @@ kinds-with_name : (files : FileTree ℕ) (directory : ℕ) (name : List ℕ) (nu
 kinds-with_name files directory name number =
     part_stays files directory (node_with_entry name number) kind_seen (kind-with_entry name number)
 
-kinds-without_name : (files : FileTree ℕ) (directory : ℕ) (name : List ℕ) → SameKinds files (without_name nat_eq files directory name)
+kinds-without_name : (files : FileTree ℕ) (directory : ℕ) (name : List ℕ)
+    → SameKinds files (without_name nat_eq files directory name)
 kinds-without_name files directory name =
     part_stays files directory (node_without_entry name) kind_seen (kind-without_entry name)
 
@@ -117,7 +123,8 @@ changes_keep_kinds files (AddName directory name object) new k =
     same_kind (files.tree.node k) _ (kinds-with_name files directory name object k)
 changes_keep_kinds files (Remove directory name object) new k =
     same_kind (files.tree.node k) _
-    (kinds-without_parent (without_name nat_eq files directory name) (Some object) k ∙ kinds-without_name files directory name k)
+    (kinds-without_parent (without_name nat_eq files directory name) (Some object) k
+    ∙ kinds-without_name files directory name k)
 changes_keep_kinds files (Move from old to new_name object) new k =
     let first = without_parent nat_eq files (entry_named new_name (entries_in (files.tree.node to))) in
     let second = without_name nat_eq first from old in
@@ -132,12 +139,14 @@ changes_keep_kinds files (SetBytes file bytes) new k =
 changes_keep_kinds files (SetAttr object attr) new k =
     same_kind (files.tree.node k) _ (part_stays files object (node_with_attr attr) kind_seen (kind-with_attr attr) k)
 changes_keep_kinds files (SetMark directory opaque) new k =
-    same_kind (files.tree.node k) _ (part_stays files directory (node_with_mark opaque) kind_seen (kind-with_mark opaque) k)
+    same_kind (files.tree.node k) _
+    (part_stays files directory (node_with_mark opaque) kind_seen (kind-with_mark opaque) k)
 changes_keep_kinds files (CopyUp object) new k = λ test e. e
 
 -- the inode that is made
 pub made_kind : (files : FileTree ℕ) (directory : ℕ) (name : List ℕ) (number : ℕ) (node : Node ℕ)
-    → kind_seen ((changed nat_eq files (Make directory name number node)).tree.node number) ≡ Some (kind_of node.content)
+    → kind_seen ((changed nat_eq files (Make directory name number node)).tree.node number) ≡ Some
+    (kind_of node.content)
 made_kind files directory name number node =
     kinds-with_name (with_inode nat_eq files number node) directory name number number
     ∙ ap (λ b. kind_seen (cond b (Some node) (files.tree.node number))) (eq-eqb number number refl)
@@ -154,7 +163,8 @@ module _ (new : Filesystem ℕ) where
       by true e = eqb-true new.number old.number e
       by false e = refl
 
-  pub numbers-replaced : (list : List (Filesystem ℕ)) → map (λ (f : Filesystem ℕ). f.number) (replaced list) ≡ map (λ (f : Filesystem ℕ). f.number) list
+  pub numbers-replaced : (list : List (Filesystem ℕ))
+      → map (λ (f : Filesystem ℕ). f.number) (replaced list) ≡ map (λ (f : Filesystem ℕ). f.number) list
   numbers-replaced [] = refl
   numbers-replaced (first ∷ rest) =
       ap (λ n. n ∷ map (λ (f : Filesystem ℕ). f.number) (replaced rest)) (replaced_number first)
@@ -164,11 +174,13 @@ module _ (new : Filesystem ℕ) where
       → numbered number (replaced list) ≡ numbered number list
   found_other [] number other = refl
   found_other (first ∷ rest) number other =
-      ap (λ n. unwrap_or (cond (nat_eq number n) (Some (replaced_if_numbered nat_eq new first)) (find (λ f. nat_eq number f.number) (replaced rest))) (no_filesystem number)) (replaced_number first)
+      ap (λ n. unwrap_or (cond (nat_eq number n) (Some (replaced_if_numbered nat_eq new first))
+      (find (λ f. nat_eq number f.number) (replaced rest))) (no_filesystem number)) (replaced_number first)
       ∙ by (nat_eq number first.number) refl (found_other rest number other)
     where
       by : (b : Bool) → nat_eq number first.number ≡ b → numbered number (replaced rest) ≡ numbered number rest
-          → unwrap_or (cond b (Some (replaced_if_numbered nat_eq new first)) (find (λ f. nat_eq number f.number) (replaced rest))) (no_filesystem number)
+          → unwrap_or (cond b (Some (replaced_if_numbered nat_eq new first))
+          (find (λ f. nat_eq number f.number) (replaced rest))) (no_filesystem number)
           ≡ unwrap_or (cond b (Some first) (find (λ f. nat_eq number f.number) rest)) (no_filesystem number)
       by true e later =
           ap (λ b. cond b new first)
@@ -178,48 +190,59 @@ module _ (new : Filesystem ℕ) where
   -- it is found, or none was there
   pub found_new : (list : List (Filesystem ℕ))
       → (numbered new.number (replaced list) ≡ new)
-      ⊎ ((numbered new.number (replaced list) ≡ no_filesystem new.number) × (numbered new.number list ≡ no_filesystem new.number))
+      ⊎ ((numbered new.number (replaced list) ≡ no_filesystem new.number)
+      × (numbered new.number list ≡ no_filesystem new.number))
   found_new [] = inr (refl, refl)
   found_new (first ∷ rest) = by (nat_eq new.number first.number) refl (found_new rest)
     where
       head : (f : Filesystem ℕ) (b : Bool) → nat_eq new.number f.number ≡ b → (list : List (Filesystem ℕ))
-          → numbered new.number (f ∷ list) ≡ unwrap_or (cond b (Some f) (find (λ g. nat_eq new.number g.number) list)) (no_filesystem new.number)
-      head f b e list = ap (λ c. unwrap_or (cond c (Some f) (find (λ g. nat_eq new.number g.number) list)) (no_filesystem new.number)) e
+          → numbered new.number (f ∷ list) ≡ unwrap_or
+          (cond b (Some f) (find (λ g. nat_eq new.number g.number) list)) (no_filesystem new.number)
+      head f b e list = ap
+          (λ c. unwrap_or (cond c (Some f) (find (λ g. nat_eq new.number g.number) list)) (no_filesystem new.number)) e
 
       by : (b : Bool) → nat_eq new.number first.number ≡ b
           → (numbered new.number (replaced rest) ≡ new)
-          ⊎ ((numbered new.number (replaced rest) ≡ no_filesystem new.number) × (numbered new.number rest ≡ no_filesystem new.number))
+          ⊎ ((numbered new.number (replaced rest) ≡ no_filesystem new.number)
+          × (numbered new.number rest ≡ no_filesystem new.number))
           → (numbered new.number (replaced (first ∷ rest)) ≡ new)
-          ⊎ ((numbered new.number (replaced (first ∷ rest)) ≡ no_filesystem new.number) × (numbered new.number (first ∷ rest) ≡ no_filesystem new.number))
+          ⊎ ((numbered new.number (replaced (first ∷ rest)) ≡ no_filesystem new.number)
+          × (numbered new.number (first ∷ rest) ≡ no_filesystem new.number))
       by true e later =
           inl (ap (λ f. numbered new.number (f ∷ replaced rest)) (ap (λ b. cond b new first) e)
           ∙ head new true (eq-eqb new.number new.number refl) (replaced rest))
       by false e later =
           let skip : numbered new.number (replaced (first ∷ rest)) ≡ numbered new.number (replaced rest) =
-          ap (λ f. numbered new.number (f ∷ replaced rest)) (ap (λ b. cond b new first) e) ∙ head first false e (replaced rest) in
+          ap (λ f. numbered new.number (f ∷ replaced rest)) (ap (λ b. cond b new first) e)
+          ∙ head first false e (replaced rest) in
           ⊎_elim (λ is. inl (skip ∙ is)) (λ none. inr (skip ∙ none.0, head first false e rest ∙ none.1)) later
 
   pub replaced_keeps : (list : List (Filesystem ℕ))
       → ((k : ℕ) → KeepsKind ((numbered new.number list).files.tree.node k) (new.files.tree.node k))
-      → (number k : ℕ) → KeepsKind ((numbered number list).files.tree.node k) ((numbered number (replaced list)).files.tree.node k)
+      → (number k : ℕ) → KeepsKind ((numbered number list).files.tree.node k)
+      ((numbered number (replaced list)).files.tree.node k)
   replaced_keeps list keeps number k test e = by (nat_eq new.number number) refl
     where
       itself : holds_of test (kind_seen ((numbered new.number list).files.tree.node k)) ≡ true
           → holds_of test (kind_seen ((numbered new.number (replaced list)).files.tree.node k)) ≡ true
       itself h =
           ⊎_elim (λ is. ap (λ (f : Filesystem ℕ). holds_of test (kind_seen (f.files.tree.node k))) is ∙ keeps k test h)
-          (λ none. ap (λ (f : Filesystem ℕ). holds_of test (kind_seen (f.files.tree.node k))) (none.0 ∙ sym none.1) ∙ h)
+          (λ none. ap (λ (f : Filesystem ℕ). holds_of test (kind_seen (f.files.tree.node k))) (none.0 ∙ sym none.1)
+          ∙ h)
           (found_new list)
 
-      by : (b : Bool) → nat_eq new.number number ≡ b → holds_of test (kind_seen ((numbered number (replaced list)).files.tree.node k)) ≡ true
+      by : (b : Bool) → nat_eq new.number number ≡ b
+          → holds_of test (kind_seen ((numbered number (replaced list)).files.tree.node k)) ≡ true
       by true same =
           let is : new.number ≡ number = eqb-true new.number number same in
           ap (λ n. holds_of test (kind_seen ((numbered n (replaced list)).files.tree.node k))) (sym is)
           ∙ itself (ap (λ n. holds_of test (kind_seen ((numbered n list).files.tree.node k))) is ∙ e)
-      by false other = ap (λ (f : Filesystem ℕ). holds_of test (kind_seen (f.files.tree.node k))) (found_other list number other) ∙ e
+      by false other = ap (λ (f : Filesystem ℕ). holds_of test (kind_seen (f.files.tree.node k)))
+          (found_other list number other) ∙ e
 
 -- A change at a location
-module _ (count : ℕ → ℕ) (fresh : Fresh ℕ) (world : World ℕ) (plain : IsPlain world) (location : Location ℕ) (change : Change ℕ) where
+module _ (count : ℕ → ℕ) (fresh : Fresh ℕ) (world : World ℕ) (plain : IsPlain world) (location : Location ℕ)
+    (change : Change ℕ) where
   abbrev old : Filesystem ℕ
   old = filesystem_at nat_eq world location
 
@@ -229,17 +252,21 @@ module _ (count : ℕ → ℕ) (fresh : Fresh ℕ) (world : World ℕ) (plain : 
   pub change_of_plain : with_change_counted nat_eq count fresh world location change ≡ with_filesystem nat_eq world changed_one
   change_of_plain =
       ap (λ o. filesystem_changed_counted nat_eq count fresh world old o change)
-      (no_some old.overlay (numbered_anyhow (λ filesystem. is_overlay filesystem ≡ false) (mount_at nat_eq world location).filesystem world.filesystems plain refl))
+      (no_some old.overlay
+      (numbered_anyhow (λ filesystem. is_overlay filesystem ≡ false)
+      (mount_at nat_eq world location).filesystem world.filesystems plain refl))
 
   pub old_number : old.number ≡ (mount_at nat_eq world location).filesystem
   old_number = number_numbered (mount_at nat_eq world location).filesystem world.filesystems
 
-  pub change_seen : MakesNew old.files change → KeepsWhatIsSeen world (with_change_counted nat_eq count fresh world location change)
+  pub change_seen : MakesNew old.files change → KeepsWhatIsSeen world
+      (with_change_counted nat_eq count fresh world location change)
   change_seen new =
       subst (KeepsWhatIsSeen world) (sym change_of_plain)
       (seen_by_nodes world (with_filesystem nat_eq world changed_one) refl
       (replaced_keeps changed_one world.filesystems
-      (λ k. subst (λ n. KeepsKind ((numbered n world.filesystems).files.tree.node k) (changed_one.files.tree.node k)) (sym old_number)
+      (λ k. subst (λ n. KeepsKind ((numbered n world.filesystems).files.tree.node k) (changed_one.files.tree.node k))
+      (sym old_number)
       (changes_keep_kinds old.files change new k))))
 
   -- the mounts and tasks stay
@@ -249,7 +276,8 @@ module _ (count : ℕ → ℕ) (fresh : Fresh ℕ) (world : World ℕ) (plain : 
   pub change_tasks : (with_change_counted nat_eq count fresh world location change).tasks ≡ world.tasks
   change_tasks = ap (λ (w : World ℕ). w.tasks) change_of_plain
 
-  pub change_filesystems : map (λ (f : Filesystem ℕ). f.number) (with_change_counted nat_eq count fresh world location change).filesystems
+  pub change_filesystems : map (λ (f : Filesystem ℕ). f.number)
+      (with_change_counted nat_eq count fresh world location change).filesystems
       ≡ map (λ (f : Filesystem ℕ). f.number) world.filesystems
   change_filesystems =
       ap (λ (w : World ℕ). map (λ (f : Filesystem ℕ). f.number) w.filesystems) change_of_plain
@@ -258,17 +286,20 @@ module _ (count : ℕ → ℕ) (fresh : Fresh ℕ) (world : World ℕ) (plain : 
 -- A number that is handed in is that of no inode
 pub unused_number : (world : World ℕ) (fresh : Fresh ℕ) → Serves nat_eq world fresh → (k number : ℕ)
     → Among number (numbers_in_use world) → nat_eq (fresh k) number ≡ false
-unused_number world fresh serves k number m = none_among (nat_eq (fresh k)) (numbers_in_use world) (serves.unused k) number m
+unused_number world fresh serves k number m = none_among (nat_eq (fresh k)) (numbers_in_use world)
+    (serves.unused k) number m
 
 pub unused_by_filesystem : (world : World ℕ) (fresh : Fresh ℕ) → Serves nat_eq world fresh → (k : ℕ)
-    → (filesystem : Filesystem ℕ) → Among filesystem world.filesystems → (number : ℕ) → Among number (used_by_filesystem filesystem)
+    → (filesystem : Filesystem ℕ) → Among filesystem world.filesystems → (number : ℕ)
+    → Among number (used_by_filesystem filesystem)
     → nat_eq (fresh k) number ≡ false
 unused_by_filesystem world fresh serves k filesystem m number n =
     let mounts = flat_map used_by_mount world.mounts in
     let filesystems = flat_map used_by_filesystem world.filesystems in
     unused_number world fresh serves k number
     (among-append_left (mounts ++ filesystems) (map (λ namespace. namespace.number) world.namespaces) number
-    (among-append_right mounts filesystems number (among-flat_map used_by_filesystem world.filesystems filesystem number m n)))
+    (among-append_right mounts filesystems number
+    (among-flat_map used_by_filesystem world.filesystems filesystem number m n)))
 
 pub unused_inode : (world : World ℕ) (fresh : Fresh ℕ) → Serves nat_eq world fresh
     → All (λ filesystem. ListsNumbers nat_eq filesystem.files) world.filesystems
@@ -280,7 +311,8 @@ unused_inode world fresh serves lists k filesystem =
     (sym (among_from_all (λ (g : Filesystem ℕ). ListsNumbers nat_eq g.files) world.filesystems lists f m (fresh k))
     ∙ by f m (is_among nat_eq (fresh k) f.files.numbers) refl))) refl
   where
-    by : (f : Filesystem ℕ) → Among f world.filesystems → (b : Bool) → is_among nat_eq (fresh k) f.files.numbers ≡ b → b ≡ false
+    by : (f : Filesystem ℕ) → Among f world.filesystems → (b : Bool) → is_among nat_eq (fresh k) f.files.numbers ≡ b
+        → b ≡ false
     by f m false e = refl
     by f m true e =
         sym (eq-eqb (fresh k) (fresh k) refl)

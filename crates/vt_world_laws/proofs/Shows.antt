@@ -58,11 +58,13 @@ module _ (before after : World ℕ) (seen : KeepsWhatIsSeen before after) where
   all_show_after same shows mount m = shows_after mount (shows mount (subst (Among mount) same m))
 
 -- a mount that shows what another does, and stands where it does
-pub shows_alike : (world : World ℕ) (one other : Mount ℕ) → other.filesystem ≡ one.filesystem → other.root ≡ one.root → other.place ≡ one.place
+pub shows_alike : (world : World ℕ) (one other : Mount ℕ) → other.filesystem ≡ one.filesystem → other.root ≡ one.root
+    → other.place ≡ one.place
     → ShowsWell world one → ShowsWell world other
 shows_alike world one other filesystem root place shows =
     record {
-      root = ap (λ f. is_directory_node (node_in world f other.root)) filesystem ∙ ap (λ r. is_directory_node (node_in world one.filesystem r)) root ∙ shows.root;
+      root = ap (λ f. is_directory_node (node_in world f other.root)) filesystem
+          ∙ ap (λ r. is_directory_node (node_in world one.filesystem r)) root ∙ shows.root;
       place = λ at e. shows.place at (sym place ∙ e);
     }
 
@@ -70,10 +72,12 @@ shows_alike world one other filesystem root place shows =
 pub mounts_show : (world : World ℕ) → AllShow world → MountsShow world
 mounts_show world shows =
     list_all_from_among (has_its_root nat_eq world) world.mounts (λ mount m.
-    and_from (is_directory_node (node_in world mount.filesystem mount.root)) (list_all (is_directory_at nat_eq world) (option_to_list mount.place))
+    and_from (is_directory_node (node_in world mount.filesystem mount.root))
+    (list_all (is_directory_at nat_eq world) (option_to_list mount.place))
     (shows mount m).root (by mount.place (λ place e. ((shows mount m).place place e).directory)))
   where
-    by : (o : Option (Location ℕ)) → ((place : Location ℕ) → o ≡ Some place → is_directory_at nat_eq world place ≡ true)
+    by : (o : Option (Location ℕ))
+        → ((place : Location ℕ) → o ≡ Some place → is_directory_at nat_eq world place ≡ true)
         → list_all (is_directory_at nat_eq world) (option_to_list o) ≡ true
     by None h = refl
     by (Some place) h = and_from (is_directory_at nat_eq world place) true (h place refl) refl
@@ -83,7 +87,8 @@ module _ (world : World ℕ) (is : IsWorld nat_eq world) where
   pub parent_namespace : (mount : Mount ℕ) → Among mount world.mounts → (place : Location ℕ) → mount.place ≡ Some place
       → mount.namespace ≡ (mount_at nat_eq world place).namespace
   parent_namespace mount m place at =
-      by (among_from_all (λ (x : Mount ℕ). Stands nat_eq world x.number) world.mounts is.mounts.standing mount m) (itself world is mount m)
+      by (among_from_all (λ (x : Mount ℕ). Stands nat_eq world x.number) world.mounts is.mounts.standing mount m)
+      (itself world is mount m)
     where
       by : Stands nat_eq world mount.number → mount_numbered nat_eq world mount.number ≡ mount
           → mount.namespace ≡ (mount_at nat_eq world place).namespace
@@ -112,14 +117,16 @@ module _ (world : World ℕ) (is : IsWorld nat_eq world) where
     where
       by : (o : Option ℕ) → (mount_at nat_eq world place).namespace ≡ o → is_mount world place.mount ≡ true
       by None e =
-          absurd (true≢false (sym (placed_is_attached mount m place at) ∙ ap is_some (parent_namespace mount m place at) ∙ ap is_some e))
+          absurd (true≢false (sym (placed_is_attached mount m place at)
+          ∙ ap is_some (parent_namespace mount m place at) ∙ ap is_some e))
       by (Some own) e =
           subst (λ n. is_mount world n ≡ true) (number_found world.mounts place.mount)
           (is_numbered world is (mount_at nat_eq world place) (own_there world is place.mount own e))
 
   pub world_shows : AllShow world
   world_shows mount m =
-      let parts = and_parts (is_directory_node (node_in world mount.filesystem mount.root)) (list_all (is_directory_at nat_eq world) (option_to_list mount.place))
+      let parts = and_parts (is_directory_node (node_in world mount.filesystem mount.root))
+      (list_all (is_directory_at nat_eq world) (option_to_list mount.place))
       (among_from_list_all (has_its_root nat_eq world) world.mounts is.roots mount m) in
       record {
         root = parts.0;
@@ -130,7 +137,8 @@ module _ (world : World ℕ) (is : IsWorld nat_eq world) where
         };
       }
 
-  pub own_shows : (mount own : ℕ) → (mount_numbered nat_eq world mount).namespace ≡ Some own → ShowsWell world (mount_numbered nat_eq world mount)
+  pub own_shows : (mount own : ℕ) → (mount_numbered nat_eq world mount).namespace ≡ Some own
+      → ShowsWell world (mount_numbered nat_eq world mount)
   own_shows mount own e = world_shows (mount_numbered nat_eq world mount) (own_there world is mount own e)
 
 -- Mounts are taken away
@@ -143,26 +151,33 @@ module _ (world : World ℕ) (gone : List ℕ) (shows : AllShow world) where
       by false f = absurd (true≢false (sym (ap is_some f)))
 
   left_is_place : (place : Location ℕ) → IsPlace world place → IsPlace world (place_left nat_eq world gone place)
-  left_is_place place at = last_has (IsPlace world) (place_below nat_eq world gone) step (length world.mounts) place place at
+  left_is_place place at = last_has (IsPlace world) (place_below nat_eq world gone) step
+      (length world.mounts) place place at
 
   going_shows : (mount : Mount ℕ) → ShowsWell world mount → ShowsWell world (after_going nat_eq world gone mount)
   going_shows mount well = by (is_going nat_eq gone mount.number)
     where
-      left : (o : Option (Location ℕ)) → mount.place ≡ o → (at : Location ℕ) → option_map (place_left nat_eq world gone) o ≡ Some at → IsPlace world at
+      left : (o : Option (Location ℕ)) → mount.place ≡ o → (at : Location ℕ)
+          → option_map (place_left nat_eq world gone) o ≡ Some at → IsPlace world at
       left None e at f = absurd (true≢false (sym (ap is_some f)))
       left (Some place) e at f =
-          subst (IsPlace world) (same_Some (place_left nat_eq world gone place) at f) (left_is_place place (well.place place e))
+          subst (IsPlace world) (same_Some (place_left nat_eq world gone place) at f)
+          (left_is_place place (well.place place e))
 
-      by : (b : Bool) → ShowsWell world (if b then detached mount else (record mount { place = option_map (place_left nat_eq world gone) mount.place }))
+      by : (b : Bool) → ShowsWell world
+          (if b then detached mount else
+          (record mount { place = option_map (place_left nat_eq world gone) mount.place }))
       by true = record { root = well.root; place = λ at f. absurd (true≢false (sym (ap is_some f))) }
       by false = record { root = well.root; place = λ at f. left mount.place refl at f }
 
   pub taken_show : AllShow (taken_away nat_eq world gone)
   taken_show mount m =
-      let from = among-from_map (inheriting nat_eq (middle world gone)) (map (after_going nat_eq world gone) world.mounts) mount
+      let from = among-from_map (inheriting nat_eq (middle world gone))
+      (map (after_going nat_eq world gone) world.mounts) mount
       (subst (Among mount) (mounts-regrouped (middle world gone)) m) in
       let old = among-from_map (after_going nat_eq world gone) world.mounts from.0 from.1 in
-      let well : ShowsWell world from.0 = subst (ShowsWell world) (sym old.2) (going_shows old.0 (shows old.0 old.1)) in
+      let well : ShowsWell world from.0 = subst (ShowsWell world) (sym old.2)
+      (going_shows old.0 (shows old.0 old.1)) in
       shows_after world (taken_away nat_eq world gone) (taken_seen world gone) mount
       (subst (ShowsWell world) (sym from.2)
       (record { root = well.root; place = well.place }))
@@ -174,13 +189,16 @@ lazy_show_step world mount shows = by (is_some (mount_numbered nat_eq world moun
     by true = taken_show world (going nat_eq world (mount_numbered nat_eq world mount.number)) shows
     by false = shows
 
-lazy_show_steps : (mounts : List (Mount ℕ)) (world : World ℕ) → AllShow world → AllShow (folded (unmounted_if_there nat_eq) world mounts)
+lazy_show_steps : (mounts : List (Mount ℕ)) (world : World ℕ) → AllShow world
+    → AllShow (folded (unmounted_if_there nat_eq) world mounts)
 lazy_show_steps [] world shows = shows
 lazy_show_steps (mount ∷ mounts) world shows =
     lazy_show_steps mounts (unmounted_if_there nat_eq world mount) (lazy_show_step world mount shows)
 
 pub lazy_show : (world : World ℕ) (number : ℕ) → AllShow world → AllShow (lazily_unmounted nat_eq world number)
-lazy_show world number = lazy_show_steps (deepest_first nat_eq world (mount_tree nat_eq world.mounts (mount_numbered nat_eq world number))) world
+lazy_show world number =
+    lazy_show_steps (deepest_first nat_eq world
+    (mount_tree nat_eq world.mounts (mount_numbered nat_eq world number))) world
 
 pub ended_show : (world : World ℕ) → AllShow world → AllShow (namespaces_ended nat_eq world)
 ended_show world shows =
@@ -199,12 +217,16 @@ retyped_show world fresh one word recursive shows mount m =
     let old = among-from_map change world.mounts from.0 from.1 in
     let kept = retype_keeps world group word named old.0 in
     let well : ShowsWell world from.0 =
-    subst (ShowsWell world) (sym old.2) (shows_alike world old.0 (change old.0) kept.filesystem kept.root kept.place (shows old.0 old.1)) in
-    shows_after world (with_type nat_eq fresh world one word recursive) (retyped_seen world fresh one word recursive) mount
+    subst (ShowsWell world) (sym old.2)
+    (shows_alike world old.0 (change old.0) kept.filesystem kept.root kept.place (shows old.0 old.1)) in
+    shows_after world (with_type nat_eq fresh world one word recursive)
+    (retyped_seen world fresh one word recursive) mount
     (subst (ShowsWell world) (sym from.2) (record { root = well.root; place = well.place }))
 
-pub flags_show : (world : World ℕ) (one : ℕ) (flags : MountFlags) → AllShow world → ShowsWell world (mount_numbered nat_eq world one)
-    → AllShow (with_mounts world (with_mount nat_eq world.mounts (record (mount_numbered nat_eq world one) { flags = flags })))
+pub flags_show : (world : World ℕ) (one : ℕ) (flags : MountFlags) → AllShow world
+    → ShowsWell world (mount_numbered nat_eq world one)
+    → AllShow (with_mounts world
+    (with_mount nat_eq world.mounts (record (mount_numbered nat_eq world one) { flags = flags })))
 flags_show world one flags shows well mount m =
     let new = record (mount_numbered nat_eq world one) { flags = flags } in
     let after = with_mounts world (with_mount nat_eq world.mounts new) in
@@ -218,21 +240,26 @@ flags_show world one flags shows well mount m =
     by old false was = was
 
 -- The root is pivoted
-pub pivoted_show : (world : World ℕ) (namespace : ℕ) (root new : Mount ℕ) (put : Location ℕ) → AllShow world → ShowsWell world root
+pub pivoted_show : (world : World ℕ) (namespace : ℕ) (root new : Mount ℕ) (put : Location ℕ) → AllShow world
+    → ShowsWell world root
     → IsPlace world put → AllShow (pivoted nat_eq world namespace root new put)
 pivoted_show world namespace root new put shows at_root_place at_put mount m =
     let from = among-from_map (pivoted_mount nat_eq root new put) world.mounts mount m in
     shows_after world (pivoted nat_eq world namespace root new put) (pivoted_seen root new put world namespace) mount
-    (subst (ShowsWell world) (sym from.2) (by from.0 (nat_eq from.0.number new.number) (nat_eq from.0.number root.number) (shows from.0 from.1)))
+    (subst (ShowsWell world) (sym from.2)
+    (by from.0 (nat_eq from.0.number new.number) (nat_eq from.0.number root.number) (shows from.0 from.1)))
   where
     by : (old : Mount ℕ) (a b : Bool) → ShowsWell world old
-        → ShowsWell world (if a then (record old { place = root.place }) else (if b then (record old { place = Some put }) else old))
+        → ShowsWell world (if a then (record old { place = root.place }) else
+        (if b then (record old { place = Some put }) else old))
     by old true b was = record { root = was.root; place = at_root_place.place }
-    by old false true was = record { root = was.root; place = λ place e. subst (IsPlace world) (same_Some put place e) at_put }
+    by old false true was =
+        record { root = was.root; place = λ place e. subst (IsPlace world) (same_Some put place e) at_put }
     by old false false was = was
 
 -- The mounts of a namespace are copied
-module _ (world : World ℕ) (fresh : Fresh ℕ) (task : Task ℕ) (is : IsWorld nat_eq world) (serves : Serves nat_eq world fresh) where
+module _ (world : World ℕ) (fresh : Fresh ℕ) (task : Task ℕ) (is : IsWorld nat_eq world)
+    (serves : Serves nat_eq world fresh) where
   abbrev copied : List (Mount ℕ)
   copied = mounts_of nat_eq world task.namespace
 
@@ -249,13 +276,15 @@ module _ (world : World ℕ) (fresh : Fresh ℕ) (task : Task ℕ) (is : IsWorld
   copy_place : (mount : Mount ℕ) → Among mount copied → (place : Location ℕ) → mount.place ≡ Some place
       → IsPlace after (location_on_copy copy place)
   copy_place mount m place at =
-      let there = among-from_filter (λ (x : Mount ℕ). holds_of (nat_eq task.namespace) x.namespace) world.mounts mount m in
+      let there = among-from_filter
+      (λ (x : Mount ℕ). holds_of (nat_eq task.namespace) x.namespace) world.mounts mount m in
       let parent = mount_at nat_eq world place in
       let on = (world_shows world is mount there.0).place place at in
       let namespace : parent.namespace ≡ Some task.namespace =
       sym (parent_namespace world is mount there.0 place at) ∙ is_own mount.namespace there.1 in
       let parent_copied : Among parent copied =
-      among-filter (λ (x : Mount ℕ). holds_of (nat_eq task.namespace) x.namespace) world.mounts parent (found_there world.mounts place.mount on.listed)
+      among-filter (λ (x : Mount ℕ). holds_of (nat_eq task.namespace) x.namespace) world.mounts parent
+      (found_there world.mounts place.mount on.listed)
       (ap (holds_of (nat_eq task.namespace)) namespace ∙ eq-eqb task.namespace task.namespace refl) in
       let stands = copy_stands world fresh task is serves place
       (record {
@@ -265,7 +294,8 @@ module _ (world : World ℕ) (fresh : Fresh ℕ) (task : Task ℕ) (is : IsWorld
         inside = in_own task.namespace parent namespace;
       }) parent parent_copied (sym (number_found world.mounts place.mount)) in
       record {
-        listed = (and_parts (is_mount after (copy place.mount)) (is_some (node_at nat_eq after (location_on_copy copy place))) stands.located).0;
+        listed = (and_parts (is_mount after (copy place.mount))
+            (is_some (node_at nat_eq after (location_on_copy copy place))) stands.located).0;
         directory = stands.directory;
       }
 
@@ -281,10 +311,14 @@ module _ (world : World ℕ) (fresh : Fresh ℕ) (task : Task ℕ) (is : IsWorld
       copy_shows : (old : Mount ℕ) → Among old copied → ShowsWell after (copied_mount copy (evens fresh 0) old)
       copy_shows old n =
           record {
-            root = (world_shows world is old (among-from_filter (λ (x : Mount ℕ). holds_of (nat_eq task.namespace) x.namespace) world.mounts old n).0).root;
+            root = (world_shows world is old
+                (among-from_filter (λ (x : Mount ℕ). holds_of
+                (nat_eq task.namespace) x.namespace) world.mounts old n).0).root;
             place = λ at e. by old.place refl at e;
           }
         where
-          by : (o : Option (Location ℕ)) → old.place ≡ o → (at : Location ℕ) → option_map (location_on_copy copy) o ≡ Some at → IsPlace after at
+          by : (o : Option (Location ℕ)) → old.place ≡ o → (at : Location ℕ)
+              → option_map (location_on_copy copy) o ≡ Some at → IsPlace after at
           by None e at f = absurd (true≢false (sym (ap is_some f)))
-          by (Some place) e at f = subst (IsPlace after) (same_Some (location_on_copy copy place) at f) (copy_place old n place e)
+          by (Some place) e at f = subst (IsPlace after) (same_Some (location_on_copy copy place) at f)
+              (copy_place old n place e)

@@ -26,14 +26,17 @@ use Rattle.vt_world_laws.proofs.ShowsAttached.{attached_show}
 module _ (world : World ℕ) (is : IsWorld nat_eq world) where
   -- the mount of a tree on which another one stands
   abbrev pub HasParent : List (Mount ℕ) → Mount ℕ → Type 0
-  HasParent mounts mount = Among mount world.mounts × ((on : Mount ℕ) × Among on mounts × (stands_on nat_eq on.number mount ≡ true))
+  HasParent mounts mount = Among mount world.mounts
+      × ((on : Mount ℕ) × Among on mounts × (stands_on nat_eq on.number mount ≡ true))
 
-  child_of : (on child : Mount ℕ) → Among child (children nat_eq world.mounts on.number) → (whole : List (Mount ℕ)) → Among on whole → HasParent whole child
+  child_of : (on child : Mount ℕ) → Among child (children nat_eq world.mounts on.number) → (whole : List (Mount ℕ))
+      → Among on whole → HasParent whole child
   child_of on child m whole n =
       let there = among-from_filter (stands_on nat_eq on.number) world.mounts child m in
       (there.0, (on, n, there.1))
 
-  wider : (some whole : List (Mount ℕ)) (mount : Mount ℕ) → ((x : Mount ℕ) → Among x some → Among x whole) → HasParent some mount → HasParent whole mount
+  wider : (some whole : List (Mount ℕ)) (mount : Mount ℕ) → ((x : Mount ℕ) → Among x some → Among x whole)
+      → HasParent some mount → HasParent whole mount
   wider some whole mount within has = (has.0, (has.1.0, within has.1.0 has.1.1, has.1.2))
 
   tree_parents : (depth : ℕ) (top mount : Mount ℕ) → Among mount (tree_from nat_eq depth world.mounts top)
@@ -45,7 +48,8 @@ module _ (world : World ℕ) (is : IsWorld nat_eq world) where
       let below = children nat_eq world.mounts top.number in
       let from = among-from_flat_map (tree_from nat_eq depth world.mounts) below mount later in
       inr (⊎_elim
-      (λ e. subst (HasParent (tree_from nat_eq (suc depth) world.mounts top)) (sym e) (child_of top from.0 from.1 (tree_from nat_eq (suc depth) world.mounts top) (inl refl)))
+      (λ e. subst (HasParent (tree_from nat_eq (suc depth) world.mounts top)) (sym e)
+      (child_of top from.0 from.1 (tree_from nat_eq (suc depth) world.mounts top) (inl refl)))
       (wider (tree_from nat_eq depth world.mounts from.0) (tree_from nat_eq (suc depth) world.mounts top) mount
       (λ x n. inr (among-flat_map (tree_from nat_eq depth world.mounts) below from.0 x from.1 n)))
       (tree_parents depth from.0 mount from.2))) m
@@ -60,12 +64,14 @@ module _ (world : World ℕ) (is : IsWorld nat_eq world) where
       let from = among-from_flat_map (bindable_tree nat_eq depth world.mounts) below mount later in
       inr (⊎_elim
       (λ e. subst (HasParent (bindable_tree nat_eq (suc depth) world.mounts top)) (sym e)
-      (child_of top from.0 (bindable_child world top.number from.0 from.1) (bindable_tree nat_eq (suc depth) world.mounts top) (inl refl)))
+      (child_of top from.0 (bindable_child world top.number from.0 from.1)
+      (bindable_tree nat_eq (suc depth) world.mounts top) (inl refl)))
       (wider (bindable_tree nat_eq depth world.mounts from.0) (bindable_tree nat_eq (suc depth) world.mounts top) mount
       (λ x n. inr (among-flat_map (bindable_tree nat_eq depth world.mounts) below from.0 x from.1 n)))
       (bindable_parents depth from.0 mount from.2))) m
 
-  pub bind_parents : (source : Location ℕ) (recursive : Bool) (mount : Mount ℕ) → Among mount (bind_tree nat_eq world source recursive)
+  pub bind_parents : (source : Location ℕ) (recursive : Bool) (mount : Mount ℕ)
+      → Among mount (bind_tree nat_eq world source recursive)
       → (mount ≡ bound nat_eq world source) ⊎ HasParent (bind_tree nat_eq world source recursive) mount
   bind_parents source false mount m = ⊎_elim inl (λ none. absurd none) m
   bind_parents source true mount m =
@@ -75,11 +81,13 @@ module _ (world : World ℕ) (is : IsWorld nat_eq world) where
       let under = bindable_children nat_eq world.mounts source.mount in
       let chosen = filter (stands_under nat_eq world source) under in
       let from = among-from_flat_map (bindable_tree nat_eq (length world.mounts) world.mounts) chosen mount later in
-      let child = bindable_child world source.mount from.0 (among-from_filter (stands_under nat_eq world source) under from.0 from.1).0 in
+      let child = bindable_child world source.mount from.0
+      (among-from_filter (stands_under nat_eq world source) under from.0 from.1).0 in
       inr (⊎_elim
       (λ e. subst (HasParent whole) (sym e)
       (child_of (bound nat_eq world source) from.0
-      (subst (λ n. Among from.0 (children nat_eq world.mounts n)) (sym (number_found world.mounts source.mount)) child) whole (inl refl)))
+      (subst (λ n. Among from.0 (children nat_eq world.mounts n))
+      (sym (number_found world.mounts source.mount)) child) whole (inl refl)))
       (wider (bindable_tree nat_eq (length world.mounts) world.mounts from.0) whole mount
       (λ x n. inr (among-flat_map (bindable_tree nat_eq (length world.mounts) world.mounts) chosen from.0 x from.1 n)))
       (bindable_parents (length world.mounts) from.0 mount from.2))) m
@@ -94,24 +102,30 @@ module _ (world : World ℕ) (is : IsWorld nat_eq world) where
   -- so its child stands on what is there
   pub stands_there_well : (mounts : List (Mount ℕ)) → ((mount : Mount ℕ) → Among mount mounts → IsNumberedWell mount)
       → (mount : Mount ℕ) → HasParent mounts mount → (at : Location ℕ) → mount.place ≡ Some at
-      → (on : Mount ℕ) × Among on mounts × (on.number ≡ at.mount) × (is_directory_node (node_in world on.filesystem at.node) ≡ true)
+      → (on : Mount ℕ) × Among on mounts × (on.number ≡ at.mount)
+      × (is_directory_node (node_in world on.filesystem at.node) ≡ true)
   stands_there_well mounts well mount has at e =
       let on = has.1.0 in
       let number : on.number ≡ at.mount =
-      eqb-true on.number at.mount (sym (ap (holds_of (λ (place : Location ℕ). nat_eq on.number place.mount)) e) ∙ has.1.2) in (
+      eqb-true on.number at.mount (sym (ap (holds_of (λ (place : Location ℕ). nat_eq on.number place.mount)) e)
+      ∙ has.1.2) in (
         on,
         has.1.1,
         number,
-        ap (λ f. is_directory_node (node_in world f at.node)) (sym (well on has.1.1) ∙ ap (λ n. (mount_numbered nat_eq world n).filesystem) number)
+        ap (λ f. is_directory_node (node_in world f at.node))
+            (sym (well on has.1.1) ∙ ap (λ n. (mount_numbered nat_eq world n).filesystem) number)
             ∙ ((world_shows world is mount has.0).place at e).directory,
       )
 
   -- Binds
   pub bound_show : (fresh : Fresh ℕ) (source place : Location ℕ) (recursive : Bool) → Serves nat_eq world fresh
-      → is_directory_at nat_eq world source ≡ true → IsPlace world place → AllShow (bound_at nat_eq fresh world source place recursive)
+      → is_directory_at nat_eq world source ≡ true → IsPlace world place
+      → AllShow (bound_at nat_eq fresh world source place recursive)
   bound_show fresh source place recursive serves directory at =
-      attached_show world (supplied world fresh place mounts) place false mounts (attached_seen world fresh place mounts) (world_shows world is) at
-      is.mounts.one_number (binds_keep_numbers world fresh source place recursive serves is.mounts.one_number is.mounts.standing)
+      attached_show world (supplied world fresh place mounts) place false mounts
+      (attached_seen world fresh place mounts) (world_shows world is) at
+      is.mounts.one_number
+      (binds_keep_numbers world fresh source place recursive serves is.mounts.one_number is.mounts.standing)
       (λ origin m. ⊎_elim
       (λ e. ap (λ (x : Mount ℕ). is_directory_node (node_in world x.filesystem x.root)) e ∙ directory)
       (λ has. (world_shows world is origin has.0).root)
@@ -128,13 +142,17 @@ module _ (world : World ℕ) (is : IsWorld nat_eq world) where
       well : (mount : Mount ℕ) → Among mount (bind_tree nat_eq world source recursive) → IsNumberedWell mount
       well mount m =
           ⊎_elim
-          (λ e. subst IsNumberedWell (sym e) (ap (λ n. (mount_numbered nat_eq world n).filesystem) (number_found world.mounts source.mount)))
+          (λ e. subst IsNumberedWell (sym e)
+          (ap (λ n. (mount_numbered nat_eq world n).filesystem) (number_found world.mounts source.mount)))
           (λ has. listed_well mount has.0) (bind_parents source recursive mount m)
 
       first_is : (r : Bool) (origin : Mount ℕ) → origin ≡ bound nat_eq world source
-          → is_top nat_eq (graft world (supplied world fresh place (bind_tree nat_eq world source r)) place false (bind_tree nat_eq world source r)) origin.number ≡ true
-      first_is true origin e = eq-eqb origin.number (bound nat_eq world source).number (ap (λ (x : Mount ℕ). x.number) e)
-      first_is false origin e = eq-eqb origin.number (bound nat_eq world source).number (ap (λ (x : Mount ℕ). x.number) e)
+          → is_top nat_eq (graft world (supplied world fresh place (bind_tree nat_eq world source r)) place false
+          (bind_tree nat_eq world source r)) origin.number ≡ true
+      first_is true origin e = eq-eqb origin.number (bound nat_eq world source).number
+          (ap (λ (x : Mount ℕ). x.number) e)
+      first_is false origin e = eq-eqb origin.number (bound nat_eq world source).number
+          (ap (λ (x : Mount ℕ). x.number) e)
 
       top_is_top : (origin : Mount ℕ) → origin ≡ bound nat_eq world source
           → is_top nat_eq (graft world (supplied world fresh place mounts) place false mounts) origin.number ≡ true
@@ -143,14 +161,20 @@ module _ (world : World ℕ) (is : IsWorld nat_eq world) where
   -- Moves
   pub moved_show : (fresh : Fresh ℕ) (mount : ℕ) (place : Location ℕ) → Serves nat_eq world fresh
       → Among (mount_numbered nat_eq world mount) world.mounts
-      → KeepsWhatIsSeen world (attach nat_eq world fresh place true (mount_tree nat_eq world.mounts (mount_numbered nat_eq world mount)))
-      → IsPlace world place → AllShow (attach nat_eq world fresh place true (mount_tree nat_eq world.mounts (mount_numbered nat_eq world mount)))
+      → KeepsWhatIsSeen world
+      (attach nat_eq world fresh place true (mount_tree nat_eq world.mounts (mount_numbered nat_eq world mount)))
+      → IsPlace world place
+      → AllShow (attach nat_eq world fresh place true
+      (mount_tree nat_eq world.mounts (mount_numbered nat_eq world mount)))
   moved_show fresh mount place serves there seen at =
-      attached_show world (supplied world fresh place mounts) place true mounts seen (world_shows world is) at is.mounts.one_number
-      (moves_keep_numbers world fresh (record { mount = mount; node = 0 }) place serves is.mounts.one_number is.mounts.standing)
+      attached_show world (supplied world fresh place mounts) place true mounts seen
+      (world_shows world is) at is.mounts.one_number
+      (moves_keep_numbers world fresh
+      (record { mount = mount; node = 0 }) place serves is.mounts.one_number is.mounts.standing)
       (λ origin m. (world_shows world is origin (listed origin m)).root)
       (λ origin m below on e. ⊎_elim
-      (λ same. absurd (true≢false (sym (top_is_top (length world.mounts) origin.number (ap (λ (x : Mount ℕ). x.number) same)) ∙ below)))
+      (λ same. absurd (true≢false
+      (sym (top_is_top (length world.mounts) origin.number (ap (λ (x : Mount ℕ). x.number) same)) ∙ below)))
       (λ has. stands_there_well mounts (λ x n. listed_well x (listed x n)) origin has on e)
       (tree_parents (length world.mounts) top origin m))
       (λ moved origin m. (is_numbered world is origin (listed origin m), listed_well origin (listed origin m)))
@@ -168,7 +192,8 @@ module _ (world : World ℕ) (is : IsWorld nat_eq world) where
 
       top_is_top : (n k : ℕ) → k ≡ (mount_numbered nat_eq world mount).number
           → holds_of (λ twig. nat_eq k twig.origin.number)
-          (first_of_list (map (twig_of (supplied world fresh place mounts) (group_of (mount_at nat_eq world place).propagation))
+          (first_of_list (map (twig_of (supplied world fresh place mounts)
+          (group_of (mount_at nat_eq world place).propagation))
           (tree_from nat_eq n world.mounts (mount_numbered nat_eq world mount)))) ≡ true
       top_is_top zero k e = eq-eqb k (mount_numbered nat_eq world mount).number e
       top_is_top (suc n) k e = eq-eqb k (mount_numbered nat_eq world mount).number e
@@ -191,7 +216,8 @@ module _ (world : World ℕ) (is : IsWorld nat_eq world) (fresh : Fresh ℕ) (se
   not_used : (k : ℕ) (number : ℕ) → Among number (used_by_filesystem filesystem) → nat_eq (odds fresh k) number ≡ false
   not_used k number m =
       ⊎_elim (λ e. ap (nat_eq (odds fresh k)) e ∙ differ (2 * k + 1) 0 (not_none k))
-      (λ later. ⊎_elim (λ e. ap (nat_eq (odds fresh k)) e ∙ differ (2 * k + 1) 2 (not_two k)) (λ none. absurd none) later) m
+      (λ later. ⊎_elim (λ e. ap (nat_eq (odds fresh k)) e ∙ differ (2 * k + 1) 2 (not_two k))
+      (λ none. absurd none) later) m
     where
       not_none : (j : ℕ) → 2 * j + 1 ≡ 0 → ⊥
       not_none j e = omega (arith, e)
@@ -222,35 +248,46 @@ module _ (world : World ℕ) (is : IsWorld nat_eq world) (fresh : Fresh ℕ) (se
           (among-append_left (mounts ++ flat_map used_by_filesystem world.filesystems) namespaces number
           (among-append_left mounts (flat_map used_by_filesystem world.filesystems) number in_mounts)))
           (λ in_filesystems.
-          let from = among-from_flat_map used_by_filesystem (world.filesystems ++ (filesystem ∷ [])) number in_filesystems in
+          let from = among-from_flat_map used_by_filesystem
+          (world.filesystems ++ (filesystem ∷ [])) number in_filesystems in
           ⊎_elim (λ old. unused_by_filesystem world fresh serves (2 * k + 1) from.0 old number from.2)
-          (λ new. ⊎_elim (λ e. not_used k number (subst (λ f. Among number (used_by_filesystem f)) e from.2)) (λ none. absurd none) new)
+          (λ new. ⊎_elim (λ e. not_used k number (subst (λ f. Among number (used_by_filesystem f)) e from.2))
+          (λ none. absurd none) new)
           (among-append world.filesystems (filesystem ∷ []) from.0 from.1))
           (among-append mounts (flat_map used_by_filesystem (world.filesystems ++ (filesystem ∷ []))) number front))
           (λ in_namespaces. unused_number world fresh serves (2 * k + 1) number
           (among-append_right (mounts ++ flat_map used_by_filesystem world.filesystems) namespaces number in_namespaces))
-          (among-append (mounts ++ flat_map used_by_filesystem (world.filesystems ++ (filesystem ∷ []))) namespaces number m)
+          (among-append (mounts ++ flat_map used_by_filesystem
+          (world.filesystems ++ (filesystem ∷ []))) namespaces number m)
 
   -- the new filesystem is found by its number
-  found_behind : (list : List (Filesystem ℕ)) → ((old : Filesystem ℕ) → Among old list → nat_eq filesystem.number old.number ≡ false)
+  found_behind : (list : List (Filesystem ℕ))
+      → ((old : Filesystem ℕ) → Among old list → nat_eq filesystem.number old.number ≡ false)
       → numbered filesystem.number (list ++ (filesystem ∷ [])) ≡ filesystem
   found_behind [] none =
-      ap (λ b. unwrap_or (cond b (Some filesystem) None) (no_filesystem filesystem.number)) (eq-eqb filesystem.number filesystem.number refl)
+      ap (λ b. unwrap_or (cond b (Some filesystem) None) (no_filesystem filesystem.number))
+      (eq-eqb filesystem.number filesystem.number refl)
   found_behind (first ∷ rest) none =
-      ap (λ b. unwrap_or (cond b (Some first) (find (λ (f : Filesystem ℕ). nat_eq filesystem.number f.number) (rest ++ (filesystem ∷ [])))) (no_filesystem filesystem.number))
+      ap (λ b. unwrap_or (cond b (Some first)
+      (find (λ (f : Filesystem ℕ). nat_eq filesystem.number f.number) (rest ++ (filesystem ∷ []))))
+      (no_filesystem filesystem.number))
       (none first (inl refl))
       ∙ found_behind rest (λ old m. none old (inr m))
 
   pub mounted_show : (place : Location ℕ) (flags : MountFlags) → IsPlace world place
       → AllShow (mounted nat_eq (odds fresh) world place (plain_filesystem nat_eq fresh) flags)
   mounted_show place flags at =
-      attached_show larger (supplied larger (odds fresh) place mounts) place false mounts (attached_seen larger (odds fresh) place mounts)
+      attached_show larger (supplied larger (odds fresh) place mounts) place false mounts
+      (attached_seen larger (odds fresh) place mounts)
       (all_show_after world larger (added_seen filesystem world) refl (world_shows world is))
       (record { listed = at.listed; directory = directory_in at })
-      is.mounts.one_number (new_mounts_keep_numbers world (odds fresh) place filesystem flags odds_serve is.mounts.one_number)
-      (λ origin m. ⊎_elim (λ e. ap (λ (x : Mount ℕ). is_directory_node (node_in larger x.filesystem x.root)) e ∙ root) (λ none. absurd none) m)
+      is.mounts.one_number
+      (new_mounts_keep_numbers world (odds fresh) place filesystem flags odds_serve is.mounts.one_number)
+      (λ origin m. ⊎_elim (λ e. ap (λ (x : Mount ℕ). is_directory_node (node_in larger x.filesystem x.root)) e
+      ∙ root) (λ none. absurd none) m)
       (λ origin m below on e. ⊎_elim
-      (λ same. absurd (true≢false (sym (eq-eqb origin.number mount.number (ap (λ (x : Mount ℕ). x.number) same)) ∙ below)))
+      (λ same. absurd (true≢false (sym (eq-eqb origin.number mount.number (ap (λ (x : Mount ℕ). x.number) same))
+      ∙ below)))
       (λ none. absurd none) m)
       (λ moved. absurd (true≢false (sym moved)))
     where
@@ -266,6 +303,8 @@ module _ (world : World ℕ) (is : IsWorld nat_eq world) (fresh : Fresh ℕ) (se
       root : is_directory_node (node_in larger filesystem.number filesystem.files.tree.root) ≡ true
       root =
           ap (λ (f : Filesystem ℕ). is_directory_node (f.files.tree.node filesystem.files.tree.root))
-          (found_behind world.filesystems (λ old m. unused_by_filesystem world fresh serves 0 old m old.number (inl refl)))
-          ∙ ap (λ b. is_directory_node (cond b (Some (record { attr = root_attr; content = new_directory filesystem.files.tree.root })) None))
+          (found_behind world.filesystems
+          (λ old m. unused_by_filesystem world fresh serves 0 old m old.number (inl refl)))
+          ∙ ap (λ b. is_directory_node
+          (cond b (Some (record { attr = root_attr; content = new_directory filesystem.files.tree.root })) None))
           (eq-eqb filesystem.files.tree.root filesystem.files.tree.root refl)

@@ -55,7 +55,8 @@ name_replaced new old = by (same_name new.name old.name) refl
 abbrev AreNamedApart : List (Task ℕ) → Type 0
 AreNamedApart tasks = any_pair (λ (a b : Task ℕ). same_name a.name b.name) tasks ≡ false
 
-mapped_apart : (f : Task ℕ → Task ℕ) → ((task : Task ℕ) → (f task).name ≡ task.name) → (tasks : List (Task ℕ)) → AreNamedApart tasks
+mapped_apart : (f : Task ℕ → Task ℕ) → ((task : Task ℕ) → (f task).name ≡ task.name) → (tasks : List (Task ℕ))
+    → AreNamedApart tasks
     → AreNamedApart (map f tasks)
 mapped_apart f names tasks e =
     pair-map (λ (a b : Task ℕ). same_name a.name b.name) (λ (a b : Task ℕ). same_name a.name b.name) f tasks
@@ -64,26 +65,31 @@ mapped_apart f names tasks e =
 appended_apart : (tasks : List (Task ℕ)) (new : Task ℕ) → AreNamedApart tasks
     → ((task : Task ℕ) → Among task tasks → same_name task.name new.name ≡ false) → AreNamedApart (tasks ++ (new ∷ []))
 appended_apart [] new e differ = refl
-appended_apart (first ∷ rest) new e differ = both (any_appended rest (first_part e)) (appended_apart rest new (second_part e) (λ t m. differ t (inr m)))
+appended_apart (first ∷ rest) new e differ = both (any_appended rest (first_part e))
+    (appended_apart rest new (second_part e) (λ t m. differ t (inr m)))
   where
     test : Task ℕ → Task ℕ → Bool
     test a b = same_name a.name b.name
 
     first_part : AreNamedApart (first ∷ rest) → list_any (λ (b : Task ℕ). same_name first.name b.name) rest ≡ false
-    first_part h = (or_parts (list_any (λ (b : Task ℕ). same_name first.name b.name) rest) (any_pair (λ (a b : Task ℕ). same_name a.name b.name) rest) h).0
+    first_part h = (or_parts (list_any (λ (b : Task ℕ). same_name first.name b.name) rest)
+        (any_pair (λ (a b : Task ℕ). same_name a.name b.name) rest) h).0
 
     second_part : AreNamedApart (first ∷ rest) → AreNamedApart rest
-    second_part h = (or_parts (list_any (λ (b : Task ℕ). same_name first.name b.name) rest) (any_pair (λ (a b : Task ℕ). same_name a.name b.name) rest) h).1
+    second_part h = (or_parts (list_any (λ (b : Task ℕ). same_name first.name b.name) rest)
+        (any_pair (λ (a b : Task ℕ). same_name a.name b.name) rest) h).1
 
     any_appended : (list : List (Task ℕ)) → list_any (λ (b : Task ℕ). same_name first.name b.name) list ≡ false
         → list_any (λ (b : Task ℕ). same_name first.name b.name) (list ++ (new ∷ [])) ≡ false
     any_appended list h =
         none_from_among (λ (b : Task ℕ). same_name first.name b.name) (list ++ (new ∷ [])) (λ b m.
         ⊎_elim (λ l. none_among (λ (x : Task ℕ). same_name first.name x.name) list h b l)
-        (λ r. ⊎_elim (λ same. ap (λ (x : Task ℕ). same_name first.name x.name) same ∙ differ first (inl refl)) (λ none. absurd none) r)
+        (λ r. ⊎_elim (λ same. ap (λ (x : Task ℕ). same_name first.name x.name) same ∙ differ first (inl refl))
+        (λ none. absurd none) r)
         (among-append list (new ∷ []) b m))
 
-    both : list_any (λ (b : Task ℕ). same_name first.name b.name) (rest ++ (new ∷ [])) ≡ false → AreNamedApart (rest ++ (new ∷ []))
+    both : list_any (λ (b : Task ℕ). same_name first.name b.name) (rest ++ (new ∷ [])) ≡ false
+        → AreNamedApart (rest ++ (new ∷ []))
         → AreNamedApart (first ∷ (rest ++ (new ∷ [])))
     both h k = ap (λ b. b || any_pair (λ (a b : Task ℕ). same_name a.name b.name) (rest ++ (new ∷ []))) h ∙ k
 
@@ -104,7 +110,8 @@ counted_from world counted task other number rest m n =
 -- each task has the name of one that was there, and has forked no less
 abbrev ComeFrom : List (Task ℕ) → List (Task ℕ) → Type 0
 ComeFrom before after =
-    (task : Task ℕ) → Among task after → (old : Task ℕ) × Among old before × (task.name ≡ old.name) × (old.forks ≤ task.forks)
+    (task : Task ℕ) → Among task after → (old : Task ℕ) × Among old before × (task.name ≡ old.name)
+    × (old.forks ≤ task.forks)
 
 counted_on : (before after : List (Task ℕ)) → ComeFrom before after → AreCounted before → AreCounted after
 counted_on before after come counted task other number rest m n e =
@@ -114,7 +121,8 @@ counted_on before after come counted task other number rest m n e =
     counted one.0 two.0 number rest one.1 two.1 (sym two.2 ∙ e ∙ ap (λ l. l ++ (number ∷ rest)) one.2) in
     omega (arith, small, one.3)
 
-replaced_come : (new task : Task ℕ) (tasks : List (Task ℕ)) → Among task tasks → new.name ≡ task.name → task.forks ≤ new.forks
+replaced_come : (new task : Task ℕ) (tasks : List (Task ℕ)) → Among task tasks → new.name ≡ task.name
+    → task.forks ≤ new.forks
     → ComeFrom tasks (map (replaced_if_called new) tasks)
 replaced_come new task tasks there name forks other m =
     let from = among-from_map (replaced_if_called new) tasks other m in
@@ -131,23 +139,29 @@ pub data GoOn (task : Task ℕ) (before : List (Task ℕ)) : List (Task ℕ) →
   same_ones : (after : List (Task ℕ)) → after ≡ before → GoOn task before after
   one_changed : (new : Task ℕ) (after : List (Task ℕ)) → new.name ≡ task.name → new.forks ≡ task.forks
       → after ≡ map (replaced_if_called new) before → GoOn task before after
-  all_moved : (namespace : ℕ) (root new : Mount ℕ) (after : List (Task ℕ)) → after ≡ map (pivoted_task nat_eq namespace root new) before
+  all_moved : (namespace : ℕ) (root new : Mount ℕ) (after : List (Task ℕ))
+      → after ≡ map (pivoted_task nat_eq namespace root new) before
       → GoOn task before after
-  one_left : (after : List (Task ℕ)) → after ≡ filter (λ (other : Task ℕ). not (same_name task.name other.name)) before → GoOn task before after
+  one_left : (after : List (Task ℕ)) → after ≡ filter
+      (λ (other : Task ℕ). not (same_name task.name other.name)) before → GoOn task before after
   one_more : (credentials : Credentials) (after : List (Task ℕ))
-      → after ≡ map (replaced_if_called (record task { forks = task.forks + 1 })) before ++ (child_of task credentials ∷ []) → GoOn task before after
+      → after ≡ map (replaced_if_called
+      (record task { forks = task.forks + 1 })) before ++ (child_of task credentials ∷ []) → GoOn task before after
 
 pivoted_keeps : (namespace : ℕ) (root new : Mount ℕ) (task : Task ℕ)
-    → ((pivoted_task nat_eq namespace root new task).name ≡ task.name) × (task.forks ≤ (pivoted_task nat_eq namespace root new task).forks)
+    → ((pivoted_task nat_eq namespace root new task).name ≡ task.name)
+    × (task.forks ≤ (pivoted_task nat_eq namespace root new task).forks)
 pivoted_keeps namespace root new task = by (nat_eq namespace task.namespace)
   where
     by : (b : Bool)
         → ((if b then (record task { root = pivoted_location nat_eq root new task.root; directory = pivoted_location nat_eq root new task.directory }) else task).name ≡ task.name)
-        × (task.forks ≤ (if b then (record task { root = pivoted_location nat_eq root new task.root; directory = pivoted_location nat_eq root new task.directory }) else task).forks)
+        × (task.forks ≤ (if b then
+        (record task { root = pivoted_location nat_eq root new task.root; directory = pivoted_location nat_eq root new task.directory }) else task).forks)
     by true = (refl, omega arith)
     by false = (refl, omega arith)
 
-module _ (task : Task ℕ) (before : List (Task ℕ)) (there : Among task before) (apart : AreNamedApart before) (counted : AreCounted before) where
+module _ (task : Task ℕ) (before : List (Task ℕ)) (there : Among task before) (apart : AreNamedApart before)
+    (counted : AreCounted before) where
   abbrev parent : Task ℕ
   parent = record task { forks = task.forks + 1 }
 
@@ -160,16 +174,21 @@ module _ (task : Task ℕ) (before : List (Task ℕ)) (there : Among task before
 
       by : (b : Bool) → same_name other.name (child_name task) ≡ b → b ≡ false
       by false e = refl
-      by true e = absurd (too_many (counted task other (task.forks + 1) [] there m (one_name other.name (child_name task) e)))
+      by true e = absurd (too_many
+          (counted task other (task.forks + 1) [] there m (one_name other.name (child_name task) e)))
 
   pub go_on_apart : (after : List (Task ℕ)) → GoOn task before after → AreNamedApart after
   go_on_apart after (same_ones list e) = subst AreNamedApart (sym e) apart
   go_on_apart after (one_changed new list name forks e) =
       subst AreNamedApart (sym e) (mapped_apart (replaced_if_called new) (name_replaced new) before apart)
   go_on_apart after (all_moved namespace root new list e) =
-      subst AreNamedApart (sym e) (mapped_apart (pivoted_task nat_eq namespace root new) (λ t. (pivoted_keeps namespace root new t).0) before apart)
+      subst AreNamedApart (sym e)
+      (mapped_apart (pivoted_task nat_eq namespace root new)
+      (λ t. (pivoted_keeps namespace root new t).0) before apart)
   go_on_apart after (one_left list e) =
-      subst AreNamedApart (sym e) (pair-filter (λ (a b : Task ℕ). same_name a.name b.name) (λ (other : Task ℕ). not (same_name task.name other.name)) before apart)
+      subst AreNamedApart (sym e)
+      (pair-filter (λ (a b : Task ℕ). same_name a.name b.name)
+      (λ (other : Task ℕ). not (same_name task.name other.name)) before apart)
   go_on_apart after (one_more credentials list e) =
       subst AreNamedApart (sym e)
       (appended_apart (map (replaced_if_called parent) before) (child_of task credentials)
@@ -181,7 +200,8 @@ module _ (task : Task ℕ) (before : List (Task ℕ)) (there : Among task before
       ∙ child_is_new from.0 from.1))
 
   -- a child's name begins with that of a task that was there
-  above_child : (other : Task ℕ) → Among other (map (replaced_if_called parent) before) → (number : ℕ) (rest : TaskName)
+  above_child : (other : Task ℕ) → Among other (map (replaced_if_called parent) before)
+      → (number : ℕ) (rest : TaskName)
       → child_name task ≡ other.name ++ (number ∷ rest) → number ≤ other.forks
   above_child other m number rest e =
       let from = among-from_map (replaced_if_called parent) before other m in
@@ -206,13 +226,19 @@ module _ (task : Task ℕ) (before : List (Task ℕ)) (there : Among task before
   go_on_counted after (same_ones list e) = subst AreCounted (sym e) counted
   go_on_counted after (one_changed new list name forks e) =
       subst AreCounted (sym e)
-      (counted_on before (map (replaced_if_called new) before) (replaced_come new task before there name (omega (arith, forks))) counted)
+      (counted_on before (map (replaced_if_called new) before)
+      (replaced_come new task before there name (omega (arith, forks))) counted)
   go_on_counted after (all_moved namespace root new list e) =
       subst AreCounted (sym e)
       (counted_on before (map (pivoted_task nat_eq namespace root new) before) (λ other m.
       let from = among-from_map (pivoted_task nat_eq namespace root new) before other m in
-      let kept = pivoted_keeps namespace root new from.0 in
-      (from.0, from.1, ap (λ (t : Task ℕ). t.name) from.2 ∙ kept.0, subst (λ (t : Task ℕ). from.0.forks ≤ t.forks) (sym from.2) kept.1))
+      let kept = pivoted_keeps namespace root new from.0 in (
+        from.0,
+        from.1,
+        ap (λ (t : Task ℕ). t.name) from.2
+            ∙ kept.0,
+        subst (λ (t : Task ℕ). from.0.forks ≤ t.forks) (sym from.2) kept.1,
+      ))
       counted)
   go_on_counted after (one_left list e) =
       subst AreCounted (sym e) (λ one other number rest m n.
@@ -227,14 +253,18 @@ module _ (task : Task ℕ) (before : List (Task ℕ)) (there : Among task before
       ⊎_elim
       (λ first. ⊎_elim
       (λ second. come one other number rest first second h)
-      (λ second. ⊎_elim (λ is. above_child one first number rest (sym (ap (λ (t : Task ℕ). t.name) is) ∙ h)) (λ none. absurd none) second)
+      (λ second. ⊎_elim (λ is. above_child one first number rest (sym (ap (λ (t : Task ℕ). t.name) is) ∙ h))
+      (λ none. absurd none) second)
       (among-append old (child ∷ []) other n))
       (λ first. ⊎_elim
       (λ is_child.
-      let name : other.name ≡ child_name task ++ (number ∷ rest) = h ∙ ap (λ (t : Task ℕ). t.name ++ (number ∷ rest)) is_child in
+      let name : other.name ≡ child_name task ++ (number ∷ rest) = h
+      ∙ ap (λ (t : Task ℕ). t.name ++ (number ∷ rest)) is_child in
       ⊎_elim
       (λ second. absurd (below_none other second number rest name))
-      (λ second. ⊎_elim (λ is. absurd (not_longer (child_name task) number rest (sym (ap (λ (t : Task ℕ). t.name) is) ∙ name))) (λ none. absurd none) second)
+      (λ second. ⊎_elim (λ is. absurd
+      (not_longer (child_name task) number rest (sym (ap (λ (t : Task ℕ). t.name) is) ∙ name)))
+      (λ none. absurd none) second)
       (among-append old (child ∷ []) other n))
       (λ none. absurd none) first)
       (among-append old (child ∷ []) one m))
@@ -243,7 +273,8 @@ module _ (task : Task ℕ) (before : List (Task ℕ)) (there : Among task before
       too_many h = omega (arith, h)
 
       -- nothing was named below the child
-      below_none : (other : Task ℕ) → Among other (map (replaced_if_called parent) before) → (number : ℕ) (rest : TaskName)
+      below_none : (other : Task ℕ) → Among other (map (replaced_if_called parent) before)
+          → (number : ℕ) (rest : TaskName)
           → other.name ≡ child_name task ++ (number ∷ rest) → ⊥
       below_none other m number rest h =
           let from = among-from_map (replaced_if_called parent) before other m in
@@ -255,7 +286,8 @@ pub opening_counts_forks : OpeningCountsForks
 opening_counts_forks fresh =
     counted_from (opening nat_eq fresh) (λ task other number rest m n e.
     ⊎_elim
-    (λ (one : other ≡ first_task nat_eq fresh). absurd (none_append task.name number rest (ap (λ (t : Task ℕ). t.name) (sym one) ∙ e)))
+    (λ (one : other ≡ first_task nat_eq fresh). absurd
+    (none_append task.name number rest (ap (λ (t : Task ℕ). t.name) (sym one) ∙ e)))
     (λ none. absurd none) n)
 
 pub settling_keeps_counting_forks : SettlingKeepsCountingForks
