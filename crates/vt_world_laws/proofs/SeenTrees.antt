@@ -249,7 +249,8 @@ module _ (count : ℕ → ℕ) (fresh : Fresh ℕ) (world : World ℕ) (plain : 
   abbrev pub changed_one : Filesystem ℕ
   changed_one = with_files_counted count old (changed nat_eq old.files change)
 
-  pub change_of_plain : with_change_counted nat_eq count fresh world location change ≡ with_filesystem nat_eq world changed_one
+  pub change_of_plain : with_change_counted nat_eq count fresh world location change
+      ≡ with_filesystem nat_eq world changed_one
   change_of_plain =
       ap (λ o. filesystem_changed_counted nat_eq count fresh world old o change)
       (no_some old.overlay

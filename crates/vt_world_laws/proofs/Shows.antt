@@ -43,7 +43,10 @@ AllShow world = (mount : Mount ℕ) → Among mount world.mounts → ShowsWell w
 module _ (before after : World ℕ) (seen : KeepsWhatIsSeen before after) where
   pub place_after : (place : Location ℕ) → IsPlace before place → IsPlace after place
   place_after place at =
-      record { listed = seen.listed place.mount at.listed; directory = directory_after before after seen place at.listed at.directory }
+      record {
+        listed = seen.listed place.mount at.listed;
+        directory = directory_after before after seen place at.listed at.directory;
+      }
 
   pub shows_after : (mount : Mount ℕ) → ShowsWell before mount → ShowsWell after mount
   shows_after mount shows =

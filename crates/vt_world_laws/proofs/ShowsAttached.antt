@@ -192,7 +192,8 @@ module _ (world : World ℕ) (new : Copies ℕ) (place : Location ℕ) (moves : 
           let takes = (among-from_filter (takes_part nat_eq world place)
           (receivers_of nat_eq world destination) part n).1 in
           let before_reach = (and_parts
-          (not (nat_eq place.mount part.number) && is_some part.namespace && nat_eq destination.filesystem part.filesystem) (reaches nat_eq world place.node part) takes).0 in
+          (not (nat_eq place.mount part.number) && is_some part.namespace && nat_eq destination.filesystem part.filesystem)
+          (reaches nat_eq world place.node part) takes).0 in
           let same = (and_parts (not (nat_eq place.mount part.number) && is_some part.namespace)
           (nat_eq destination.filesystem part.filesystem) before_reach).1 in
           through (is_among_numbers (numbers_of world.mounts) part.number
@@ -218,7 +219,8 @@ module _ (world : World ℕ) (new : Copies ℕ) (place : Location ℕ) (moves : 
       by false below (Some on) at =
           let parent = parents origin n below on at in
           let view = copy_view part m parent.0 parent.1 in
-          let number : copy_number nat_eq new tree part.number parent.0.number ≡ copy_number nat_eq new tree part.number on.mount =
+          let number : copy_number nat_eq new tree part.number parent.0.number
+          ≡ copy_number nat_eq new tree part.number on.mount =
           ap (copy_number nat_eq new tree part.number) parent.2 in
           record {
             listed = subst (λ k. is_mount after k ≡ true) number view.0;

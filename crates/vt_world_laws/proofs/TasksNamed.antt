@@ -151,14 +151,14 @@ pub data GoOn (task : Task ℕ) (before : List (Task ℕ)) : List (Task ℕ) →
 pivoted_keeps : (namespace : ℕ) (root new : Mount ℕ) (task : Task ℕ)
     → ((pivoted_task nat_eq namespace root new task).name ≡ task.name)
     × (task.forks ≤ (pivoted_task nat_eq namespace root new task).forks)
-pivoted_keeps namespace root new task = by (nat_eq namespace task.namespace)
+pivoted_keeps namespace root new task =
+    by (record task { root = pivoted_location nat_eq root new task.root; directory = pivoted_location nat_eq root new task.directory })
+    refl (omega arith) (nat_eq namespace task.namespace)
   where
-    by : (b : Bool)
-        → ((if b then (record task { root = pivoted_location nat_eq root new task.root; directory = pivoted_location nat_eq root new task.directory }) else task).name ≡ task.name)
-        × (task.forks ≤ (if b then
-        (record task { root = pivoted_location nat_eq root new task.root; directory = pivoted_location nat_eq root new task.directory }) else task).forks)
-    by true = (refl, omega arith)
-    by false = (refl, omega arith)
+    by : (moved : Task ℕ) → moved.name ≡ task.name → task.forks ≤ moved.forks → (b : Bool)
+        → ((if b then moved else task).name ≡ task.name) × (task.forks ≤ (if b then moved else task).forks)
+    by moved name forks true = (name, forks)
+    by moved name forks false = (refl, omega arith)
 
 module _ (task : Task ℕ) (before : List (Task ℕ)) (there : Among task before) (apart : AreNamedApart before)
     (counted : AreCounted before) where
