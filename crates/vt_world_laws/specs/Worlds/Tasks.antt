@@ -4,6 +4,7 @@ use Rattle.std.specs.List.{list_all}
 use Rattle.vt_spec.specs.Machine.Apply.{apply_unraised}
 use Rattle.vt_spec.specs.Machine.Lists.{Fresh, any_pair}
 use Rattle.vt_spec.specs.Machine.Permits.{Permit}
+use Rattle.vt_spec.specs.Machine.Policy.{numbers_raised}
 use Rattle.vt_spec.specs.Machine.Run.{Serves}
 use Rattle.vt_spec.specs.Machine.Settled.{settled}
 use Rattle.vt_spec.specs.Machine.World.{Task, TaskName, World, all_locations, opening, same_name, task_called}
@@ -46,3 +47,9 @@ OpeningCountsForks = (fresh : Fresh ℕ) → ForksAreCounted (opening nat_eq fre
 -- What nothing uses is no task.
 abbrev pub SettlingKeepsCountingForks : Type 0
 SettlingKeepsCountingForks = (world : World ℕ) → ForksAreCounted world → ForksAreCounted (settled nat_eq world)
+
+-- Nor do change numbers count forks.
+abbrev pub RaisingKeepsCountingForks : Type 0
+RaisingKeepsCountingForks =
+    (before world : World ℕ) (name : TaskName) → ForksAreCounted world
+    → ForksAreCounted (numbers_raised nat_eq before name world)
