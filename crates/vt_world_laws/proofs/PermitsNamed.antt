@@ -1,0 +1,150 @@
+-- A permit that fits keeps the names of tasks apart, where tasks have counted their forks; and they go on counting
+-- them.
+use Rattle.std.proofs.Common.{◌≡◌, refl, ap, ◌∙◌, ℕ, nat_eq, Bool, true, false, List, [], ◌∷◌, map}
+use Rattle.std.specs.Prelude.{unwrap_or}
+use Rattle.vt_spec.specs.Machine.Apply.{apply_unraised}
+use Rattle.vt_spec.specs.Machine.Changes.Change.{CopyUp, Make, Move, Remove}
+use Rattle.vt_spec.specs.Machine.Changes.{Change}
+use Rattle.vt_spec.specs.Machine.Detach.{going, without_mounts_on}
+use Rattle.vt_spec.specs.Machine.Filesystems.{with_change_counted}
+use Rattle.vt_spec.specs.Machine.Lists.{Fresh, evens, odds}
+use Rattle.vt_spec.specs.Machine.Mounts.{Location, numbers_by}
+use Rattle.vt_spec.specs.Machine.Namespaces.{entered_at, namespace_entered, namespace_root, unshared, unshared_task}
+use Rattle.vt_spec.specs.Machine.Outcome.Descriptors.{is_copied_up, pwritten_counted, with_copy_counted, with_descriptor, without_descriptor}
+use Rattle.vt_spec.specs.Machine.Outcome.Removing.{without_replaced}
+use Rattle.vt_spec.specs.Machine.Permits.{Permit}
+use Rattle.vt_spec.specs.Machine.Permits.Permit.{Allowed, ToBind, ToChange, ToClose, ToEnterNamespace, ToExit, ToFork, ToList, ToListMounts, ToMake, ToMountOverlay, ToMountPlain, ToMove, ToOpen, ToOpenNew, ToPivot, ToRead, ToReadPart, ToRemoveDirectory, ToRename, ToSetCredentials, ToSetDirectory, ToSetFlags, ToSetRoot, ToSetType, ToSetUmask, ToStat, ToUnmount, ToUnmountLazily, ToUnshare, ToWritePart}
+use Rattle.vt_spec.specs.Machine.World.{Task, World, mount_at, mount_numbered, mounts_of, replaced_if_called, same_name, without_task}
+use Rattle.vt_spec.specs.Machine.WorldLaws.{TaskInvariants}
+use Rattle.vt_mount_laws.proofs.MountsRetyped.{types_are_of_mounts}
+use Rattle.vt_mount_laws.proofs.UnmountingEnds.{lazy_is_of_mounts}
+use Rattle.vt_world_laws.specs.Worlds.Kept.{IsPlain}
+use Rattle.vt_world_laws.specs.Worlds.Permits.{NamesWhatIsThere}
+use Rattle.vt_world_laws.specs.Worlds.Tasks.{ForksAreCounted, KeptWhereForksAreCounted, OneTaskAName, TasksAreWithinLimits}
+use Rattle.vt_world_laws.proofs.PermitsPlaced.{found_among, permits_keep_directories, permits_keep_locations, permits_keep_open_files}
+use Rattle.vt_world_laws.proofs.PermitsSeen.{gone_on, replaced_plain, replaced_tasks, taken_plain, taken_tasks}
+use Rattle.vt_world_laws.proofs.SeenTrees.{change_tasks}
+use Rattle.vt_world_laws.proofs.TasksNamed.{GoOn, counted_among, counted_from, go_on_apart, go_on_counted}
+use Rattle.vt_world_laws.proofs.TasksNamed.GoOn.{all_moved, one_changed, one_left, one_more, same_ones}
+
+module _ (world : World ℕ) (fresh : Fresh ℕ) (task : Task ℕ) (plain : IsPlain world) where
+  abbrev after : Permit ℕ → World ℕ
+  after permit = (apply_unraised nat_eq fresh world task permit).world
+
+  abbrev Goes : Permit ℕ → Type 0
+  Goes permit = GoOn task world.tasks (after permit).tasks
+
+  changed_alike : (location : Location ℕ) (change : Change ℕ)
+      → (with_change_counted nat_eq (λ number. number) fresh world location change).tasks ≡ world.tasks
+  changed_alike location change = change_tasks (λ number. number) fresh world plain location change
+
+  copied_alike : (b : Bool) (file : Location ℕ)
+      → (with_copy_counted nat_eq b (λ number. number) fresh world file).tasks ≡ world.tasks
+  copied_alike true file = changed_alike file (CopyUp file.node)
+  copied_alike false file = refl
+
+  written_alike : (file : Location ℕ) (offset : ℕ) (bytes : List ℕ)
+      → (pwritten_counted nat_eq (λ number. number) fresh world file offset bytes).tasks ≡ world.tasks
+  written_alike file offset [] = refl
+  written_alike file offset (byte ∷ bytes) = changed_alike file _
+
+  pub tasks_go_on : (permit : Permit ℕ) → NamesWhatIsThere world task permit → Goes permit
+  tasks_go_on Allowed fits = same_ones world.tasks refl
+  tasks_go_on (ToList directory) fits = same_ones world.tasks refl
+  tasks_go_on (ToStat object) fits = same_ones world.tasks refl
+  tasks_go_on (ToRead file) fits = same_ones world.tasks refl
+  tasks_go_on (ToReadPart file offset size) fits = same_ones world.tasks refl
+  tasks_go_on (ToChange location change) fits = same_ones (after (ToChange location change)).tasks
+      (changed_alike location change)
+  tasks_go_on (ToMake directory name node) fits =
+      same_ones (after (ToMake directory name node)).tasks
+      (change_tasks (λ number. number) (odds fresh) world plain directory
+      (Make directory.node name (evens fresh 0) node))
+  tasks_go_on (ToRemoveDirectory parent name directory) fits =
+      same_ones (after (ToRemoveDirectory parent name directory)).tasks
+      (change_tasks (λ number. number) fresh (without_mounts_on nat_eq world directory)
+      (taken_plain world (gone_on world directory) plain) parent
+      (Remove parent.node name directory.node)
+      ∙ taken_tasks world (gone_on world directory))
+  tasks_go_on (ToRename from old to new object replaced) fits =
+      same_ones (after (ToRename from old to new object replaced)).tasks
+      (change_tasks (λ number. number) fresh (without_replaced nat_eq world replaced)
+      (replaced_plain world replaced plain) from
+      (Move from.node old to.node new object.node)
+      ∙ replaced_tasks world replaced)
+  tasks_go_on (ToOpen file access) fits =
+      one_changed (with_descriptor task file access) (after (ToOpen file access)).tasks refl refl
+      (ap (map (replaced_if_called (with_descriptor task file access)))
+      (copied_alike (is_copied_up nat_eq world file access) file))
+  tasks_go_on (ToOpenNew directory name node access) fits =
+      let file : Location ℕ = record { mount = directory.mount; node = evens fresh 0 } in
+      one_changed (with_descriptor task file access) (after (ToOpenNew directory name node access)).tasks refl refl
+      (ap (map (replaced_if_called (with_descriptor task file access)))
+      (change_tasks (λ number. number) (odds fresh) world plain directory
+      (Make directory.node name (evens fresh 0) node)))
+  tasks_go_on (ToWritePart file offset bytes) fits =
+      same_ones (after (ToWritePart file offset bytes)).tasks (written_alike file offset bytes)
+  tasks_go_on (ToClose descriptor) fits = one_changed (without_descriptor task descriptor)
+      (after (ToClose descriptor)).tasks refl refl refl
+  tasks_go_on (ToSetDirectory directory) fits =
+      one_changed (record task { directory = directory }) (after (ToSetDirectory directory)).tasks refl refl refl
+  tasks_go_on (ToSetRoot root) fits = one_changed (record task { root = root })
+      (after (ToSetRoot root)).tasks refl refl refl
+  tasks_go_on (ToSetUmask umask) fits = one_changed (record task { umask = umask })
+      (after (ToSetUmask umask)).tasks refl refl refl
+  tasks_go_on (ToSetCredentials credentials) fits =
+      one_changed (record task { credentials = credentials })
+      (after (ToSetCredentials credentials)).tasks refl refl refl
+  tasks_go_on (ToFork credentials) fits = one_more credentials (after (ToFork credentials)).tasks refl
+  tasks_go_on ToExit fits = one_left (after ToExit).tasks (taken_tasks (without_task world task.name) _)
+  tasks_go_on ToUnshare fits =
+      let copied = mounts_of nat_eq world task.namespace in
+      one_changed (unshared_task nat_eq copied (numbers_by nat_eq (odds fresh) copied) (evens fresh 0) task)
+      (after ToUnshare).tasks refl refl
+      (taken_tasks (unshared nat_eq world fresh task) _)
+  tasks_go_on (ToEnterNamespace namespace) fits =
+      one_changed (entered_at task namespace (unwrap_or (namespace_root nat_eq world namespace) task.root))
+      (after (ToEnterNamespace namespace)).tasks refl refl
+      (taken_tasks (namespace_entered nat_eq world task namespace) _)
+  tasks_go_on (ToMountPlain place flags) fits = same_ones world.tasks refl
+  tasks_go_on (ToMountOverlay place overlay flags) fits = absurd fits
+  tasks_go_on (ToBind source place recursive) fits = same_ones world.tasks refl
+  tasks_go_on (ToMove mount place) fits = same_ones world.tasks refl
+  tasks_go_on (ToUnmount mount) fits =
+      same_ones (after (ToUnmount mount)).tasks
+      (taken_tasks world (going nat_eq world (mount_numbered nat_eq world mount)))
+  tasks_go_on (ToUnmountLazily mount) fits = same_ones (after (ToUnmountLazily mount)).tasks
+      (lazy_is_of_mounts world mount).tasks
+  tasks_go_on (ToSetFlags mount flags) fits = same_ones world.tasks refl
+  tasks_go_on (ToSetType mount word recursive) fits =
+      same_ones (after (ToSetType mount word recursive)).tasks
+      (types_are_of_mounts world fresh mount word recursive).tasks
+  tasks_go_on (ToPivot new put) fits =
+      all_moved task.namespace (mount_at nat_eq world task.root) (mount_numbered nat_eq world new)
+      (after (ToPivot new put)).tasks refl
+  tasks_go_on ToListMounts fits = same_ones world.tasks refl
+
+pub permits_keep_names : KeptWhereForksAreCounted OneTaskAName
+permits_keep_names world fresh task permit is plain counted serves called fits =
+    go_on_apart task world.tasks
+    (found_among (λ (other : Task ℕ). same_name task.name other.name) world.tasks task called)
+    is.tasks.one_task (counted_among world counted) (after world fresh task plain permit).tasks
+    (tasks_go_on world fresh task plain permit fits.names)
+
+pub permits_keep_counting_forks : KeptWhereForksAreCounted ForksAreCounted
+permits_keep_counting_forks world fresh task permit is plain counted serves called fits =
+    counted_from (after world fresh task plain permit)
+    (go_on_counted task world.tasks
+    (found_among (λ (other : Task ℕ). same_name task.name other.name) world.tasks task called)
+    is.tasks.one_task (counted_among world counted) (after world fresh task plain permit).tasks
+    (tasks_go_on world fresh task plain permit fits.names))
+
+-- All invariants of tasks, where tasks stay within their limits
+pub permits_keep_tasks : KeptWhereForksAreCounted (λ after. TasksAreWithinLimits after → TaskInvariants nat_eq after)
+permits_keep_tasks world fresh task permit is plain counted serves called fits limits = record {
+  one_task = permits_keep_names world fresh task permit is plain counted serves called fits;
+  small_tasks = limits;
+  locations_live = permits_keep_locations world fresh task permit is plain serves called fits;
+  directories = permits_keep_directories world fresh task permit is plain serves called fits;
+  open_files = permits_keep_open_files world fresh task permit is plain serves called fits;
+}

@@ -1,0 +1,339 @@
+-- A permit that fits leaves each task on directories that are there, with regular files open.
+use Rattle.std.proofs.Common.{◌≡◌, refl, sym, ap, subst, ◌∙◌, inl, inr, ⊎_elim, ℕ, nat_eq, Bool, true, false, cond, true≢false, find, not, List, [], ◌∷◌, Some, is_some, map}
+use Rattle.std.specs.Prelude.{unwrap_or, ◌==◌, ◌+◌}
+use Rattle.std.proofs.lemmas.Bool.{and_from, and_parts}
+use Rattle.vt_spec.specs.declared.attributes.Kind.TheVariants.{File}
+use Rattle.vt_spec.specs.Machine.Apply.{apply_unraised}
+use Rattle.vt_spec.specs.Machine.Calls.{Access}
+use Rattle.vt_spec.specs.Machine.Changes.{Change}
+use Rattle.vt_spec.specs.Machine.Changes.Change.{CopyUp, Make, Move, Remove}
+use Rattle.vt_spec.specs.Machine.Detach.{going, without_mounts_on}
+use Rattle.vt_spec.specs.Machine.Filesystems.{with_change_counted}
+use Rattle.vt_spec.specs.Machine.FileTree.{is_kind}
+use Rattle.vt_spec.specs.Machine.Lists.{Fresh, evens, holds_of, odds}
+use Rattle.vt_spec.specs.Machine.Mounts.{Location, numbers_by}
+use Rattle.vt_spec.specs.Machine.Namespaces.{entered_at, namespace_entered, namespace_root, namespaces_ended, pivoted_task, unshared, unshared_task}
+use Rattle.vt_spec.specs.Machine.Outcome.Descriptors.{is_copied_up, pwritten_counted, with_copy_counted, with_descriptor, without_descriptor}
+use Rattle.vt_spec.specs.Machine.Outcome.Removing.{without_replaced}
+use Rattle.vt_spec.specs.Machine.Outcome.Tasks.{child_of}
+use Rattle.vt_spec.specs.Machine.Permits.{Permit}
+use Rattle.vt_spec.specs.Machine.Permits.Permit.{Allowed, ToBind, ToChange, ToClose, ToEnterNamespace, ToExit, ToFork, ToList, ToListMounts, ToMake, ToMountOverlay, ToMountPlain, ToMove, ToOpen, ToOpenNew, ToPivot, ToRead, ToReadPart, ToRemoveDirectory, ToRename, ToSetCredentials, ToSetDirectory, ToSetFlags, ToSetRoot, ToSetType, ToSetUmask, ToStat, ToUnmount, ToUnmountLazily, ToUnshare, ToWritePart}
+use Rattle.vt_spec.specs.Machine.Run.{Serves}
+use Rattle.vt_spec.specs.Machine.World.{Descriptor, Filesystem, Task, World, filesystem_at, is_directory_at, mount_at, mount_numbered, mounts_of, node_at, replaced_if_called, same_name, task_called, with_filesystem, without_task}
+use Rattle.vt_spec.specs.Machine.WorldLaws.{IsWorld}
+use Rattle.vt_spec.specs.Tree.{Node, is_directory_node, kind_of}
+use Rattle.vt_spec.proofs.Lists.{Among, among-append, among-from_filter, among-from_map}
+use Rattle.vt_mount_laws.specs.Mounts.Attaching.{is_mount}
+use Rattle.vt_mount_laws.proofs.MountsRetyped.{types_are_of_mounts}
+use Rattle.vt_mount_laws.proofs.UnmountingEnds.{lazy_is_of_mounts}
+use Rattle.vt_tree_laws.proofs.TreesOfWorlds.{numbered}
+use Rattle.vt_world_laws.specs.Worlds.Kept.{IsPlain, KeptByPermits}
+use Rattle.vt_world_laws.specs.Worlds.Permits.{IsReachedDirectory, NamesWhatIsThere}
+use Rattle.vt_world_laws.specs.Worlds.Tasks.{LocationsAreThere, OpenFilesAreRegular, TasksStandOnDirectories}
+use Rattle.vt_world_laws.proofs.PermitsSeen.{namespaces_ended_seen, permits_keep_what_is_seen, replaced_plain, replaced_tasks, taken_plain, gone_on, taken_tasks, unshared_seen}
+use Rattle.vt_world_laws.proofs.Placed.{ArePlaced, IsPlaced, OpensAt, StandsAt, all_are_placed, all_placed_after, among-inserted, locations_are_there, open_files_are_regular, opens_after, placed_after, placed_with, stands_after, tasks_stand_on_directories}
+use Rattle.vt_world_laws.proofs.Roots.{namespace_root_stands, own_there, in_own, pivoted_placed, root_stands, unshared_placed}
+use Rattle.vt_world_laws.proofs.Seen.{KeepsWhatIsSeen, kind_is, kind_seen, seen_alike, there_is}
+use Rattle.vt_world_laws.proofs.SeenTrees.{change_of_plain, change_tasks, changed_one, found_new, made_kind, old_number}
+
+pub found_among : {A : Type 0} (test : A → Bool) (xs : List A) (x : A) → find test xs ≡ Some x → Among x xs
+found_among test [] x e = absurd (true≢false (sym (ap is_some e)))
+found_among {A = A} test (first ∷ rest) x e = by (test first) e (found_among test rest x)
+  where
+    by : (b : Bool) → cond b (Some first) (find test rest) ≡ Some x → (find test rest ≡ Some x → Among x rest)
+        → Among x (first ∷ rest)
+    by true h later = inl (sym (ap (λ o. unwrap_or o first) h))
+    by false h later = inr (later h)
+
+-- where a walk led
+pub reached_stands : (world : World ℕ) (task : Task ℕ) (location : Location ℕ) → IsReachedDirectory world task location
+    → StandsAt world task.namespace location
+reached_stands world task location is =
+    record { located = is.reached.there; directory = is.directory; inside = is.reached.seen }
+
+same_tasks : (world : World ℕ) (a b : List (Task ℕ)) → a ≡ b → ArePlaced world b → ArePlaced world a
+same_tasks world a b same = subst (ArePlaced world) (sym same)
+
+-- a task with a further file open
+opened_placed : (world : World ℕ) (task : Task ℕ) (file : Location ℕ) (access : Access) → IsPlaced world task
+    → OpensAt world file
+    → IsPlaced world (with_descriptor task file access)
+opened_placed world task file access at opens =
+    record {
+      root = at.root;
+      directory = at.directory;
+      files = λ descriptor m.
+          ⊎_elim (λ e. subst (λ (d : Descriptor ℕ). OpensAt world d.location) (sym e) opens) (at.files descriptor)
+          (among-inserted _ task.descriptors descriptor m);
+    }
+
+-- A new file
+module _ (count : ℕ → ℕ) (fresh : Fresh ℕ) (world : World ℕ) (plain : IsPlain world) (directory : Location ℕ)
+    (name : List ℕ)
+    (number : ℕ) (node : Node ℕ) (is_directory : is_directory_at nat_eq world directory ≡ true) where
+  abbrev made : Change ℕ
+  made = Make directory.node name number node
+
+  abbrev there : Location ℕ
+  there = record { mount = directory.mount; node = number }
+
+  abbrev grown : Filesystem ℕ
+  grown = changed_one count fresh world plain directory made
+
+  pub new_kind : kind_seen (node_at nat_eq (with_filesystem nat_eq world grown) there) ≡ Some (kind_of node.content)
+  new_kind =
+      ap (λ n. kind_seen ((numbered n (with_filesystem nat_eq world grown).filesystems).files.tree.node number))
+      (sym same)
+      ∙ ⊎_elim
+      (λ found. ap (λ (f : Filesystem ℕ). kind_seen (f.files.tree.node number)) found
+      ∙ made_kind (filesystem_at nat_eq world directory).files directory.node name number node)
+      (λ none. absurd (true≢false
+      (sym is_directory
+      ∙ ap (λ n. is_directory_node ((numbered n world.filesystems).files.tree.node directory.node)) (sym same)
+      ∙ ap (λ (f : Filesystem ℕ). is_directory_node (f.files.tree.node directory.node)) none.1)))
+      (found_new grown world.filesystems)
+    where
+      same : grown.number ≡ (mount_at nat_eq world directory).filesystem
+      same = old_number count fresh world plain directory made
+
+module _ (world : World ℕ) (fresh : Fresh ℕ) (task : Task ℕ) (is : IsWorld nat_eq world) (plain : IsPlain world)
+    (serves : Serves nat_eq world fresh) (called : task_called world task.name ≡ Some task) where
+  abbrev after : Permit ℕ → World ℕ
+  after permit = (apply_unraised nat_eq fresh world task permit).world
+
+  all_placed : ArePlaced world world.tasks
+  all_placed = all_are_placed world is.tasks.locations_live is.tasks.directories is.tasks.open_files
+
+  pub task_there : Among task world.tasks
+  task_there = found_among (λ (other : Task ℕ). same_name task.name other.name) world.tasks task called
+
+  placed : IsPlaced world task
+  placed = all_placed task task_there
+
+  abbrev Fits : Permit ℕ → Type 0
+  Fits permit = NamesWhatIsThere world task permit
+
+  seen : (permit : Permit ℕ) → Fits permit → KeepsWhatIsSeen world (after permit)
+  seen permit fits = permits_keep_what_is_seen world fresh task is plain serves permit fits
+
+  -- the tasks are those that were there
+  unchanged : (permit : Permit ℕ) → Fits permit → (after permit).tasks ≡ world.tasks
+      → ArePlaced (after permit) (after permit).tasks
+  unchanged permit fits same =
+      same_tasks (after permit) (after permit).tasks world.tasks same
+      (all_placed_after world (after permit) (seen permit fits) world.tasks all_placed)
+
+  -- one task is another
+  changed_task : (permit : Permit ℕ) (fits : Fits permit) (new : Task ℕ)
+      → (after permit).tasks ≡ map (replaced_if_called new) world.tasks → IsPlaced (after permit) new
+      → ArePlaced (after permit) (after permit).tasks
+  changed_task permit fits new same at =
+      same_tasks (after permit) (after permit).tasks (map (replaced_if_called new) world.tasks) same
+      (placed_with (after permit) new world.tasks
+      (all_placed_after world (after permit) (seen permit fits) world.tasks all_placed) at)
+
+  placed_still : (permit : Permit ℕ) → Fits permit → IsPlaced (after permit) task
+  placed_still permit fits = placed_after world (after permit) (seen permit fits) task placed
+
+  -- namespaces end after the tasks changed
+  ended : (middle : World ℕ) → ArePlaced middle middle.tasks
+      → ArePlaced (namespaces_ended nat_eq middle) (namespaces_ended nat_eq middle).tasks
+  ended middle at =
+      same_tasks (namespaces_ended nat_eq middle) (namespaces_ended nat_eq middle).tasks middle.tasks
+      (taken_tasks middle _)
+      (all_placed_after middle (namespaces_ended nat_eq middle) (namespaces_ended_seen middle) middle.tasks at)
+
+  change_keeps_tasks : (location : Location ℕ) (change : Change ℕ)
+      → (with_change_counted nat_eq (λ number. number) fresh world location change).tasks ≡ world.tasks
+  change_keeps_tasks location change = change_tasks (λ number. number) fresh world plain location change
+
+  copy_keeps_tasks : (b : Bool) (file : Location ℕ)
+      → (with_copy_counted nat_eq b (λ number. number) fresh world file).tasks ≡ world.tasks
+  copy_keeps_tasks true file = change_keeps_tasks file (CopyUp file.node)
+  copy_keeps_tasks false file = refl
+
+  writing_keeps_tasks : (file : Location ℕ) (offset : ℕ) (bytes : List ℕ)
+      → (pwritten_counted nat_eq (λ number. number) fresh world file offset bytes).tasks ≡ world.tasks
+  writing_keeps_tasks file offset [] = refl
+  writing_keeps_tasks file offset (byte ∷ bytes) = change_keeps_tasks file _
+
+  -- a new file is open
+  new_file_opens : (directory : Location ℕ) (name : List ℕ) (node : Node ℕ) (access : Access)
+      → Fits (ToOpenNew directory name node access)
+      → OpensAt (after (ToOpenNew directory name node access))
+      (record { mount = directory.mount; node = evens fresh 0 })
+  new_file_opens directory name node access fits =
+      let permit = ToOpenNew directory name node access in
+      let location : Location ℕ = record { mount = directory.mount; node = evens fresh 0 } in
+      let kind : kind_seen (node_at nat_eq (after permit) location) ≡ Some (kind_of node.content) =
+      ap (λ (w : World ℕ). kind_seen (node_at nat_eq w location))
+      (change_of_plain (λ number. number) (odds fresh) world plain directory
+      (Make directory.node name (evens fresh 0) node))
+      ∙ new_kind (λ number. number) (odds fresh) world plain directory name (evens fresh 0) node fits.0.directory in
+      let listed : is_mount world directory.mount ≡ true =
+      (and_parts (is_mount world directory.mount) (is_some (node_at nat_eq world directory)) fits.0.reached.there).0 in
+      record {
+        located = and_from (is_mount (after permit) directory.mount) (is_some (node_at nat_eq (after permit) location))
+            ((seen permit fits).listed directory.mount listed)
+            (there_is (node_at nat_eq (after permit) location) ∙ ap (holds_of (λ k. true)) kind);
+        regular = kind_is File (node_at nat_eq (after permit) location) ∙ ap (holds_of (is_kind File)) kind ∙ fits.1;
+      }
+
+  pub permits_keep_tasks_placed : (permit : Permit ℕ) → Fits permit → ArePlaced (after permit) (after permit).tasks
+  permits_keep_tasks_placed Allowed fits = all_placed
+  permits_keep_tasks_placed (ToList directory) fits = all_placed
+  permits_keep_tasks_placed (ToStat object) fits = all_placed
+  permits_keep_tasks_placed (ToRead file) fits = all_placed
+  permits_keep_tasks_placed (ToReadPart file offset size) fits = all_placed
+  permits_keep_tasks_placed (ToChange location change) fits =
+      unchanged (ToChange location change) fits (change_keeps_tasks location change)
+  permits_keep_tasks_placed (ToMake directory name node) fits =
+      unchanged (ToMake directory name node) fits
+      (change_tasks (λ number. number) (odds fresh) world plain directory
+      (Make directory.node name (evens fresh 0) node))
+  permits_keep_tasks_placed (ToRemoveDirectory parent name directory) fits =
+      unchanged (ToRemoveDirectory parent name directory) fits
+      (change_tasks (λ number. number) fresh (without_mounts_on nat_eq world directory)
+      (taken_plain world (gone_on world directory) plain) parent
+      (Remove parent.node name directory.node)
+      ∙ taken_tasks world (gone_on world directory))
+  permits_keep_tasks_placed (ToRename from old to new object replaced) fits =
+      unchanged (ToRename from old to new object replaced) fits
+      (change_tasks (λ number. number) fresh (without_replaced nat_eq world replaced)
+      (replaced_plain world replaced plain) from
+      (Move from.node old to.node new object.node)
+      ∙ replaced_tasks world replaced)
+  permits_keep_tasks_placed (ToOpen file access) fits =
+      let permit = ToOpen file access in
+      changed_task permit fits (with_descriptor task file access)
+      (ap (map (replaced_if_called (with_descriptor task file access)))
+      (copy_keeps_tasks (is_copied_up nat_eq world file access) file))
+      (opened_placed (after permit) task file access (placed_still permit fits)
+      (opens_after world (after permit) (seen permit fits) file
+      (record { located = fits.reached.there; regular = fits.regular })))
+  permits_keep_tasks_placed (ToOpenNew directory name node access) fits =
+      let permit = ToOpenNew directory name node access in
+      let file : Location ℕ = record { mount = directory.mount; node = evens fresh 0 } in
+      changed_task permit fits (with_descriptor task file access)
+      (ap (map (replaced_if_called (with_descriptor task file access)))
+      (change_tasks (λ number. number) (odds fresh) world plain directory
+      (Make directory.node name (evens fresh 0) node)))
+      (opened_placed (after permit) task file access (placed_still permit fits)
+      (new_file_opens directory name node access fits))
+  permits_keep_tasks_placed (ToWritePart file offset bytes) fits =
+      unchanged (ToWritePart file offset bytes) fits (writing_keeps_tasks file offset bytes)
+  permits_keep_tasks_placed (ToClose descriptor) fits =
+      let permit = ToClose descriptor in
+      let still = placed_still permit fits in
+      changed_task permit fits (without_descriptor task descriptor) refl
+      (record {
+        root = still.root;
+        directory = still.directory;
+        files = λ d m. still.files d
+            (among-from_filter (λ (x : Descriptor ℕ). not (descriptor == x.number)) task.descriptors d m).0;
+      })
+  permits_keep_tasks_placed (ToSetDirectory directory) fits =
+      let permit = ToSetDirectory directory in
+      let still = placed_still permit fits in
+      changed_task permit fits (record task { directory = directory }) refl
+      (record {
+        root = still.root;
+        directory = stands_after world (after permit) (seen permit fits) task.namespace directory
+            (reached_stands world task directory fits);
+        files = still.files;
+      })
+  permits_keep_tasks_placed (ToSetRoot root) fits =
+      let permit = ToSetRoot root in
+      let still = placed_still permit fits in
+      changed_task permit fits (record task { root = root }) refl
+      (record {
+        root = stands_after world (after permit) (seen permit fits) task.namespace root
+            (reached_stands world task root fits);
+        directory = still.directory;
+        files = still.files;
+      })
+  permits_keep_tasks_placed (ToSetUmask umask) fits =
+      let still = placed_still (ToSetUmask umask) fits in
+      changed_task (ToSetUmask umask) fits (record task { umask = umask }) refl
+      (record { root = still.root; directory = still.directory; files = still.files })
+  permits_keep_tasks_placed (ToSetCredentials credentials) fits =
+      let still = placed_still (ToSetCredentials credentials) fits in
+      changed_task (ToSetCredentials credentials) fits (record task { credentials = credentials }) refl
+      (record { root = still.root; directory = still.directory; files = still.files })
+  permits_keep_tasks_placed (ToFork credentials) fits =
+      let permit = ToFork credentials in
+      let still = placed_still permit fits in
+      let parent = record task { forks = task.forks + 1 } in
+      let child = child_of task credentials in
+      let parents = placed_with (after permit) parent world.tasks
+      (all_placed_after world (after permit) (seen permit fits) world.tasks all_placed)
+      (record { root = still.root; directory = still.directory; files = still.files }) in
+      λ other m.
+      ⊎_elim (parents other)
+      (λ new. ⊎_elim
+      (λ e. subst (IsPlaced (after permit)) (sym e)
+      (record { root = still.root; directory = still.directory; files = λ d n. absurd n }))
+      (λ none. absurd none) new)
+      (among-append (map (replaced_if_called parent) world.tasks) (child ∷ []) other m)
+  permits_keep_tasks_placed ToExit fits =
+      let left = without_task world task.name in
+      ended left (λ other m.
+      all_placed_after world left (seen_alike world left refl refl) world.tasks all_placed other
+      (among-from_filter (λ (x : Task ℕ). not (same_name task.name x.name)) world.tasks other m).0)
+  permits_keep_tasks_placed ToUnshare fits =
+      let copied = unshared nat_eq world fresh task in
+      ended copied
+      (placed_with copied (unshared_task nat_eq (mounts_of nat_eq world task.namespace)
+      (numbers_by nat_eq (odds fresh) (mounts_of nat_eq world task.namespace)) (evens fresh 0) task) world.tasks
+      (all_placed_after world copied (unshared_seen world fresh task) world.tasks all_placed)
+      (unshared_placed world fresh task is serves placed))
+  permits_keep_tasks_placed (ToEnterNamespace namespace) fits =
+      let entered = namespace_entered nat_eq world task namespace in
+      let same_world = seen_alike world entered refl refl in
+      let root = unwrap_or (namespace_root nat_eq world namespace) task.root in
+      let at = stands_after world entered same_world namespace root
+      (namespace_root_stands world is namespace task fits) in
+      let still = placed_after world entered same_world task placed in
+      ended entered
+      (placed_with entered (entered_at task namespace root) world.tasks
+      (all_placed_after world entered same_world world.tasks all_placed)
+      (record { root = at; directory = at; files = still.files }))
+  permits_keep_tasks_placed (ToMountPlain place flags) fits = unchanged (ToMountPlain place flags) fits refl
+  permits_keep_tasks_placed (ToMountOverlay place overlay flags) fits = absurd fits
+  permits_keep_tasks_placed (ToBind source place recursive) fits = unchanged (ToBind source place recursive) fits refl
+  permits_keep_tasks_placed (ToMove mount place) fits = unchanged (ToMove mount place) fits refl
+  permits_keep_tasks_placed (ToUnmount mount) fits =
+      unchanged (ToUnmount mount) fits (taken_tasks world (going nat_eq world (mount_numbered nat_eq world mount)))
+  permits_keep_tasks_placed (ToUnmountLazily mount) fits =
+      unchanged (ToUnmountLazily mount) fits (lazy_is_of_mounts world mount).tasks
+  permits_keep_tasks_placed (ToSetFlags mount flags) fits = unchanged (ToSetFlags mount flags) fits refl
+  permits_keep_tasks_placed (ToSetType mount word recursive) fits =
+      unchanged (ToSetType mount word recursive) fits (types_are_of_mounts world fresh mount word recursive).tasks
+  permits_keep_tasks_placed (ToPivot new put) fits =
+      let permit = ToPivot new put in
+      let root = mount_at nat_eq world task.root in
+      let top = mount_numbered nat_eq world new in
+      let at_new = root_stands world is task.namespace top (own_there world is new task.namespace fits.own)
+      (in_own task.namespace top fits.own) in
+      λ other m.
+      let from = among-from_map (pivoted_task nat_eq task.namespace root top) world.tasks other m in
+      subst (IsPlaced (after permit)) (sym from.2)
+      (pivoted_placed world (after permit) (seen permit fits) root top task.namespace at_new from.0
+      (all_placed from.0 from.1))
+  permits_keep_tasks_placed ToListMounts fits = all_placed
+
+-- So the invariants of locations, of where tasks stand, and of open files are kept.
+pub permits_keep_locations : KeptByPermits LocationsAreThere
+permits_keep_locations world fresh task permit is plain serves called fits =
+    locations_are_there (after world fresh task is plain serves called permit)
+    (permits_keep_tasks_placed world fresh task is plain serves called permit fits.names)
+
+pub permits_keep_directories : KeptByPermits TasksStandOnDirectories
+permits_keep_directories world fresh task permit is plain serves called fits =
+    tasks_stand_on_directories (after world fresh task is plain serves called permit)
+    (permits_keep_tasks_placed world fresh task is plain serves called permit fits.names)
+
+pub permits_keep_open_files : KeptByPermits OpenFilesAreRegular
+permits_keep_open_files world fresh task permit is plain serves called fits =
+    open_files_are_regular (after world fresh task is plain serves called permit)
+    (permits_keep_tasks_placed world fresh task is plain serves called permit fits.names)
