@@ -15,6 +15,7 @@ pub mod Rows
 pub mod SameFiles
 pub mod SameJudged
 pub mod SameLooks
+pub mod SameMany
 pub mod SameTexts
 pub mod Stages
 pub mod Supports

@@ -13,11 +13,11 @@ use Rattle.vt_spec.specs.Machine.Looks.{looks_of}
 use Rattle.vt_spec.specs.Machine.SameWorlds.{without_changes}
 use Rattle.vt_spec.specs.Machine.World.{Filesystem, Task, TaskName, World, is_overlay, locations_of, mount_numbered, no_filesystem, same_name}
 
-abbrev bare_task : Task ℕ → Task ℕ
+abbrev pub bare_task : Task ℕ → Task ℕ
 bare_task task = record task { change = 0 }
 
 -- a world with all its change numbers at zero but those of filesystems
-abbrev bare : World ℕ → World ℕ
+abbrev pub bare : World ℕ → World ℕ
 bare world = record (without_changes world) { filesystems = world.filesystems }
 
 locations_bare : (tasks : List (Task ℕ)) → flat_map locations_of (map bare_task tasks) ≡ flat_map locations_of tasks

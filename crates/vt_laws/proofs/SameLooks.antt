@@ -25,7 +25,7 @@ use Rattle.vt_spec.specs.Tree.{Tree}
 abbrev numbered : ℕ → List (Filesystem ℕ) → Filesystem ℕ
 numbered number list = unwrap_or (find (λ filesystem. nat_eq number filesystem.number) list) (no_filesystem number)
 
-found_same : (number : ℕ) (ones others : List (Filesystem ℕ)) → SameFilesystems ones others
+pub found_same : (number : ℕ) (ones others : List (Filesystem ℕ)) → SameFilesystems ones others
     → SameFilesystem (numbered number ones) (numbered number others)
 found_same number [] [] same =
     record { number = refl; files = record { tree = refl; numbers = IsPermutation-refl [] }; overlay = refl }
