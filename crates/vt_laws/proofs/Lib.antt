@@ -13,6 +13,9 @@ pub mod OwnRules
 pub mod Renamings
 pub mod Rows
 pub mod SameFiles
+pub mod SameJudged
+pub mod SameLooks
+pub mod SameMany
 pub mod SameTexts
 pub mod Stages
 pub mod Supports

@@ -4,4 +4,5 @@ pub mod Judged
 pub mod Numbers
 pub mod RuleOrder
 pub mod RuleRanks
+pub mod Same
 pub mod SameTexts

@@ -7,4 +7,5 @@ pub mod denials;
 pub mod judged;
 pub mod numbers;
 pub mod rules;
+pub mod same;
 pub mod same_texts;

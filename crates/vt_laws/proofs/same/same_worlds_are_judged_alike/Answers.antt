@@ -1,0 +1,15 @@
+use Rattle.vt_laws.proofs.SameJudged.{plain_has_one_name, same_worlds_are_judged_alike, same_worlds_look_alike}
+use Rattle.vt_laws.proofs.SameMany.{same_worlds_judge_alike}
+use Rattle.vt_laws.proofs.same.same_worlds_are_judged_alike.Goals as goal
+
+pub returns-clause-looks : goal.returns-clause-looks
+returns-clause-looks c = same_worlds_look_alike
+
+pub returns-clause-calls : goal.returns-clause-calls
+returns-clause-calls c = same_worlds_are_judged_alike
+
+pub returns-clause-judgements : goal.returns-clause-judgements
+returns-clause-judgements c = same_worlds_judge_alike
+
+pub returns-clause-plain : goal.returns-clause-plain
+returns-clause-plain c = plain_has_one_name
