@@ -1,1 +1,3 @@
-pub mod Sketch
+pub mod Plain
+pub mod Raised
+pub mod RaisedInUse
