@@ -1,3 +1,6 @@
 pub mod Plain
 pub mod Raised
 pub mod RaisedInUse
+pub mod SettledSeen
+pub mod SettledMounts
+pub mod SettledTasks
