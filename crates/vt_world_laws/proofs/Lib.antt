@@ -4,3 +4,4 @@ pub mod RaisedInUse
 pub mod SettledSeen
 pub mod SettledMounts
 pub mod SettledTasks
+pub mod Opening
