@@ -4,4 +4,6 @@ pub mod RaisedInUse
 pub mod SettledSeen
 pub mod SettledMounts
 pub mod SettledTasks
-pub mod Opening
+pub mod OpeningWorld
+pub mod WordsFew
+pub mod ScriptsKept
