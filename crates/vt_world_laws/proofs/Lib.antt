@@ -7,3 +7,4 @@ pub mod SettledTasks
 pub mod OpeningWorld
 pub mod WordsFew
 pub mod ScriptsKept
+pub mod CallsKept

@@ -192,7 +192,7 @@ module _ (world : World ℕ) (unsettled : IsUnsettled world) where
       (without_dead_plain is_overlay living
       (All-filter (filesystem_lives nat_eq (without_dead_mounts nat_eq world)) (λ f. is_overlay f ≡ false) world.filesystems unsettled.plain))
 
-  file_trees : All (λ f. IsFileTree f.files) world.filesystems
+  pub file_trees : All (λ f. IsFileTree f.files) world.filesystems
   file_trees = all_from_among (λ f. IsFileTree f.files) world.filesystems (λ f m. record {
     tree = among_from_all (λ g. IsTree g.files.tree) world.filesystems unsettled.files.trees f m;
     numbers = among_from_all (λ g. ListsNumbers nat_eq g.files) world.filesystems unsettled.files.numbers f m;
