@@ -1,6 +1,5 @@
 -- Every call leaves a world, where what is permitted fits, and each permit that fits keeps the invariants.
-use Rattle.std.proofs.Common.{◌≡◌, refl, sym, ap, subst, ◌∙◌, inl, inr, ⊎_elim, ℕ, nat_eq, Bool, true, false, cond, List, [], ◌∷◌, ◌++◌, ◌||◌, not, Option, Some, None, Result, Ok, Err, find, flat_map, is_ok, map, ok_or, true≢false}
-use Rattle.std.specs.Prelude.{All}
+use Rattle.std.proofs.Common.{◌≡◌, refl, sym, ap, subst, ◌∙◌, inr, ℕ, nat_eq, Bool, true, false, cond, List, [], ◌∷◌, ◌++◌, ◌||◌, not, Option, Some, None, Result, Ok, Err, find, flat_map, is_ok, map, ok_or, true≢false}
 use Rattle.std.specs.List.{list_all}
 use Rattle.std.proofs.lemmas.Bool.{or_parts}
 use Rattle.std.proofs.lemmas.Slice.Eq.{bytes_eq-Decides}
@@ -14,7 +13,7 @@ use Rattle.vt_spec.specs.Machine.Judge.{Judgement, judge_in}
 use Rattle.vt_spec.specs.Machine.Lists.{Fresh, any_pair, is_among}
 use Rattle.vt_spec.specs.Machine.Outcomes.{Answer, Outcome, after}
 use Rattle.vt_spec.specs.Machine.Permits.{Permit}
-use Rattle.vt_spec.specs.Machine.Policy.{call_outcome, finished, finished_by, numbers_raised, only_looks, policy}
+use Rattle.vt_spec.specs.Machine.Policy.{call_outcome, finished, finished_by, only_looks, policy}
 use Rattle.vt_spec.specs.Machine.Run.{Serves, numbers_in_use, used_by_filesystem, used_by_mount}
 use Rattle.vt_spec.specs.Machine.Settled.{settled}
 use Rattle.vt_spec.specs.Machine.World.{Filesystem, Task, TaskName, World, all_locations, same_name, task_called}
@@ -93,7 +92,7 @@ module _ (fit : PermitsFit)
     (kept_files : KeptByPermits (λ (world : World ℕ). list_all (has_regular_files_open nat_eq world) world.tasks ≡ true))
     (kept_roots : KeptByPermits MountsShow)
     (one_filesystem : KeptByPermits (λ (world : World ℕ).
-        any_pair (λ (a b : Filesystem ℕ). nat_eq a.number b.number) world.filesystems ≡ false)) where
+    any_pair (λ (a b : Filesystem ℕ). nat_eq a.number b.number) world.filesystems ≡ false)) where
   -- a granted call, before what nothing uses goes
   module _ (world : World ℕ) (fresh : Fresh ℕ) (task : Task ℕ) (call : Call) (permit : Permit ℕ)
       (is : IsWorld nat_eq world) (plain : IsPlain world) (serves : Serves nat_eq world fresh)

@@ -1,14 +1,14 @@
 -- The opening world has the invariants.
-use Rattle.std.proofs.Common.{◌≡◌, refl, sym, ap, subst, ◌∙◌, ℕ, nat_eq, eq-eqb, Bool, true, false, cond, List, [], ◌∷◌, ◌++◌, ◌||◌, ◌&&◌, Option, Some, None, filter, is_some, map, flat_map}
-use Rattle.std.specs.Prelude.{All, length, nat_lt, option_to_list, unwrap_or, ◌==◌}
+use Rattle.std.proofs.Common.{◌≡◌, refl, sym, ap, ◌∙◌, ℕ, nat_eq, eq-eqb, true, false, cond, [], ◌∷◌, ◌||◌, ◌&&◌, Option, Some, None, filter, is_some}
+use Rattle.std.specs.Prelude.{length, nat_lt, option_to_list, unwrap_or, ◌==◌}
 use Rattle.std.specs.List.{list_all, list_any}
 use Rattle.std.proofs.lemmas.Bool.{and_from}
 use Rattle.std.proofs.lemmas.List.Elements.{All-cons, All-head, All-nil, All-weaker}
 use Rattle.vt_spec.specs.Machine.Attach.{most_mounts}
 use Rattle.vt_spec.specs.Machine.Lists.{Fresh}
-use Rattle.vt_spec.specs.Machine.Mounts.{Location, Mount, mount_in, no_mount, root_of}
-use Rattle.vt_spec.specs.Machine.Settled.{has_layer_on, is_mounted, layers_in, located_in, named_in, objects_of_overlay}
-use Rattle.vt_spec.specs.Machine.World.{Filesystem, Namespace, World, filesystem_numbered, first_mount, first_place, is_directory_at, is_overlay, mount_at, mount_numbered, new_plain, node_at, opening}
+use Rattle.vt_spec.specs.Machine.Mounts.{Mount, no_mount, root_of}
+use Rattle.vt_spec.specs.Machine.Settled.{has_layer_on, is_mounted}
+use Rattle.vt_spec.specs.Machine.World.{Filesystem, World, filesystem_numbered, first_mount, first_place, is_directory_at, mount_at, mount_numbered, new_plain, node_at, opening}
 use Rattle.vt_spec.specs.Machine.WorldLaws.{ListsNumbers, MountInvariants, NamespaceInvariants, Stands, TaskInvariants, TreeInvariants, is_root_mount}
 use Rattle.vt_spec.specs.Machine.WorldLaws.Stands.{at_root}
 use Rattle.vt_spec.specs.Tree.{Node, is_directory_node}
@@ -22,7 +22,7 @@ use Rattle.vt_tree_laws.proofs.ChangesByCalls.{opening_has_trees}
 use Rattle.vt_tree_laws.proofs.ChangesWithinSizes.{opening_is_fit}
 use Rattle.vt_tree_laws.proofs.TreesLimits.{opening_has_small_tasks}
 use Rattle.vt_world_laws.specs.Worlds.Calls.{OpeningIsAWorld}
-use Rattle.vt_world_laws.specs.Worlds.Kept.{IsPlain, MountsShow}
+use Rattle.vt_world_laws.specs.Worlds.Kept.{MountsShow}
 use Rattle.vt_world_laws.proofs.RaisedInUse.{world_of}
 
 directory_is_there : (o : Option (Node ℕ)) → is_directory_node o ≡ true → is_some o ≡ true

@@ -1,14 +1,14 @@
 -- Change numbers: no invariant reads one.
-use Rattle.std.proofs.Common.{◌≡◌, refl, sym, ap, subst, ◌∙◌, ℕ, nat_eq, Bool, true, false, cond, List, [], ◌∷◌, Some, find, map}
-use Rattle.std.specs.Prelude.{All, Option, is_some, nat_lt, length, option_to_list, unwrap_or, ◌&&◌}
+use Rattle.std.proofs.Common.{◌≡◌, refl, sym, ap, ◌∙◌, ℕ, nat_eq, Bool, true, false, cond, List, [], ◌∷◌, Some, find, map}
+use Rattle.std.specs.Prelude.{Option, is_some, nat_lt, length, option_to_list, unwrap_or, ◌&&◌}
 use Rattle.std.specs.List.{list_all, list_any}
 use Rattle.std.proofs.lemmas.List.Elements.{All-map, All-weaker}
 use Rattle.vt_spec.specs.Machine.Attach.{most_mounts}
 use Rattle.vt_spec.specs.Machine.FileTree.{FileTree, is_kind_in}
-use Rattle.vt_spec.specs.Machine.Lists.{any_pair, is_among}
+use Rattle.vt_spec.specs.Machine.Lists.{is_among}
 use Rattle.vt_spec.specs.Machine.Mounts.{Location, Mount}
 use Rattle.vt_spec.specs.Machine.World.{Descriptor, Filesystem, Namespace, Task, World, all_locations, filesystem_numbered, is_overlay, locations_of, mount_at, mount_numbered, mounts_of, no_filesystem, same_name}
-use Rattle.vt_spec.specs.Machine.WorldLaws.{ListsNumbers, MountInvariants, NamespaceInvariants, Stands, TaskInvariants, TreeInvariants, has_its_root, has_one_root, is_fit_filesystem, is_listed, is_located_well, is_within_limits, has_regular_files_open, stands_on_directories}
+use Rattle.vt_spec.specs.Machine.WorldLaws.{ListsNumbers, MountInvariants, NamespaceInvariants, Stands, TaskInvariants, TreeInvariants, has_one_root, is_fit_filesystem, is_listed, is_within_limits}
 use Rattle.vt_spec.specs.Machine.WorldLaws.Stands.{at_root, on_parent}
 use Rattle.vt_spec.specs.Tree.{Node, is_directory_node}
 use Rattle.vt_spec.specs.declared.attributes.Kind.TheVariants.{File}

@@ -1,5 +1,5 @@
 -- Mounts and namespaces where what nothing uses goes.
-use Rattle.std.proofs.Common.{◌≡◌, refl, sym, ap, subst, ◌∙◌, cond, find, inl, inr, ℕ, nat_eq, Bool, true, false, List, ◌∷◌, [], Option, Some, None, filter, is_some, true≢false, ◌&&◌}
+use Rattle.std.proofs.Common.{◌≡◌, refl, sym, ap, ◌∙◌, cond, find, inl, inr, ℕ, nat_eq, Bool, true, false, List, ◌∷◌, [], Option, Some, None, filter, is_some, true≢false, ◌&&◌}
 use Rattle.std.specs.Prelude.{length, nat_lt, unwrap_or, option_to_list, ◌==◌}
 use Rattle.std.specs.List.{list_all, list_any}
 use Rattle.vt_spec.specs.Machine.Attach.{most_mounts}
@@ -10,14 +10,13 @@ use Rattle.vt_spec.specs.Machine.World.{Namespace, World, mount_at, mount_number
 use Rattle.vt_spec.specs.Machine.WorldLaws.{MountInvariants, NamespaceInvariants, Stands, is_listed, is_root_mount}
 use Rattle.vt_spec.specs.Machine.WorldLaws.Stands.{at_root, on_parent}
 use Rattle.vt_spec.proofs.Lists.{all-filter}
-use Rattle.vt_letting_go.proofs.Lists.{Among, all_from_among, among-from_filter, among_from_all, filter_twice, passes}
-use Rattle.vt_letting_go.proofs.PlacesLeft.{found_is_there, found_itself}
+use Rattle.vt_letting_go.proofs.Lists.{Among, all_from_among, among-from_filter, among_from_all, filter_twice}
 use Rattle.vt_mount_laws.proofs.GroupsKept.{settling_keeps_groups}
 use Rattle.vt_mount_laws.proofs.MountsApart.{settling_keeps_apart}
 use Rattle.vt_mount_laws.proofs.MountsKept.{settling_keeps_nowhere}
 use Rattle.vt_mount_laws.specs.Mounts.Conditions.{AreApart}
 use Rattle.vt_world_laws.specs.Worlds.Kept.{IsUnsettled}
-use Rattle.vt_world_laws.proofs.SettledSeen.{attached_lives, found_still, itself, placed_attached, settled_world}
+use Rattle.vt_world_laws.proofs.SettledSeen.{attached_lives, found_still, itself, placed_attached}
 
 -- what is found with a place is there
 found_placed : (mounts : List (Mount ℕ)) (number : ℕ) → is_some (mount_in nat_eq mounts number).place ≡ true

@@ -1,15 +1,14 @@
 -- What is seen where tasks are, at the roots of mounts and at their places stays where what nothing uses goes.
-use Rattle.std.proofs.Common.{◌≡◌, refl, sym, ap, subst, ◌∙◌, ◌⊎◌, inl, inr, ⊎_elim, ℕ, nat_eq, eqb-true, eq-eqb, Bool, true, false, cond, not, List, [], ◌∷◌, ◌++◌, ◌||◌, Some, None, find, map, filter, is_some, true≢false}
+use Rattle.std.proofs.Common.{◌≡◌, refl, sym, ap, ◌∙◌, ℕ, nat_eq, eqb-true, eq-eqb, Bool, true, false, cond, not, List, [], ◌∷◌, ◌++◌, Some, find, map, filter, is_some, true≢false}
 use Rattle.std.specs.Prelude.{filter_map, unwrap_or}
-use Rattle.std.specs.List.{list_any}
 use Rattle.vt_spec.specs.Machine.Lists.{is_among}
-use Rattle.vt_spec.specs.Machine.Mounts.{Location, Mount, mount_in, root_of}
+use Rattle.vt_spec.specs.Machine.Mounts.{Location, Mount, root_of}
 use Rattle.vt_spec.specs.Machine.Settled.{filesystem_lives, is_located, is_mounted, located_in, mount_lives, only_used, settled, used_in, without_dead_filesystems, without_dead_in, without_dead_mounts}
 use Rattle.vt_spec.specs.Machine.World.{Filesystem, World, all_locations, filesystem_numbered, is_overlay, mount_at, mount_numbered, no_filesystem, node_at}
 use Rattle.vt_spec.specs.Machine.WorldLaws.{is_nowhere_or_attached}
 use Rattle.vt_letting_go.proofs.InUse.{number-left}
-use Rattle.vt_letting_go.proofs.Lists.{Among, among-append_left, among-append_right, among-filter, among-filter_map, among-map, any_passes, is_among_numbers, map_twice, or_first, or_second, passes}
-use Rattle.vt_letting_go.proofs.PlacesLeft.{found_in_filter, found_is_there, found_itself, nowhere_parts}
+use Rattle.vt_letting_go.proofs.Lists.{Among, among-filter, among-map, any_passes, is_among_numbers, map_twice, or_first, or_second, passes}
+use Rattle.vt_letting_go.proofs.PlacesLeft.{found_in_filter, found_itself, nowhere_parts}
 use Rattle.vt_tree_laws.proofs.TreesForgotten.{among_located, used_stays}
 use Rattle.vt_world_laws.specs.Worlds.Kept.{IsUnsettled}
 

@@ -1,9 +1,9 @@
 -- Tasks, and what mounts show, where what nothing uses goes.
-use Rattle.std.proofs.Common.{◌≡◌, refl, sym, ap, subst, ◌∙◌, cond, find, not, ◌||◌, inl, inr, ℕ, nat_eq, eqb-true, eq-eqb, Bool, true, false, List, ◌∷◌, [], ◌++◌, Option, Some, None, filter, is_some, map, true≢false, ◌&&◌}
+use Rattle.std.proofs.Common.{◌≡◌, refl, sym, ap, subst, ◌∙◌, cond, find, not, ◌||◌, inl, inr, ℕ, nat_eq, Bool, true, false, List, ◌∷◌, [], ◌++◌, Option, Some, None, filter, is_some, map, true≢false, ◌&&◌}
 use Rattle.std.specs.Prelude.{All, filter_map, option_to_list, unwrap_or}
 use Rattle.std.specs.List.{list_all}
 use Rattle.std.proofs.lemmas.Bool.{and_from, and_parts}
-use Rattle.std.proofs.lemmas.List.Elements.{All-filter, All-map, All-weaker}
+use Rattle.std.proofs.lemmas.List.Elements.{All-filter, All-weaker}
 use Rattle.vt_spec.specs.declared.attributes.Kind.TheVariants.{File}
 use Rattle.vt_spec.specs.Machine.FileTree.{is_kind_in}
 use Rattle.vt_spec.specs.Machine.Lists.{any_pair, is_among}
@@ -13,7 +13,7 @@ use Rattle.vt_spec.specs.Machine.World.{Descriptor, Filesystem, Task, World, all
 use Rattle.vt_spec.specs.Machine.WorldLaws.{ListsNumbers, IsWorld, Stands, TaskInvariants, TreeInvariants, has_its_root, has_regular_files_open, is_located_well, stands_on_directories}
 use Rattle.vt_spec.specs.Tree.{is_directory_node}
 use Rattle.vt_letting_go.proofs.InUse.{one_sweep_is_enough}
-use Rattle.vt_letting_go.proofs.Lists.{Among, all_from_among, all_pass, among-append_left, among-append_right, among-filter, among-filter_map, among-flat_map, among-from_filter, among-map, among_from_all, among_numbers, is_among_numbers, passes}
+use Rattle.vt_letting_go.proofs.Lists.{Among, all_from_among, all_pass, among-append_left, among-append_right, among-filter, among-filter_map, among-flat_map, among-from_filter, among-map, among_from_all, is_among_numbers, passes}
 use Rattle.vt_letting_go.proofs.PlacesLeft.{found_is_there, number_found}
 use Rattle.vt_letting_go.specs.InUse.{IsListedTree}
 use Rattle.vt_spec.proofs.Lists.{pair-filter, pair-map}
@@ -28,7 +28,7 @@ use Rattle.vt_world_laws.specs.Worlds.Kept.{IsPlain, IsUnsettled, MountsShow, Se
 use Rattle.vt_world_laws.proofs.Plain.{uppers_plain}
 use Rattle.vt_world_laws.proofs.RaisedInUse.{world_of}
 use Rattle.vt_world_laws.proofs.SettledMounts.{settled_mounts, settled_namespaces}
-use Rattle.vt_world_laws.proofs.SettledSeen.{attached_lives, found_still, itself, located_lives, placed_attached, seen_stays, used_locations, used_number}
+use Rattle.vt_world_laws.proofs.SettledSeen.{attached_lives, found_still, itself, located_lives, placed_attached, seen_stays, used_number}
 
 -- a number of the list finds a mount of it
 found_listed : (mounts : List (Mount ℕ)) (number : ℕ) → is_among nat_eq number (map (λ mount. mount.number) mounts) ≡ true
