@@ -55,41 +55,52 @@ found_passes {A = A} test (first ∷ rest) a e = by (test first) refl e (found_p
     value None = a
     value (Some x) = x
 
-    by : (b : Bool) → test first ≡ b → cond b (Some first) (find test rest) ≡ Some a → (find test rest ≡ Some a → test a ≡ true) → test a ≡ true
+    by : (b : Bool) → test first ≡ b → cond b (Some first) (find test rest) ≡ Some a
+        → (find test rest ≡ Some a → test a ≡ true) → test a ≡ true
     by true f g later = ap test (sym (ap value g)) ∙ f
     by false f g later = later g
 
 -- a task goes by the name that it is found by
-pub name_found : (world : World ℕ) (name : TaskName) (task : Task ℕ) → task_called world name ≡ Some task → name ≡ task.name
+pub name_found : (world : World ℕ) (name : TaskName) (task : Task ℕ) → task_called world name ≡ Some task
+    → name ≡ task.name
 name_found world name task e =
-    (bytes_eq-Decides name task.name).0 (found_passes (λ (other : Task ℕ). same_name name other.name) world.tasks task e)
+    (bytes_eq-Decides name task.name).0
+    (found_passes (λ (other : Task ℕ). same_name name other.name) world.tasks task e)
 
 -- numbers that are not in use are of no inode
-pub new_numbers : (world : World ℕ) (fresh : Fresh ℕ) → IsWorld nat_eq world → Serves nat_eq world fresh → AreNew fresh world
+pub new_numbers : (world : World ℕ) (fresh : Fresh ℕ) → IsWorld nat_eq world → Serves nat_eq world fresh
+    → AreNew fresh world
 new_numbers world fresh is serves =
     all_from_among (λ f. (k : ℕ) → f.files.tree.node (fresh k) ≡ None) world.filesystems (λ f m k.
     no_some (f.files.tree.node (fresh k))
     (sym (among_from_all (λ g. ListsNumbers nat_eq g.files) world.filesystems is.files.numbers f m (fresh k))
     ∙ none f m k (is_among nat_eq (fresh k) f.files.numbers) refl))
   where
-    none : (f : Filesystem ℕ) → Among f world.filesystems → (k : ℕ) (b : Bool) → is_among nat_eq (fresh k) f.files.numbers ≡ b → b ≡ false
+    none : (f : Filesystem ℕ) → Among f world.filesystems → (k : ℕ) (b : Bool)
+        → is_among nat_eq (fresh k) f.files.numbers ≡ b → b ≡ false
     none f m k false e = refl
     none f m k true e =
         absurd (true≢false
         (sym (is_among_numbers (fresh k) (numbers_in_use world)
         (among-append_left (flat_map used_by_mount world.mounts ++ flat_map used_by_filesystem world.filesystems)
         (map (λ namespace. namespace.number) world.namespaces) (fresh k)
-        (among-append_right (flat_map used_by_mount world.mounts) (flat_map used_by_filesystem world.filesystems) (fresh k)
-        (among-flat_map used_by_filesystem world.filesystems f (fresh k) m (inr (among_numbers (fresh k) f.files.numbers e))))))
+        (among-append_right (flat_map used_by_mount world.mounts) (flat_map used_by_filesystem world.filesystems)
+        (fresh k)
+        (among-flat_map used_by_filesystem world.filesystems f (fresh k) m
+        (inr (among_numbers (fresh k) f.files.numbers e))))))
         ∙ serves.unused k))
 
 module _ (fit : PermitsFit)
     (kept_mounts : KeptByPermits (MountInvariants nat_eq))
     (kept_namespaces : KeptByPermits (NamespaceInvariants nat_eq))
-    (kept_names : KeptByPermits (λ (world : World ℕ). any_pair (λ (a b : Task ℕ). same_name a.name b.name) world.tasks ≡ false))
-    (kept_locations : KeptByPermits (λ (world : World ℕ). list_all (is_located_well nat_eq world) (all_locations world) ≡ true))
-    (kept_directories : KeptByPermits (λ (world : World ℕ). list_all (stands_on_directories nat_eq world) world.tasks ≡ true))
-    (kept_files : KeptByPermits (λ (world : World ℕ). list_all (has_regular_files_open nat_eq world) world.tasks ≡ true))
+    (kept_names : KeptByPermits (λ (world : World ℕ). any_pair
+    (λ (a b : Task ℕ). same_name a.name b.name) world.tasks ≡ false))
+    (kept_locations : KeptByPermits
+    (λ (world : World ℕ). list_all (is_located_well nat_eq world) (all_locations world) ≡ true))
+    (kept_directories : KeptByPermits
+    (λ (world : World ℕ). list_all (stands_on_directories nat_eq world) world.tasks ≡ true))
+    (kept_files : KeptByPermits (λ (world : World ℕ). list_all (has_regular_files_open nat_eq world) world.tasks
+    ≡ true))
     (kept_roots : KeptByPermits MountsShow)
     (one_filesystem : KeptByPermits (λ (world : World ℕ).
     any_pair (λ (a b : Filesystem ℕ). nat_eq a.number b.number) world.filesystems ≡ false)) where
@@ -105,7 +116,8 @@ module _ (fit : PermitsFit)
     changed = filesystems_changed nat_eq world permit
 
     applied : call_outcome nat_eq fresh world task call ≡ apply nat_eq fresh world task permit
-    applied = call_is_judged_then_applied fresh world task call ∙ ap (λ j. after world j (apply nat_eq fresh world task)) granted
+    applied = call_is_judged_then_applied fresh world task call
+        ∙ ap (λ j. after world j (apply nat_eq fresh world task)) granted
 
     raised_last : (call_outcome nat_eq fresh world task call).world ≡ filesystems_raised nat_eq changed unraised
     raised_last = ap (λ (o : Outcome ℕ). o.world) applied ∙ (numbers_are_raised_last fresh world task permit).1
@@ -123,7 +135,8 @@ module _ (fit : PermitsFit)
     trees =
         trees_before changed unraised
         (subst IsWorldOfTrees raised_last
-        (outcome_keeps fresh world task (record { plain = plain; trees = file_trees world (unsettled_of world is plain) })
+        (outcome_keeps fresh world task
+        (record { plain = plain; trees = file_trees world (unsettled_of world is plain) })
         (worlds_are_standing world is) (new_numbers world fresh is serves) call other))
 
     sizes : IsFitWorld unraised
@@ -139,9 +152,12 @@ module _ (fit : PermitsFit)
     unraised_is = record {
       plain = trees.plain;
       files = record {
-        trees = All-weaker (λ (f : Filesystem ℕ). IsFileTree f.files) (λ f. IsTree f.files.tree) (λ f t. t.tree) unraised.filesystems trees.trees;
-        own_parents = All-weaker (λ (f : Filesystem ℕ). IsFileTree f.files) (λ f. HasOwnParents f.files.tree) (λ f t. t.own_parents) unraised.filesystems trees.trees;
-        numbers = All-weaker (λ (f : Filesystem ℕ). IsFileTree f.files) (λ f. ListsNumbers nat_eq f.files) (λ f t. t.numbers) unraised.filesystems trees.trees;
+        trees = All-weaker (λ (f : Filesystem ℕ). IsFileTree f.files) (λ f. IsTree f.files.tree)
+            (λ f t. t.tree) unraised.filesystems trees.trees;
+        own_parents = All-weaker (λ (f : Filesystem ℕ). IsFileTree f.files) (λ f. HasOwnParents f.files.tree)
+            (λ f t. t.own_parents) unraised.filesystems trees.trees;
+        numbers = All-weaker (λ (f : Filesystem ℕ). IsFileTree f.files) (λ f. ListsNumbers nat_eq f.files)
+            (λ f t. t.numbers) unraised.filesystems trees.trees;
         one_filesystem = one_filesystem world fresh task permit is plain serves found fits;
         fit_filesystems = sizes.fit;
       };
@@ -165,7 +181,8 @@ module _ (fit : PermitsFit)
         → Kept (finished_by nat_eq false world name (call_outcome nat_eq fresh world task call)).world
     finished_keeps name =
         let left = settling_leaves_a_world (call_outcome nat_eq fresh world task call).world unsettled in
-        raising_numbers_keeps_world world name (settled nat_eq (call_outcome nat_eq fresh world task call).world) left.0 left.1
+        raising_numbers_keeps_world world name
+        (settled nat_eq (call_outcome nat_eq fresh world task call).world) left.0 left.1
 
   module _ (world : World ℕ) (fresh : Fresh ℕ) (name : TaskName) (call : Call)
       (is : IsWorld nat_eq world) (plain : IsPlain world) (serves : Serves nat_eq world fresh)
@@ -176,7 +193,8 @@ module _ (fit : PermitsFit)
     unchanged : (policy nat_eq fresh world name call).world ≡ world → Kept (policy nat_eq fresh world name call).world
     unchanged same = subst Kept (sym same) (is, plain)
 
-    refused : (answer : Result Answer Deny) → (policy nat_eq fresh world name call).answer ≡ answer → is_ok answer ≡ false
+    refused : (answer : Result Answer Deny) → (policy nat_eq fresh world name call).answer ≡ answer
+        → is_ok answer ≡ false
         → Kept (policy nat_eq fresh world name call).world
     refused (Ok a) e denied = absurd (true≢false denied)
     refused (Err deny) e denied = unchanged (denial_changes_nothing fresh world name call deny e)
@@ -189,9 +207,11 @@ module _ (fit : PermitsFit)
         outcome = call_outcome nat_eq fresh world task call
 
         it_is : policy nat_eq fresh world name call ≡ finished nat_eq world name call outcome
-        it_is = ap (λ o. after world (ok_or o (denial S2)) (λ t. finished nat_eq world name call (call_outcome nat_eq fresh world t call))) found
+        it_is = ap (λ o. after world (ok_or o (denial S2))
+            (λ t. finished nat_eq world name call (call_outcome nat_eq fresh world t call))) found
 
-        by : (b : Bool) → (only_looks call || not (is_ok outcome.answer)) ≡ b → Kept (policy nat_eq fresh world name call).world
+        by : (b : Bool) → (only_looks call || not (is_ok outcome.answer)) ≡ b
+            → Kept (policy nat_eq fresh world name call).world
         by true e = looking (only_looks call) refl e
           where
             same : policy nat_eq fresh world name call ≡ outcome
@@ -201,7 +221,8 @@ module _ (fit : PermitsFit)
             not_ok true f = absurd (true≢false (sym f))
             not_ok false f = refl
 
-            looking : (b : Bool) → only_looks call ≡ b → (b || not (is_ok outcome.answer)) ≡ true → Kept (policy nat_eq fresh world name call).world
+            looking : (b : Bool) → only_looks call ≡ b → (b || not (is_ok outcome.answer)) ≡ true
+                → Kept (policy nat_eq fresh world name call).world
             looking true looks f = unchanged (look_changes_nothing fresh world name call looks)
             looking false looks f =
                 refused outcome.answer (ap (λ (o : Outcome ℕ). o.answer) same) (not_ok (is_ok outcome.answer) f)
@@ -210,11 +231,13 @@ module _ (fit : PermitsFit)
             same : policy nat_eq fresh world name call ≡ finished_by nat_eq false world name outcome
             same = it_is ∙ ap (λ b. finished_by nat_eq b world name outcome) e
 
-            judged : (judgement : Judgement ℕ) → judge_in nat_eq fresh world task call ≡ judgement → Kept (policy nat_eq fresh world name call).world
+            judged : (judgement : Judgement ℕ) → judge_in nat_eq fresh world task call ≡ judgement
+                → Kept (policy nat_eq fresh world name call).world
             judged (Err deny) f =
                 absurd (true≢false
                 (sym (ap (λ (o : Outcome ℕ). not (is_ok o.answer))
-                (call_is_judged_then_applied fresh world task call ∙ ap (λ j. after world j (apply nat_eq fresh world task)) f))
+                (call_is_judged_then_applied fresh world task call
+                ∙ ap (λ j. after world j (apply nat_eq fresh world task)) f))
                 ∙ (or_parts (only_looks call) (not (is_ok outcome.answer)) e).1))
             judged (Ok permit) f =
                 subst Kept (sym (ap (λ (o : Outcome ℕ). o.world) same))
@@ -227,5 +250,6 @@ module _ (fit : PermitsFit)
       by : (o : Option (Task ℕ)) → task_called world name ≡ o → Kept (policy nat_eq fresh world name call).world
       by None e =
           unchanged world fresh name call is plain serves other few
-          (ap (λ o. (after world (ok_or o (denial S2)) (λ t. finished nat_eq world name call (call_outcome nat_eq fresh world t call))).world) e)
+          (ap (λ o. (after world (ok_or o (denial S2))
+          (λ t. finished nat_eq world name call (call_outcome nat_eq fresh world t call))).world) e)
       by (Some task) e = called world fresh name call is plain serves other few task e

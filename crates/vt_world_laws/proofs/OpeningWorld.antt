@@ -53,13 +53,17 @@ module _ (fresh : Fresh ℕ) where
 
   root_is_directory : is_directory_at nat_eq first_world (first_place nat_eq fresh) ≡ true
   root_is_directory =
-      All-head (λ (mount : Mount ℕ). is_directory_at nat_eq first_world (root_of mount) ≡ true) the_mount [] is_standing.roots
+      All-head (λ (mount : Mount ℕ). is_directory_at nat_eq first_world (root_of mount) ≡ true) the_mount []
+      is_standing.roots
 
   trees : TreeInvariants nat_eq first_world
   trees = record {
-    trees = All-weaker (λ (f : Filesystem ℕ). IsFileTree f.files) (λ f. IsTree f.files.tree) (λ f is. is.tree) first_world.filesystems has_trees.trees;
-    own_parents = All-weaker (λ (f : Filesystem ℕ). IsFileTree f.files) (λ f. HasOwnParents f.files.tree) (λ f is. is.own_parents) first_world.filesystems has_trees.trees;
-    numbers = All-weaker (λ (f : Filesystem ℕ). IsFileTree f.files) (λ f. ListsNumbers nat_eq f.files) (λ f is. is.numbers) first_world.filesystems has_trees.trees;
+    trees = All-weaker (λ (f : Filesystem ℕ). IsFileTree f.files) (λ f. IsTree f.files.tree)
+        (λ f is. is.tree) first_world.filesystems has_trees.trees;
+    own_parents = All-weaker (λ (f : Filesystem ℕ). IsFileTree f.files) (λ f. HasOwnParents f.files.tree)
+        (λ f is. is.own_parents) first_world.filesystems has_trees.trees;
+    numbers = All-weaker (λ (f : Filesystem ℕ). IsFileTree f.files) (λ f. ListsNumbers nat_eq f.files)
+        (λ f is. is.numbers) first_world.filesystems has_trees.trees;
     one_filesystem = refl;
     fit_filesystems = (opening_is_fit fresh).fit;
   }
@@ -80,19 +84,22 @@ module _ (fresh : Fresh ℕ) where
     one_namespace = refl;
     mounts_listed = ap (λ b. ((b || false) && true) && true) (itself 1);
     tasks_listed = ap (λ b. (b || false) && true) (itself 1);
-    root_mounts = ap (λ b. (length (filter (is_root_mount nat_eq) (cond b (the_mount ∷ []) [])) == 1) && true) (itself 1);
+    root_mounts = ap (λ b. (length (filter (is_root_mount nat_eq) (cond b (the_mount ∷ []) [])) == 1) && true)
+        (itself 1);
     namespaces_live = ap (λ b. (b || false) && true) (itself 1);
     few_mounts = ap (λ b. nat_lt most_mounts (length (cond b (the_mount ∷ []) [])) || false) (itself 1);
   }
 
-  located : (nat_eq (fresh 0) (fresh 0) || false) && is_some (node_at nat_eq first_world (first_place nat_eq fresh)) ≡ true
+  located : (nat_eq (fresh 0) (fresh 0) || false) && is_some (node_at nat_eq first_world (first_place nat_eq fresh))
+      ≡ true
   located =
       and_from (nat_eq (fresh 0) (fresh 0) || false) (is_some (node_at nat_eq first_world (first_place nat_eq fresh)))
       (ap (λ b. b || false) (itself 0))
       (directory_is_there (node_at nat_eq first_world (first_place nat_eq fresh)) root_is_directory)
 
   seen : is_directory_at nat_eq first_world (first_place nat_eq fresh)
-      && list_all (nat_eq (fresh 1)) (option_to_list (mount_at nat_eq first_world (first_place nat_eq fresh)).namespace) ≡ true
+      && list_all (nat_eq (fresh 1)) (option_to_list
+      (mount_at nat_eq first_world (first_place nat_eq fresh)).namespace) ≡ true
   seen =
       and_from (is_directory_at nat_eq first_world (first_place nat_eq fresh)) _ root_is_directory
       (ap (λ (m : Mount ℕ). list_all (nat_eq (fresh 1)) (option_to_list m.namespace)) found_mount
@@ -110,15 +117,18 @@ module _ (fresh : Fresh ℕ) where
   roots : MountsShow first_world
   roots =
       ap (λ b. (b && true) && true)
-      (ap (λ (m : Mount ℕ). is_directory_node ((filesystem_numbered nat_eq first_world m.filesystem).files.tree.node (fresh 3))) (sym found_mount)
+      (ap (λ (m : Mount ℕ). is_directory_node
+      ((filesystem_numbered nat_eq first_world m.filesystem).files.tree.node (fresh 3))) (sym found_mount)
       ∙ root_is_directory)
 
   in_use : AllInUse first_world
   in_use = record {
     mounts = refl;
     filesystems = ap (λ b. ((b || false)
-        || list_any (λ merged. has_layer_on nat_eq (fresh 2) merged && is_mounted nat_eq first_world merged.number) first_world.filesystems) && true) (itself 2);
-    inodes = All-cons (λ (f : Filesystem ℕ). list_all (is_inode_used first_world f) f.files.numbers ≡ true) the_filesystem []
+        || list_any (λ merged. has_layer_on nat_eq (fresh 2) merged && is_mounted nat_eq first_world merged.number)
+        first_world.filesystems) && true) (itself 2);
+    inodes = All-cons (λ (f : Filesystem ℕ). list_all (is_inode_used first_world f) f.files.numbers ≡ true)
+        the_filesystem []
         (ap (λ b. b && true) (or_first (nat_eq (fresh 3) (fresh 3)) _ (itself 3)))
         (All-nil (λ (f : Filesystem ℕ). list_all (is_inode_used first_world f) f.files.numbers ≡ true));
     groups = λ group none. refl;

@@ -18,7 +18,8 @@ use Rattle.vt_letting_go.proofs.Lists.{any-map, flat_map-map, map_twice}
 use Rattle.vt_world_laws.specs.Worlds.Kept.{IsPlain, IsUnsettled, MountsShow}
 
 -- where mounts stand is seen on the mounts alone
-pub stands_alike : (before later : World ℕ) → ((number : ℕ) → mount_numbered nat_eq later number ≡ mount_numbered nat_eq before number)
+pub stands_alike : (before later : World ℕ)
+    → ((number : ℕ) → mount_numbered nat_eq later number ≡ mount_numbered nat_eq before number)
     → (number : ℕ) → Stands nat_eq before number → Stands nat_eq later number
 stands_alike before later same number (at_root it e) = at_root it (ap (λ (m : Mount ℕ). m.place) (same it) ∙ e)
 stands_alike before later same number (on_parent it place e f stands) =
@@ -63,15 +64,18 @@ module _ (of_filesystem : Filesystem ℕ → ℕ) (of_namespace : Namespace ℕ 
       by : (b : Bool)
           → (unwrap_or (find (λ f. nat_eq number f.number) (map filesystem_counted list)) (no_filesystem number)).files
           ≡ (unwrap_or (find (λ f. nat_eq number f.number) list) (no_filesystem number)).files
-          → (unwrap_or (cond b (Some (filesystem_counted filesystem)) (find (λ f. nat_eq number f.number) (map filesystem_counted list))) (no_filesystem number)).files
-          ≡ (unwrap_or (cond b (Some filesystem) (find (λ f. nat_eq number f.number) list)) (no_filesystem number)).files
+          → (unwrap_or (cond b (Some (filesystem_counted filesystem))
+          (find (λ f. nat_eq number f.number) (map filesystem_counted list))) (no_filesystem number)).files
+          ≡ (unwrap_or (cond b (Some filesystem) (find (λ f. nat_eq number f.number) list))
+          (no_filesystem number)).files
       by true later = refl
       by false later = later
 
   same_files : files_by counted ≡ files_by world
   same_files = λ i number. files_in number world.filesystems i
 
-  same_listed : map (λ (namespace : Namespace ℕ). namespace.number) counted.namespaces ≡ map (λ namespace. namespace.number) world.namespaces
+  same_listed : map (λ (namespace : Namespace ℕ). namespace.number) counted.namespaces
+      ≡ map (λ namespace. namespace.number) world.namespaces
   same_listed = map_twice (λ (namespace : Namespace ℕ). namespace.number) namespace_counted world.namespaces
 
   same_locations : all_locations counted ≡ all_locations world
@@ -86,7 +90,8 @@ module _ (of_filesystem : Filesystem ℕ → ℕ) (of_namespace : Namespace ℕ 
     trees = All-map (λ f. IsTree f.files.tree) filesystem_counted world.filesystems is.trees;
     own_parents = All-map (λ f. HasOwnParents f.files.tree) filesystem_counted world.filesystems is.own_parents;
     numbers = All-map (λ f. ListsNumbers nat_eq f.files) filesystem_counted world.filesystems is.numbers;
-    one_filesystem = pair-map (λ (a b : Filesystem ℕ). nat_eq a.number b.number) (λ (a b : Filesystem ℕ). nat_eq a.number b.number)
+    one_filesystem = pair-map (λ (a b : Filesystem ℕ). nat_eq a.number b.number)
+        (λ (a b : Filesystem ℕ). nat_eq a.number b.number)
         filesystem_counted world.filesystems (λ a b m n e. e) is.one_filesystem;
     fit_filesystems = all-map is_fit_filesystem filesystem_counted (λ f e. e) world.filesystems is.fit_filesystems;
   }
@@ -95,7 +100,8 @@ module _ (of_filesystem : Filesystem ℕ → ℕ) (of_namespace : Namespace ℕ 
   mounts_counted is = record {
     one_number = is.one_number;
     one_child = is.one_child;
-    standing = All-weaker (λ (mount : Mount ℕ). Stands nat_eq world mount.number) (λ mount. Stands nat_eq counted mount.number)
+    standing = All-weaker (λ (mount : Mount ℕ). Stands nat_eq world mount.number)
+        (λ mount. Stands nat_eq counted mount.number)
         (λ mount stands. stands_alike world counted (λ number. refl) mount.number stands) world.mounts is.standing;
     nowhere = is.nowhere;
     groups = is.groups;
@@ -103,17 +109,26 @@ module _ (of_filesystem : Filesystem ℕ → ℕ) (of_namespace : Namespace ℕ 
 
   namespaces_counted : NamespaceInvariants nat_eq world → NamespaceInvariants nat_eq counted
   namespaces_counted is = record {
-    one_namespace = pair-map (λ (a b : Namespace ℕ). nat_eq a.number b.number) (λ (a b : Namespace ℕ). nat_eq a.number b.number)
+    one_namespace = pair-map (λ (a b : Namespace ℕ). nat_eq a.number b.number)
+        (λ (a b : Namespace ℕ). nat_eq a.number b.number)
         namespace_counted world.namespaces (λ a b m n e. e) is.one_namespace;
-    mounts_listed = ap (λ numbers. list_all (λ (mount : Mount ℕ). list_all (λ number. is_among nat_eq number numbers) (option_to_list mount.namespace)) world.mounts) same_listed
+    mounts_listed = ap (λ numbers. list_all
+        (λ (mount : Mount ℕ). list_all (λ number. is_among nat_eq number numbers) (option_to_list mount.namespace))
+        world.mounts) same_listed
         ∙ is.mounts_listed;
-    tasks_listed = ap (λ numbers. list_all (λ (task : Task ℕ). is_among nat_eq task.namespace numbers) counted.tasks) same_listed
-        ∙ all-map (λ (task : Task ℕ). is_listed nat_eq world task.namespace) task_counted (λ task e. e) world.tasks is.tasks_listed;
-    root_mounts = all-map (has_one_root nat_eq counted) namespace_counted (λ namespace e. e) world.namespaces is.root_mounts;
-    namespaces_live = all-map (λ namespace. list_any (λ (task : Task ℕ). nat_eq namespace.number task.namespace) counted.tasks) namespace_counted
-        (λ namespace e. any-map (λ (task : Task ℕ). nat_eq namespace.number task.namespace) task_counted world.tasks (λ task. refl) ∙ e)
+    tasks_listed = ap (λ numbers. list_all
+        (λ (task : Task ℕ). is_among nat_eq task.namespace numbers) counted.tasks) same_listed
+        ∙ all-map (λ (task : Task ℕ). is_listed nat_eq world task.namespace) task_counted
+        (λ task e. e) world.tasks is.tasks_listed;
+    root_mounts = all-map (has_one_root nat_eq counted) namespace_counted
+        (λ namespace e. e) world.namespaces is.root_mounts;
+    namespaces_live = all-map (λ namespace. list_any
+        (λ (task : Task ℕ). nat_eq namespace.number task.namespace) counted.tasks) namespace_counted
+        (λ namespace e. any-map (λ (task : Task ℕ). nat_eq namespace.number task.namespace) task_counted world.tasks
+        (λ task. refl) ∙ e)
         world.namespaces is.namespaces_live;
-    few_mounts = any-map (λ (namespace : Namespace ℕ). nat_lt most_mounts (length (mounts_of nat_eq world namespace.number))) namespace_counted world.namespaces (λ namespace. refl)
+    few_mounts = any-map (λ (namespace : Namespace ℕ). nat_lt most_mounts
+        (length (mounts_of nat_eq world namespace.number))) namespace_counted world.namespaces (λ namespace. refl)
         ∙ is.few_mounts;
   }
 

@@ -63,36 +63,48 @@ module _ (of_filesystem : Filesystem ℕ → ℕ) (of_namespace : Namespace ℕ 
   task_later task = record task { change = of_task task }
 
   locations_later : all_locations later ≡ all_locations world
-  locations_later = flat_map-map task_later (λ task. task.root ∷ task.directory ∷ map (λ descriptor. descriptor.location) task.descriptors) world.tasks (λ task. refl)
+  locations_later = flat_map-map task_later
+      (λ task. task.root ∷ task.directory ∷ map (λ descriptor. descriptor.location) task.descriptors) world.tasks
+      (λ task. refl)
 
   abbrev located_by : List (Location ℕ) → ℕ → List ℕ
   located_by locations filesystem =
-      map (λ location. location.node) (filter (λ location. nat_eq filesystem (mount_at nat_eq world location).filesystem)
+      map (λ location. location.node)
+      (filter (λ location. nat_eq filesystem (mount_at nat_eq world location).filesystem)
       (locations ++ map root_of world.mounts ++ filter_map (λ mount. mount.place) world.mounts))
 
   abbrev layers_by : List (Layer ℕ) → ℕ → List ℕ
-  layers_by layers filesystem = map (λ layer. layer.directory) (filter (λ layer. nat_eq filesystem layer.filesystem) layers)
+  layers_by layers filesystem = map (λ layer. layer.directory)
+      (filter (λ layer. nat_eq filesystem layer.filesystem) layers)
 
-  used_later : (filesystem : Filesystem ℕ) → used_in nat_eq later (filesystem_later filesystem) ≡ used_in nat_eq world filesystem
+  used_later : (filesystem : Filesystem ℕ) → used_in nat_eq later (filesystem_later filesystem)
+      ≡ used_in nat_eq world filesystem
   used_later filesystem = λ i.
       filesystem.files.tree.root ∷ (named_in filesystem.files ++ located_by (locations_later i) filesystem.number
-      ++ layers_by (flat_map-map filesystem_later (of_overlay [] layers_of) world.filesystems (λ f. refl) i) filesystem.number
+      ++ layers_by (flat_map-map filesystem_later (of_overlay [] layers_of) world.filesystems (λ f. refl) i)
+      filesystem.number
       ++ flat_map-map filesystem_later (objects_of_overlay nat_eq filesystem.number) world.filesystems (λ f. refl) i)
 
-  lives_later : (filesystem : Filesystem ℕ) → filesystem_lives nat_eq later (filesystem_later filesystem) ≡ filesystem_lives nat_eq world filesystem
+  lives_later : (filesystem : Filesystem ℕ) → filesystem_lives nat_eq later (filesystem_later filesystem)
+      ≡ filesystem_lives nat_eq world filesystem
   lives_later filesystem =
       ap (λ b. is_mounted nat_eq world filesystem.number || b)
-      (any-map (λ merged. has_layer_on nat_eq filesystem.number merged && is_mounted nat_eq world merged.number) filesystem_later world.filesystems (λ f. refl))
+      (any-map (λ merged. has_layer_on nat_eq filesystem.number merged && is_mounted nat_eq world merged.number)
+      filesystem_later world.filesystems (λ f. refl))
 
   in_use_later : AllInUse world → AllInUse later
   in_use_later is = record {
-    mounts = ap (λ locations. list_all (λ (mount : Mount ℕ). is_some mount.namespace || list_any (λ (l : Location ℕ). nat_eq mount.number l.mount) locations) world.mounts) locations_later
+    mounts = ap (λ locations. list_all
+        (λ (mount : Mount ℕ). is_some mount.namespace
+        || list_any (λ (l : Location ℕ). nat_eq mount.number l.mount) locations) world.mounts) locations_later
         ∙ is.mounts;
-    filesystems = all-map (filesystem_lives nat_eq later) filesystem_later (λ f e. lives_later f ∙ e) world.filesystems is.filesystems;
+    filesystems = all-map (filesystem_lives nat_eq later) filesystem_later
+        (λ f e. lives_later f ∙ e) world.filesystems is.filesystems;
     inodes = All-map (λ f. list_all (is_inode_used later f) f.files.numbers ≡ true) filesystem_later world.filesystems
         (All-weaker (λ f. list_all (is_inode_used world f) f.files.numbers ≡ true)
         (λ f. list_all (is_inode_used later (filesystem_later f)) f.files.numbers ≡ true)
-        (λ f e. ap (λ used. list_all (λ number. list_any (nat_eq number) used) f.files.numbers) (used_later f) ∙ e) world.filesystems is.inodes);
+        (λ f e. ap (λ used. list_all (λ number. list_any (nat_eq number) used) f.files.numbers) (used_later f) ∙ e)
+        world.filesystems is.inodes);
     groups = is.groups;
   }
 
@@ -107,7 +119,8 @@ unchanged : {A : Type 0} (list : List A) → list ≡ map (λ a. a) list
 unchanged [] = refl
 unchanged (a ∷ list) = ap (λ rest. a ∷ rest) (unchanged list)
 
-all_before : (P : Filesystem ℕ → Type 0) (change : Filesystem ℕ → Filesystem ℕ) (list : List (Filesystem ℕ)) → All P (map change list)
+all_before : (P : Filesystem ℕ → Type 0) (change : Filesystem ℕ → Filesystem ℕ) (list : List (Filesystem ℕ))
+    → All P (map change list)
     → ((f : Filesystem ℕ) → P (change f) → P f) → All P list
 all_before P change [] h keep = All-nil P
 all_before P change (f ∷ list) h keep =
@@ -116,9 +129,11 @@ all_before P change (f ∷ list) h keep =
 
 module _ (changed : List ℕ) (world : World ℕ) where
   abbrev number_if : Filesystem ℕ → ℕ
-  number_if filesystem = cond (list_any (λ number. nat_eq number filesystem.number) changed) (raised filesystem.change) filesystem.change
+  number_if filesystem = cond (list_any (λ number. nat_eq number filesystem.number) changed)
+      (raised filesystem.change) filesystem.change
 
-  raised_filesystem_is : (filesystem : Filesystem ℕ) → raised_if_changed nat_eq changed filesystem ≡ record filesystem { change = number_if filesystem }
+  raised_filesystem_is : (filesystem : Filesystem ℕ) → raised_if_changed nat_eq changed filesystem
+      ≡ record filesystem { change = number_if filesystem }
   raised_filesystem_is filesystem = by (list_any (λ number. nat_eq number filesystem.number) changed)
     where
       by : (b : Bool) → cond b (record filesystem { change = raised filesystem.change }) filesystem
@@ -137,20 +152,26 @@ module _ (changed : List ℕ) (world : World ℕ) where
   -- and what was there before has the trees that are there afterwards
   pub trees_before : IsWorldOfTrees (filesystems_raised nat_eq changed world) → IsWorldOfTrees world
   trees_before is =
-      let same : IsWorldOfTrees (counted number_if (λ namespace. namespace.change) (λ task. task.change) world.change world) =
+      let same : IsWorldOfTrees (counted number_if (λ namespace. namespace.change)
+      (λ task. task.change) world.change world) =
       subst IsWorldOfTrees filesystems_raised_are is in
       record {
-        plain = all_before (λ f. is_overlay f ≡ false) (λ (f : Filesystem ℕ). record f { change = number_if f }) world.filesystems same.plain (λ f h. h);
-        trees = all_before (λ f. IsFileTree f.files) (λ (f : Filesystem ℕ). record f { change = number_if f }) world.filesystems same.trees (λ f h. h);
+        plain = all_before (λ f. is_overlay f ≡ false)
+            (λ (f : Filesystem ℕ). record f { change = number_if f }) world.filesystems same.plain (λ f h. h);
+        trees = all_before (λ f. IsFileTree f.files)
+            (λ (f : Filesystem ℕ). record f { change = number_if f }) world.filesystems same.trees (λ f h. h);
       }
 
   pub sizes_before : IsFitWorld (filesystems_raised nat_eq changed world) → IsFitWorld world
   sizes_before is =
-      let same : IsFitWorld (counted number_if (λ namespace. namespace.change) (λ task. task.change) world.change world) =
+      let same : IsFitWorld (counted number_if (λ namespace. namespace.change)
+      (λ task. task.change) world.change world) =
       subst IsFitWorld filesystems_raised_are is in
       record {
-        plain = all_before (λ f. is_overlay f ≡ false) (λ (f : Filesystem ℕ). record f { change = number_if f }) world.filesystems same.plain (λ f h. h);
-        fit = sym (list_all-map is_fit_filesystem (λ (f : Filesystem ℕ). record f { change = number_if f }) world.filesystems) ∙ same.fit;
+        plain = all_before (λ f. is_overlay f ≡ false)
+            (λ (f : Filesystem ℕ). record f { change = number_if f }) world.filesystems same.plain (λ f h. h);
+        fit = sym (list_all-map is_fit_filesystem
+            (λ (f : Filesystem ℕ). record f { change = number_if f }) world.filesystems) ∙ same.fit;
       }
 
   pub raising_filesystems_keeps : IsUnsettled world → IsUnsettled (filesystems_raised nat_eq changed world)
@@ -166,12 +187,14 @@ module _ (changed : List ℕ) (world : World ℕ) where
 
 module _ (before : World ℕ) (name : TaskName) (world : World ℕ) where
   abbrev namespace_if : Namespace ℕ → ℕ
-  namespace_if namespace = cond (same_mounts_in nat_eq before world namespace.number) namespace.change (raised namespace.change)
+  namespace_if namespace = cond (same_mounts_in nat_eq before world namespace.number) namespace.change
+      (raised namespace.change)
 
   abbrev task_if : Task ℕ → ℕ
   task_if task = cond (same_name name task.name) (raised task.change) task.change
 
-  raised_namespace_is : (namespace : Namespace ℕ) → raised_namespace nat_eq before world namespace ≡ record namespace { change = namespace_if namespace }
+  raised_namespace_is : (namespace : Namespace ℕ) → raised_namespace nat_eq before world namespace
+      ≡ record namespace { change = namespace_if namespace }
   raised_namespace_is namespace = by (same_mounts_in nat_eq before world namespace.number)
     where
       by : (b : Bool) → cond b namespace (record namespace { change = raised namespace.change })

@@ -19,8 +19,10 @@ abbrev pub Kept : World ℕ → Type 0
 Kept world = IsWorld nat_eq world × IsPlain world
 
 module _ (calls_keep : CallsKeepWorlds) where
-  request_keeps : (world : World ℕ) (fresh : Fresh ℕ) → Kept world → Serves nat_eq world fresh → (request : Option Request)
-      → asks_for_overlay request ≡ false → request_names_few request ≡ true → Kept (requested nat_eq world request fresh).world
+  request_keeps : (world : World ℕ) (fresh : Fresh ℕ) → Kept world → Serves nat_eq world fresh
+      → (request : Option Request)
+      → asks_for_overlay request ≡ false → request_names_few request ≡ true
+      → Kept (requested nat_eq world request fresh).world
   request_keeps world fresh kept serves None plain few = kept
   request_keeps world fresh kept serves (Some (Calling name call)) plain few =
       calls_keep world fresh name call kept.0 kept.1 serves plain few
@@ -35,7 +37,8 @@ module _ (calls_keep : CallsKeepWorlds) where
   line_keeps false false grammar world line fresh kept serves plain =
       request_keeps world fresh kept serves (request_of grammar line) plain (lines_name_few grammar line)
 
-  lines_keep : (grammar : Grammar) (world : World ℕ) (lines : List (List ℕ)) (refused : List Bool) (left : World ℕ) → Kept world
+  lines_keep : (grammar : Grammar) (world : World ℕ) (lines : List (List ℕ)) (refused : List Bool) (left : World ℕ)
+      → Kept world
       → HasNoOverlays grammar lines → LeadsTo grammar world lines refused left → Kept left
   lines_keep grammar world [] refused left kept plain leads = subst Kept (sym leads) kept
   lines_keep grammar world (line ∷ lines) [] left kept plain leads = absurd leads

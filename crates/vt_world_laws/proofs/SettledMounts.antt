@@ -24,9 +24,11 @@ found_placed : (mounts : List (Mount ℕ)) (number : ℕ) → is_some (mount_in 
 found_placed [] number e = absurd (true≢false (sym e))
 found_placed (first ∷ rest) number e = by (nat_eq number first.number) e (found_placed rest number)
   where
-    by : (b : Bool) → is_some (unwrap_or (cond b (Some first) (find (λ x. nat_eq number x.number) rest)) (no_mount number)).place ≡ true
+    by : (b : Bool) → is_some (unwrap_or (cond b (Some first) (find (λ x. nat_eq number x.number) rest))
+        (no_mount number)).place ≡ true
         → (is_some (mount_in nat_eq rest number).place ≡ true → Among (mount_in nat_eq rest number) rest)
-        → Among (unwrap_or (cond b (Some first) (find (λ x. nat_eq number x.number) rest)) (no_mount number)) (first ∷ rest)
+        → Among (unwrap_or (cond b (Some first) (find (λ x. nat_eq number x.number) rest)) (no_mount number))
+        (first ∷ rest)
     by true f later = inl refl
     by false f later = inr (later f)
 
@@ -42,7 +44,8 @@ module _ (world : World ℕ) (unsettled : IsUnsettled world) where
       (found_placed world.mounts number (ap is_some e)) (ap is_some e)
 
   -- A mount with a place is in a namespace, and so are those below it, so none of them goes
-  stands_still : (number : ℕ) → Stands nat_eq world number → mount_lives nat_eq world (mount_numbered nat_eq world number) ≡ true
+  stands_still : (number : ℕ) → Stands nat_eq world number
+      → mount_lives nat_eq world (mount_numbered nat_eq world number) ≡ true
       → Stands nat_eq later number
   stands_still number (at_root it e) lives =
       at_root it (ap (λ (m : Mount ℕ). m.place) (found_still world unsettled it lives) ∙ e)
@@ -65,7 +68,8 @@ module _ (world : World ℕ) (unsettled : IsUnsettled world) where
         standing = all_from_among (λ (mount : Mount ℕ). Stands nat_eq later mount.number) later.mounts (λ mount m.
             let was = among-from_filter (mount_lives nat_eq world) world.mounts mount m in
             stands_still mount.number
-            (among_from_all (λ (other : Mount ℕ). Stands nat_eq world other.number) world.mounts unsettled.mounts.standing mount was.0)
+            (among_from_all (λ (other : Mount ℕ). Stands nat_eq world other.number) world.mounts
+            unsettled.mounts.standing mount was.0)
             (ap (mount_lives nat_eq world) (itself world unsettled mount was.0) ∙ was.1));
         nowhere = settling_keeps_nowhere world unsettled.mounts.nowhere;
         groups = settling_keeps_groups world unsettled.mounts.nowhere unsettled.mounts.groups;
@@ -74,7 +78,8 @@ module _ (world : World ℕ) (unsettled : IsUnsettled world) where
   -- Namespaces keep their mounts
   same_mounts_of : (namespace : ℕ) → mounts_of nat_eq later namespace ≡ mounts_of nat_eq world namespace
   same_mounts_of namespace =
-      filter_twice (in_it namespace) (mount_lives nat_eq world) (in_it namespace) (λ mount. by mount mount.namespace refl) world.mounts
+      filter_twice (in_it namespace) (mount_lives nat_eq world) (in_it namespace)
+      (λ mount. by mount mount.namespace refl) world.mounts
     where
       in_it : ℕ → Mount ℕ → Bool
       in_it n mount = holds_of (nat_eq n) mount.namespace
@@ -84,12 +89,14 @@ module _ (world : World ℕ) (unsettled : IsUnsettled world) where
       both_false false = refl
 
       by : (mount : Mount ℕ) (o : Option ℕ) → mount.namespace ≡ o
-          → holds_of (nat_eq namespace) mount.namespace ≡ (mount_lives nat_eq world mount && holds_of (nat_eq namespace) mount.namespace)
+          → holds_of (nat_eq namespace) mount.namespace
+          ≡ (mount_lives nat_eq world mount && holds_of (nat_eq namespace) mount.namespace)
       by mount None e =
           ap (holds_of (nat_eq namespace)) e ∙ both_false (mount_lives nat_eq world mount)
           ∙ ap (λ o. mount_lives nat_eq world mount && holds_of (nat_eq namespace) o) (sym e)
       by mount (Some n) e =
-          ap (λ b. b && holds_of (nat_eq namespace) mount.namespace) (sym (attached_lives world unsettled mount (ap is_some e)))
+          ap (λ b. b && holds_of (nat_eq namespace) mount.namespace)
+          (sym (attached_lives world unsettled mount (ap is_some e)))
 
   abbrev MountsBy : Type 0
   MountsBy = ℕ → List (Mount ℕ)
@@ -106,9 +113,12 @@ module _ (world : World ℕ) (unsettled : IsUnsettled world) where
     mounts_listed = all-filter (λ (mount : Mount ℕ). list_all (is_listed nat_eq world) (option_to_list mount.namespace))
         (mount_lives nat_eq world) world.mounts unsettled.namespaces.mounts_listed;
     tasks_listed = unsettled.namespaces.tasks_listed;
-    root_mounts = ap (λ (mounts : MountsBy). list_all (λ (n : Namespace ℕ). length (filter (is_root_mount nat_eq) (mounts n.number)) == 1) world.namespaces) same_mounts
+    root_mounts = ap (λ (mounts : MountsBy). list_all
+        (λ (n : Namespace ℕ). length (filter (is_root_mount nat_eq) (mounts n.number)) == 1) world.namespaces)
+        same_mounts
         ∙ unsettled.namespaces.root_mounts;
     namespaces_live = unsettled.namespaces.namespaces_live;
-    few_mounts = ap (λ (mounts : MountsBy). list_any (λ (n : Namespace ℕ). nat_lt most_mounts (length (mounts n.number))) world.namespaces) same_mounts
+    few_mounts = ap (λ (mounts : MountsBy). list_any
+        (λ (n : Namespace ℕ). nat_lt most_mounts (length (mounts n.number))) world.namespaces) same_mounts
         ∙ unsettled.namespaces.few_mounts;
   }

@@ -27,7 +27,7 @@ PermitsFit =
     → Serves nat_eq world fresh → task_called world task.name ≡ Some task → mounts_overlay call ≡ false
     → judge_in nat_eq fresh world task call ≡ Ok permit → IsFitPermit fresh world task permit
 
--- and every call, granted or refused, leaves a world that has them; a fork names at most 32 groups, as its line has them.
+-- and every call, granted or refused, leaves a world that has them. A fork names at most 32 groups, as its line does.
 abbrev pub CallsKeepWorlds : Type 0
 CallsKeepWorlds =
     (world : World ℕ) (fresh : Fresh ℕ) (name : TaskName) (call : Call) → IsWorld nat_eq world → IsPlain world
