@@ -37,8 +37,10 @@ use Rattle.vt_tree_laws.proofs.TreesOfMounts.{worlds_are_standing}
 use Rattle.vt_tree_laws.proofs.TreesWalked.{no_some}
 use Rattle.vt_world_laws.specs.Worlds.Calls.{CallsKeepWorlds, PermitsFit}
 use Rattle.vt_world_laws.specs.Worlds.Kept.{IsPlain, IsUnsettled, KeptByPermits, MountsShow}
+use Rattle.vt_world_laws.specs.Worlds.Filesystems.{OneFilesystemANumber}
 use Rattle.vt_world_laws.specs.Worlds.Permits.{IsFitPermit}
-use Rattle.vt_world_laws.proofs.RaisedInUse.{raising_filesystems_keeps, raising_numbers_keeps_world, sizes_before, trees_before, unsettled_of}
+use Rattle.vt_world_laws.specs.Worlds.Tasks.{ForksAreCounted, KeptWhereForksAreCounted, LocationsAreThere, OneTaskAName, OpenFilesAreRegular, TasksStandOnDirectories}
+use Rattle.vt_world_laws.proofs.RaisedInUse.{raising_filesystems_keeps, raising_numbers_keeps_forks, raising_numbers_keeps_world, sizes_before, trees_before, unsettled_of}
 use Rattle.vt_world_laws.proofs.ScriptsKept.{Kept}
 use Rattle.vt_world_laws.proofs.SettledTasks.{file_trees, settling_leaves_a_world}
 
@@ -93,20 +95,17 @@ new_numbers world fresh is serves =
 module _ (fit : PermitsFit)
     (kept_mounts : KeptByPermits (MountInvariants nat_eq))
     (kept_namespaces : KeptByPermits (NamespaceInvariants nat_eq))
-    (kept_names : KeptByPermits (λ (world : World ℕ). any_pair
-    (λ (a b : Task ℕ). same_name a.name b.name) world.tasks ≡ false))
-    (kept_locations : KeptByPermits
-    (λ (world : World ℕ). list_all (is_located_well nat_eq world) (all_locations world) ≡ true))
-    (kept_directories : KeptByPermits
-    (λ (world : World ℕ). list_all (stands_on_directories nat_eq world) world.tasks ≡ true))
-    (kept_files : KeptByPermits (λ (world : World ℕ). list_all (has_regular_files_open nat_eq world) world.tasks
-    ≡ true))
+    (kept_names : KeptWhereForksAreCounted OneTaskAName)
+    (kept_forks : KeptWhereForksAreCounted ForksAreCounted)
+    (kept_locations : KeptByPermits LocationsAreThere)
+    (kept_directories : KeptByPermits TasksStandOnDirectories)
+    (kept_files : KeptByPermits OpenFilesAreRegular)
     (kept_roots : KeptByPermits MountsShow)
-    (one_filesystem : KeptByPermits (λ (world : World ℕ).
-    any_pair (λ (a b : Filesystem ℕ). nat_eq a.number b.number) world.filesystems ≡ false)) where
+    (one_filesystem : KeptByPermits OneFilesystemANumber) where
   -- a granted call, before what nothing uses goes
   module _ (world : World ℕ) (fresh : Fresh ℕ) (task : Task ℕ) (call : Call) (permit : Permit ℕ)
-      (is : IsWorld nat_eq world) (plain : IsPlain world) (serves : Serves nat_eq world fresh)
+      (is : IsWorld nat_eq world) (plain : IsPlain world) (forks : ForksAreCounted world)
+      (serves : Serves nat_eq world fresh)
       (found : task_called world task.name ≡ Some task) (other : mounts_overlay call ≡ false)
       (few : names_few_groups call ≡ true) (granted : judge_in nat_eq fresh world task call ≡ Ok permit) where
     abbrev unraised : World ℕ
@@ -164,7 +163,7 @@ module _ (fit : PermitsFit)
       mounts = kept_mounts world fresh task permit is plain serves found fits;
       namespaces = kept_namespaces world fresh task permit is plain serves found fits;
       tasks = record {
-        one_task = kept_names world fresh task permit is plain serves found fits;
+        one_task = kept_names world fresh task permit is plain forks serves found fits;
         small_tasks = small;
         locations_live = kept_locations world fresh task permit is plain serves found fits;
         directories = kept_directories world fresh task permit is plain serves found fits;
@@ -181,17 +180,19 @@ module _ (fit : PermitsFit)
         → Kept (finished_by nat_eq false world name (call_outcome nat_eq fresh world task call)).world
     finished_keeps name =
         let left = settling_leaves_a_world (call_outcome nat_eq fresh world task call).world unsettled in
-        raising_numbers_keeps_world world name
-        (settled nat_eq (call_outcome nat_eq fresh world task call).world) left.0 left.1
+        let last = raising_numbers_keeps_world world name
+        (settled nat_eq (call_outcome nat_eq fresh world task call).world) left.0 left.1 in
+        (last.0, last.1,
+        raising_numbers_keeps_forks world name (settled nat_eq (call_outcome nat_eq fresh world task call).world)
+        (subst ForksAreCounted (sym raised_last)
+        (kept_forks world fresh task permit is plain forks serves found fits)))
 
   module _ (world : World ℕ) (fresh : Fresh ℕ) (name : TaskName) (call : Call)
-      (is : IsWorld nat_eq world) (plain : IsPlain world) (serves : Serves nat_eq world fresh)
+      (is : IsWorld nat_eq world) (plain : IsPlain world) (forks : ForksAreCounted world)
+      (serves : Serves nat_eq world fresh)
       (other : mounts_overlay call ≡ false) (few : names_few_groups call ≡ true) where
-    result : Outcome ℕ
-    result = policy nat_eq fresh world name call
-
     unchanged : (policy nat_eq fresh world name call).world ≡ world → Kept (policy nat_eq fresh world name call).world
-    unchanged same = subst Kept (sym same) (is, plain)
+    unchanged same = subst Kept (sym same) (is, plain, forks)
 
     refused : (answer : Result Answer Deny) → (policy nat_eq fresh world name call).answer ≡ answer
         → is_ok answer ≡ false
@@ -241,15 +242,15 @@ module _ (fit : PermitsFit)
                 ∙ (or_parts (only_looks call) (not (is_ok outcome.answer)) e).1))
             judged (Ok permit) f =
                 subst Kept (sym (ap (λ (o : Outcome ℕ). o.world) same))
-                (finished_keeps world fresh task call permit is plain serves
+                (finished_keeps world fresh task call permit is plain forks serves
                 (ap (task_called world) (sym (name_found world name task found)) ∙ found) other few f name)
 
   pub calls_keep_worlds : CallsKeepWorlds
-  calls_keep_worlds world fresh name call is plain serves other few = by (task_called world name) refl
+  calls_keep_worlds world fresh name call is plain forks serves other few = by (task_called world name) refl
     where
       by : (o : Option (Task ℕ)) → task_called world name ≡ o → Kept (policy nat_eq fresh world name call).world
       by None e =
-          unchanged world fresh name call is plain serves other few
+          unchanged world fresh name call is plain forks serves other few
           (ap (λ o. (after world (ok_or o (denial S2))
           (λ t. finished nat_eq world name call (call_outcome nat_eq fresh world t call))).world) e)
-      by (Some task) e = called world fresh name call is plain serves other few task e
+      by (Some task) e = called world fresh name call is plain forks serves other few task e

@@ -1,5 +1,5 @@
 -- What is in use does not go by change numbers, so raising them keeps all invariants.
-use Rattle.std.proofs.Common.{◌≡◌, refl, sym, ap, subst, ◌∙◌, ℕ, nat_eq, Bool, true, false, cond, List, [], ◌∷◌, ◌++◌, ◌||◌, ◌&&◌, map, is_some}
+use Rattle.std.proofs.Common.{◌≤◌, ◌≡◌, refl, sym, ap, subst, ◌∙◌, ℕ, nat_eq, Bool, true, false, cond, List, [], ◌∷◌, ◌++◌, ◌||◌, ◌&&◌, map, is_some}
 use Rattle.std.specs.Prelude.{All, filter, filter_map}
 use Rattle.std.specs.List.{list_all, list_any}
 use Rattle.std.proofs.lemmas.List.Elements.{All-cons, All-head, All-map, All-nil, All-tail, All-weaker}
@@ -11,7 +11,7 @@ use Rattle.vt_spec.specs.Machine.Policy.{numbers_raised, raised_namespace, raise
 use Rattle.vt_spec.specs.Machine.Settled.{filesystem_lives, has_layer_on, is_mounted, named_in, objects_of_overlay, settled, used_in}
 use Rattle.vt_spec.specs.Machine.World.{Filesystem, Layer, Namespace, Task, TaskName, World, all_locations, is_overlay, layers_of, mount_at, same_name}
 use Rattle.vt_spec.specs.Machine.WorldLaws.{IsWorld, is_fit_filesystem}
-use Rattle.vt_spec.proofs.Lists.{all-map}
+use Rattle.vt_spec.proofs.Lists.{all-map, among-from_map, among_from_contains, contains_from_among}
 use Rattle.vt_letting_go.specs.InUse.{AllInUse, is_inode_used}
 use Rattle.vt_letting_go.proofs.InUse.{nothing_goes, what_is_left_is_in_use}
 use Rattle.vt_letting_go.proofs.Lists.{any-map, flat_map-map}
@@ -20,6 +20,7 @@ use Rattle.vt_tree_laws.specs.Trees.{IsFileTree}
 use Rattle.vt_tree_laws.specs.Trees.Calls.{IsWorldOfTrees}
 use Rattle.vt_tree_laws.specs.Trees.Sizes.{IsFitWorld}
 use Rattle.vt_world_laws.specs.Worlds.Kept.{IsPlain, IsUnsettled}
+use Rattle.vt_world_laws.specs.Worlds.Tasks.{ForksAreCounted}
 use Rattle.vt_world_laws.proofs.Plain.{plain_overlays}
 use Rattle.vt_world_laws.proofs.Raised.{counted, unsettled_counted}
 
@@ -229,3 +230,18 @@ module _ (before : World ℕ) (name : TaskName) (world : World ℕ) where
   raising_numbers_keeps_world is plain =
       subst (λ w. IsWorld nat_eq w × IsPlain w) (sym numbers_raised_are)
       (world_counted (λ filesystem. filesystem.change) namespace_if task_if (raised world.change) world is plain)
+
+  -- tasks count their forks as before
+  pub raising_numbers_keeps_forks : ForksAreCounted world → ForksAreCounted (numbers_raised nat_eq before name world)
+  raising_numbers_keeps_forks is task other number rest m n e =
+      let one = among-from_map (raised_task name) world.tasks task
+          (among_from_contains (map (raised_task name) world.tasks) task m) in
+      let two = among-from_map (raised_task name) world.tasks other
+          (among_from_contains (map (raised_task name) world.tasks) other n) in
+      let same_one : task ≡ record one.0 { change = task_if one.0 } = one.2 ∙ raised_task_is one.0 in
+      let same_two : other ≡ record two.0 { change = task_if two.0 } = two.2 ∙ raised_task_is two.0 in
+      subst (λ k. number ≤ k) (sym (ap (λ (t : Task ℕ). t.forks) same_one))
+      (is one.0 two.0 number rest (contains_from_among world.tasks one.0 one.1)
+      (contains_from_among world.tasks two.0 two.1)
+      (sym (ap (λ (t : Task ℕ). t.name) same_two) ∙ e
+      ∙ ap (λ (t : Task ℕ). t.name ++ (number ∷ rest)) same_one))
