@@ -1,6 +1,5 @@
 -- Every call leaves a world, where what is permitted fits, and each permit that fits keeps the invariants.
 use Rattle.std.proofs.Common.{◌≡◌, refl, sym, ap, subst, ◌∙◌, inr, ℕ, nat_eq, Bool, true, false, cond, List, [], ◌∷◌, ◌++◌, ◌||◌, not, Option, Some, None, Result, Ok, Err, find, flat_map, is_ok, map, ok_or, true≢false}
-use Rattle.std.specs.List.{list_all}
 use Rattle.std.proofs.lemmas.Bool.{or_parts}
 use Rattle.std.proofs.lemmas.Slice.Eq.{bytes_eq-Decides}
 use Rattle.vt_spec.specs.declared.errors.Deny.{Deny}
@@ -10,14 +9,14 @@ use Rattle.vt_spec.specs.Machine.Apply.{apply, apply_unraised, filesystems_chang
 use Rattle.vt_spec.specs.Machine.Calls.{Call}
 use Rattle.vt_spec.specs.Machine.Filesystems.{filesystems_raised}
 use Rattle.vt_spec.specs.Machine.Judge.{Judgement, judge_in}
-use Rattle.vt_spec.specs.Machine.Lists.{Fresh, any_pair, is_among}
+use Rattle.vt_spec.specs.Machine.Lists.{Fresh, is_among}
 use Rattle.vt_spec.specs.Machine.Outcomes.{Answer, Outcome, after}
 use Rattle.vt_spec.specs.Machine.Permits.{Permit}
 use Rattle.vt_spec.specs.Machine.Policy.{call_outcome, finished, finished_by, only_looks, policy}
 use Rattle.vt_spec.specs.Machine.Run.{Serves, numbers_in_use, used_by_filesystem, used_by_mount}
 use Rattle.vt_spec.specs.Machine.Settled.{settled}
-use Rattle.vt_spec.specs.Machine.World.{Filesystem, Task, TaskName, World, all_locations, same_name, task_called}
-use Rattle.vt_spec.specs.Machine.WorldLaws.{IsWorld, ListsNumbers, MountInvariants, NamespaceInvariants, has_regular_files_open, is_located_well, is_within_limits, stands_on_directories}
+use Rattle.vt_spec.specs.Machine.World.{Filesystem, Task, TaskName, World, same_name, task_called}
+use Rattle.vt_spec.specs.Machine.WorldLaws.{IsWorld, ListsNumbers, MountInvariants, NamespaceInvariants, is_within_limits}
 use Rattle.vt_spec.specs.TreeLaws.{HasOwnParents, IsTree}
 use Rattle.vt_laws.proofs.CallsJudged.{call_is_judged_then_applied}
 use Rattle.vt_laws.proofs.NumbersRaised.{numbers_are_raised_last}
@@ -181,11 +180,13 @@ module _ (fit : PermitsFit)
     finished_keeps name =
         let left = settling_leaves_a_world (call_outcome nat_eq fresh world task call).world unsettled in
         let last = raising_numbers_keeps_world world name
-        (settled nat_eq (call_outcome nat_eq fresh world task call).world) left.0 left.1 in
-        (last.0, last.1,
-        raising_numbers_keeps_forks world name (settled nat_eq (call_outcome nat_eq fresh world task call).world)
-        (subst ForksAreCounted (sym raised_last)
-        (kept_forks world fresh task permit is plain forks serves found fits)))
+        (settled nat_eq (call_outcome nat_eq fresh world task call).world) left.0 left.1 in (
+          last.0,
+          last.1,
+          raising_numbers_keeps_forks world name (settled nat_eq (call_outcome nat_eq fresh world task call).world)
+              (subst ForksAreCounted (sym raised_last)
+              (kept_forks world fresh task permit is plain forks serves found fits)),
+        )
 
   module _ (world : World ℕ) (fresh : Fresh ℕ) (name : TaskName) (call : Call)
       (is : IsWorld nat_eq world) (plain : IsPlain world) (forks : ForksAreCounted world)

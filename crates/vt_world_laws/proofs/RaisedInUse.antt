@@ -235,9 +235,9 @@ module _ (before : World ℕ) (name : TaskName) (world : World ℕ) where
   pub raising_numbers_keeps_forks : ForksAreCounted world → ForksAreCounted (numbers_raised nat_eq before name world)
   raising_numbers_keeps_forks is task other number rest m n e =
       let one = among-from_map (raised_task name) world.tasks task
-          (among_from_contains (map (raised_task name) world.tasks) task m) in
+      (among_from_contains (map (raised_task name) world.tasks) task m) in
       let two = among-from_map (raised_task name) world.tasks other
-          (among_from_contains (map (raised_task name) world.tasks) other n) in
+      (among_from_contains (map (raised_task name) world.tasks) other n) in
       let same_one : task ≡ record one.0 { change = task_if one.0 } = one.2 ∙ raised_task_is one.0 in
       let same_two : other ≡ record two.0 { change = task_if two.0 } = two.2 ∙ raised_task_is two.0 in
       subst (λ k. number ≤ k) (sym (ap (λ (t : Task ℕ). t.forks) same_one))

@@ -56,4 +56,5 @@ module _ (opening_counts_forks : OpeningCountsForks) (calls_keep : CallsKeepWorl
   pub scripts_lead_to_worlds : ScriptsLeadToWorlds
   scripts_lead_to_worlds grammar lines refused fresh left apart plain leads =
       let first = opening_is_a_world fresh apart in
-      (lines_keep grammar (opening nat_eq fresh) lines refused left (first.0, first.1, opening_counts_forks fresh) plain leads).0
+      (lines_keep grammar (opening nat_eq fresh) lines refused left
+      (first.0, first.1, opening_counts_forks fresh) plain leads).0
