@@ -26,6 +26,7 @@ use Rattle.vt_spec.specs.Tree.{new_directory}
 use Rattle.vt_spec.specs.Tree.Content.{Symlink}
 use Rattle.vt_laws.specs.Asked.{asked_first, asked_last, asked_of_creation, asked_of_open, asked_of_overlay, asked_of_rename, asked_of_write}
 use Rattle.vt_spec.specs.Errors.{denial}
+use Rattle.vt_spec.specs.Machine.Judge.{judge_in}
 use Rattle.vt_spec.specs.Machine.Listing.{mounts_outcome}
 use Rattle.vt_spec.specs.Machine.Outcome.Attributes.{chmod_outcome, chown_outcome, opaque_outcome}
 use Rattle.vt_spec.specs.Machine.Outcome.Descriptors.{close_outcome, open_outcome, opened_or_created, pread_outcome, pwrite_outcome}
@@ -35,7 +36,7 @@ use Rattle.vt_spec.specs.Machine.Outcome.Mounting.{bind_outcome, lazy_outcome, m
 use Rattle.vt_spec.specs.Machine.Outcome.Removing.{rename_outcome, renamed_by, rmdir_outcome, unlink_outcome}
 use Rattle.vt_spec.specs.Machine.Outcome.Tasks.{chdir_outcome, chroot_outcome, drop_outcome, exit_outcome, fork_outcome, setns_outcome, umask_outcome, unshare_outcome}
 use Rattle.vt_spec.specs.Machine.Outcomes.{Outcome, after, judged}
-use Rattle.vt_spec.specs.Machine.Policy.{call_outcome, finished, finished_by, only_looks, policy}
+use Rattle.vt_spec.specs.Machine.Policy.{call_outcome, filesystems_changed_by, finished, finished_by, only_looks, policy}
 use Rattle.vt_spec.specs.Machine.World.{TaskName}
 
 -- what is left of a call once its walks are done
@@ -306,19 +307,20 @@ call_asked fresh world task (PivotRoot new put) =
     table_asked world (pivot_rules nat_eq world task root.location here.location) _ (Ok true) refl)))
 
 -- change numbers do not change the answer
-finished_asked : (finished : Bool) (before : World ℕ) (name : TaskName) (outcome : Outcome ℕ) (result : Result Bool Deny)
+finished_asked : (finished : Bool) (before : World ℕ) (name : TaskName) (changed : List ℕ) (outcome : Outcome ℕ) (result : Result Bool Deny)
     → IsAnsweredAs outcome result
-    → IsAnsweredAs (finished_by nat_eq finished before name outcome) result
-finished_asked true before name outcome result e = e
-finished_asked false before name outcome result e = e
+    → IsAnsweredAs (finished_by nat_eq finished before name changed outcome) result
+finished_asked true before name changed outcome result e = e
+finished_asked false before name changed outcome result e = e
 
 -- a task's call is answered by what it asks
 pub policy_asked : (fresh : Fresh ℕ) (world : World ℕ) (name : TaskName) (task : Task ℕ) (call : Call) → task_called world name ≡ Some task
     → IsAnsweredAs (policy nat_eq fresh world name call) (asked fresh world task call)
 policy_asked fresh world name task call there =
     subst (λ found. IsAnsweredAs
-    (after world (ok_or found (denial S2)) (λ one. finished nat_eq world name call (call_outcome nat_eq fresh world one call)))
+    (after world (ok_or found (denial S2)) (λ one.
+    finished nat_eq world name call (filesystems_changed_by nat_eq world (judge_in nat_eq fresh world one call)) (call_outcome nat_eq fresh world one call)))
     (asked fresh world task call))
     (sym there)
-    (finished_asked (only_looks call || not (is_ok (call_outcome nat_eq fresh world task call).answer)) world name
+    (finished_asked (only_looks call || not (is_ok (call_outcome nat_eq fresh world task call).answer)) world name _
     (call_outcome nat_eq fresh world task call) (asked fresh world task call) (call_asked fresh world task call))

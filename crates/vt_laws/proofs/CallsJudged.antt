@@ -1,5 +1,5 @@
 -- Each call is judged, and what it is permitted is applied.
-use Rattle.std.proofs.Common.{◌≡◌, refl, ap, ℕ, nat_eq, nat_lt, Bool, true, false, ◌||◌, length, List, [], ◌∷◌, Option, Some, None, Result, Ok, Err, ok_or}
+use Rattle.std.proofs.Common.{◌≡◌, refl, ap, ℕ, nat_eq, nat_lt, Bool, true, false, ◌||◌, length, List, [], ◌∷◌, Option, Some, None, Result, Ok, Err, ok_or, option_map}
 use Rattle.vt_laws.specs.Judged.{CallIsJudgedThenApplied, PolicyJudgesThenApplies}
 use Rattle.vt_spec.specs.declared.attributes.Attr.{Attr}
 use Rattle.vt_spec.specs.declared.errors.Deny.{Deny}
@@ -15,6 +15,7 @@ use Rattle.vt_spec.specs.Machine.Listing.{mounts_outcome}
 use Rattle.vt_spec.specs.Machine.Lists.{Fresh, evens, odds}
 use Rattle.vt_spec.specs.Machine.Looks.{Looks, looks_of}
 use Rattle.vt_spec.specs.Machine.Mounts.{Location, MountFlags}
+use Rattle.vt_spec.specs.Machine.Namespaces.{namespace_entered, namespaces_ended}
 use Rattle.vt_spec.specs.Machine.Outcome.Attributes.{attr_rules, attr_set, chmod_outcome, chown_outcome, opaque_outcome, opaque_rules}
 use Rattle.vt_spec.specs.Machine.Outcome.Descriptors.{close_outcome, create_file, descriptor_at, descriptor_rules, exclusive_word_rules, open_by, open_file, open_outcome, open_rules, opened_or_created, pread_outcome, pwrite_outcome, pwrite_rules}
 use Rattle.vt_spec.specs.Machine.Outcome.Looking.{exec_outcome, exec_rules, list_outcome, list_rules, lstat_outcome, read_outcome, read_rules, readlink_outcome, readlink_rules, stat_outcome}
@@ -22,9 +23,11 @@ use Rattle.vt_spec.specs.Machine.Outcome.Making.{file_mode, file_word_rules, lar
 use Rattle.vt_spec.specs.Machine.Outcome.Mounting.{admin_rules, bind_outcome, bind_rules, bound_at, destination_walk, layer_rules, layers_walked, lazy_outcome, lazy_rules, mount_overlay_outcome, mount_plain_outcome, mounted, move_outcome, move_rules, moved_to, new_mount_rules, overlay_at, overlay_by, overlay_mounted, pivot_outcome, pivot_rules, plain_filesystem, remount_outcome, remount_rules, source_walk, type_outcome, type_rules, umount_outcome, umount_rules}
 use Rattle.vt_spec.specs.Machine.Outcome.Removing.{is_one_object, object_there, old_word_rules, rename_new_walk, rename_outcome, rename_rules, renamed_by, rmdir_outcome, rmdir_rules, rmdir_word_rules, same_object_rules, unlink_outcome, unlink_rules}
 use Rattle.vt_spec.specs.Machine.Outcome.Tasks.{chdir_outcome, child_credentials, chroot_outcome, drop_outcome, enter_rules, exit_outcome, fork_outcome, fork_rules, setns_outcome, umask_outcome, unshare_outcome}
-use Rattle.vt_spec.specs.Machine.Outcomes.{Outcome, after, judged}
+use Rattle.vt_spec.specs.Machine.Outcomes.{Outcome, after, granted, judged}
+use Rattle.vt_spec.specs.Machine.Outcomes.Answer.{Done}
 use Rattle.vt_spec.specs.Machine.Permits.{Permit}
-use Rattle.vt_spec.specs.Machine.Policy.{call_outcome, finished}
+use Rattle.vt_spec.specs.Machine.Permits.Permit.{ToEnterNamespace}
+use Rattle.vt_spec.specs.Machine.Policy.{call_outcome, filesystems_changed_by, finished}
 use Rattle.vt_spec.specs.Machine.Rows.{lacks, making}
 use Rattle.vt_spec.specs.Machine.Walk.{Place, directory_walk, file_walk, is_directory_there, is_special, link_walk, new_leaf_walk, new_walk, object_walk, old_leaf_walk, old_walk, walk_end}
 use Rattle.vt_spec.specs.Machine.World.{Task, TaskName, World, task_called}
@@ -269,9 +272,18 @@ module _ (fresh : Fresh ℕ) (world : World ℕ) (task : Task ℕ) where
 
   setns_judged : (name : TaskName) → IsApplied (setns_outcome nat_eq world task name) (setns_permit looks task name)
   unfolding setns_outcome setns_permit
-  setns_judged name =
-      then_applied (ok_or (task_called world name) (denial S2)) _ _ (λ target.
-      ruled ((lacks task cap_sys_admin || lacks task cap_sys_chroot, K1) ∷ []) _ _ refl)
+  setns_judged name = by (task_called world name)
+    where
+      entered : ℕ → Outcome ℕ
+      entered namespace = granted Done (namespaces_ended nat_eq (namespace_entered nat_eq world task namespace))
+
+      by : (found : Option (Task ℕ))
+          → IsApplied (after world (ok_or found (denial S2)) (λ target.
+          judged world ((lacks task cap_sys_admin || lacks task cap_sys_chroot, K1) ∷ []) (entered target.namespace)))
+          (and_then (ok_or (option_map (λ target. target.namespace) found) (denial S2)) (λ namespace.
+          unless ((lacks task cap_sys_admin || lacks task cap_sys_chroot, K1) ∷ []) (Ok (ToEnterNamespace namespace))))
+      by None = refl
+      by (Some target) = ruled ((lacks task cap_sys_admin || lacks task cap_sys_chroot, K1) ∷ []) _ _ refl
 
   mount_plain_judged : (path : List ℕ) (flags : MountFlags)
       → IsApplied (mount_plain_outcome nat_eq fresh world task path flags)
@@ -415,11 +427,14 @@ call_is_judged_then_applied fresh world task call = call_judged fresh world task
 pub policy_judges_then_applies : PolicyJudgesThenApplies
 policy_judges_then_applies fresh world name call = by (task_called world name)
   where
+    changed : Task ℕ → List ℕ
+    changed task = filesystems_changed_by nat_eq world (judge_in nat_eq fresh world task call)
+
     by : (found : Option (Task ℕ))
         → after world (ok_or found (denial S2)) (λ task.
-        finished nat_eq world name call (call_outcome nat_eq fresh world task call))
+        finished nat_eq world name call (changed task) (call_outcome nat_eq fresh world task call))
         ≡ after world (ok_or found (denial S2)) (λ task.
-        finished nat_eq world name call
+        finished nat_eq world name call (changed task)
         (after world (judge_in nat_eq fresh world task call) (apply nat_eq fresh world task)))
     by None = refl
-    by (Some task) = ap (finished nat_eq world name call) (call_judged fresh world task call)
+    by (Some task) = ap (finished nat_eq world name call (changed task)) (call_judged fresh world task call)

@@ -13,14 +13,16 @@ use Rattle.vt_spec.specs.Errors.{Rules, denial, unless}
 use Rattle.vt_spec.specs.Machine.Calls.{Call}
 use Rattle.vt_spec.specs.Machine.Lists.{Fresh}
 use Rattle.vt_spec.specs.Machine.Outcomes.{after}
-use Rattle.vt_spec.specs.Machine.Policy.{call_outcome, finished, policy}
+use Rattle.vt_spec.specs.Machine.Judge.{judge_in}
+use Rattle.vt_spec.specs.Machine.Policy.{call_outcome, filesystems_changed_by, finished, policy}
 use Rattle.vt_spec.specs.Machine.World.{Task, World}
 
 pub no_task_is_refused : NoTaskIsRefused
 no_task_is_refused fresh world name call none =
     subst
     (λ found. (after world (ok_or found (denial S2))
-    (λ task. finished nat_eq world name call (call_outcome nat_eq fresh world task call))).answer ≡ Err (denial S2))
+    (λ task.
+    finished nat_eq world name call (filesystems_changed_by nat_eq world (judge_in nat_eq fresh world task call)) (call_outcome nat_eq fresh world task call))).answer ≡ Err (denial S2))
     (sym none) refl
 
 pub first_rules_answer : FirstRulesAnswer

@@ -12,6 +12,7 @@ pub mod OwnLines
 pub mod OwnRules
 pub mod Renamings
 pub mod Rows
+pub mod SameFiles
 pub mod SameTexts
 pub mod Stages
 pub mod Supports

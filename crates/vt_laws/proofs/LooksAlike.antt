@@ -8,7 +8,7 @@ use Rattle.vt_spec.specs.Machine.Walking.{directory_walk, file_walk, link_walk, 
 
 same_looks : (one other : Looks ℕ) → LookAlike one other → one ≡ other
 same_looks one other alike = λ i. record {
-  task_called = λ name. alike.task_called name i;
+  namespace_called = λ name. alike.namespace_called name i;
   mount = λ number. alike.mount number i;
   mount_count = alike.mount_count i;
   mount_tree = λ number. alike.mount_tree number i;

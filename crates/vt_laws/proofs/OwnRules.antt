@@ -373,7 +373,7 @@ module _ {N : Type 0} (eq : N → N → Bool) where
   policy_own fresh world name call =
       after_own (rules_of call) world (ok_or (task_called world name) (denial S2)) _
       (found_own (rules_of call) S2 (task_called world name) refl) (λ task.
-      finished_own (rules_of call) eq world name (only_looks call) (call_outcome eq fresh world task call).answer
+      finished_own (rules_of call) eq world name _ (only_looks call) (call_outcome eq fresh world task call).answer
       (call_outcome eq fresh world task call).world
       (call_own fresh world task call))
 

@@ -51,15 +51,15 @@ looks_keep fresh world task ListMounts e = refl
 looks_keep fresh world task call e = cc
 
 -- no change number is raised by a look
-unraised : (looks granted : Bool) (world : World ℕ) (name : TaskName) (outcome : Outcome ℕ) → looks ≡ true → outcome.world ≡ world
-    → (finished_by nat_eq (looks || granted) world name outcome).world ≡ world
-unraised true granted world name outcome e same = same
-unraised false granted world name outcome e same = cc
+unraised : (looks granted : Bool) (world : World ℕ) (name : TaskName) (changed : List ℕ) (outcome : Outcome ℕ) → looks ≡ true → outcome.world ≡ world
+    → (finished_by nat_eq (looks || granted) world name changed outcome).world ≡ world
+unraised true granted world name changed outcome e same = same
+unraised false granted world name changed outcome e same = cc
 
 pub look_changes_nothing : LookChangesNothing
 look_changes_nothing fresh world name call looks =
     after_keeps world (ok_or (task_called world name) (denial S2)) _ (λ task.
-    unraised (only_looks call) _ world name (call_outcome nat_eq fresh world task call) looks (looks_keep fresh world task call looks))
+    unraised (only_looks call) _ world name _ (call_outcome nat_eq fresh world task call) looks (looks_keep fresh world task call looks))
 
 -- an outcome that is a denial has left the world
 abbrev KeepsIfDenied : World ℕ → Outcome ℕ → Type 0

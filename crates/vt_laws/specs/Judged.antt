@@ -1,19 +1,20 @@
 -- A call is judged by what a world shows, and what is permitted is then applied.
-use Rattle.std.specs.Prelude.{Bool, List, nat_eq, ok_or, ◌≡◌, ℕ}
+use Rattle.std.specs.Prelude.{Bool, List, Some, [], if◌then◌else◌, is_ok, map, nat_eq, not, ok_or, ℕ, ⊤, ◌+◌, ◌++◌, ◌∷◌, ◌≡◌, ◌||◌, ◌⊎◌}
 use Rattle.vt_spec.specs.declared.errors.Rule.TheVariants.{S2}
 use Rattle.vt_spec.specs.Errors.{denial}
-use Rattle.vt_spec.specs.Machine.Apply.{apply, apply_unraised, filesystems_changed}
+use Rattle.vt_spec.specs.Machine.Apply.{apply}
 use Rattle.vt_spec.specs.Machine.Calls.{Call}
 use Rattle.vt_spec.specs.Machine.Changes.{Change}
-use Rattle.vt_spec.specs.Machine.Filesystems.{filesystems_raised}
 use Rattle.vt_spec.specs.Machine.Judge.{judge, judge_in}
 use Rattle.vt_spec.specs.Machine.Lists.{Fresh}
 use Rattle.vt_spec.specs.Machine.Looks.{Looks}
 use Rattle.vt_spec.specs.Machine.Mounts.{Location}
-use Rattle.vt_spec.specs.Machine.Outcomes.{after}
+use Rattle.vt_spec.specs.Machine.Outcomes.{Outcome, after}
 use Rattle.vt_spec.specs.Machine.Permits.{Permit}
-use Rattle.vt_spec.specs.Machine.Policy.{call_outcome, finished, policy}
+use Rattle.vt_spec.specs.Machine.Policy.{call_outcome, filesystems_changed_by, finished, only_looks, policy}
 use Rattle.vt_spec.specs.Machine.Rules.Mounting.{destination_walk, source_walk}
+use Rattle.vt_spec.specs.Machine.SameWorlds.{without_changes}
+use Rattle.vt_spec.specs.Machine.Settled.{settled}
 use Rattle.vt_spec.specs.Machine.Walking.{directory_walk, file_walk, link_walk, new_leaf_walk, new_walk, object_walk, old_leaf_walk, old_walk}
 use Rattle.vt_spec.specs.Machine.World.{Layer, Overlay, Task, TaskName, World, task_called}
 
@@ -30,12 +31,12 @@ PolicyJudgesThenApplies =
     (fresh : Fresh ℕ) (world : World ℕ) (name : TaskName) (call : Call)
     → policy nat_eq fresh world name call
     ≡ after world (ok_or (task_called world name) (denial S2)) (λ task.
-    finished nat_eq world name call
+    finished nat_eq world name call (filesystems_changed_by nat_eq world (judge_in nat_eq fresh world task call))
     (after world (judge_in nat_eq fresh world task call) (apply nat_eq fresh world task)))
 
 -- two worlds look alike: whatever is looked at, they show the same
 pub record LookAlike (one other : Looks ℕ) : Type 0 where
-  pub task_called : (name : TaskName) → one.task_called name ≡ other.task_called name
+  pub namespace_called : (name : TaskName) → one.namespace_called name ≡ other.namespace_called name
   pub mount : (number : ℕ) → one.mount number ≡ other.mount number
   pub mount_count : one.mount_count ≡ other.mount_count
   pub mount_tree : (number : ℕ) → one.mount_tree number ≡ other.mount_tree number
@@ -81,12 +82,34 @@ AlikeAreJudgedAlike =
     → (overfills : Permit ℕ → Bool) (task : Task ℕ) (call : Call)
     → judge nat_eq one overfills task call ≡ judge nat_eq other overfills task call
 
--- The change numbers of filesystems are raised last: a permit is applied without them, and then those of the
--- filesystems that it changes are raised, by one each (profile).
-abbrev pub NumbersAreRaisedLast : Type 0
-NumbersAreRaisedLast =
-    (fresh : Fresh ℕ) (world : World ℕ) (task : Task ℕ) (permit : Permit ℕ)
-    → ((apply nat_eq fresh world task permit).answer ≡ (apply_unraised nat_eq fresh world task permit).answer)
-    × ((apply nat_eq fresh world task permit).world
-    ≡ filesystems_raised nat_eq (filesystems_changed nat_eq world permit)
-    (apply_unraised nat_eq fresh world task permit).world)
+-- Change numbers
+
+-- each number is the one that stood there before, or one more
+abbrev pub AreRaised : List ℕ → List ℕ → Type 0
+AreRaised [] [] = ⊤
+AreRaised [] (new ∷ news) = ⊥
+AreRaised (old ∷ olds) [] = ⊥
+AreRaised (old ∷ olds) (new ∷ news) = ((new ≡ old) ⊎ (new ≡ old + 1)) × AreRaised olds news
+
+-- all change numbers of a world, each in its place
+abbrev pub change_numbers : World ℕ → List ℕ
+change_numbers world =
+    world.change ∷ (map (λ filesystem. filesystem.change) world.filesystems
+    ++ map (λ namespace. namespace.change) world.namespaces ++ map (λ task. task.change) world.tasks)
+
+-- what a call leaves before change numbers are raised: nothing that nothing uses, where it changed something
+abbrev pub left_by : Call → Outcome ℕ → World ℕ
+left_by call outcome =
+    if only_looks call || not (is_ok outcome.answer) then outcome.world else settled nat_eq outcome.world
+
+-- The last step raises change numbers alone (profile): the answer is that of the call, and so is the world that it
+-- leaves but for change numbers, each of which is the one before or one more.
+abbrev pub LastStepRaisesNumbersAlone : Type 0
+LastStepRaisesNumbersAlone =
+    (fresh : Fresh ℕ) (world : World ℕ) (name : TaskName) (task : Task ℕ) (call : Call)
+    → task_called world name ≡ Some task
+    → ((policy nat_eq fresh world name call).answer ≡ (call_outcome nat_eq fresh world task call).answer)
+    × (without_changes (policy nat_eq fresh world name call).world
+    ≡ without_changes (left_by call (call_outcome nat_eq fresh world task call)))
+    × AreRaised (change_numbers (left_by call (call_outcome nat_eq fresh world task call)))
+    (change_numbers (policy nat_eq fresh world name call).world)

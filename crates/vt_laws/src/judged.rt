@@ -1,5 +1,5 @@
 //! A call is judged by what a world shows, and what it is permitted is then applied.
-ghost use Rattle.vt_laws.specs.Judged.{AlikeAreJudgedAlike, AlikeAreWalkedAlike, CallIsJudgedThenApplied, NumbersAreRaisedLast, PolicyJudgesThenApplies};
+ghost use Rattle.vt_laws.specs.Judged.{AlikeAreJudgedAlike, AlikeAreWalkedAlike, CallIsJudgedThenApplied, LastStepRaisesNumbersAlone, PolicyJudgesThenApplies};
 
 /// The outcome of each of the 38 calls is its judgement, then its permit applied: it is refused by the rule that
 /// `judge` gives, and the world stays, or it has the answer of `apply`, and leaves the world of `apply`.
@@ -10,10 +10,10 @@ pub fn calls_are_judged_then_applied()
     ensures policy { PolicyJudgesThenApplies }
 {}
 
-/// A permit is applied without raising a change number of a filesystem (`apply_unraised`), and then those of the
-/// filesystems that it changes are raised, by one each.
-pub fn change_numbers_are_raised_last()
-    ensures { NumbersAreRaisedLast }
+/// The last step of the policy raises change numbers, and does nothing else: answers, files, overlays, mounts, groups,
+/// namespaces and tasks are those that the call left, and each change number is the one before or one more.
+pub fn the_last_step_raises_change_numbers_alone()
+    ensures { LastStepRaisesNumbersAlone }
 {}
 
 /// Walks and rules look at a world through `Looks` alone: two worlds that show the same are walked alike, and every

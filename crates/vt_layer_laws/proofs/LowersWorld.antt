@@ -4,7 +4,7 @@ use Rattle.std.specs.List.{find}
 use Rattle.std.proofs.lemmas.Bool.Decides.{eqb_tells}
 use Rattle.vt_spec.specs.Machine.Changes.{Change}
 use Rattle.vt_spec.specs.Machine.CopyUp.{Merge}
-use Rattle.vt_spec.specs.Machine.Filesystems.{filesystem_changed, overlay_changed, raised, with_change, with_files, with_merge}
+use Rattle.vt_spec.specs.Machine.Filesystems.{filesystem_changed, overlay_changed, with_change, with_files, with_merge}
 use Rattle.vt_spec.specs.Machine.Lists.{Fresh}
 use Rattle.vt_spec.specs.Machine.Mounts.{Location}
 use Rattle.vt_spec.specs.Machine.World.{Filesystem, Layer, Overlay, World, filesystem_at, filesystem_numbered, mount_at, no_filesystem, replaced_if_numbered, with_filesystem}
@@ -89,13 +89,11 @@ changed_elsewhere fresh world filesystem change number differ upper = by filesys
         filesystem_elsewhere (with_filesystem nat_eq world (record filesystem {
           files = merge.files;
           overlay = Some (record overlay { real = merge.real });
-          change = raised filesystem.change;
         })) (with_files (filesystem_numbered nat_eq world upper.filesystem) merge.upper) number
         (λ e. away (e ∙ number_of_filesystem world upper.filesystem))
         ∙ filesystem_elsewhere world (record filesystem {
           files = merge.files;
           overlay = Some (record overlay { real = merge.real });
-          change = raised filesystem.change;
         }) number differ
 
     layered : (overlay : Overlay ℕ) (layer : Option (Layer ℕ)) → ((upper : Layer ℕ) → layer ≡ Some upper → number ≢ upper.filesystem) → filesystem_numbered nat_eq (overlay_changed nat_eq fresh world filesystem overlay layer change) number ≡ filesystem_numbered nat_eq world number

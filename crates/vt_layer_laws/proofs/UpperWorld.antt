@@ -5,7 +5,7 @@ use Rattle.std.specs.Prelude.{nat_le, option_to_list}
 use Rattle.vt_spec.specs.Machine.Changes.{Change}
 use Rattle.vt_spec.specs.Machine.CopyUp.{Merge, merge_changed}
 use Rattle.vt_spec.specs.Machine.FileTree.{FileTree, a_name}
-use Rattle.vt_spec.specs.Machine.Filesystems.{filesystem_changed, merge_of, overlay_changed, raised, stack_of, with_change, with_files, with_merge}
+use Rattle.vt_spec.specs.Machine.Filesystems.{filesystem_changed, merge_of, overlay_changed, stack_of, with_change, with_files, with_merge}
 use Rattle.vt_spec.specs.Machine.Layers.{OpenLayer, shown}
 use Rattle.vt_spec.specs.Machine.Lists.{Fresh, front_of, is_empty_list, then_some}
 use Rattle.vt_spec.specs.Machine.Locked.{of_overlay, overlay_or}
@@ -223,7 +223,6 @@ module _ (world : World ℕ) (conditions : IsWorld nat_eq world) (number : ℕ) 
           changed_overlay = record merged {
             files = merge.files;
             overlay = Some (record overlay { real = merge.real });
-            change = raised merged.change;
           }
 
       pub change_keeps : IsKept before (inode_in (filesystem_changed nat_eq fresh world merged merged.overlay change) upper.filesystem inode)

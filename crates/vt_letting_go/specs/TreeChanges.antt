@@ -10,7 +10,7 @@ use Rattle.vt_letting_go.specs.InUse.{IsListedTree}
 use Rattle.vt_letting_go.specs.Leaving.{IsSettledPlain}
 use Rattle.vt_letting_go.specs.OneByOne.{let_go_inodes}
 
--- the world with another tree in a filesystem, whose change number is raised
+-- the world with another tree in a filesystem
 abbrev pub with_tree : World ℕ → ℕ → FileTree ℕ → World ℕ
 with_tree world number files = with_filesystem nat_eq world (with_files (filesystem_numbered nat_eq world number) files)
 

@@ -6,7 +6,8 @@ use Rattle.vt_spec.specs.Machine.Calls.{Call}
 use Rattle.vt_spec.specs.Machine.Lists.{Fresh}
 use Rattle.vt_spec.specs.Machine.Mounts.{Mount}
 use Rattle.vt_spec.specs.Machine.Outcomes.{Answer, Outcome, after, judged}
-use Rattle.vt_spec.specs.Machine.Policy.{call_outcome, finished, finished_by, numbers_raised, only_looks, policy, raised_task}
+use Rattle.vt_spec.specs.Machine.Judge.{judge_in}
+use Rattle.vt_spec.specs.Machine.Policy.{call_outcome, filesystems_changed_by, finished, finished_by, numbers_raised, only_looks, policy, raised_task}
 use Rattle.vt_spec.specs.Machine.Settled.{mount_lives, settled}
 use Rattle.vt_spec.specs.Machine.World.{Task, TaskName, World, locations_of, same_name, task_called}
 use Rattle.vt_spec.specs.Machine.Filesystems.{raised}
@@ -40,41 +41,47 @@ all_locations_raised name (task ∷ tasks) =
     ∙ ap (λ rest. locations_of task ++ rest) (all_locations_raised name tasks)
 
 -- what lives after a call lives as its outcome leaves it
-lives_then : (before world : World ℕ) (name : TaskName) (mount : Mount ℕ)
-    → mount_lives nat_eq world mount ≡ mount_lives nat_eq (numbers_raised nat_eq before name (settled nat_eq world)) mount
-lives_then before world name mount =
+lives_then : (before world : World ℕ) (name : TaskName) (changed : List ℕ) (mount : Mount ℕ)
+    → mount_lives nat_eq world mount ≡ mount_lives nat_eq (numbers_raised nat_eq before name changed (settled nat_eq world)) mount
+lives_then before world name changed mount =
     ap (λ locations. is_some mount.namespace || list_any (λ location. nat_eq mount.number location.mount) locations) (sym (all_locations_raised name world.tasks))
 
-living_then : (before world : World ℕ) (name : TaskName)
-    → HasLiving (numbers_raised nat_eq before name (settled nat_eq world)) world.mounts
-living_then before world name = filter_agree (mount_lives nat_eq world) (mount_lives nat_eq (numbers_raised nat_eq before name (settled nat_eq world))) (lives_then before world name) world.mounts
+living_then : (before world : World ℕ) (name : TaskName) (changed : List ℕ)
+    → HasLiving (numbers_raised nat_eq before name changed (settled nat_eq world)) world.mounts
+living_then before world name changed = filter_agree (mount_lives nat_eq world) (mount_lives nat_eq (numbers_raised nat_eq before name changed (settled nat_eq world))) (lives_then before world name changed) world.mounts
 
 -- a call leaves its outcome's world, or that without the dead
-finished_leaves : (b : Bool) (before : World ℕ) (name : TaskName) (outcome : Outcome ℕ)
-    → ((finished_by nat_eq b before name outcome).world.mounts ≡ outcome.world.mounts) ⊎ HasLiving (finished_by nat_eq b before name outcome).world outcome.world.mounts
-finished_leaves true before name outcome = inl refl
-finished_leaves false before name outcome = inr (living_then before outcome.world name)
+finished_leaves : (b : Bool) (before : World ℕ) (name : TaskName) (changed : List ℕ) (outcome : Outcome ℕ)
+    → ((finished_by nat_eq b before name changed outcome).world.mounts ≡ outcome.world.mounts) ⊎ HasLiving (finished_by nat_eq b before name changed outcome).world outcome.world.mounts
+finished_leaves true before name changed outcome = inl refl
+finished_leaves false before name changed outcome = inr (living_then before outcome.world name changed)
 
 pub policy_leaves : (fresh : Fresh ℕ) (world : World ℕ) (name : TaskName) (call : Call)
     → ((task : Task ℕ) → (call_outcome nat_eq fresh world task call).world.mounts ≡ world.mounts)
     → ((policy nat_eq fresh world name call).world.mounts ≡ world.mounts) ⊎ HasLiving (policy nat_eq fresh world name call).world world.mounts
 policy_leaves fresh world name call leaves = by (ok_or (task_called world name) (denial S2))
   where
+    changed : Task ℕ → List ℕ
+    changed task = filesystems_changed_by nat_eq world (judge_in nat_eq fresh world task call)
+
     by : (found : Result (Task ℕ) Deny)
-        → ((after world found (λ task. finished nat_eq world name call (call_outcome nat_eq fresh world task call))).world.mounts ≡ world.mounts)
-        ⊎ HasLiving (after world found (λ task. finished nat_eq world name call (call_outcome nat_eq fresh world task call))).world world.mounts
+        → ((after world found (λ task. finished nat_eq world name call (changed task) (call_outcome nat_eq fresh world task call))).world.mounts ≡ world.mounts)
+        ⊎ HasLiving (after world found (λ task. finished nat_eq world name call (changed task) (call_outcome nat_eq fresh world task call))).world world.mounts
     by (Ok task) =
         let outcome = call_outcome nat_eq fresh world task call in
-        let ended = finished nat_eq world name call outcome in
+        let ended = finished nat_eq world name call (changed task) outcome in
         ⊎_elim (λ e. inl (e ∙ leaves task)) (λ e. inr (e ∙ ap (filter (mount_lives nat_eq ended.world)) (leaves task)))
-        (finished_leaves (only_looks call || not (is_ok outcome.answer)) world name outcome)
+        (finished_leaves (only_looks call || not (is_ok outcome.answer)) world name (changed task) outcome)
     by (Err deny) = inl refl
 
 module _ (fresh : Fresh ℕ) (world : World ℕ) (name : TaskName) (task : Task ℕ) (call : Call) (is : task_called world name ≡ Some task) where
-  policy_is : policy nat_eq fresh world name call ≡ finished nat_eq world name call (call_outcome nat_eq fresh world task call)
-  policy_is = ap (λ found. after world (ok_or found (denial S2)) (λ t. finished nat_eq world name call (call_outcome nat_eq fresh world t call))) is
+  abbrev changed : Task ℕ → List ℕ
+  changed one = filesystems_changed_by nat_eq world (judge_in nat_eq fresh world one call)
 
-  answer_stays : (b : Bool) (outcome : Outcome ℕ) → (finished_by nat_eq b world name outcome).answer ≡ outcome.answer
+  policy_is : policy nat_eq fresh world name call ≡ finished nat_eq world name call (changed task) (call_outcome nat_eq fresh world task call)
+  policy_is = ap (λ found. after world (ok_or found (denial S2)) (λ t. finished nat_eq world name call (changed t) (call_outcome nat_eq fresh world t call))) is
+
+  answer_stays : (b : Bool) (outcome : Outcome ℕ) → (finished_by nat_eq b world name (changed task) outcome).answer ≡ outcome.answer
   answer_stays true outcome = refl
   answer_stays false outcome = refl
 
@@ -87,8 +94,8 @@ module _ (fresh : Fresh ℕ) (world : World ℕ) (name : TaskName) (task : Task 
       → HasLiving (policy nat_eq fresh world name call).world (call_outcome nat_eq fresh world task call).world.mounts
   settles answer looks e =
       let outcome = call_outcome nat_eq fresh world task call in
-      let ends : policy nat_eq fresh world name call ≡ finished_by nat_eq false world name outcome =
+      let ends : policy nat_eq fresh world name call ≡ finished_by nat_eq false world name (changed task) outcome =
       policy_is
-      ∙ ap (λ b. finished_by nat_eq (b || not (is_ok outcome.answer)) world name outcome) looks
-      ∙ ap (λ a. finished_by nat_eq (not (is_ok a)) world name outcome) (sym answered ∙ e) in
-      subst (λ o. HasLiving o.world outcome.world.mounts) (sym ends) (living_then world outcome.world name)
+      ∙ ap (λ b. finished_by nat_eq (b || not (is_ok outcome.answer)) world name (changed task) outcome) looks
+      ∙ ap (λ a. finished_by nat_eq (not (is_ok a)) world name (changed task) outcome) (sym answered ∙ e) in
+      subst (λ o. HasLiving o.world outcome.world.mounts) (sym ends) (living_then world outcome.world name (changed task))

@@ -6,6 +6,7 @@ use Rattle.vt_spec.specs.declared.errors.Rule.TheVariants.{S2}
 use Rattle.vt_spec.specs.Errors.{denial, Rules, unless, and_then}
 use Rattle.vt_spec.specs.Machine.Calls.{Call}
 use Rattle.vt_spec.specs.Machine.FileTree.{targets_in}
+use Rattle.vt_spec.specs.Machine.Judge.{judge_in}
 use Rattle.vt_spec.specs.Machine.Lists.{Fresh}
 use Rattle.vt_spec.specs.Machine.Outcomes as Outcomes
 use Rattle.vt_spec.specs.Machine.Outcomes.{Answer}
@@ -134,46 +135,46 @@ module _ (beside : Beside) (world : World ℕ) (name : TaskName) (task : Task �
           (λ number. fit.each_once number ∙ sym (Rattle.vt_one_text.proofs.OneTreeSettled.once_after beside world (tree_of world.inodes).node beside.numbers is number))
 
   -- what changed nothing is finished alike
-  pub seen_finished : (looks : Bool) (judged : Result (Permit ℕ) Deny) (outcome : Outcomes.Outcome ℕ) → IsSeen judged outcome → IsSameOutcome (done judged) (Machine.finished_by nat_eq looks there name outcome)
-  seen_finished true judged outcome seen = (seen.0, inl (beside, subst (IsFit beside.numbers) (sym seen.2) fit, seen.1 ∙ ap (embedded beside) (sym seen.2)))
-  seen_finished false judged outcome seen = (
+  pub seen_finished : (looks : Bool) (judged : Result (Permit ℕ) Deny) (outcome : Outcomes.Outcome ℕ) → IsSeen judged outcome → (changed : List ℕ) → IsSameOutcome (done judged) (Machine.finished_by nat_eq looks there name changed outcome)
+  seen_finished true judged outcome seen changed = (seen.0, inl (beside, subst (IsFit beside.numbers) (sym seen.2) fit, seen.1 ∙ ap (embedded beside) (sym seen.2)))
+  seen_finished false judged outcome seen changed = (
     seen.0,
     inl (
-      beside_raised name still_settled.0,
+      beside_raised name changed still_settled.0,
       subst (IsFit still_settled.0.numbers) (sym seen.2) still_settled.1,
-      ap (λ w. Machine.numbers_raised nat_eq there name (settled nat_eq w)) seen.1
-          ∙ ap (Machine.numbers_raised nat_eq there name) still_settled.2
-          ∙ raised_is name still_settled.0 world world.inodes.root (tree_of world.inodes).node beside.numbers beside.filesystem_change (map (task_there beside world.inodes.root) world.tasks) beside.change
-          ∙ ap (embedded (beside_raised name still_settled.0)) (sym seen.2),
+      ap (λ w. Machine.numbers_raised nat_eq there name changed (settled nat_eq w)) seen.1
+          ∙ ap (Machine.numbers_raised nat_eq there name changed) still_settled.2
+          ∙ raised_is name changed still_settled.0 world world.inodes.root (tree_of world.inodes).node beside.numbers beside.filesystem_change (map (task_there beside world.inodes.root) world.tasks) beside.change
+          ∙ ap (embedded (beside_raised name changed still_settled.0)) (sym seen.2),
     ),
   )
 
   -- so is what changed something
-  pub judged_finished : (judged : Result (Permit ℕ) Deny) (outcome : Outcomes.Outcome ℕ) → IsJudged judged outcome → IsSameOutcome (done judged) (Machine.finished_by nat_eq (not (is_ok outcome.answer)) there name outcome)
-  judged_finished judged outcome (inl seen) = seen_finished (not (is_ok outcome.answer)) judged outcome seen
-  judged_finished judged outcome (inr changed) =
-      subst (λ b. IsSameOutcome (done judged) (Machine.finished_by nat_eq (not b) there name outcome)) (sym changed.0) (
-        changed.1,
+  pub judged_finished : (judged : Result (Permit ℕ) Deny) (outcome : Outcomes.Outcome ℕ) → IsJudged judged outcome → (changed : List ℕ) → IsSameOutcome (done judged) (Machine.finished_by nat_eq (not (is_ok outcome.answer)) there name changed outcome)
+  judged_finished judged outcome (inl seen) changed = seen_finished (not (is_ok outcome.answer)) judged outcome seen changed
+  judged_finished judged outcome (inr other) changed =
+      subst (λ b. IsSameOutcome (done judged) (Machine.finished_by nat_eq (not b) there name changed outcome)) (sym other.0) (
+        other.1,
         inl (
-          beside_raised name changed.2,
-          changed.3,
-          ap (Machine.numbers_raised nat_eq there name) changed.4
-              ∙ raised_is name changed.2 (done judged).world world.inodes.root (tree_of world.inodes).node beside.numbers beside.filesystem_change (map (task_there beside world.inodes.root) world.tasks) beside.change,
+          beside_raised name changed other.2,
+          other.3,
+          ap (Machine.numbers_raised nat_eq there name changed) other.4
+              ∙ raised_is name changed other.2 (done judged).world world.inodes.root (tree_of world.inodes).node beside.numbers beside.filesystem_change (map (task_there beside world.inodes.root) world.tasks) beside.change,
         ),
       )
 
 -- a call is judged by the task that has the name
 pub policy_alike : (beside : Beside) (world : World ℕ) (name : TaskName) (fresh : Fresh ℕ) (call : Call) → IsFit beside.numbers world
-    → ((task : Task ℕ) → find (is_called name) world.tasks ≡ Some (name, task)
+    → ((task : Task ℕ) → find (is_called name) world.tasks ≡ Some (name, task) → (changed : List ℕ)
     → IsSameOutcome (after world (judge nat_eq (fresh 0) world.inodes name task call) (spent nat_eq world name task))
-    (Machine.finished nat_eq (embedded beside world) name call (Machine.call_outcome nat_eq fresh (embedded beside world) (task_there beside world.inodes.root (name, task)) call)))
+    (Machine.finished nat_eq (embedded beside world) name call changed (Machine.call_outcome nat_eq fresh (embedded beside world) (task_there beside world.inodes.root (name, task)) call)))
     → IsSameOutcome (policy nat_eq world name call (fresh 0)) (Machine.policy nat_eq fresh (embedded beside world) name call)
 policy_alike beside world name fresh call fit alike =
     subst (λ o. IsSameOutcome (policy nat_eq world name call (fresh 0)) (Outcomes.after (embedded beside world) (ok_or o (denial S2)) machine))
     (sym (find_there beside world.inodes.root name world.tasks)) (by (find (is_called name) world.tasks) refl)
   where
     machine : MachineWorld.Task ℕ → Outcomes.Outcome ℕ
-    machine task = Machine.finished nat_eq (embedded beside world) name call (Machine.call_outcome nat_eq fresh (embedded beside world) task call)
+    machine task = Machine.finished nat_eq (embedded beside world) name call (Machine.filesystems_changed_by nat_eq (embedded beside world) (judge_in nat_eq fresh (embedded beside world) task call)) (Machine.call_outcome nat_eq fresh (embedded beside world) task call)
 
     by : (o : Option (TaskName × Task ℕ)) → find (is_called name) world.tasks ≡ o
         → IsSameOutcome (after world (ok_or (option_map (λ entry. entry.1) o) (denial S2)) (λ task. after world (judge nat_eq (fresh 0) world.inodes name task call) (spent nat_eq world name task)))
@@ -181,4 +182,4 @@ policy_alike beside world name fresh call fit alike =
     by None e = (refl, inl (beside, fit, refl))
     by (Some entry) e =
         subst (λ x. IsSameOutcome (after world (judge nat_eq (fresh 0) world.inodes name entry.1 call) (spent nat_eq world name entry.1)) (machine (task_there beside world.inodes.root x)))
-        (sym (found_is name world.tasks entry e)) (alike entry.1 (e ∙ ap Some (found_is name world.tasks entry e)))
+        (sym (found_is name world.tasks entry e)) (alike entry.1 (e ∙ ap Some (found_is name world.tasks entry e)) _)

@@ -6,7 +6,7 @@ use Rattle.vt_spec.specs.Laws.Trees.{IsNewIn}
 use Rattle.vt_spec.specs.Machine.Calls.{Access}
 use Rattle.vt_spec.specs.Machine.Changes.Change.{Make}
 use Rattle.vt_spec.specs.Machine.FileTree.{has_entry_to, targets_in}
-use Rattle.vt_spec.specs.Machine.Filesystems.{raised, with_change}
+use Rattle.vt_spec.specs.Machine.Filesystems.{with_change}
 use Rattle.vt_spec.specs.Machine.Lists.{Fresh}
 use Rattle.vt_spec.specs.Machine.Outcome.Descriptors as Descriptors
 use Rattle.vt_spec.specs.Machine.Outcomes as Outcomes
@@ -322,7 +322,7 @@ module _ (beside : Beside) (world : World ℕ) (task_name : TaskName) (task : Ta
     (is : IsDirectory (tree_of world.inodes) directory) (free : entry_named name (entries_in ((tree_of world.inodes).node directory)) ≡ None)
     (vacant : world.inodes.inode number ≡ None) (fits : IsNewIn directory new) where
   abbrev beside_made : Beside
-  beside_made = record beside { numbers = number ∷ beside.numbers; filesystem_change = raised beside.filesystem_change }
+  beside_made = record beside { numbers = number ∷ beside.numbers }
 
   abbrev made : World ℕ
   made = world_made beside.numbers world fit directory name number new is free vacant fits
@@ -340,7 +340,7 @@ module _ (beside : Beside) (world : World ℕ) (task_name : TaskName) (task : Ta
             numbers = number ∷ beside.numbers;
           };
           overlay = None;
-          change = raised beside.filesystem_change;
+          change = beside.filesystem_change;
         } ∷ [];
       }
 

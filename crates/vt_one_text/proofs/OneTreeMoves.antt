@@ -6,7 +6,6 @@ use Rattle.std.specs.Str.{bytes_eq}
 use Rattle.std.proofs.lemmas.Bool.Decides.{eqb_tells}
 use Rattle.vt_spec.specs.Machine.Changes.{node_with_parent, node_without_entry, without_entry}
 use Rattle.vt_spec.specs.Machine.FileTree.{has_entry_to, targets_in}
-use Rattle.vt_spec.specs.Machine.Filesystems.{raised}
 use Rattle.vt_spec.specs.Machine.Settled.{settled}
 use Rattle.vt_spec.specs.Machine.World.{TaskName}
 use Rattle.vt_spec.specs.OneTree.Inodes.{Inodes, tree_of, uses_in, with_changed, without_replaced}
@@ -403,10 +402,10 @@ module _ (beside : Beside) (world : World ℕ) (task_name : TaskName) (task : Ta
       ∙ (λ i. λ n. commute node_on gone object (node_with_parent gone) (node_with_parent to) (λ e. apart_one object gone c (sym e)) n i)
 
   pub moved_settled : (now : Beside) × IsFit now.numbers (with_inodes world inodes_moved)
-      × (settled nat_eq (raw world.inodes.root (node_there replaced) beside.numbers (raised beside.filesystem_change) (map (task_there beside world.inodes.root) world.tasks) beside.change) ≡ embedded now (with_inodes world inodes_moved))
+      × (settled nat_eq (raw world.inodes.root (node_there replaced) beside.numbers beside.filesystem_change (map (task_there beside world.inodes.root) world.tasks) beside.change) ≡ embedded now (with_inodes world inodes_moved))
   moved_settled =
-      let settles = rearranged beside world task_name task fit (raised beside.filesystem_change) uses_moved (node_moved replaced) inodes_moved moved_is in (
+      let settles = rearranged beside world task_name task fit beside.filesystem_change uses_moved (node_moved replaced) inodes_moved moved_is in (
         settles.0,
         settles.1,
-        (λ i. settled nat_eq (raw world.inodes.root (same_there replaced from_stays to_stays other i) beside.numbers (raised beside.filesystem_change) (map (task_there beside world.inodes.root) world.tasks) beside.change)) ∙ settles.2,
+        (λ i. settled nat_eq (raw world.inodes.root (same_there replaced from_stays to_stays other i) beside.numbers beside.filesystem_change (map (task_there beside world.inodes.root) world.tasks) beside.change)) ∙ settles.2,
       )

@@ -5,7 +5,7 @@ use Rattle.std.proofs.lemmas.Bool.Decides.{eqb_tells}
 use Rattle.vt_spec.specs.Machine.Changes.{content_with_parent, node_with_parent, node_without_entry, without_entry}
 use Rattle.vt_spec.specs.Machine.Changes.Change.{AddName, Remove}
 use Rattle.vt_spec.specs.Machine.FileTree.{has_entry_to, targets_in}
-use Rattle.vt_spec.specs.Machine.Filesystems.{raised, with_change}
+use Rattle.vt_spec.specs.Machine.Filesystems.{with_change}
 use Rattle.vt_spec.specs.Machine.Lists.{Fresh}
 use Rattle.vt_spec.specs.Machine.Outcomes as Outcomes
 use Rattle.vt_spec.specs.Machine.Outcomes.Answer.{Done}
@@ -266,7 +266,7 @@ module _ (beside : Beside) (world : World ℕ) (task_name : TaskName) (task : Ta
 
   pub linked_alike : (fresh : Fresh ℕ) → IsChanged beside world task_name task fit (Ok (ToChange (AddName directory name object))) (Outcomes.granted Done (with_change nat_eq fresh (embedded beside world) (location_there directory) (AddName directory name object)))
   linked_alike fresh =
-      let settles = rearranged beside world task_name task fit (raised beside.filesystem_change) uses_linked node_linked inodes_linked linked_is in
+      let settles = rearranged beside world task_name task fit beside.filesystem_change uses_linked node_linked inodes_linked linked_is in
       (refl, refl, settles.0, settles.1, settles.2)
 
 -- Remove
@@ -434,5 +434,5 @@ module _ (beside : Beside) (world : World ℕ) (task_name : TaskName) (task : Ta
 
   pub removed_alike : (fresh : Fresh ℕ) → IsChanged beside world task_name task fit (Ok (ToChange (Remove directory name object))) (Outcomes.granted Done (with_change nat_eq fresh (embedded beside world) (location_there directory) (Remove directory name object)))
   removed_alike fresh =
-      let settles = rearranged beside world task_name task fit (raised beside.filesystem_change) uses_removed node_removed inodes_removed removed_is in
+      let settles = rearranged beside world task_name task fit beside.filesystem_change uses_removed node_removed inodes_removed removed_is in
       (refl, refl, settles.0, settles.1, settles.2)

@@ -267,8 +267,8 @@ module _ (beside : Beside) (world : World ℕ) (name : TaskName) (task : Task �
           by (Some entry) e f = ap (option_map (λ (entry : Entry). entry.1)) (find_stays name other world.tasks entry fit.apart e) ∙ f
 
   -- the whole machine keeps the namespace, if anybody is left in it
-  ended : (entries : List Entry) → stay ≡ entries → IsSameOutcome (granted Done world_gone) (Machine.finished_by nat_eq false there name (Outcomes.granted Done (namespaces_ended nat_eq (record there { tasks = map (task_there beside world.inodes.root) stay }))))
-  ended [] none = (refl, inr (none, tasks_none, gone_settled.0.numbers, gone_settled.1))
+  ended : (entries : List Entry) → stay ≡ entries → (changed : List ℕ) → IsSameOutcome (granted Done world_gone) (Machine.finished_by nat_eq false there name changed (Outcomes.granted Done (namespaces_ended nat_eq (record there { tasks = map (task_there beside world.inodes.root) stay }))))
+  ended [] none changed = (refl, inr (none, tasks_none, gone_settled.0.numbers, gone_settled.1))
     where
       kept : (b : Bool) (w : MachineWorld.World ℕ) → (Receives.regrouped_by nat_eq b w).tasks ≡ w.tasks
       kept true w = refl
@@ -276,24 +276,24 @@ module _ (beside : Beside) (world : World ℕ) (name : TaskName) (task : Task �
 
       tasks_none : map (Machine.raised_task name) (namespaces_ended nat_eq (record there { tasks = map (task_there beside world.inodes.root) stay })).tasks ≡ []
       tasks_none = ap (map (Machine.raised_task name)) (kept _ _ ∙ ap (map (task_there beside world.inodes.root)) none)
-  ended (entry ∷ entries) some = (
+  ended (entry ∷ entries) some changed = (
     refl,
     inl (
-      beside_raised name gone_settled.0,
+      beside_raised name changed gone_settled.0,
       gone_settled.1,
-      (λ i. Machine.numbers_raised nat_eq there name (settled nat_eq (namespaces_ended nat_eq (record there { tasks = map (task_there beside world.inodes.root) (some i) }))))
-          ∙ (λ i. Machine.numbers_raised nat_eq there name (settled nat_eq (record there { tasks = map (task_there beside world.inodes.root) (sym some i) })))
-          ∙ (λ i. Machine.numbers_raised nat_eq there name (settled nat_eq (raw (sym (root_without world.inodes task.descriptors) i) tree.node beside.numbers beside.filesystem_change (map (task_there beside (sym (root_without world.inodes task.descriptors) i)) stay) beside.change)))
-          ∙ ap (Machine.numbers_raised nat_eq there name) gone_settled.2
-          ∙ raised_is name gone_settled.0 world_gone world.inodes.root tree.node beside.numbers beside.filesystem_change (map (task_there beside world.inodes.root) world.tasks) beside.change,
+      (λ i. Machine.numbers_raised nat_eq there name changed (settled nat_eq (namespaces_ended nat_eq (record there { tasks = map (task_there beside world.inodes.root) (some i) }))))
+          ∙ (λ i. Machine.numbers_raised nat_eq there name changed (settled nat_eq (record there { tasks = map (task_there beside world.inodes.root) (sym some i) })))
+          ∙ (λ i. Machine.numbers_raised nat_eq there name changed (settled nat_eq (raw (sym (root_without world.inodes task.descriptors) i) tree.node beside.numbers beside.filesystem_change (map (task_there beside (sym (root_without world.inodes task.descriptors) i)) stay) beside.change)))
+          ∙ ap (Machine.numbers_raised nat_eq there name changed) gone_settled.2
+          ∙ raised_is name changed gone_settled.0 world_gone world.inodes.root tree.node beside.numbers beside.filesystem_change (map (task_there beside world.inodes.root) world.tasks) beside.change,
     ),
   )
 
-  exit_alike : IsSameOutcome (granted Done world_gone) (Machine.finished_by nat_eq (not (is_ok (Tasks.exit_outcome nat_eq there there_task).answer)) there name (Tasks.exit_outcome nat_eq there there_task))
+  exit_alike : (changed : List ℕ) → IsSameOutcome (granted Done world_gone) (Machine.finished_by nat_eq (not (is_ok (Tasks.exit_outcome nat_eq there there_task).answer)) there name changed (Tasks.exit_outcome nat_eq there there_task))
   unfolding Tasks.exit_outcome
-  exit_alike =
-      subst (λ tasks. IsSameOutcome (granted Done world_gone) (Machine.finished_by nat_eq false there name (Outcomes.granted Done (namespaces_ended nat_eq (record there { tasks = tasks })))))
-      (sym (without_there beside world.inodes.root name world.tasks)) (ended stay refl)
+  exit_alike changed =
+      subst (λ tasks. IsSameOutcome (granted Done world_gone) (Machine.finished_by nat_eq false there name changed (Outcomes.granted Done (namespaces_ended nat_eq (record there { tasks = tasks })))))
+      (sym (without_there beside world.inodes.root name world.tasks)) (ended stay refl changed)
 
 pub closes_agree : ClosesAgree
 closes_agree number beside world name fresh fit vacant =

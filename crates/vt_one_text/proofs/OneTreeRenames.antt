@@ -8,7 +8,7 @@ use Rattle.vt_spec.specs.Machine.Calls.Call.{Rename}
 use Rattle.vt_spec.specs.Machine.Changes.Change.{Move}
 use Rattle.vt_spec.specs.Machine.FileTree as FileTree
 use Rattle.vt_spec.specs.Machine.FileTree.{has_entry_to, named_parent, targets_in}
-use Rattle.vt_spec.specs.Machine.Filesystems.{raised, with_change}
+use Rattle.vt_spec.specs.Machine.Filesystems.{with_change}
 use Rattle.vt_spec.specs.Machine.Lists.{Fresh, chain, holds_of, is_among, is_empty_list, when}
 use Rattle.vt_spec.specs.Machine.Outcome.Removing as Removing
 use Rattle.vt_spec.specs.Machine.Outcomes as Outcomes
@@ -139,7 +139,7 @@ module _ (beside : Beside) (world : World ℕ) (name : TaskName) (task : Task �
         refl,
         settles.0,
         subst (λ o. IsFit settles.0.numbers (with_inodes world (without_replaced nat_eq under o))) (sym finds) settles.1,
-        ap (λ f. settled nat_eq (record there { filesystems = record { number = 2; files = f; overlay = None; change = raised beside.filesystem_change } ∷ [] })) machine_is
+        ap (λ f. settled nat_eq (record there { filesystems = record { number = 2; files = f; overlay = None; change = beside.filesystem_change } ∷ [] })) machine_is
             ∙ settles.2 ∙ ap (λ o. embedded settles.0 (with_inodes world (without_replaced nat_eq under o))) (sym finds),
       )
     where

@@ -6,7 +6,7 @@ use Rattle.vt_spec.specs.declared.errors.Rule.TheVariants.{C2, E6, F1, F2, L1}
 use Rattle.vt_spec.specs.Machine.Calls.Call.{Chmod, Chown, Pwrite}
 use Rattle.vt_spec.specs.Machine.Changes.{node_with_attr}
 use Rattle.vt_spec.specs.Machine.Changes.Change.{SetAttr, SetBytes}
-use Rattle.vt_spec.specs.Machine.Filesystems.{raised, with_change}
+use Rattle.vt_spec.specs.Machine.Filesystems.{with_change}
 use Rattle.vt_spec.specs.Machine.Lists.{Fresh}
 use Rattle.vt_spec.specs.Machine.Outcome.Attributes as Attributes
 use Rattle.vt_spec.specs.Machine.Outcome.Attributes.{attr_with_mode, attr_with_owner, may_chown}
@@ -116,12 +116,12 @@ module _ (beside : Beside) (world : World ℕ) (name : TaskName) (task : Task �
   -- attributes, and bytes
   pub attr_set : (object : ℕ) (attr : Attr) → IsChanged beside world name task fit (Ok (ToChange (SetAttr object attr))) (Outcomes.granted Done (with_change nat_eq fresh there (location_there object) (SetAttr object attr)))
   attr_set object attr =
-      let settles = kept_settled beside.numbers world fit object (node_with_attr attr) (attr_kept attr) beside refl (raised beside.filesystem_change) in
+      let settles = kept_settled beside.numbers world fit object (node_with_attr attr) (attr_kept attr) beside refl beside.filesystem_change in
       (refl, refl, settles.0, settles.1, settles.2)
 
   pub bytes_set : (file : ℕ) (bytes : List ℕ) → IsChanged beside world name task fit (Ok (ToChange (SetBytes file bytes))) (Outcomes.granted Done (with_change nat_eq fresh there (location_there file) (SetBytes file bytes)))
   bytes_set file bytes =
-      let settles = kept_settled beside.numbers world fit file (node_with_bytes bytes) (bytes_kept bytes) beside refl (raised beside.filesystem_change) in
+      let settles = kept_settled beside.numbers world fit file (node_with_bytes bytes) (bytes_kept bytes) beside refl beside.filesystem_change in
       (refl, refl, settles.0, settles.1, settles.2)
 
   chmod_alike : (path : List ℕ) (mode : ℕ) → Judged (chmod_permit tree task path mode) (Attributes.chmod_outcome nat_eq fresh there there_task path mode)

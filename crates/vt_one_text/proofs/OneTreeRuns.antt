@@ -7,6 +7,7 @@ use Rattle.std.proofs.lemmas.List.Folds.{list_any-append}
 use Rattle.vt_spec.specs.declared.errors.Rule.TheVariants.{S2}
 use Rattle.vt_spec.specs.Errors.{denial}
 use Rattle.vt_spec.specs.Machine.Calls.{Call}
+use Rattle.vt_spec.specs.Machine.Judge.{judge_in}
 use Rattle.vt_spec.specs.Machine.Lists.{Fresh, is_among, then_some}
 use Rattle.vt_spec.specs.Machine.Outcomes as Outcomes
 use Rattle.vt_spec.specs.Machine.Policy as MachinePolicy
@@ -102,7 +103,7 @@ nobody_calls : (world : World ℕ) (there : MachineWorld.World ℕ) (name : Task
     → (policy nat_eq world name call number ≡ denied world (denial S2)) × (MachinePolicy.policy nat_eq fresh there name call ≡ Outcomes.denied there (denial S2))
 nobody_calls world there name call number fresh none none_there = (
   ap (λ tasks. after world (ok_or (option_map (λ entry. entry.1) (find (is_called name) tasks)) (denial S2)) (λ task. after world (judge nat_eq number world.inodes name task call) (spent nat_eq world name task))) none,
-  ap (λ tasks. Outcomes.after there (ok_or (find (λ task. MachineWorld.same_name name task.name) tasks) (denial S2)) (λ task. MachinePolicy.finished nat_eq there name call (MachinePolicy.call_outcome nat_eq fresh there task call))) none_there,
+  ap (λ tasks. Outcomes.after there (ok_or (find (λ task. MachineWorld.same_name name task.name) tasks) (denial S2)) (λ task. MachinePolicy.finished nat_eq there name call (MachinePolicy.filesystems_changed_by nat_eq there (judge_in nat_eq fresh there task call)) (MachinePolicy.call_outcome nat_eq fresh there task call))) none_there,
 )
 
 -- One line

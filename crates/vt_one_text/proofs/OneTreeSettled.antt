@@ -1,6 +1,6 @@
 -- What the whole machine keeps after a call on one tree is what has a use there.
 use Rattle.std.proofs.Common.{◌≡◌, refl, sym, ap, subst, ◌∙◌, ⊎_elim, ℕ, ◌+◌, ◌≤◌, nat_eq, Bool, true, false, cond, ◌&&◌, ◌||◌, List, [], ◌∷◌, ◌++◌, length, map, filter, flat_map, Option, Some, None, is_some, arith}
-use Rattle.std.specs.List.{list_all}
+use Rattle.std.specs.List.{list_all, list_any}
 use Rattle.std.proofs.lemmas.Bool.Decides.{eqb_tells}
 use Rattle.std.proofs.lemmas.List.Folds.{list_any-append}
 use Rattle.vt_spec.specs.Tree.{Node}
@@ -14,7 +14,7 @@ use Rattle.vt_spec.specs.Machine.World as MachineWorld
 use Rattle.vt_spec.specs.Machine.World.{TaskName, same_name}
 use Rattle.vt_spec.specs.OneTree.Inodes.{Inode, node_in, tree_of, uses_in}
 use Rattle.vt_spec.specs.OneTree.World.{Descriptor, Task, World, task_called}
-use Rattle.vt_one_text.specs.OneTree.{AreApart, AreInOrder, Beside, IsFit, IsWhole, descriptor_there, embedded, files_of, location_there, mount_there, opened_in, task_there, times_in}
+use Rattle.vt_one_text.specs.OneTree.{AreApart, AreInOrder, Beside, IsFit, IsWhole, descriptor_there, embedded, files_of, filesystem_there, location_there, mount_there, opened_in, task_there, times_in}
 use Rattle.vt_one_text.proofs.OneTreeTrees.{among_times, times_among}
 
 -- a world of the whole machine with one mount of one plain filesystem
@@ -286,17 +286,24 @@ module _ (beside : Beside) (world : World ℕ) (node : ℕ → Option (Node ℕ)
 -- Change numbers
 
 -- the numbers that a call raises
-abbrev pub beside_raised : TaskName → Beside → Beside
-beside_raised name beside = record beside {
+abbrev pub beside_raised : TaskName → List ℕ → Beside → Beside
+beside_raised name changed beside = record beside {
+  filesystem_change = cond (list_any (λ number. nat_eq number 2) changed) (Rattle.vt_spec.specs.Machine.Filesystems.raised beside.filesystem_change) beside.filesystem_change;
   task_change = λ other. cond (same_name name other) (Rattle.vt_spec.specs.Machine.Filesystems.raised (beside.task_change other)) (beside.task_change other);
   change = Rattle.vt_spec.specs.Machine.Filesystems.raised beside.change;
 }
 
-pub raised_is : (name : TaskName) (beside : Beside) (world : World ℕ) (root : ℕ) (node : ℕ → Option (Node ℕ)) (numbers : List ℕ) (some_change : ℕ) (tasks : List (MachineWorld.Task ℕ)) (change : ℕ)
-    → Machine.numbers_raised nat_eq (raw root node numbers some_change tasks change) name (embedded beside world) ≡ embedded (beside_raised name beside) world
-raised_is name beside world root node numbers some_change tasks change = λ i. record (embedded (beside_raised name beside) world) { tasks = by world.tasks i }
+pub raised_is : (name : TaskName) (changed : List ℕ) (beside : Beside) (world : World ℕ) (root : ℕ) (node : ℕ → Option (Node ℕ)) (numbers : List ℕ) (some_change : ℕ) (tasks : List (MachineWorld.Task ℕ)) (change : ℕ)
+    → Machine.numbers_raised nat_eq (raw root node numbers some_change tasks change) name changed (embedded beside world) ≡ embedded (beside_raised name changed beside) world
+raised_is name changed beside world root node numbers some_change tasks change =
+    λ i. record (embedded (beside_raised name changed beside) world) { filesystems = tree (list_any (λ number. nat_eq number 2) changed) i ∷ []; tasks = by world.tasks i }
   where
-    one : (entry : TaskName × Task ℕ) → Machine.raised_task name (task_there beside world.inodes.root entry) ≡ task_there (beside_raised name beside) world.inodes.root entry
+    tree : (b : Bool) → cond b (record (filesystem_there beside world.inodes) { change = Rattle.vt_spec.specs.Machine.Filesystems.raised beside.filesystem_change }) (filesystem_there beside world.inodes)
+        ≡ record (filesystem_there beside world.inodes) { change = cond b (Rattle.vt_spec.specs.Machine.Filesystems.raised beside.filesystem_change) beside.filesystem_change }
+    tree true = refl
+    tree false = refl
+
+    one : (entry : TaskName × Task ℕ) → Machine.raised_task name (task_there beside world.inodes.root entry) ≡ task_there (beside_raised name changed beside) world.inodes.root entry
     one entry = inside (same_name name entry.0)
       where
         inside : (b : Bool) → cond b (record (task_there beside world.inodes.root entry) { change = Rattle.vt_spec.specs.Machine.Filesystems.raised (beside.task_change entry.0) }) (task_there beside world.inodes.root entry)
@@ -304,6 +311,6 @@ raised_is name beside world root node numbers some_change tasks change = λ i. r
         inside true = refl
         inside false = refl
 
-    by : (entries : List (TaskName × Task ℕ)) → map (Machine.raised_task name) (map (task_there beside world.inodes.root) entries) ≡ map (task_there (beside_raised name beside) world.inodes.root) entries
+    by : (entries : List (TaskName × Task ℕ)) → map (Machine.raised_task name) (map (task_there beside world.inodes.root) entries) ≡ map (task_there (beside_raised name changed beside) world.inodes.root) entries
     by [] = refl
     by (entry ∷ entries) = λ i. one entry i ∷ by entries i

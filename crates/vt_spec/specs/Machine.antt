@@ -29,6 +29,7 @@ pub mod Permits
 pub mod Apply
 pub mod Judge
 pub mod Policy
+pub mod SameWorlds
 pub mod Sealed
 pub mod Script
 pub mod Printed

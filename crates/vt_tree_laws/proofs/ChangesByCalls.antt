@@ -1,5 +1,5 @@
 -- Every call but the mount of an overlay leaves a world of trees.
-use Rattle.std.proofs.Common.{eqb-true, ◌≡◌, refl, sym, ap, subst, ◌∙◌, true≢false, ℕ, nat_eq, eq-eqb, Bool, true, false, not, cond, [], ◌∷◌, ◌++◌, ◌||◌, Option, Some, None, is_some, ok_or, option_map}
+use Rattle.std.proofs.Common.{eqb-true, ◌≡◌, refl, sym, ap, subst, ◌∙◌, true≢false, ℕ, nat_eq, eq-eqb, Bool, true, false, not, cond, List, [], ◌∷◌, ◌++◌, ◌||◌, Option, Some, None, is_some, ok_or, option_map}
 use Rattle.std.specs.Prelude.{unwrap_or}
 use Rattle.std.specs.List.{All}
 use Rattle.std.proofs.lemmas.List.Elements.{All-append, All-cons, All-filter, All-map, All-nil, All-weaker}
@@ -8,6 +8,7 @@ use Rattle.vt_spec.specs.Errors.{denial}
 use Rattle.vt_spec.specs.Tree.{Node, is_directory_node, new_directory, parent_in}
 use Rattle.vt_spec.specs.Machine.Calls.{Call}
 use Rattle.vt_spec.specs.Machine.Calls.Call.{Bind, Chdir, Chmod, Chown, Chroot, Close, Drop, Exec, Exit, Fork, Lazy, LinkTo, ListMounts, Ls, Lstat, MakeWhiteout, Mkdir, MountOverlay, MountPlain, MoveMount, Opaque, OpenFile, PivotRoot, Pread, Pwrite, Read, Readlink, Remount, Rename, Rmdir, SetType, Setns, Stat, SymlinkAt, Umask, Umount, Unlink, Unshare, Write}
+use Rattle.vt_spec.specs.Machine.Filesystems.{filesystems_raised}
 use Rattle.vt_spec.specs.Machine.Lists.{Fresh, evens}
 use Rattle.vt_spec.specs.Machine.Mounts.{Location, Mount, mount_in, no_mount, root_of}
 use Rattle.vt_spec.specs.Machine.Outcome.Mounting.{plain_filesystem}
@@ -24,7 +25,7 @@ use Rattle.vt_tree_laws.proofs.ChangesByOthers.{list_keeps, stat_keeps, lstat_ke
 use Rattle.vt_tree_laws.proofs.ChangesByRemoving.{rename_keeps, rmdir_keeps, unlink_keeps}
 use Rattle.vt_tree_laws.proofs.ChangesOfCalls.{chmod_keeps, chown_keeps, mkdir_keeps, opaque_keeps, open_keeps, pwrite_keeps, symlink_keeps, whiteout_keeps, write_keeps}
 use Rattle.vt_tree_laws.proofs.TreesForgotten.{settling_keeps_trees}
-use Rattle.vt_tree_laws.proofs.TreesOfWorlds.{numbered, same_filesystems}
+use Rattle.vt_tree_laws.proofs.TreesOfWorlds.{numbered, raised_keeps_world, same_filesystems}
 use Rattle.vt_tree_laws.proofs.TreesWalked.{after_holds}
 
 -- A new tree
@@ -133,16 +134,18 @@ module _ (fresh : Fresh ℕ) (world : World ℕ) (task : Task ℕ) (conditions :
   outcome_keeps (PivotRoot root put) other = pivot_keeps IsWorldOfTrees same_filesystems fresh world task conditions root put
   outcome_keeps ListMounts other = mounts_keeps IsWorldOfTrees same_filesystems fresh world task conditions
 
-finished_keeps : (before : World ℕ) (name : TaskName) (outcome : Outcome ℕ) (b : Bool) → IsWorldOfTrees outcome.world
-    → IsWorldOfTrees (finished_by nat_eq b before name outcome).world
-finished_keeps before name outcome true conditions = conditions
-finished_keeps before name outcome false conditions =
-    same_filesystems (finished_by nat_eq false before name outcome).world (settled nat_eq outcome.world) refl (settled_keeps outcome.world conditions)
+finished_keeps : (before : World ℕ) (name : TaskName) (changed : List ℕ) (outcome : Outcome ℕ) (b : Bool) → IsWorldOfTrees outcome.world
+    → IsWorldOfTrees (finished_by nat_eq b before name changed outcome).world
+finished_keeps before name changed outcome true conditions = conditions
+finished_keeps before name changed outcome false conditions =
+    same_filesystems (finished_by nat_eq false before name changed outcome).world
+    (filesystems_raised nat_eq changed (settled nat_eq outcome.world)) refl
+    (raised_keeps_world changed (settled nat_eq outcome.world) (settled_keeps outcome.world conditions))
 
 pub calls_keep_trees : CallsKeepTrees
 calls_keep_trees world fresh name call conditions standing new other =
     after_holds IsWorldOfTrees world (ok_or (task_called world name) (denial S2)) _ conditions (λ task found.
-    finished_keeps world name (call_outcome nat_eq fresh world task call) _ (outcome_keeps fresh world task conditions standing new call other))
+    finished_keeps world name _ (call_outcome nat_eq fresh world task call) _ (outcome_keeps fresh world task conditions standing new call other))
 
 -- the opening world
 pub opening_has_trees : OpeningHasTrees

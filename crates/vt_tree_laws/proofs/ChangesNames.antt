@@ -3,11 +3,11 @@ use Rattle.std.proofs.Common.{◌≡◌, ◌≢◌, refl, sym, ap, ◌∙◌, tr
 use Rattle.std.proofs.lemmas.Bool.Decides.{eqb_tells}
 use Rattle.std.proofs.lemmas.Float.{T_from_true}
 use Rattle.std.specs.Str.{bytes_eq}
-use Rattle.std.specs.FinMap.Entries.{find-where_key, is_sorted, is_sorted-put, is_sorted-where_key}
+use Rattle.std.specs.FinMap.Entries.{is_sorted, is_sorted-put, is_sorted-where_key}
 use Rattle.std.specs.Cmp.Lexicographic.{bytes_decides, nat_list_cmp_total}
 use Rattle.std.specs.Ordering.{eq_by_cmp, is_eq}
 use Rattle.std.specs.Cmp.{tied_itself}
-use Rattle.vt_spec.specs.Tree.{Entries, name_cmp, entry_named, with_entry, entries_in, node_with_entry}
+use Rattle.vt_spec.specs.Tree.{name_cmp, entry_named, with_entry, entries_in, node_with_entry}
 use Rattle.vt_spec.specs.TreeLaws.{entry_at, IsDirectory}
 use Rattle.vt_spec.specs.Machine.Changes.{node_without_entry, with_name, without_entry, without_name}
 use Rattle.vt_spec.specs.Machine.FileTree.{FileTree}

@@ -2,7 +2,7 @@
 use Rattle.std.proofs.Common.{arith, eq-eqb, ◌≡◌, refl, sym, ap, subst, ◌∙◌, true≢false, ℕ, ◌+◌, ◌≤◌, nat_eq, nat_le, nat_lt, le-leb, leb-true, ltb-false, Bool, true, false, not, cond, List, [], ◌∷◌, ◌++◌, length, take, drop, ◌&&◌, inl, inr, ⊎_elim, Option, Some, None, is_some, ok_or}
 use Rattle.std.proofs.lemmas.List.{length-append, length-drop, length-take}
 use Rattle.std.specs.Prelude.{unwrap_or}
-use Rattle.std.specs.List.{All, list_all}
+use Rattle.std.specs.List.{All, list_all, list_any}
 use Rattle.std.proofs.lemmas.List.Elements.{All-append, All-cons, All-filter, All-nil}
 use Rattle.std.proofs.lemmas.List.Sums.{AllPass-from_list_all, list_all-from_AllPass}
 use Rattle.vt_spec.specs.declared.attributes.Attr.{Attr}
@@ -18,7 +18,7 @@ use Rattle.vt_spec.specs.Machine.Calls.Creation.{Exclusive, NoCreation, OrCreate
 use Rattle.vt_spec.specs.Machine.Changes.{Change, changed}
 use Rattle.vt_spec.specs.Machine.Changes.Change.{CopyUp, SetAttr, SetBytes, SetMark}
 use Rattle.vt_spec.specs.Machine.Detach.{without_mounts_on}
-use Rattle.vt_spec.specs.Machine.Filesystems.{filesystem_changed, with_change, with_files}
+use Rattle.vt_spec.specs.Machine.Filesystems.{filesystem_changed, filesystems_raised, raised, raised_if_changed, with_change, with_files}
 use Rattle.vt_spec.specs.Machine.Lists.{Fresh, evens, odds}
 use Rattle.vt_spec.specs.Machine.Mounts.{Location}
 use Rattle.vt_spec.specs.Machine.Outcome.Attributes.{attr_at, attr_rules, attr_set, attr_with_mode, attr_with_owner, chmod_outcome, chown_outcome, may_chown, opaque_outcome, opaque_rules}
@@ -39,9 +39,9 @@ use Rattle.vt_tree_laws.specs.Trees.Sizes.{CallsKeepSizes, IsFitChange, IsFitWor
 use Rattle.vt_tree_laws.proofs.ChangesByCalls.{without_dead_plain}
 use Rattle.vt_tree_laws.proofs.ChangesByOthers.{bind_keeps, chdir_keeps, chroot_keeps, close_keeps, drop_keeps, exec_keeps, exit_keeps, fork_keeps, lazy_keeps, list_keeps, lstat_keeps, mount_plain_keeps, mounts_keeps, move_keeps, pivot_keeps, pread_keeps, read_keeps, readlink_keeps, remount_keeps, setns_keeps, stat_keeps, type_keeps, umask_keeps, umount_keeps, unshare_keeps}
 use Rattle.vt_tree_laws.proofs.ChangesOfSizes.{changed_fits_there, changes_keep_sizes, fits, settling_keeps_sizes}
-use Rattle.vt_tree_laws.proofs.TreesOfWorlds.{number_numbered, numbered_all, numbered_anyhow, replaced_all, taken_filesystems}
+use Rattle.vt_tree_laws.proofs.TreesOfWorlds.{number_numbered, numbered_all, numbered_anyhow, raised_all, replaced_all, taken_filesystems}
 use Rattle.vt_tree_laws.proofs.TreesSizes.{HasFitLast, fit_file_walk, fit_name_of, fit_new_leaf_walk, fit_new_walk, no_longer}
-use Rattle.vt_tree_laws.proofs.TreesTasks.{all_appended, both, both_first}
+use Rattle.vt_tree_laws.proofs.TreesTasks.{all_appended, all_mapped, both, both_first}
 use Rattle.vt_tree_laws.proofs.TreesWalked.{Ends, Passed, after_any, after_ends, after_holds, ends_then, ends_unless, first_false, judged_holds, no_some}
 
 -- a new tree
@@ -377,16 +377,32 @@ fit_settled world conditions =
       fit = settling_keeps_sizes world conditions.fit;
     }
 
-fit_finished : (before : World ℕ) (name : TaskName) (outcome : Outcome ℕ) (b : Bool) → IsFitWorld outcome.world
-    → IsFitWorld (finished_by nat_eq b before name outcome).world
-fit_finished before name outcome true conditions = conditions
-fit_finished before name outcome false conditions =
-    alike_fit (finished_by nat_eq false before name outcome).world (settled nat_eq outcome.world) refl (fit_settled outcome.world conditions)
+fit_raised : (changed : List ℕ) (world : World ℕ) → IsFitWorld world
+    → IsFitWorld (filesystems_raised nat_eq changed world)
+fit_raised changed world conditions = record {
+  plain = raised_all (λ f. is_overlay f ≡ false) changed (λ f is. is) world.filesystems conditions.plain;
+  fit = all_mapped is_fit_filesystem (raised_if_changed nat_eq changed) keeps world.filesystems conditions.fit;
+}
+  where
+    keeps : (f : Filesystem ℕ) → is_fit_filesystem f ≡ true → is_fit_filesystem (raised_if_changed nat_eq changed f) ≡ true
+    keeps f h = by (list_any (λ number. nat_eq number f.number) changed)
+      where
+        by : (b : Bool) → is_fit_filesystem (cond b (record f { change = raised f.change }) f) ≡ true
+        by true = h
+        by false = h
+
+fit_finished : (before : World ℕ) (name : TaskName) (changed : List ℕ) (outcome : Outcome ℕ) (b : Bool) → IsFitWorld outcome.world
+    → IsFitWorld (finished_by nat_eq b before name changed outcome).world
+fit_finished before name changed outcome true conditions = conditions
+fit_finished before name changed outcome false conditions =
+    alike_fit (finished_by nat_eq false before name changed outcome).world
+    (filesystems_raised nat_eq changed (settled nat_eq outcome.world)) refl
+    (fit_raised changed (settled nat_eq outcome.world) (fit_settled outcome.world conditions))
 
 pub calls_keep_sizes : CallsKeepSizes
 calls_keep_sizes world fresh name call conditions other =
     after_holds IsFitWorld world (ok_or (task_called world name) (denial S2)) _ conditions (λ task found.
-    fit_finished world name (call_outcome nat_eq fresh world task call) _ (outcome_fits fresh world task conditions call other))
+    fit_finished world name _ (call_outcome nat_eq fresh world task call) _ (outcome_fits fresh world task conditions call other))
 
 pub opening_is_fit : OpeningIsFit
 opening_is_fit fresh = record {

@@ -531,10 +531,10 @@ module _ (fresh : Fresh ℕ) (world : World ℕ) (task : Task ℕ) (small : HasS
   outcome_small (PivotRoot new put) few = pivot_small fresh world task small is new put
   outcome_small ListMounts few = mounts_small fresh world task small is
 
-finished_small : (before : World ℕ) (name : TaskName) (outcome : Outcome ℕ) (b : Bool) → HasSmallTasks outcome.world
-    → HasSmallTasks (finished_by nat_eq b before name outcome).world
-finished_small before name outcome true small = small
-finished_small before name outcome false small = all_mapped is_within_limits (raised_task name) keeps outcome.world.tasks small
+finished_small : (before : World ℕ) (name : TaskName) (changed : List ℕ) (outcome : Outcome ℕ) (b : Bool) → HasSmallTasks outcome.world
+    → HasSmallTasks (finished_by nat_eq b before name changed outcome).world
+finished_small before name changed outcome true small = small
+finished_small before name changed outcome false small = all_mapped is_within_limits (raised_task name) keeps outcome.world.tasks small
   where
     keeps : (other : Task ℕ) → is_within_limits other ≡ true → is_within_limits (raised_task name other) ≡ true
     keeps other h = by (same_name name other.name)
@@ -554,7 +554,7 @@ found_task (Some other) task e = ap Some (ok_same other task (Ok other) refl e)
 pub calls_keep_small_tasks : CallsKeepSmallTasks
 calls_keep_small_tasks world fresh name call small few =
     after_holds HasSmallTasks world (ok_or (task_called world name) (denial S2)) _ small (λ task found.
-    finished_small world name (call_outcome nat_eq fresh world task call) _
+    finished_small world name _ (call_outcome nat_eq fresh world task call) _
     (outcome_small fresh world task small (found_within world name world.tasks task small (found_task (task_called world name) task found)) call few))
 
 pub opening_has_small_tasks : OpeningHasSmallTasks

@@ -1,11 +1,11 @@
 -- A change of a filesystem in a world of trees leaves a world of trees.
 use Rattle.std.proofs.Common.{eqb-true, ◌≡◌, refl, sym, ap, subst, ◌∙◌, true≢false, ℕ, nat_eq, Bool, true, false, cond, List, [], ◌∷◌, map, ◌⊎◌, inl, inr, ⊎_elim, Some, None, is_some, option_map}
 use Rattle.std.specs.Prelude.{unwrap_or}
-use Rattle.std.specs.List.{All, find}
+use Rattle.std.specs.List.{All, find, list_any}
 use Rattle.std.proofs.lemmas.List.Elements.{All-cons, All-head, All-nil, All-tail}
 use Rattle.vt_spec.specs.Machine.Changes.{Change, changed}
 use Rattle.vt_spec.specs.Machine.Detach.{after_going, place_left, taken_away}
-use Rattle.vt_spec.specs.Machine.Filesystems.{filesystem_changed, with_change, with_files}
+use Rattle.vt_spec.specs.Machine.Filesystems.{filesystem_changed, filesystems_raised, raised, raised_if_changed, with_change, with_files}
 use Rattle.vt_spec.specs.Machine.Lists.{Fresh}
 use Rattle.vt_spec.specs.Machine.Mounts.{Location, Mount, detached, mount_in, no_mount}
 use Rattle.vt_spec.specs.Machine.Receives.{inheriting, regrouped, regrouped_by}
@@ -65,6 +65,27 @@ replaced_all P new (filesystem ∷ list) h either =
     by true e (inl is) = is
     by true e (inr none) = absurd (true≢false (sym e ∙ All-head (λ other. nat_eq new.number other.number ≡ false) filesystem list none))
     by false e either = All-head P filesystem list h
+
+-- change numbers of some raised
+pub raised_all : (P : Filesystem ℕ → Type 0) (changed : List ℕ)
+    → ((filesystem : Filesystem ℕ) → P filesystem → P (record filesystem { change = raised filesystem.change }))
+    → (list : List (Filesystem ℕ)) → All P list → All P (map (raised_if_changed nat_eq changed) list)
+raised_all P changed keeps [] h = All-nil P
+raised_all P changed keeps (filesystem ∷ list) h =
+    All-cons P (raised_if_changed nat_eq changed filesystem) (map (raised_if_changed nat_eq changed) list)
+    (by (list_any (λ number. nat_eq number filesystem.number) changed) (All-head P filesystem list h))
+    (raised_all P changed keeps list (All-tail P filesystem list h))
+  where
+    by : (b : Bool) → P filesystem → P (cond b (record filesystem { change = raised filesystem.change }) filesystem)
+    by true is = keeps filesystem is
+    by false is = is
+
+pub raised_keeps_world : (changed : List ℕ) (world : World ℕ) → IsWorldOfTrees world
+    → IsWorldOfTrees (filesystems_raised nat_eq changed world)
+raised_keeps_world changed world conditions = record {
+  plain = raised_all (λ filesystem. is_overlay filesystem ≡ false) changed (λ filesystem is. is) world.filesystems conditions.plain;
+  trees = raised_all (λ filesystem. IsFileTree filesystem.files) changed (λ filesystem is. is) world.filesystems conditions.trees;
+}
 
 -- A change
 module _ (fresh : Fresh ℕ) (world : World ℕ) (location : Location ℕ) (change : Change ℕ) where

@@ -1,14 +1,15 @@
--- What is done with a permit: the answer, and the world that the call leaves.
+-- What is done with a permit: the answer, and the world that the call leaves before the policy's last step, which lets
+-- go of what nothing uses and raises change numbers.
 use Rattle.std.specs.Prelude.{Bool, List, [], drop, false, not, take, true, ℕ}
 use Rattle.vt_spec.specs.Machine.Attach.{attach, has_too_many}
 use Rattle.vt_spec.specs.Machine.Changes.Change.{Make, Move, Remove}
 use Rattle.vt_spec.specs.Machine.Detach.{lazily_unmounted, unmounted, without_mounts_on}
-use Rattle.vt_spec.specs.Machine.Filesystems.{changed_at, raised, with_change_counted}
+use Rattle.vt_spec.specs.Machine.Filesystems.{changed_at, with_change}
 use Rattle.vt_spec.specs.Machine.Listing.{mount_lines}
 use Rattle.vt_spec.specs.Machine.Lists.{Fresh, evens, odds}
 use Rattle.vt_spec.specs.Machine.Mounts.{Location, mount_tree, with_mount}
 use Rattle.vt_spec.specs.Machine.Namespaces.{namespace_entered, namespaces_ended, pivoted, unshared}
-use Rattle.vt_spec.specs.Machine.Outcome.Descriptors.{is_copied_up, opened, pwritten_counted, with_copy_counted, without_descriptor}
+use Rattle.vt_spec.specs.Machine.Outcome.Descriptors.{is_copied_up, opened, pwritten, with_copy, without_descriptor}
 use Rattle.vt_spec.specs.Machine.Outcome.Looking.{stat_line}
 use Rattle.vt_spec.specs.Machine.Outcome.Mounting.{bound_at, mounted, overlay_filesystem, plain_filesystem}
 use Rattle.vt_spec.specs.Machine.Outcome.Removing.{without_replaced}
@@ -24,79 +25,71 @@ use Rattle.vt_spec.specs.Tree.{Node, bytes_in, names_in}
 
 module _ {N : Type 0} (eq : N → N → Bool) where
   -- the world with a new inode under a name of a directory
-  abbrev pub with_new_inode : (ℕ → ℕ) → Fresh N → World N → Location N → List ℕ → Node N → World N
-  with_new_inode count fresh world directory name node =
-      with_change_counted eq count (odds fresh) world directory (Make directory.node name (evens fresh 0) node)
+  abbrev pub with_new_inode : Fresh N → World N → Location N → List ℕ → Node N → World N
+  with_new_inode fresh world directory name node =
+      with_change eq (odds fresh) world directory (Make directory.node name (evens fresh 0) node)
 
-  -- the outcome of a granted call of a task, to which new numbers are handed in for what it makes, and what becomes of
-  -- the change number of a filesystem that it changes
-  abbrev pub apply_counted : (ℕ → ℕ) → Fresh N → World N → Task N → Permit N → Outcome N
-  apply_counted count fresh world task Allowed = granted Done world
-  apply_counted count fresh world task (ToList directory) =
+  -- the outcome of a granted call of a task, to which new numbers are handed in for what it makes
+  abbrev pub apply : Fresh N → World N → Task N → Permit N → Outcome N
+  apply fresh world task Allowed = granted Done world
+  apply fresh world task (ToList directory) =
       granted (Names (names_in (node_at eq world directory))) world
-  apply_counted count fresh world task (ToStat object) = granted (Told (stat_line (node_at eq world object))) world
-  apply_counted count fresh world task (ToRead file) = granted (Bytes (bytes_in (node_at eq world file))) world
-  apply_counted count fresh world task (ToReadPart file offset size) =
+  apply fresh world task (ToStat object) = granted (Told (stat_line (node_at eq world object))) world
+  apply fresh world task (ToRead file) = granted (Bytes (bytes_in (node_at eq world file))) world
+  apply fresh world task (ToReadPart file offset size) =
       granted (Bytes (take size (drop offset (bytes_in (node_at eq world file))))) world
-  apply_counted count fresh world task (ToChange location change) =
-      granted Done (with_change_counted eq count fresh world location change)
-  apply_counted count fresh world task (ToMake directory name node) =
-      granted Done (with_new_inode count fresh world directory name node)
-  apply_counted count fresh world task (ToRemoveDirectory parent name directory) =
-      granted Done (with_change_counted eq count fresh (without_mounts_on eq world directory) parent
+  apply fresh world task (ToChange location change) =
+      granted Done (with_change eq fresh world location change)
+  apply fresh world task (ToMake directory name node) =
+      granted Done (with_new_inode fresh world directory name node)
+  apply fresh world task (ToRemoveDirectory parent name directory) =
+      granted Done (with_change eq fresh (without_mounts_on eq world directory) parent
       (Remove parent.node name directory.node))
-  apply_counted count fresh world task (ToRename from old to new object replaced) =
-      granted Done (with_change_counted eq count fresh (without_replaced eq world replaced) from
+  apply fresh world task (ToRename from old to new object replaced) =
+      granted Done (with_change eq fresh (without_replaced eq world replaced) from
       (Move from.node old to.node new object.node))
-  apply_counted count fresh world task (ToOpen file access) =
-      opened (with_copy_counted eq (is_copied_up eq world file access) count fresh world file) task file access
-  apply_counted count fresh world task (ToOpenNew directory name node access) =
-      opened (with_new_inode count fresh world directory name node) task
+  apply fresh world task (ToOpen file access) =
+      opened (with_copy eq (is_copied_up eq world file access) fresh world file) task file access
+  apply fresh world task (ToOpenNew directory name node access) =
+      opened (with_new_inode fresh world directory name node) task
       (record { mount = directory.mount; node = evens fresh 0 }) access
-  apply_counted count fresh world task (ToWritePart file offset bytes) =
-      granted Done (pwritten_counted eq count fresh world file offset bytes)
-  apply_counted count fresh world task (ToClose descriptor) =
+  apply fresh world task (ToWritePart file offset bytes) =
+      granted Done (pwritten eq fresh world file offset bytes)
+  apply fresh world task (ToClose descriptor) =
       granted Done (with_task world (without_descriptor task descriptor))
-  apply_counted count fresh world task (ToSetDirectory directory) =
+  apply fresh world task (ToSetDirectory directory) =
       granted Done (with_task world (record task { directory = directory }))
-  apply_counted count fresh world task (ToSetRoot root) = granted Done (with_task world (record task { root = root }))
-  apply_counted count fresh world task (ToSetUmask umask) =
+  apply fresh world task (ToSetRoot root) = granted Done (with_task world (record task { root = root }))
+  apply fresh world task (ToSetUmask umask) =
       granted Done (with_task world (record task { umask = umask }))
-  apply_counted count fresh world task (ToSetCredentials credentials) =
+  apply fresh world task (ToSetCredentials credentials) =
       granted Done (with_task world (record task { credentials = credentials }))
-  apply_counted count fresh world task (ToFork credentials) =
+  apply fresh world task (ToFork credentials) =
       granted (Child (child_name task)) (with_child world task (child_of task credentials))
-  apply_counted count fresh world task ToExit = granted Done (namespaces_ended eq (without_task world task.name))
-  apply_counted count fresh world task ToUnshare = granted Done (namespaces_ended eq (unshared eq world fresh task))
-  apply_counted count fresh world task (ToEnterNamespace namespace) =
+  apply fresh world task ToExit = granted Done (namespaces_ended eq (without_task world task.name))
+  apply fresh world task ToUnshare = granted Done (namespaces_ended eq (unshared eq world fresh task))
+  apply fresh world task (ToEnterNamespace namespace) =
       granted Done (namespaces_ended eq (namespace_entered eq world task namespace))
-  apply_counted count fresh world task (ToMountPlain place flags) =
+  apply fresh world task (ToMountPlain place flags) =
       granted Done (mounted eq (odds fresh) world place (plain_filesystem eq fresh) flags)
-  apply_counted count fresh world task (ToMountOverlay place overlay flags) =
+  apply fresh world task (ToMountOverlay place overlay flags) =
       granted Done (mounted eq (odds fresh) world place (overlay_filesystem eq (evens fresh) world overlay) flags)
-  apply_counted count fresh world task (ToBind source place recursive) =
+  apply fresh world task (ToBind source place recursive) =
       granted Done (bound_at eq fresh world source place recursive)
-  apply_counted count fresh world task (ToMove mount place) =
+  apply fresh world task (ToMove mount place) =
       granted Done (attach eq world fresh place true (mount_tree eq world.mounts (mount_numbered eq world mount)))
-  apply_counted count fresh world task (ToUnmount mount) = granted Done (unmounted eq world mount)
-  apply_counted count fresh world task (ToUnmountLazily mount) = granted Done (lazily_unmounted eq world mount)
-  apply_counted count fresh world task (ToSetFlags mount flags) =
+  apply fresh world task (ToUnmount mount) = granted Done (unmounted eq world mount)
+  apply fresh world task (ToUnmountLazily mount) = granted Done (lazily_unmounted eq world mount)
+  apply fresh world task (ToSetFlags mount flags) =
       granted Done (with_mounts world
       (with_mount eq world.mounts (record (mount_numbered eq world mount) { flags = flags })))
-  apply_counted count fresh world task (ToSetType mount word recursive) =
+  apply fresh world task (ToSetType mount word recursive) =
       granted Done (with_type eq fresh world mount word recursive)
-  apply_counted count fresh world task (ToPivot new put) =
+  apply fresh world task (ToPivot new put) =
       granted Done (pivoted eq world task.namespace (mount_at eq world task.root) (mount_numbered eq world new) put)
-  apply_counted count fresh world task ToListMounts = granted (MountList (mount_lines eq world task.namespace)) world
+  apply fresh world task ToListMounts = granted (MountList (mount_lines eq world task.namespace)) world
 
-  -- what is done with a permit; and the same before the change numbers of filesystems are raised
-  abbrev pub apply : Fresh N → World N → Task N → Permit N → Outcome N
-  apply fresh world task permit = apply_counted raised fresh world task permit
-
-  abbrev pub apply_unraised : Fresh N → World N → Task N → Permit N → Outcome N
-  apply_unraised fresh world task permit = apply_counted (λ number. number) fresh world task permit
-
-  -- the filesystems whose numbers a permit raises (profile)
+  -- the filesystems that a permit changes, by what stands in the world before the call
   abbrev pub changed_if : Bool → World N → Location N → List N
   changed_if true world location = changed_at eq world location
   changed_if false world location = []

@@ -49,13 +49,8 @@ module _ {N : Type 0} where
   directories_changed (SetMark directory opaque) = []
   directories_changed (CopyUp object) = []
 
-  -- a filesystem with its files changed, and its change number counted on: raised, or left as it is where change numbers
-  -- are raised later
-  abbrev pub with_files_counted : (ℕ → ℕ) → Filesystem N → FileTree N → Filesystem N
-  with_files_counted count filesystem files = record filesystem { files = files; change = count filesystem.change }
-
   abbrev pub with_files : Filesystem N → FileTree N → Filesystem N
-  with_files filesystem files = with_files_counted raised filesystem files
+  with_files filesystem files = record filesystem { files = files }
 
   abbrev pub lies_below : Overlay N → N → Bool
   lies_below overlay number = not (is_some (upper_object (overlay.real number)))
@@ -86,52 +81,33 @@ module _ {N : Type 0} (eq : N → N → Bool) where
       record { files = filesystem.files; real = overlay.real; upper = (filesystem_numbered eq world upper.filesystem).files }
 
   -- the world with a merged tree and its upper layer changed
-  abbrev pub with_merge_counted : (ℕ → ℕ) → World N → Filesystem N → Overlay N → Layer N → Merge N → World N
-  with_merge_counted count world filesystem overlay upper merge =
-      with_filesystem eq
-      (with_filesystem eq world (record filesystem {
-        files = merge.files;
-        overlay = Some (record overlay { real = merge.real });
-        change = count filesystem.change;
-      }))
-      (with_files_counted count (filesystem_numbered eq world upper.filesystem) merge.upper)
-
-  abbrev pub overlay_changed_counted : (ℕ → ℕ) → Fresh N → World N → Filesystem N → Overlay N → Option (Layer N)
-      → Change N → World N
-  overlay_changed_counted count fresh world filesystem overlay None change = world
-  overlay_changed_counted count fresh world filesystem overlay (Some upper) change =
-      with_merge_counted count world filesystem overlay upper
-      (merge_changed eq fresh (stack_of world overlay upper) (merge_of world filesystem overlay upper) change)
-
-  abbrev pub filesystem_changed_counted : (ℕ → ℕ) → Fresh N → World N → Filesystem N → Option (Overlay N) → Change N
-      → World N
-  filesystem_changed_counted count fresh world filesystem None change =
-      with_filesystem eq world (with_files_counted count filesystem (changed eq filesystem.files change))
-  filesystem_changed_counted count fresh world filesystem (Some overlay) change =
-      overlay_changed_counted count fresh world filesystem overlay overlay.upper change
-
-  -- the world with a change of the filesystem that a location is in, whose change number is counted on
-  abbrev pub with_change_counted : (ℕ → ℕ) → Fresh N → World N → Location N → Change N → World N
-  with_change_counted count fresh world location change =
-      filesystem_changed_counted count fresh world (filesystem_at eq world location)
-      (filesystem_at eq world location).overlay change
-
-  -- a change raises the number of its filesystem, and of an overlay's upper layer (profile)
   abbrev pub with_merge : World N → Filesystem N → Overlay N → Layer N → Merge N → World N
-  with_merge world filesystem overlay upper merge = with_merge_counted raised world filesystem overlay upper merge
+  with_merge world filesystem overlay upper merge =
+      with_filesystem eq
+      (with_filesystem eq world
+      (record filesystem { files = merge.files; overlay = Some (record overlay { real = merge.real }) }))
+      (with_files (filesystem_numbered eq world upper.filesystem) merge.upper)
 
   abbrev pub overlay_changed : Fresh N → World N → Filesystem N → Overlay N → Option (Layer N) → Change N → World N
-  overlay_changed fresh world filesystem overlay upper change =
-      overlay_changed_counted raised fresh world filesystem overlay upper change
+  overlay_changed fresh world filesystem overlay None change = world
+  overlay_changed fresh world filesystem overlay (Some upper) change =
+      with_merge world filesystem overlay upper
+      (merge_changed eq fresh (stack_of world overlay upper) (merge_of world filesystem overlay upper) change)
 
   abbrev pub filesystem_changed : Fresh N → World N → Filesystem N → Option (Overlay N) → Change N → World N
-  filesystem_changed fresh world filesystem overlay change =
-      filesystem_changed_counted raised fresh world filesystem overlay change
+  filesystem_changed fresh world filesystem None change =
+      with_filesystem eq world (with_files filesystem (changed eq filesystem.files change))
+  filesystem_changed fresh world filesystem (Some overlay) change =
+      overlay_changed fresh world filesystem overlay overlay.upper change
 
+  -- the world with a change of the filesystem that a location is in. Its change number is raised last, by the policy
   abbrev pub with_change : Fresh N → World N → Location N → Change N → World N
-  with_change fresh world location change = with_change_counted raised fresh world location change
+  with_change fresh world location change =
+      filesystem_changed fresh world (filesystem_at eq world location)
+      (filesystem_at eq world location).overlay change
 
   -- the filesystems whose numbers a change at a location raises: its own, and of an overlay the upper layer's too
+  -- (profile)
   abbrev pub numbers_over : World N → Filesystem N → Option (Layer N) → List N
   numbers_over world filesystem None = []
   numbers_over world filesystem (Some upper) =

@@ -83,9 +83,9 @@ module _ {N : Type 0} where
   -- setns(2)
   unfoldable pub setns_permit : Looks N → Task N → TaskName → Judgement N
   setns_permit looks task name =
-      and_then (ok_or (looks.task_called name) (denial S2)) (λ target.
+      and_then (ok_or (looks.namespace_called name) (denial S2)) (λ namespace.
       unless ((lacks task cap_sys_admin || lacks task cap_sys_chroot, K1) ∷ [])
-      (Ok (ToEnterNamespace target.namespace)))
+      (Ok (ToEnterNamespace namespace)))
 
 module _ {N : Type 0} (eq : N → N → Bool) where
   -- Calls that look

@@ -1,6 +1,6 @@
 -- What walks and tables of rules look at. Two worlds that look alike are walked and judged alike, however they are
 -- kept.
-use Rattle.std.specs.Prelude.{Bool, List, Option, length, ℕ}
+use Rattle.std.specs.Prelude.{Bool, List, Option, length, option_map, ℕ}
 use Rattle.vt_spec.specs.Errors.{Rules}
 use Rattle.vt_spec.specs.Machine.Changes.{Change}
 use Rattle.vt_spec.specs.Machine.Detach.{is_busy, is_written_through, mounts_on}
@@ -14,8 +14,8 @@ use Rattle.vt_spec.specs.Tree.{Node, is_directory_node}
 use Rattle.vt_spec.specs.Machine.World.{Layer, Overlay, Task, TaskName, World, filesystem_at, filesystem_numbered, is_removed_at, mount_numbered, node_at, task_called}
 
 pub record Looks (N : Type 0) : Type 0 where
-  -- the task that has a name: the process of setns(2)
-  pub task_called : TaskName → Option (Task N)
+  -- the namespace of the task that has a name: the process of setns(2)
+  pub namespace_called : TaskName → Option N
   -- the mount that has a number; how many mounts exist; a mount and all below it, each before its children:
   -- mount_namespaces(7)
   pub mount : N → Mount N
@@ -50,7 +50,7 @@ pub record Looks (N : Type 0) : Type 0 where
 -- what a world shows
 abbrev pub looks_of : {N : Type 0} → (N → N → Bool) → World N → Looks N
 looks_of eq world = record {
-  task_called = task_called world;
+  namespace_called = λ name. option_map (λ task. task.namespace) (task_called world name);
   mount = mount_numbered eq world;
   mount_count = length world.mounts;
   mount_tree = λ number. mount_tree eq world.mounts (mount_numbered eq world number);

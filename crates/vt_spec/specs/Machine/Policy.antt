@@ -1,10 +1,12 @@
 -- The policy: what each call does, in which world, for which task.
-use Rattle.std.specs.Prelude.{Bool, Option, false, if◌then◌else◌, is_ok, map, not, ok_or, true, ◌&&◌, ◌||◌}
+use Rattle.std.specs.Prelude.{Bool, Err, List, Ok, Option, [], false, if◌then◌else◌, is_ok, map, not, ok_or, true, ◌&&◌, ◌||◌}
 use Rattle.vt_spec.specs.declared.errors.Rule.TheVariants.{S2}
+use Rattle.vt_spec.specs.Machine.Apply.{filesystems_changed}
 use Rattle.vt_spec.specs.Machine.Calls.{Call}
 use Rattle.vt_spec.specs.Machine.Calls.Call.{Bind, Chdir, Chmod, Chown, Chroot, Close, Drop, Exec, Exit, Fork, Lazy, LinkTo, ListMounts, Ls, Lstat, MakeWhiteout, Mkdir, MountOverlay, MountPlain, MoveMount, Opaque, OpenFile, PivotRoot, Pread, Pwrite, Read, Readlink, Remount, Rename, Rmdir, SetType, Setns, Stat, SymlinkAt, Umask, Umount, Unlink, Unshare, Write}
 use Rattle.vt_spec.specs.Errors.{denial}
-use Rattle.vt_spec.specs.Machine.Filesystems.{raised}
+use Rattle.vt_spec.specs.Machine.Filesystems.{filesystems_raised, raised}
+use Rattle.vt_spec.specs.Machine.Judge.{Judgement, judge_in}
 use Rattle.vt_spec.specs.Machine.Listing.{mounts_outcome}
 use Rattle.vt_spec.specs.Machine.Lists.{Fresh, same_list, same_option, then_some}
 use Rattle.vt_spec.specs.Machine.Mounts.{Mount, MountFlags, Propagation, same_location, source_of}
@@ -90,9 +92,13 @@ module _ {N : Type 0} (eq : N → N → Bool) where
   call_outcome fresh world task (PivotRoot new put) = pivot_outcome eq world task new put
   call_outcome fresh world task ListMounts = mounts_outcome eq world task
 
-  -- Change numbers (profile). A call that succeeds and does not only look raises the world's and the caller's, and that
-  -- of each namespace in which a mount came, went, moved, or has other flags, type, group or master. Those of
-  -- filesystems are raised where they are changed.
+  -- Change numbers (profile). A call that succeeds and does not only look raises the world's and the caller's, that of
+  -- each filesystem that its permit changes, and that of each namespace in which a mount came, went, moved, or has other
+  -- flags, type, group or master. All of them are raised last.
+  abbrev pub filesystems_changed_by : World N → Judgement N → List N
+  filesystems_changed_by before (Ok permit) = filesystems_changed eq before permit
+  filesystems_changed_by before (Err deny) = []
+
   abbrev pub same_propagation : Propagation N → Propagation N → Bool
   same_propagation (Shared a) (Shared b) = eq a b
   same_propagation (Slave a) (Slave b) = eq a b
@@ -114,24 +120,26 @@ module _ {N : Type 0} (eq : N → N → Bool) where
       if same_mounts_in before after_call namespace.number then namespace
       else record namespace { change = raised namespace.change }
 
-  abbrev pub numbers_raised : World N → TaskName → World N → World N
-  numbers_raised before name after_call = record after_call {
+  abbrev pub numbers_raised : World N → TaskName → List N → World N → World N
+  numbers_raised before name changed after_call = record (filesystems_raised eq changed after_call) {
     namespaces = map (raised_namespace before after_call) after_call.namespaces;
     tasks = map (raised_task name) after_call.tasks;
     change = raised after_call.change;
   }
 
-  -- a call that changed the world leaves nothing that nothing uses
-  abbrev pub finished_by : Bool → World N → TaskName → Outcome N → Outcome N
-  finished_by true before name outcome = outcome
-  finished_by false before name outcome =
-      record outcome { world = numbers_raised before name (settled eq outcome.world) }
+  -- the last step: a call that changed the world leaves nothing that nothing uses, and raises change numbers
+  abbrev pub finished_by : Bool → World N → TaskName → List N → Outcome N → Outcome N
+  finished_by true before name changed outcome = outcome
+  finished_by false before name changed outcome =
+      record outcome { world = numbers_raised before name changed (settled eq outcome.world) }
 
-  abbrev pub finished : World N → TaskName → Call → Outcome N → Outcome N
-  finished before name call outcome = finished_by (only_looks call || not (is_ok outcome.answer)) before name outcome
+  abbrev pub finished : World N → TaskName → Call → List N → Outcome N → Outcome N
+  finished before name call changed outcome =
+      finished_by (only_looks call || not (is_ok outcome.answer)) before name changed outcome
 
   -- the policy: a call of a task that is not there is refused, and changes nothing
   abbrev pub policy : Fresh N → World N → TaskName → Call → Outcome N
   policy fresh world name call =
       after world (ok_or (task_called world name) (denial S2)) (λ task.
-      finished world name call (call_outcome fresh world task call))
+      finished world name call (filesystems_changed_by world (judge_in eq fresh world task call))
+      (call_outcome fresh world task call))

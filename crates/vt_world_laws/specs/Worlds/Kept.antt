@@ -1,7 +1,7 @@
 -- The invariants of a world while a call is under way: after its permit is applied, and before what nothing uses is gone.
 use Rattle.std.specs.Prelude.{All, Some, false, nat_eq, true, ℕ, ◌≡◌}
 use Rattle.std.specs.List.{list_all}
-use Rattle.vt_spec.specs.Machine.Apply.{apply_unraised}
+use Rattle.vt_spec.specs.Machine.Apply.{apply}
 use Rattle.vt_spec.specs.Machine.Lists.{Fresh}
 use Rattle.vt_spec.specs.Machine.Permits.{Permit}
 use Rattle.vt_spec.specs.Machine.Run.{Serves}
@@ -32,7 +32,7 @@ abbrev pub KeptByPermits : (World ℕ → Type 0) → Type 0
 KeptByPermits Invariant =
     (world : World ℕ) (fresh : Fresh ℕ) (task : Task ℕ) (permit : Permit ℕ) → IsWorld nat_eq world → IsPlain world
     → Serves nat_eq world fresh → task_called world task.name ≡ Some task → IsFitPermit fresh world task permit
-    → Invariant (apply_unraised nat_eq fresh world task permit).world
+    → Invariant (apply nat_eq fresh world task permit).world
 
 -- Where all hold they do when what nothing uses is gone.
 abbrev pub SettlingLeavesAWorld : Type 0

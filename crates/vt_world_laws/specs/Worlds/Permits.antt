@@ -3,7 +3,7 @@
 use Rattle.std.specs.Prelude.{None, Some, false, is_some, nat_eq, option_to_list, true, ℕ, ⊤, ◌&&◌, ◌≡◌}
 use Rattle.std.specs.List.{list_all, list_any}
 use Rattle.vt_spec.specs.declared.attributes.Kind.TheVariants.{File}
-use Rattle.vt_spec.specs.Machine.Apply.{apply_unraised}
+use Rattle.vt_spec.specs.Machine.Apply.{apply}
 use Rattle.vt_spec.specs.Machine.Attach.{has_too_many}
 use Rattle.vt_spec.specs.Machine.Changes.{Change}
 use Rattle.vt_spec.specs.Machine.Changes.Change.{AddName, CopyUp, Make, Move, Remove, SetAttr, SetBytes, SetMark}
@@ -121,4 +121,4 @@ NamesWhatIsThere world task ToListMounts = ⊤
 
 pub record IsFitPermit (fresh : Fresh ℕ) (world : World ℕ) (task : Task ℕ) (permit : Permit ℕ) : Type 0 where
   pub names : NamesWhatIsThere world task permit
-  pub few_mounts : has_too_many nat_eq (apply_unraised nat_eq fresh world task permit).world ≡ false
+  pub few_mounts : has_too_many nat_eq (apply nat_eq fresh world task permit).world ≡ false

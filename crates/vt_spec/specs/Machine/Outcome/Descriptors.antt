@@ -4,7 +4,7 @@ use Rattle.vt_spec.specs.Machine.Calls.{Access, Creation}
 use Rattle.vt_spec.specs.Machine.Calls.Creation.{Exclusive, NoCreation, OrCreate}
 use Rattle.vt_spec.specs.Machine.Changes.Change.{CopyUp, SetBytes}
 use Rattle.vt_spec.specs.Errors.{Rules}
-use Rattle.vt_spec.specs.Machine.Filesystems.{raised, with_change_counted}
+use Rattle.vt_spec.specs.Machine.Filesystems.{with_change}
 use Rattle.vt_spec.specs.Machine.Lists.{Fresh, evens}
 use Rattle.vt_spec.specs.Machine.Mounts.{Location}
 use Rattle.vt_spec.specs.Machine.Outcome.Making.{file_word_rules, make_rules, new_file, with_new}
@@ -66,12 +66,9 @@ module _ {N : Type 0} (eq : N → N → Bool) where
   copy_rules copies world = Descriptors.copy_rules copies (looks_of eq world)
 
   -- the world with what lies only below copied, if it is asked for
-  abbrev pub with_copy_counted : Bool → (ℕ → ℕ) → Fresh N → World N → Location N → World N
-  with_copy_counted true count fresh world file = with_change_counted eq count fresh world file (CopyUp file.node)
-  with_copy_counted false count fresh world file = world
-
   abbrev pub with_copy : Bool → Fresh N → World N → Location N → World N
-  with_copy copies fresh world file = with_copy_counted copies raised fresh world file
+  with_copy true fresh world file = with_change eq fresh world file (CopyUp file.node)
+  with_copy false fresh world file = world
 
   abbrev pub open_rules : World N → Task N → Location N → Access → Rules
   open_rules world task = Descriptors.open_rules (looks_of eq world) task
@@ -117,14 +114,11 @@ module _ {N : Type 0} (eq : N → N → Bool) where
   pwrite_rules world = Descriptors.pwrite_rules (looks_of eq world)
 
   -- the world with bytes at an offset of a file; no bytes change nothing
-  abbrev pub pwritten_counted : (ℕ → ℕ) → Fresh N → World N → Location N → ℕ → List ℕ → World N
-  pwritten_counted count fresh world file offset [] = world
-  pwritten_counted count fresh world file offset (byte ∷ bytes) =
-      with_change_counted eq count fresh world file
-      (SetBytes file.node (overwritten offset (byte ∷ bytes) (bytes_in (node_at eq world file))))
-
   abbrev pub pwritten : Fresh N → World N → Location N → ℕ → List ℕ → World N
-  pwritten fresh world file offset bytes = pwritten_counted raised fresh world file offset bytes
+  pwritten fresh world file offset [] = world
+  pwritten fresh world file offset (byte ∷ bytes) =
+      with_change eq fresh world file
+      (SetBytes file.node (overwritten offset (byte ∷ bytes) (bytes_in (node_at eq world file))))
 
   unfoldable pub pwrite_outcome : Fresh N → World N → Task N → ℕ → ℕ → List ℕ → Outcome N
   pwrite_outcome fresh world task number offset bytes =
