@@ -5,28 +5,26 @@ use Rattle.std.proofs.lemmas.Slice.Eq.{bytes_eq-Decides}
 use Rattle.vt_spec.specs.declared.errors.Deny.{Deny}
 use Rattle.vt_spec.specs.declared.errors.Rule.TheVariants.{S2}
 use Rattle.vt_spec.specs.Errors.{denial}
-use Rattle.vt_spec.specs.Machine.Apply.{apply, apply_unraised, filesystems_changed}
+use Rattle.vt_spec.specs.Machine.Apply.{apply}
 use Rattle.vt_spec.specs.Machine.Calls.{Call}
-use Rattle.vt_spec.specs.Machine.Filesystems.{filesystems_raised}
 use Rattle.vt_spec.specs.Machine.Judge.{Judgement, judge_in}
 use Rattle.vt_spec.specs.Machine.Lists.{Fresh, is_among}
 use Rattle.vt_spec.specs.Machine.Outcomes.{Answer, Outcome, after}
 use Rattle.vt_spec.specs.Machine.Permits.{Permit}
-use Rattle.vt_spec.specs.Machine.Policy.{call_outcome, finished, finished_by, only_looks, policy}
+use Rattle.vt_spec.specs.Machine.Policy.{call_outcome, filesystems_changed_by, finished, finished_by, only_looks, policy}
 use Rattle.vt_spec.specs.Machine.Run.{Serves, numbers_in_use, used_by_filesystem, used_by_mount}
 use Rattle.vt_spec.specs.Machine.Settled.{settled}
 use Rattle.vt_spec.specs.Machine.World.{Filesystem, Task, TaskName, World, same_name, task_called}
 use Rattle.vt_spec.specs.Machine.WorldLaws.{IsWorld, ListsNumbers, MountInvariants, NamespaceInvariants, is_within_limits}
 use Rattle.vt_spec.specs.TreeLaws.{HasOwnParents, IsTree}
 use Rattle.vt_laws.proofs.CallsJudged.{call_is_judged_then_applied}
-use Rattle.vt_laws.proofs.NumbersRaised.{numbers_are_raised_last}
 use Rattle.vt_laws.proofs.OwnRules.{denial_changes_nothing}
 use Rattle.vt_laws.proofs.Unchanged.{look_changes_nothing}
 use Rattle.std.proofs.lemmas.List.Elements.{All-weaker}
 use Rattle.vt_letting_go.proofs.Lists.{Among, all_from_among, among-append_left, among-append_right, among-flat_map, among_from_all, among_numbers, is_among_numbers, passes}
 use Rattle.vt_tree_laws.specs.Trees.{IsFileTree}
 use Rattle.vt_tree_laws.specs.Trees.Calls.{AreNew, IsWorldOfTrees, mounts_overlay}
-use Rattle.vt_tree_laws.specs.Trees.Limits.{HasSmallTasks, names_few_groups}
+use Rattle.vt_tree_laws.specs.Trees.Limits.{names_few_groups}
 use Rattle.vt_tree_laws.specs.Trees.Sizes.{IsFitWorld}
 use Rattle.vt_tree_laws.proofs.ChangesByCalls.{outcome_keeps}
 use Rattle.vt_tree_laws.proofs.ChangesWithinSizes.{outcome_fits}
@@ -39,7 +37,7 @@ use Rattle.vt_world_laws.specs.Worlds.Kept.{IsPlain, IsUnsettled, KeptByPermits,
 use Rattle.vt_world_laws.specs.Worlds.Filesystems.{OneFilesystemANumber}
 use Rattle.vt_world_laws.specs.Worlds.Permits.{IsFitPermit}
 use Rattle.vt_world_laws.specs.Worlds.Tasks.{ForksAreCounted, KeptWhereForksAreCounted, LocationsAreThere, OneTaskAName, OpenFilesAreRegular, TasksStandOnDirectories}
-use Rattle.vt_world_laws.proofs.RaisedInUse.{raising_filesystems_keeps, raising_numbers_keeps_forks, raising_numbers_keeps_world, sizes_before, trees_before, unsettled_of}
+use Rattle.vt_world_laws.proofs.RaisedInUse.{raising_numbers_keeps_forks, raising_numbers_keeps_world, unsettled_of}
 use Rattle.vt_world_laws.proofs.ScriptsKept.{Kept}
 use Rattle.vt_world_laws.proofs.SettledTasks.{file_trees, settling_leaves_a_world}
 
@@ -107,18 +105,17 @@ module _ (fit : PermitsFit)
       (serves : Serves nat_eq world fresh)
       (found : task_called world task.name ≡ Some task) (other : mounts_overlay call ≡ false)
       (few : names_few_groups call ≡ true) (granted : judge_in nat_eq fresh world task call ≡ Ok permit) where
-    abbrev unraised : World ℕ
-    unraised = (apply_unraised nat_eq fresh world task permit).world
-
-    abbrev changed : List ℕ
-    changed = filesystems_changed nat_eq world permit
+    abbrev after_call : World ℕ
+    after_call = (call_outcome nat_eq fresh world task call).world
 
     applied : call_outcome nat_eq fresh world task call ≡ apply nat_eq fresh world task permit
     applied = call_is_judged_then_applied fresh world task call
         ∙ ap (λ j. after world j (apply nat_eq fresh world task)) granted
 
-    raised_last : (call_outcome nat_eq fresh world task call).world ≡ filesystems_raised nat_eq changed unraised
-    raised_last = ap (λ (o : Outcome ℕ). o.world) applied ∙ (numbers_are_raised_last fresh world task permit).1
+    -- what a permit that fits keeps
+    kept_by_call : (Invariant : World ℕ → Type 0) → Invariant (apply nat_eq fresh world task permit).world
+        → Invariant after_call
+    kept_by_call Invariant h = subst (λ (o : Outcome ℕ). Invariant o.world) (sym applied) h
 
     fits : IsFitPermit fresh world task permit
     fits = fit world fresh task call permit is plain serves found other granted
@@ -129,62 +126,57 @@ module _ (fit : PermitsFit)
         (all_from_among (λ (t : Task ℕ). is_within_limits t ≡ true) world.tasks
         (passes is_within_limits world.tasks is.tasks.small_tasks)) found
 
-    trees : IsWorldOfTrees unraised
+    trees : IsWorldOfTrees after_call
     trees =
-        trees_before changed unraised
-        (subst IsWorldOfTrees raised_last
-        (outcome_keeps fresh world task
+        outcome_keeps fresh world task
         (record { plain = plain; trees = file_trees world (unsettled_of world is plain) })
-        (worlds_are_standing world is) (new_numbers world fresh is serves) call other))
+        (worlds_are_standing world is) (new_numbers world fresh is serves) call other
 
-    sizes : IsFitWorld unraised
-    sizes =
-        sizes_before changed unraised
-        (subst IsFitWorld raised_last
-        (outcome_fits fresh world task (record { plain = plain; fit = is.files.fit_filesystems }) call other))
+    sizes : IsFitWorld after_call
+    sizes = outcome_fits fresh world task (record { plain = plain; fit = is.files.fit_filesystems }) call other
 
-    small : HasSmallTasks unraised
-    small = subst HasSmallTasks raised_last (outcome_small fresh world task is.tasks.small_tasks within call few)
-
-    unraised_is : IsUnsettled unraised
-    unraised_is = record {
+    unsettled : IsUnsettled after_call
+    unsettled = record {
       plain = trees.plain;
       files = record {
         trees = All-weaker (λ (f : Filesystem ℕ). IsFileTree f.files) (λ f. IsTree f.files.tree)
-            (λ f t. t.tree) unraised.filesystems trees.trees;
+            (λ f t. t.tree) after_call.filesystems trees.trees;
         own_parents = All-weaker (λ (f : Filesystem ℕ). IsFileTree f.files) (λ f. HasOwnParents f.files.tree)
-            (λ f t. t.own_parents) unraised.filesystems trees.trees;
+            (λ f t. t.own_parents) after_call.filesystems trees.trees;
         numbers = All-weaker (λ (f : Filesystem ℕ). IsFileTree f.files) (λ f. ListsNumbers nat_eq f.files)
-            (λ f t. t.numbers) unraised.filesystems trees.trees;
-        one_filesystem = one_filesystem world fresh task permit is plain serves found fits;
+            (λ f t. t.numbers) after_call.filesystems trees.trees;
+        one_filesystem = kept_by_call OneFilesystemANumber
+            (one_filesystem world fresh task permit is plain serves found fits);
         fit_filesystems = sizes.fit;
       };
-      mounts = kept_mounts world fresh task permit is plain serves found fits;
-      namespaces = kept_namespaces world fresh task permit is plain serves found fits;
+      mounts = kept_by_call (MountInvariants nat_eq)
+          (kept_mounts world fresh task permit is plain serves found fits);
+      namespaces = kept_by_call (NamespaceInvariants nat_eq)
+          (kept_namespaces world fresh task permit is plain serves found fits);
       tasks = record {
-        one_task = kept_names world fresh task permit is plain forks serves found fits;
-        small_tasks = small;
-        locations_live = kept_locations world fresh task permit is plain serves found fits;
-        directories = kept_directories world fresh task permit is plain serves found fits;
-        open_files = kept_files world fresh task permit is plain serves found fits;
+        one_task = kept_by_call OneTaskAName
+            (kept_names world fresh task permit is plain forks serves found fits);
+        small_tasks = outcome_small fresh world task is.tasks.small_tasks within call few;
+        locations_live = kept_by_call LocationsAreThere
+            (kept_locations world fresh task permit is plain serves found fits);
+        directories = kept_by_call TasksStandOnDirectories
+            (kept_directories world fresh task permit is plain serves found fits);
+        open_files = kept_by_call OpenFilesAreRegular
+            (kept_files world fresh task permit is plain serves found fits);
       };
-      roots = kept_roots world fresh task permit is plain serves found fits;
+      roots = kept_by_call MountsShow (kept_roots world fresh task permit is plain serves found fits);
     }
 
-    unsettled : IsUnsettled (call_outcome nat_eq fresh world task call).world
-    unsettled = subst IsUnsettled (sym raised_last) (raising_filesystems_keeps changed unraised unraised_is)
-
-    -- and then it goes, and numbers are raised
-    finished_keeps : (name : TaskName)
-        → Kept (finished_by nat_eq false world name (call_outcome nat_eq fresh world task call)).world
-    finished_keeps name =
-        let left = settling_leaves_a_world (call_outcome nat_eq fresh world task call).world unsettled in
-        let last = raising_numbers_keeps_world world name
-        (settled nat_eq (call_outcome nat_eq fresh world task call).world) left.0 left.1 in (
+    -- and then what nothing uses goes, and numbers are raised
+    finished_keeps : (name : TaskName) (changed : List ℕ)
+        → Kept (finished_by nat_eq false world name changed (call_outcome nat_eq fresh world task call)).world
+    finished_keeps name changed =
+        let left = settling_leaves_a_world after_call unsettled in
+        let last = raising_numbers_keeps_world world name changed (settled nat_eq after_call) left.0 left.1 in (
           last.0,
           last.1,
-          raising_numbers_keeps_forks world name (settled nat_eq (call_outcome nat_eq fresh world task call).world)
-              (subst ForksAreCounted (sym raised_last)
+          raising_numbers_keeps_forks world name changed (settled nat_eq after_call)
+              (kept_by_call ForksAreCounted
               (kept_forks world fresh task permit is plain forks serves found fits)),
         )
 
@@ -205,19 +197,24 @@ module _ (fit : PermitsFit)
     called : (task : Task ℕ) → task_called world name ≡ Some task → Kept (policy nat_eq fresh world name call).world
     called task found = by (only_looks call || not (is_ok outcome.answer)) refl
       where
+        changed : List ℕ
+        changed = filesystems_changed_by nat_eq world (judge_in nat_eq fresh world task call)
+
         outcome : Outcome ℕ
         outcome = call_outcome nat_eq fresh world task call
 
-        it_is : policy nat_eq fresh world name call ≡ finished nat_eq world name call outcome
+        it_is : policy nat_eq fresh world name call ≡ finished nat_eq world name call changed outcome
         it_is = ap (λ o. after world (ok_or o (denial S2))
-            (λ t. finished nat_eq world name call (call_outcome nat_eq fresh world t call))) found
+            (λ t. finished nat_eq world name call
+            (filesystems_changed_by nat_eq world (judge_in nat_eq fresh world t call))
+            (call_outcome nat_eq fresh world t call))) found
 
         by : (b : Bool) → (only_looks call || not (is_ok outcome.answer)) ≡ b
             → Kept (policy nat_eq fresh world name call).world
         by true e = looking (only_looks call) refl e
           where
             same : policy nat_eq fresh world name call ≡ outcome
-            same = it_is ∙ ap (λ b. finished_by nat_eq b world name outcome) e
+            same = it_is ∙ ap (λ b. finished_by nat_eq b world name changed outcome) e
 
             not_ok : (b : Bool) → not b ≡ true → b ≡ false
             not_ok true f = absurd (true≢false (sym f))
@@ -230,8 +227,8 @@ module _ (fit : PermitsFit)
                 refused outcome.answer (ap (λ (o : Outcome ℕ). o.answer) same) (not_ok (is_ok outcome.answer) f)
         by false e = judged (judge_in nat_eq fresh world task call) refl
           where
-            same : policy nat_eq fresh world name call ≡ finished_by nat_eq false world name outcome
-            same = it_is ∙ ap (λ b. finished_by nat_eq b world name outcome) e
+            same : policy nat_eq fresh world name call ≡ finished_by nat_eq false world name changed outcome
+            same = it_is ∙ ap (λ b. finished_by nat_eq b world name changed outcome) e
 
             judged : (judgement : Judgement ℕ) → judge_in nat_eq fresh world task call ≡ judgement
                 → Kept (policy nat_eq fresh world name call).world
@@ -244,7 +241,7 @@ module _ (fit : PermitsFit)
             judged (Ok permit) f =
                 subst Kept (sym (ap (λ (o : Outcome ℕ). o.world) same))
                 (finished_keeps world fresh task call permit is plain forks serves
-                (ap (task_called world) (sym (name_found world name task found)) ∙ found) other few f name)
+                (ap (task_called world) (sym (name_found world name task found)) ∙ found) other few f name changed)
 
   pub calls_keep_worlds : CallsKeepWorlds
   calls_keep_worlds world fresh name call is plain forks serves other few = by (task_called world name) refl
@@ -253,5 +250,7 @@ module _ (fit : PermitsFit)
       by None e =
           unchanged world fresh name call is plain forks serves other few
           (ap (λ o. (after world (ok_or o (denial S2))
-          (λ t. finished nat_eq world name call (call_outcome nat_eq fresh world t call))).world) e)
+          (λ t. finished nat_eq world name call
+          (filesystems_changed_by nat_eq world (judge_in nat_eq fresh world t call))
+          (call_outcome nat_eq fresh world t call))).world) e)
       by (Some task) e = called world fresh name call is plain forks serves other few task e

@@ -1,24 +1,20 @@
 -- What is in use does not go by change numbers, so raising them keeps all invariants.
 use Rattle.std.proofs.Common.{◌≤◌, ◌≡◌, refl, sym, ap, subst, ◌∙◌, ℕ, nat_eq, Bool, true, false, cond, List, [], ◌∷◌, ◌++◌, ◌||◌, ◌&&◌, map, is_some}
-use Rattle.std.specs.Prelude.{All, filter, filter_map}
+use Rattle.std.specs.Prelude.{filter, filter_map}
 use Rattle.std.specs.List.{list_all, list_any}
-use Rattle.std.proofs.lemmas.List.Elements.{All-cons, All-head, All-map, All-nil, All-tail, All-weaker}
-use Rattle.std.proofs.lemmas.List.Folds.{list_all-map}
+use Rattle.std.proofs.lemmas.List.Elements.{All-map, All-weaker}
 use Rattle.vt_spec.specs.Machine.Filesystems.{filesystems_raised, raised, raised_if_changed}
 use Rattle.vt_spec.specs.Machine.Locked.{of_overlay}
 use Rattle.vt_spec.specs.Machine.Mounts.{Location, Mount, root_of}
 use Rattle.vt_spec.specs.Machine.Policy.{numbers_raised, raised_namespace, raised_task, same_mounts_in}
 use Rattle.vt_spec.specs.Machine.Settled.{filesystem_lives, has_layer_on, is_mounted, named_in, objects_of_overlay, settled, used_in}
-use Rattle.vt_spec.specs.Machine.World.{Filesystem, Layer, Namespace, Task, TaskName, World, all_locations, is_overlay, layers_of, mount_at, same_name}
-use Rattle.vt_spec.specs.Machine.WorldLaws.{IsWorld, is_fit_filesystem}
+use Rattle.vt_spec.specs.Machine.World.{Filesystem, Layer, Namespace, Task, TaskName, World, all_locations, layers_of, mount_at, same_name}
+use Rattle.vt_spec.specs.Machine.WorldLaws.{IsWorld}
 use Rattle.vt_spec.proofs.Lists.{all-map, among-from_map, among_from_contains, contains_from_among}
 use Rattle.vt_letting_go.specs.InUse.{AllInUse, is_inode_used}
 use Rattle.vt_letting_go.proofs.InUse.{nothing_goes, what_is_left_is_in_use}
 use Rattle.vt_letting_go.proofs.Lists.{any-map, flat_map-map}
 use Rattle.vt_letting_go.proofs.OfWorlds.{uppers_of_worlds_are_plain, worlds_have_trees}
-use Rattle.vt_tree_laws.specs.Trees.{IsFileTree}
-use Rattle.vt_tree_laws.specs.Trees.Calls.{IsWorldOfTrees}
-use Rattle.vt_tree_laws.specs.Trees.Sizes.{IsFitWorld}
 use Rattle.vt_world_laws.specs.Worlds.Kept.{IsPlain, IsUnsettled}
 use Rattle.vt_world_laws.specs.Worlds.Tasks.{ForksAreCounted}
 use Rattle.vt_world_laws.proofs.Plain.{plain_overlays}
@@ -120,14 +116,6 @@ unchanged : {A : Type 0} (list : List A) → list ≡ map (λ a. a) list
 unchanged [] = refl
 unchanged (a ∷ list) = ap (λ rest. a ∷ rest) (unchanged list)
 
-all_before : (P : Filesystem ℕ → Type 0) (change : Filesystem ℕ → Filesystem ℕ) (list : List (Filesystem ℕ))
-    → All P (map change list)
-    → ((f : Filesystem ℕ) → P (change f) → P f) → All P list
-all_before P change [] h keep = All-nil P
-all_before P change (f ∷ list) h keep =
-    All-cons P f list (keep f (All-head P (change f) (map change list) h))
-    (all_before P change list (All-tail P (change f) (map change list) h) keep)
-
 module _ (changed : List ℕ) (world : World ℕ) where
   abbrev number_if : Filesystem ℕ → ℕ
   number_if filesystem = cond (list_any (λ number. nat_eq number filesystem.number) changed)
@@ -150,31 +138,6 @@ module _ (changed : List ℕ) (world : World ℕ) where
     tasks = unchanged world.tasks i;
   }
 
-  -- and what was there before has the trees that are there afterwards
-  pub trees_before : IsWorldOfTrees (filesystems_raised nat_eq changed world) → IsWorldOfTrees world
-  trees_before is =
-      let same : IsWorldOfTrees (counted number_if (λ namespace. namespace.change)
-      (λ task. task.change) world.change world) =
-      subst IsWorldOfTrees filesystems_raised_are is in
-      record {
-        plain = all_before (λ f. is_overlay f ≡ false)
-            (λ (f : Filesystem ℕ). record f { change = number_if f }) world.filesystems same.plain (λ f h. h);
-        trees = all_before (λ f. IsFileTree f.files)
-            (λ (f : Filesystem ℕ). record f { change = number_if f }) world.filesystems same.trees (λ f h. h);
-      }
-
-  pub sizes_before : IsFitWorld (filesystems_raised nat_eq changed world) → IsFitWorld world
-  sizes_before is =
-      let same : IsFitWorld (counted number_if (λ namespace. namespace.change)
-      (λ task. task.change) world.change world) =
-      subst IsFitWorld filesystems_raised_are is in
-      record {
-        plain = all_before (λ f. is_overlay f ≡ false)
-            (λ (f : Filesystem ℕ). record f { change = number_if f }) world.filesystems same.plain (λ f h. h);
-        fit = sym (list_all-map is_fit_filesystem
-            (λ (f : Filesystem ℕ). record f { change = number_if f }) world.filesystems) ∙ same.fit;
-      }
-
   pub raising_filesystems_keeps : IsUnsettled world → IsUnsettled (filesystems_raised nat_eq changed world)
   raising_filesystems_keeps is =
       subst IsUnsettled (sym filesystems_raised_are)
@@ -186,7 +149,7 @@ module _ (changed : List ℕ) (world : World ℕ) where
       subst (λ w. IsWorld nat_eq w × IsPlain w) (sym filesystems_raised_are)
       (world_counted number_if (λ namespace. namespace.change) (λ task. task.change) world.change world is plain)
 
-module _ (before : World ℕ) (name : TaskName) (world : World ℕ) where
+module _ (before : World ℕ) (name : TaskName) (changed : List ℕ) (world : World ℕ) where
   abbrev namespace_if : Namespace ℕ → ℕ
   namespace_if namespace = cond (same_mounts_in nat_eq before world namespace.number) namespace.change
       (raised namespace.change)
@@ -211,28 +174,30 @@ module _ (before : World ℕ) (name : TaskName) (world : World ℕ) where
       by true = refl
       by false = refl
 
-  numbers_raised_are : numbers_raised nat_eq before name world
-      ≡ counted (λ filesystem. filesystem.change) namespace_if task_if (raised world.change) world
+  numbers_raised_are : numbers_raised nat_eq before name changed world
+      ≡ counted (number_if changed world) namespace_if task_if (raised world.change) world
   numbers_raised_are = λ i. record world {
-    filesystems = unchanged world.filesystems i;
+    filesystems = map (λ filesystem. raised_filesystem_is changed world filesystem i) world.filesystems;
     namespaces = map (λ namespace. raised_namespace_is namespace i) world.namespaces;
     tasks = map (λ task. raised_task_is task i) world.tasks;
     change = raised world.change;
   }
 
-  pub raising_numbers_keeps : IsUnsettled world → IsUnsettled (numbers_raised nat_eq before name world)
+  pub raising_numbers_keeps : IsUnsettled world → IsUnsettled (numbers_raised nat_eq before name changed world)
   raising_numbers_keeps is =
       subst IsUnsettled (sym numbers_raised_are)
-      (unsettled_counted (λ filesystem. filesystem.change) namespace_if task_if (raised world.change) world is)
+      (unsettled_counted (number_if changed world) namespace_if task_if (raised world.change) world is)
 
   pub raising_numbers_keeps_world : IsWorld nat_eq world → IsPlain world
-      → IsWorld nat_eq (numbers_raised nat_eq before name world) × IsPlain (numbers_raised nat_eq before name world)
+      → IsWorld nat_eq (numbers_raised nat_eq before name changed world)
+      × IsPlain (numbers_raised nat_eq before name changed world)
   raising_numbers_keeps_world is plain =
       subst (λ w. IsWorld nat_eq w × IsPlain w) (sym numbers_raised_are)
-      (world_counted (λ filesystem. filesystem.change) namespace_if task_if (raised world.change) world is plain)
+      (world_counted (number_if changed world) namespace_if task_if (raised world.change) world is plain)
 
   -- tasks count their forks as before
-  pub raising_numbers_keeps_forks : ForksAreCounted world → ForksAreCounted (numbers_raised nat_eq before name world)
+  pub raising_numbers_keeps_forks : ForksAreCounted world
+      → ForksAreCounted (numbers_raised nat_eq before name changed world)
   raising_numbers_keeps_forks is task other number rest m n e =
       let one = among-from_map (raised_task name) world.tasks task
       (among_from_contains (map (raised_task name) world.tasks) task m) in
