@@ -326,7 +326,7 @@ module _ (fresh : Fresh ℕ) (world : World ℕ) (task : Task ℕ) (conditions :
     fit = ap (list_all is_fit_filesystem) same ∙ all_appended is_fit_filesystem world.filesystems (plain_filesystem nat_eq fresh) conditions.fit (new_plain_fits (evens fresh 0) (evens fresh 1));
   }
 
-  outcome_fits : (call : Call) → mounts_overlay call ≡ false → IsFitWorld (call_outcome nat_eq fresh world task call).world
+  pub outcome_fits : (call : Call) → mounts_overlay call ≡ false → IsFitWorld (call_outcome nat_eq fresh world task call).world
   outcome_fits (Ls path) other = list_keeps IsFitWorld alike_fit fresh world task conditions path
   outcome_fits (Stat path) other = stat_keeps IsFitWorld alike_fit fresh world task conditions path
   outcome_fits (Lstat path) other = lstat_keeps IsFitWorld alike_fit fresh world task conditions path

@@ -490,7 +490,7 @@ fork_given None few given e = none_is_not None given refl e
 fork_given (Some words) few given e = ap (λ (w : ForkWords). nat_le (length w.groups) 32) (sym (ap (λ o. unwrap_or o words) e)) ∙ few
 
 module _ (fresh : Fresh ℕ) (world : World ℕ) (task : Task ℕ) (small : HasSmallTasks world) (is : is_within_limits task ≡ true) where
-  outcome_small : (call : Call) → names_few_groups call ≡ true → HasSmallTasks (call_outcome nat_eq fresh world task call).world
+  pub outcome_small : (call : Call) → names_few_groups call ≡ true → HasSmallTasks (call_outcome nat_eq fresh world task call).world
   outcome_small (Ls path) few = list_small fresh world task small is path
   outcome_small (Stat path) few = stat_small fresh world task small is path
   outcome_small (Lstat path) few = lstat_small fresh world task small is path

@@ -23,3 +23,13 @@ pub mod Shows
 pub mod ShowsAttached
 pub mod ShowsGrafts
 pub mod Sketch
+pub mod Plain
+pub mod Raised
+pub mod RaisedInUse
+pub mod SettledSeen
+pub mod SettledMounts
+pub mod SettledTasks
+pub mod OpeningWorld
+pub mod WordsFew
+pub mod ScriptsKept
+pub mod CallsKept

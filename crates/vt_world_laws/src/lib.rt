@@ -3,4 +3,6 @@
 //! Each public function is a theorem of the written policy, and does nothing.
 #![tactic(auto)]
 
+pub mod opening;
+pub mod settling;
 pub mod worlds;
