@@ -22,7 +22,6 @@ pub mod TasksNamed
 pub mod Shows
 pub mod ShowsAttached
 pub mod ShowsGrafts
-pub mod Sketch
 pub mod Plain
 pub mod Raised
 pub mod RaisedInUse

@@ -3,15 +3,15 @@ use Rattle.std.proofs.Common.{◌≡◌, refl, sym, ap, subst, ◌∙◌, inl, i
 use Rattle.std.specs.Prelude.{All}
 use Rattle.std.specs.List.{list_any}
 use Rattle.std.proofs.lemmas.Bool.{or_parts}
-use Rattle.vt_spec.specs.Machine.Apply.{apply_unraised}
+use Rattle.vt_spec.specs.Machine.Apply.{apply}
 use Rattle.vt_spec.specs.Machine.Changes.Change.{CopyUp, Make, Move, Remove}
 use Rattle.vt_spec.specs.Machine.Changes.{Change}
 use Rattle.vt_spec.specs.Machine.Detach.{going, without_mounts_on}
-use Rattle.vt_spec.specs.Machine.Filesystems.{with_change_counted}
+use Rattle.vt_spec.specs.Machine.Filesystems.{with_change}
 use Rattle.vt_spec.specs.Machine.Lists.{Fresh, any_pair, evens, odds}
 use Rattle.vt_spec.specs.Machine.Mounts.{Location}
 use Rattle.vt_spec.specs.Machine.Namespaces.{namespace_entered, unshared}
-use Rattle.vt_spec.specs.Machine.Outcome.Descriptors.{is_copied_up, pwritten_counted, with_copy_counted}
+use Rattle.vt_spec.specs.Machine.Outcome.Descriptors.{is_copied_up, pwritten, with_copy}
 use Rattle.vt_spec.specs.Machine.Outcome.Mounting.{plain_filesystem}
 use Rattle.vt_spec.specs.Machine.Outcome.Removing.{without_replaced}
 use Rattle.vt_spec.specs.Machine.Permits.{Permit}
@@ -98,7 +98,7 @@ go_on_apart before after (one_more new list one differ e) apart_all =
 module _ (world : World ℕ) (fresh : Fresh ℕ) (task : Task ℕ) (plain : IsPlain world)
     (serves : Serves nat_eq world fresh) where
   abbrev after : Permit ℕ → World ℕ
-  after permit = (apply_unraised nat_eq fresh world task permit).world
+  after permit = (apply nat_eq fresh world task permit).world
 
   abbrev Goes : Permit ℕ → Type 0
   Goes permit = FilesystemsGoOn world.filesystems (after permit).filesystems
@@ -107,23 +107,23 @@ module _ (world : World ℕ) (fresh : Fresh ℕ) (task : Task ℕ) (plain : IsPl
   changing : (supply : Fresh ℕ) (middle : World ℕ) → IsPlain middle → middle.filesystems ≡ world.filesystems
       → (location : Location ℕ) (change : Change ℕ)
       → FilesystemsGoOn world.filesystems
-      (with_change_counted nat_eq (λ number. number) supply middle location change).filesystems
+      (with_change nat_eq supply middle location change).filesystems
   changing supply middle also same location change =
-      let new = changed_one (λ number. number) supply middle also location change in
-      one_changed new (with_change_counted nat_eq (λ number. number) supply middle location change).filesystems
+      let new = changed_one supply middle also location change in
+      one_changed new (with_change nat_eq supply middle location change).filesystems
       (numbered_anyhow (λ filesystem. is_overlay filesystem ≡ false)
       (mount_at nat_eq middle location).filesystem middle.filesystems also refl)
-      (ap (λ (w : World ℕ). w.filesystems) (change_of_plain (λ number. number) supply middle also location change)
+      (ap (λ (w : World ℕ). w.filesystems) (change_of_plain supply middle also location change)
       ∙ ap (map (replaced_if_numbered nat_eq new)) same)
 
   copying : (b : Bool) (file : Location ℕ)
-      → FilesystemsGoOn world.filesystems (with_copy_counted nat_eq b (λ number. number) fresh world file).filesystems
+      → FilesystemsGoOn world.filesystems (with_copy nat_eq b fresh world file).filesystems
   copying true file = changing fresh world plain refl file (CopyUp file.node)
   copying false file = same_ones world.filesystems refl
 
   writing : (file : Location ℕ) (offset : ℕ) (bytes : List ℕ)
       → FilesystemsGoOn world.filesystems
-      (pwritten_counted nat_eq (λ number. number) fresh world file offset bytes).filesystems
+      (pwritten nat_eq fresh world file offset bytes).filesystems
   writing file offset [] = same_ones world.filesystems refl
   writing file offset (byte ∷ bytes) = changing fresh world plain refl file _
 

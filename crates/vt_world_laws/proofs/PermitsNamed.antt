@@ -2,15 +2,15 @@
 -- them.
 use Rattle.std.proofs.Common.{◌≡◌, refl, ap, ◌∙◌, ℕ, nat_eq, Bool, true, false, List, [], ◌∷◌, map}
 use Rattle.std.specs.Prelude.{unwrap_or}
-use Rattle.vt_spec.specs.Machine.Apply.{apply_unraised}
+use Rattle.vt_spec.specs.Machine.Apply.{apply}
 use Rattle.vt_spec.specs.Machine.Changes.Change.{CopyUp, Make, Move, Remove}
 use Rattle.vt_spec.specs.Machine.Changes.{Change}
 use Rattle.vt_spec.specs.Machine.Detach.{going, without_mounts_on}
-use Rattle.vt_spec.specs.Machine.Filesystems.{with_change_counted}
+use Rattle.vt_spec.specs.Machine.Filesystems.{with_change}
 use Rattle.vt_spec.specs.Machine.Lists.{Fresh, evens, odds}
 use Rattle.vt_spec.specs.Machine.Mounts.{Location, numbers_by}
 use Rattle.vt_spec.specs.Machine.Namespaces.{entered_at, namespace_entered, namespace_root, unshared, unshared_task}
-use Rattle.vt_spec.specs.Machine.Outcome.Descriptors.{is_copied_up, pwritten_counted, with_copy_counted, with_descriptor, without_descriptor}
+use Rattle.vt_spec.specs.Machine.Outcome.Descriptors.{is_copied_up, pwritten, with_copy, with_descriptor, without_descriptor}
 use Rattle.vt_spec.specs.Machine.Outcome.Removing.{without_replaced}
 use Rattle.vt_spec.specs.Machine.Permits.{Permit}
 use Rattle.vt_spec.specs.Machine.Permits.Permit.{Allowed, ToBind, ToChange, ToClose, ToEnterNamespace, ToExit, ToFork, ToList, ToListMounts, ToMake, ToMountOverlay, ToMountPlain, ToMove, ToOpen, ToOpenNew, ToPivot, ToRead, ToReadPart, ToRemoveDirectory, ToRename, ToSetCredentials, ToSetDirectory, ToSetFlags, ToSetRoot, ToSetType, ToSetUmask, ToStat, ToUnmount, ToUnmountLazily, ToUnshare, ToWritePart}
@@ -29,22 +29,22 @@ use Rattle.vt_world_laws.proofs.TasksNamed.GoOn.{all_moved, one_changed, one_lef
 
 module _ (world : World ℕ) (fresh : Fresh ℕ) (task : Task ℕ) (plain : IsPlain world) where
   abbrev after : Permit ℕ → World ℕ
-  after permit = (apply_unraised nat_eq fresh world task permit).world
+  after permit = (apply nat_eq fresh world task permit).world
 
   abbrev Goes : Permit ℕ → Type 0
   Goes permit = GoOn task world.tasks (after permit).tasks
 
   changed_alike : (location : Location ℕ) (change : Change ℕ)
-      → (with_change_counted nat_eq (λ number. number) fresh world location change).tasks ≡ world.tasks
-  changed_alike location change = change_tasks (λ number. number) fresh world plain location change
+      → (with_change nat_eq fresh world location change).tasks ≡ world.tasks
+  changed_alike location change = change_tasks fresh world plain location change
 
   copied_alike : (b : Bool) (file : Location ℕ)
-      → (with_copy_counted nat_eq b (λ number. number) fresh world file).tasks ≡ world.tasks
+      → (with_copy nat_eq b fresh world file).tasks ≡ world.tasks
   copied_alike true file = changed_alike file (CopyUp file.node)
   copied_alike false file = refl
 
   written_alike : (file : Location ℕ) (offset : ℕ) (bytes : List ℕ)
-      → (pwritten_counted nat_eq (λ number. number) fresh world file offset bytes).tasks ≡ world.tasks
+      → (pwritten nat_eq fresh world file offset bytes).tasks ≡ world.tasks
   written_alike file offset [] = refl
   written_alike file offset (byte ∷ bytes) = changed_alike file _
 
@@ -58,17 +58,17 @@ module _ (world : World ℕ) (fresh : Fresh ℕ) (task : Task ℕ) (plain : IsPl
       (changed_alike location change)
   tasks_go_on (ToMake directory name node) fits =
       same_ones (after (ToMake directory name node)).tasks
-      (change_tasks (λ number. number) (odds fresh) world plain directory
+      (change_tasks (odds fresh) world plain directory
       (Make directory.node name (evens fresh 0) node))
   tasks_go_on (ToRemoveDirectory parent name directory) fits =
       same_ones (after (ToRemoveDirectory parent name directory)).tasks
-      (change_tasks (λ number. number) fresh (without_mounts_on nat_eq world directory)
+      (change_tasks fresh (without_mounts_on nat_eq world directory)
       (taken_plain world (gone_on world directory) plain) parent
       (Remove parent.node name directory.node)
       ∙ taken_tasks world (gone_on world directory))
   tasks_go_on (ToRename from old to new object replaced) fits =
       same_ones (after (ToRename from old to new object replaced)).tasks
-      (change_tasks (λ number. number) fresh (without_replaced nat_eq world replaced)
+      (change_tasks fresh (without_replaced nat_eq world replaced)
       (replaced_plain world replaced plain) from
       (Move from.node old to.node new object.node)
       ∙ replaced_tasks world replaced)
@@ -80,7 +80,7 @@ module _ (world : World ℕ) (fresh : Fresh ℕ) (task : Task ℕ) (plain : IsPl
       let file : Location ℕ = record { mount = directory.mount; node = evens fresh 0 } in
       one_changed (with_descriptor task file access) (after (ToOpenNew directory name node access)).tasks refl refl
       (ap (map (replaced_if_called (with_descriptor task file access)))
-      (change_tasks (λ number. number) (odds fresh) world plain directory
+      (change_tasks (odds fresh) world plain directory
       (Make directory.node name (evens fresh 0) node)))
   tasks_go_on (ToWritePart file offset bytes) fits =
       same_ones (after (ToWritePart file offset bytes)).tasks (written_alike file offset bytes)

@@ -3,17 +3,17 @@ use Rattle.std.proofs.Common.{◌≡◌, refl, sym, ap, subst, ◌∙◌, inl, i
 use Rattle.std.specs.Prelude.{unwrap_or, ◌==◌, ◌+◌}
 use Rattle.std.proofs.lemmas.Bool.{and_from, and_parts}
 use Rattle.vt_spec.specs.declared.attributes.Kind.TheVariants.{File}
-use Rattle.vt_spec.specs.Machine.Apply.{apply_unraised}
+use Rattle.vt_spec.specs.Machine.Apply.{apply}
 use Rattle.vt_spec.specs.Machine.Calls.{Access}
 use Rattle.vt_spec.specs.Machine.Changes.{Change}
 use Rattle.vt_spec.specs.Machine.Changes.Change.{CopyUp, Make, Move, Remove}
 use Rattle.vt_spec.specs.Machine.Detach.{going, without_mounts_on}
-use Rattle.vt_spec.specs.Machine.Filesystems.{with_change_counted}
+use Rattle.vt_spec.specs.Machine.Filesystems.{with_change}
 use Rattle.vt_spec.specs.Machine.FileTree.{is_kind}
 use Rattle.vt_spec.specs.Machine.Lists.{Fresh, evens, holds_of, odds}
 use Rattle.vt_spec.specs.Machine.Mounts.{Location, numbers_by}
 use Rattle.vt_spec.specs.Machine.Namespaces.{entered_at, namespace_entered, namespace_root, namespaces_ended, pivoted_task, unshared, unshared_task}
-use Rattle.vt_spec.specs.Machine.Outcome.Descriptors.{is_copied_up, pwritten_counted, with_copy_counted, with_descriptor, without_descriptor}
+use Rattle.vt_spec.specs.Machine.Outcome.Descriptors.{is_copied_up, pwritten, with_copy, with_descriptor, without_descriptor}
 use Rattle.vt_spec.specs.Machine.Outcome.Removing.{without_replaced}
 use Rattle.vt_spec.specs.Machine.Outcome.Tasks.{child_of}
 use Rattle.vt_spec.specs.Machine.Permits.{Permit}
@@ -68,7 +68,7 @@ opened_placed world task file access at opens =
     }
 
 -- A new file
-module _ (count : ℕ → ℕ) (fresh : Fresh ℕ) (world : World ℕ) (plain : IsPlain world) (directory : Location ℕ)
+module _ (fresh : Fresh ℕ) (world : World ℕ) (plain : IsPlain world) (directory : Location ℕ)
     (name : List ℕ)
     (number : ℕ) (node : Node ℕ) (is_directory : is_directory_at nat_eq world directory ≡ true) where
   abbrev made : Change ℕ
@@ -78,7 +78,7 @@ module _ (count : ℕ → ℕ) (fresh : Fresh ℕ) (world : World ℕ) (plain : 
   there = record { mount = directory.mount; node = number }
 
   abbrev grown : Filesystem ℕ
-  grown = changed_one count fresh world plain directory made
+  grown = changed_one fresh world plain directory made
 
   pub new_kind : kind_seen (node_at nat_eq (with_filesystem nat_eq world grown) there) ≡ Some (kind_of node.content)
   new_kind =
@@ -94,12 +94,12 @@ module _ (count : ℕ → ℕ) (fresh : Fresh ℕ) (world : World ℕ) (plain : 
       (found_new grown world.filesystems)
     where
       same : grown.number ≡ (mount_at nat_eq world directory).filesystem
-      same = old_number count fresh world plain directory made
+      same = old_number fresh world plain directory made
 
 module _ (world : World ℕ) (fresh : Fresh ℕ) (task : Task ℕ) (is : IsWorld nat_eq world) (plain : IsPlain world)
     (serves : Serves nat_eq world fresh) (called : task_called world task.name ≡ Some task) where
   abbrev after : Permit ℕ → World ℕ
-  after permit = (apply_unraised nat_eq fresh world task permit).world
+  after permit = (apply nat_eq fresh world task permit).world
 
   all_placed : ArePlaced world world.tasks
   all_placed = all_are_placed world is.tasks.locations_live is.tasks.directories is.tasks.open_files
@@ -144,16 +144,16 @@ module _ (world : World ℕ) (fresh : Fresh ℕ) (task : Task ℕ) (is : IsWorld
       (all_placed_after middle (namespaces_ended nat_eq middle) (namespaces_ended_seen middle) middle.tasks at)
 
   change_keeps_tasks : (location : Location ℕ) (change : Change ℕ)
-      → (with_change_counted nat_eq (λ number. number) fresh world location change).tasks ≡ world.tasks
-  change_keeps_tasks location change = change_tasks (λ number. number) fresh world plain location change
+      → (with_change nat_eq fresh world location change).tasks ≡ world.tasks
+  change_keeps_tasks location change = change_tasks fresh world plain location change
 
   copy_keeps_tasks : (b : Bool) (file : Location ℕ)
-      → (with_copy_counted nat_eq b (λ number. number) fresh world file).tasks ≡ world.tasks
+      → (with_copy nat_eq b fresh world file).tasks ≡ world.tasks
   copy_keeps_tasks true file = change_keeps_tasks file (CopyUp file.node)
   copy_keeps_tasks false file = refl
 
   writing_keeps_tasks : (file : Location ℕ) (offset : ℕ) (bytes : List ℕ)
-      → (pwritten_counted nat_eq (λ number. number) fresh world file offset bytes).tasks ≡ world.tasks
+      → (pwritten nat_eq fresh world file offset bytes).tasks ≡ world.tasks
   writing_keeps_tasks file offset [] = refl
   writing_keeps_tasks file offset (byte ∷ bytes) = change_keeps_tasks file _
 
@@ -167,9 +167,9 @@ module _ (world : World ℕ) (fresh : Fresh ℕ) (task : Task ℕ) (is : IsWorld
       let location : Location ℕ = record { mount = directory.mount; node = evens fresh 0 } in
       let kind : kind_seen (node_at nat_eq (after permit) location) ≡ Some (kind_of node.content) =
       ap (λ (w : World ℕ). kind_seen (node_at nat_eq w location))
-      (change_of_plain (λ number. number) (odds fresh) world plain directory
+      (change_of_plain (odds fresh) world plain directory
       (Make directory.node name (evens fresh 0) node))
-      ∙ new_kind (λ number. number) (odds fresh) world plain directory name (evens fresh 0) node fits.0.directory in
+      ∙ new_kind (odds fresh) world plain directory name (evens fresh 0) node fits.0.directory in
       let listed : is_mount world directory.mount ≡ true =
       (and_parts (is_mount world directory.mount) (is_some (node_at nat_eq world directory)) fits.0.reached.there).0 in
       record {
@@ -189,17 +189,17 @@ module _ (world : World ℕ) (fresh : Fresh ℕ) (task : Task ℕ) (is : IsWorld
       unchanged (ToChange location change) fits (change_keeps_tasks location change)
   permits_keep_tasks_placed (ToMake directory name node) fits =
       unchanged (ToMake directory name node) fits
-      (change_tasks (λ number. number) (odds fresh) world plain directory
+      (change_tasks (odds fresh) world plain directory
       (Make directory.node name (evens fresh 0) node))
   permits_keep_tasks_placed (ToRemoveDirectory parent name directory) fits =
       unchanged (ToRemoveDirectory parent name directory) fits
-      (change_tasks (λ number. number) fresh (without_mounts_on nat_eq world directory)
+      (change_tasks fresh (without_mounts_on nat_eq world directory)
       (taken_plain world (gone_on world directory) plain) parent
       (Remove parent.node name directory.node)
       ∙ taken_tasks world (gone_on world directory))
   permits_keep_tasks_placed (ToRename from old to new object replaced) fits =
       unchanged (ToRename from old to new object replaced) fits
-      (change_tasks (λ number. number) fresh (without_replaced nat_eq world replaced)
+      (change_tasks fresh (without_replaced nat_eq world replaced)
       (replaced_plain world replaced plain) from
       (Move from.node old to.node new object.node)
       ∙ replaced_tasks world replaced)
@@ -216,7 +216,7 @@ module _ (world : World ℕ) (fresh : Fresh ℕ) (task : Task ℕ) (is : IsWorld
       let file : Location ℕ = record { mount = directory.mount; node = evens fresh 0 } in
       changed_task permit fits (with_descriptor task file access)
       (ap (map (replaced_if_called (with_descriptor task file access)))
-      (change_tasks (λ number. number) (odds fresh) world plain directory
+      (change_tasks (odds fresh) world plain directory
       (Make directory.node name (evens fresh 0) node)))
       (opened_placed (after permit) task file access (placed_still permit fits)
       (new_file_opens directory name node access fits))

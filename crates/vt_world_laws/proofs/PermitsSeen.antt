@@ -1,7 +1,7 @@
 -- A permit that fits keeps what is seen.
 use Rattle.std.proofs.Common.{◌≡◌, refl, sym, subst, ◌∙◌, ℕ, nat_eq, Bool, true, false, filter, flat_map, List, [], ◌∷◌, Option, Some, None, map}
 use Rattle.std.specs.Prelude.{All}
-use Rattle.vt_spec.specs.Machine.Apply.{apply_unraised}
+use Rattle.vt_spec.specs.Machine.Apply.{apply}
 use Rattle.vt_spec.specs.Machine.Attach.{bind_tree}
 use Rattle.vt_spec.specs.Machine.Changes.{Change}
 use Rattle.vt_spec.specs.Machine.Changes.Change.{AddName, CopyUp, Make, Move, Remove, SetAttr, SetBytes, SetMark}
@@ -9,7 +9,7 @@ use Rattle.vt_spec.specs.Machine.Detach.{going, taken_away, mounts_on, without_m
 use Rattle.vt_spec.specs.Machine.Lists.{Fresh, evens, odds}
 use Rattle.vt_spec.specs.Machine.Mounts.{Location, Mount, mount_tree, numbers_by}
 use Rattle.vt_spec.specs.Machine.Namespaces.{copied_mount, is_in_ended, namespace_entered, namespaces_ended, unshared}
-use Rattle.vt_spec.specs.Machine.Outcome.Descriptors.{is_copied_up, pwritten_counted, with_copy_counted}
+use Rattle.vt_spec.specs.Machine.Outcome.Descriptors.{is_copied_up, pwritten, with_copy}
 use Rattle.vt_spec.specs.Machine.Outcome.Mounting.{plain_filesystem}
 use Rattle.vt_spec.specs.Machine.Outcome.Removing.{without_replaced}
 use Rattle.vt_spec.specs.Machine.Permits.{Permit}
@@ -82,21 +82,21 @@ unshared_seen world fresh task =
     copied_seen world (unshared nat_eq world fresh task)
     (map (copied_mount (numbers_by nat_eq (odds fresh) copied) (evens fresh 0)) copied) refl refl
 
-module _ (count : ℕ → ℕ) (fresh : Fresh ℕ) (world : World ℕ) (plain : IsPlain world) where
+module _ (fresh : Fresh ℕ) (world : World ℕ) (plain : IsPlain world) where
   pub copy_seen : (b : Bool) (file : Location ℕ)
-      → KeepsWhatIsSeen world (with_copy_counted nat_eq b count fresh world file)
-  copy_seen true file = change_seen count fresh world plain file (CopyUp file.node) tt
+      → KeepsWhatIsSeen world (with_copy nat_eq b fresh world file)
+  copy_seen true file = change_seen fresh world plain file (CopyUp file.node) tt
   copy_seen false file = same_seen world
 
   pub written_seen : (file : Location ℕ) (offset : ℕ) (bytes : List ℕ)
-      → KeepsWhatIsSeen world (pwritten_counted nat_eq count fresh world file offset bytes)
+      → KeepsWhatIsSeen world (pwritten nat_eq fresh world file offset bytes)
   written_seen file offset [] = same_seen world
-  written_seen file offset (byte ∷ bytes) = change_seen count fresh world plain file _ tt
+  written_seen file offset (byte ∷ bytes) = change_seen fresh world plain file _ tt
 
 module _ (world : World ℕ) (fresh : Fresh ℕ) (task : Task ℕ) (is : IsWorld nat_eq world) (plain : IsPlain world)
     (serves : Serves nat_eq world fresh) where
   abbrev after : Permit ℕ → World ℕ
-  after permit = (apply_unraised nat_eq fresh world task permit).world
+  after permit = (apply nat_eq fresh world task permit).world
 
   -- numbers of inodes that are made are new
   pub new_at : (location : Location ℕ) → (files_at nat_eq world location).tree.node (evens fresh 0) ≡ None
@@ -110,33 +110,32 @@ module _ (world : World ℕ) (fresh : Fresh ℕ) (task : Task ℕ) (is : IsWorld
   permits_keep_what_is_seen (ToRead file) names = same_seen world
   permits_keep_what_is_seen (ToReadPart file offset size) names = same_seen world
   permits_keep_what_is_seen (ToChange location change) names =
-      change_seen (λ number. number) fresh world plain location change (makes_none world location change names.1)
+      change_seen fresh world plain location change (makes_none world location change names.1)
   permits_keep_what_is_seen (ToMake directory name node) names =
-      change_seen (λ number. number) (odds fresh) world plain directory
+      change_seen (odds fresh) world plain directory
       (Make directory.node name (evens fresh 0) node) (new_at directory)
   permits_keep_what_is_seen (ToRemoveDirectory parent name directory) names =
       let middle_one = without_mounts_on nat_eq world directory in
       seen_on world middle_one (after (ToRemoveDirectory parent name directory)) (point_removed_seen world directory)
-      (change_seen (λ number. number) fresh middle_one (taken_plain world (gone_on world directory) plain) parent
+      (change_seen fresh middle_one (taken_plain world (gone_on world directory) plain) parent
       (Remove parent.node name directory.node) tt)
   permits_keep_what_is_seen (ToRename from old to new object replaced) names =
       let middle_one = without_replaced nat_eq world replaced in
       seen_on world middle_one (after (ToRename from old to new object replaced)) (replaced_seen world replaced)
-      (change_seen (λ number. number) fresh middle_one (replaced_plain world replaced plain) from
+      (change_seen fresh middle_one (replaced_plain world replaced plain) from
       (Move from.node old to.node new object.node) tt)
   permits_keep_what_is_seen (ToOpen file access) names =
-      let copied = with_copy_counted nat_eq (is_copied_up nat_eq world file access)
-      (λ number. number) fresh world file in
+      let copied = with_copy nat_eq (is_copied_up nat_eq world file access) fresh world file in
       seen_on world copied (after (ToOpen file access))
-      (copy_seen (λ number. number) fresh world plain (is_copied_up nat_eq world file access) file)
+      (copy_seen fresh world plain (is_copied_up nat_eq world file access) file)
       (seen_alike copied (after (ToOpen file access)) refl refl)
   permits_keep_what_is_seen (ToOpenNew directory name node access) names =
       seen_on world (after (ToMake directory name node)) (after (ToOpenNew directory name node access))
-      (change_seen (λ number. number) (odds fresh) world plain directory
+      (change_seen (odds fresh) world plain directory
       (Make directory.node name (evens fresh 0) node) (new_at directory))
       (seen_alike (after (ToMake directory name node)) (after (ToOpenNew directory name node access)) refl refl)
   permits_keep_what_is_seen (ToWritePart file offset bytes) names =
-      written_seen (λ number. number) fresh world plain file offset bytes
+      written_seen fresh world plain file offset bytes
   permits_keep_what_is_seen (ToClose descriptor) names = seen_alike world (after (ToClose descriptor)) refl refl
   permits_keep_what_is_seen (ToSetDirectory directory) names =
       seen_alike world (after (ToSetDirectory directory)) refl refl

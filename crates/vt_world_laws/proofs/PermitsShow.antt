@@ -1,15 +1,15 @@
 -- A permit that fits leaves each mount with a root and a place that are directories.
 use Rattle.std.proofs.Common.{◌≡◌, refl, ℕ, nat_eq, Bool, true, false, List, [], ◌∷◌, Option, Some, None, is_some}
 use Rattle.std.proofs.lemmas.Bool.{and_parts}
-use Rattle.vt_spec.specs.Machine.Apply.{apply_unraised}
+use Rattle.vt_spec.specs.Machine.Apply.{apply}
 use Rattle.vt_spec.specs.Machine.Changes.Change.{CopyUp, Make, Move, Remove}
 use Rattle.vt_spec.specs.Machine.Changes.{Change}
 use Rattle.vt_spec.specs.Machine.Detach.{going, without_mounts_on}
-use Rattle.vt_spec.specs.Machine.Filesystems.{with_change_counted}
+use Rattle.vt_spec.specs.Machine.Filesystems.{with_change}
 use Rattle.vt_spec.specs.Machine.Lists.{Fresh, evens, odds}
 use Rattle.vt_spec.specs.Machine.Mounts.{Location}
 use Rattle.vt_spec.specs.Machine.Namespaces.{namespace_entered, unshared}
-use Rattle.vt_spec.specs.Machine.Outcome.Descriptors.{is_copied_up, pwritten_counted, with_copy_counted}
+use Rattle.vt_spec.specs.Machine.Outcome.Descriptors.{is_copied_up, pwritten, with_copy}
 use Rattle.vt_spec.specs.Machine.Outcome.Removing.{without_replaced}
 use Rattle.vt_spec.specs.Machine.Permits.{Permit}
 use Rattle.vt_spec.specs.Machine.Permits.Permit.{Allowed, ToBind, ToChange, ToClose, ToEnterNamespace, ToExit, ToFork, ToList, ToListMounts, ToMake, ToMountOverlay, ToMountPlain, ToMove, ToOpen, ToOpenNew, ToPivot, ToRead, ToReadPart, ToRemoveDirectory, ToRename, ToSetCredentials, ToSetDirectory, ToSetFlags, ToSetRoot, ToSetType, ToSetUmask, ToStat, ToUnmount, ToUnmountLazily, ToUnshare, ToWritePart}
@@ -29,7 +29,7 @@ use Rattle.vt_world_laws.proofs.ShowsGrafts.{bound_show, mounted_show, moved_sho
 module _ (world : World ℕ) (fresh : Fresh ℕ) (task : Task ℕ) (is : IsWorld nat_eq world) (plain : IsPlain world)
     (serves : Serves nat_eq world fresh) where
   abbrev after : Permit ℕ → World ℕ
-  after permit = (apply_unraised nat_eq fresh world task permit).world
+  after permit = (apply nat_eq fresh world task permit).world
 
   shows : AllShow world
   shows = world_shows world is
@@ -45,23 +45,23 @@ module _ (world : World ℕ) (fresh : Fresh ℕ) (task : Task ℕ) (is : IsWorld
   -- a change of a tree
   changing : (supply : Fresh ℕ) (middle : World ℕ) (also : IsPlain middle) → AllShow middle
       → (location : Location ℕ) (change : Change ℕ)
-      → KeepsWhatIsSeen middle (with_change_counted nat_eq (λ number. number) supply middle location change)
-      → AllShow (with_change_counted nat_eq (λ number. number) supply middle location change)
+      → KeepsWhatIsSeen middle (with_change nat_eq supply middle location change)
+      → AllShow (with_change nat_eq supply middle location change)
   changing supply middle also show location change seen =
-      all_show_after middle (with_change_counted nat_eq (λ number. number) supply middle location change) seen
-      (change_mounts (λ number. number) supply middle also location change) show
+      all_show_after middle (with_change nat_eq supply middle location change) seen
+      (change_mounts supply middle also location change) show
 
-  copying : (b : Bool) (file : Location ℕ) → AllShow (with_copy_counted nat_eq b (λ number. number) fresh world file)
+  copying : (b : Bool) (file : Location ℕ) → AllShow (with_copy nat_eq b fresh world file)
   copying true file = changing fresh world plain shows file (CopyUp file.node)
-      (copy_seen (λ number. number) fresh world plain true file)
+      (copy_seen fresh world plain true file)
   copying false file = shows
 
   writing : (file : Location ℕ) (offset : ℕ) (bytes : List ℕ)
-      → AllShow (pwritten_counted nat_eq (λ number. number) fresh world file offset bytes)
+      → AllShow (pwritten nat_eq fresh world file offset bytes)
   writing file offset [] = shows
   writing file offset (byte ∷ bytes) =
       changing fresh world plain shows file _
-      (written_seen (λ number. number) fresh world plain file offset (byte ∷ bytes))
+      (written_seen fresh world plain file offset (byte ∷ bytes))
 
   replacing : (replaced : Option (Location ℕ)) → AllShow (without_replaced nat_eq world replaced)
   replacing None = shows
@@ -81,10 +81,10 @@ module _ (world : World ℕ) (fresh : Fresh ℕ) (task : Task ℕ) (is : IsWorld
   permits_keep_all_shown (ToReadPart file offset size) fits = shows
   permits_keep_all_shown (ToChange location change) fits =
       changing fresh world plain shows location change
-      (change_seen (λ number. number) fresh world plain location change (makes_none world location change fits.1))
+      (change_seen fresh world plain location change (makes_none world location change fits.1))
   permits_keep_all_shown (ToMake directory name node) fits =
       changing (odds fresh) world plain shows directory (Make directory.node name (evens fresh 0) node)
-      (change_seen (λ number. number) (odds fresh) world plain directory
+      (change_seen (odds fresh) world plain directory
       (Make directory.node name (evens fresh 0) node)
       (new_at world fresh task is plain serves directory))
   permits_keep_all_shown (ToRemoveDirectory parent name directory) fits =
@@ -92,22 +92,22 @@ module _ (world : World ℕ) (fresh : Fresh ℕ) (task : Task ℕ) (is : IsWorld
       changing fresh (without_mounts_on nat_eq world directory) also
       (taken_show world (gone_on world directory) shows) parent
       (Remove parent.node name directory.node)
-      (change_seen (λ number. number) fresh (without_mounts_on nat_eq world directory) also parent
+      (change_seen fresh (without_mounts_on nat_eq world directory) also parent
       (Remove parent.node name directory.node) tt)
   permits_keep_all_shown (ToRename from old to new object replaced) fits =
       let also = replaced_plain world replaced plain in
       changing fresh (without_replaced nat_eq world replaced) also (replacing replaced) from
       (Move from.node old to.node new object.node)
-      (change_seen (λ number. number) fresh (without_replaced nat_eq world replaced) also from
+      (change_seen fresh (without_replaced nat_eq world replaced) also from
       (Move from.node old to.node new object.node) tt)
   permits_keep_all_shown (ToOpen file access) fits =
-      alike (with_copy_counted nat_eq (is_copied_up nat_eq world file access) (λ number. number) fresh world file)
+      alike (with_copy nat_eq (is_copied_up nat_eq world file access) fresh world file)
       (after (ToOpen file access))
       refl refl (copying (is_copied_up nat_eq world file access) file)
   permits_keep_all_shown (ToOpenNew directory name node access) fits =
       alike (after (ToMake directory name node)) (after (ToOpenNew directory name node access)) refl refl
       (changing (odds fresh) world plain shows directory (Make directory.node name (evens fresh 0) node)
-      (change_seen (λ number. number) (odds fresh) world plain directory
+      (change_seen (odds fresh) world plain directory
       (Make directory.node name (evens fresh 0) node)
       (new_at world fresh task is plain serves directory)))
   permits_keep_all_shown (ToWritePart file offset bytes) fits = writing file offset bytes

@@ -6,7 +6,7 @@ use Rattle.vt_spec.specs.declared.attributes.Attr.{Attr}
 use Rattle.vt_spec.specs.Machine.Changes.{Change, changed, content_with_mark, content_with_parent, node_with_attr, node_with_mark, node_with_parent, node_without_entry, with_inode, with_name, without_entry, without_name, without_parent}
 use Rattle.vt_spec.specs.Machine.Changes.Change.{AddName, CopyUp, Make, Move, Remove, SetAttr, SetBytes, SetMark}
 use Rattle.vt_spec.specs.Machine.FileTree.{FileTree}
-use Rattle.vt_spec.specs.Machine.Filesystems.{filesystem_changed_counted, with_change_counted, with_files_counted}
+use Rattle.vt_spec.specs.Machine.Filesystems.{filesystem_changed, with_change, with_files}
 use Rattle.vt_spec.specs.Machine.Lists.{Fresh, holds_of, is_among}
 use Rattle.vt_spec.specs.Machine.Mounts.{Location}
 use Rattle.vt_spec.specs.Machine.Run.{Serves, numbers_in_use, used_by_filesystem, used_by_mount}
@@ -241,18 +241,18 @@ module _ (new : Filesystem ℕ) where
           (found_other list number other) ∙ e
 
 -- A change at a location
-module _ (count : ℕ → ℕ) (fresh : Fresh ℕ) (world : World ℕ) (plain : IsPlain world) (location : Location ℕ)
+module _ (fresh : Fresh ℕ) (world : World ℕ) (plain : IsPlain world) (location : Location ℕ)
     (change : Change ℕ) where
   abbrev old : Filesystem ℕ
   old = filesystem_at nat_eq world location
 
   abbrev pub changed_one : Filesystem ℕ
-  changed_one = with_files_counted count old (changed nat_eq old.files change)
+  changed_one = with_files old (changed nat_eq old.files change)
 
-  pub change_of_plain : with_change_counted nat_eq count fresh world location change
+  pub change_of_plain : with_change nat_eq fresh world location change
       ≡ with_filesystem nat_eq world changed_one
   change_of_plain =
-      ap (λ o. filesystem_changed_counted nat_eq count fresh world old o change)
+      ap (λ o. filesystem_changed nat_eq fresh world old o change)
       (no_some old.overlay
       (numbered_anyhow (λ filesystem. is_overlay filesystem ≡ false)
       (mount_at nat_eq world location).filesystem world.filesystems plain refl))
@@ -261,7 +261,7 @@ module _ (count : ℕ → ℕ) (fresh : Fresh ℕ) (world : World ℕ) (plain : 
   old_number = number_numbered (mount_at nat_eq world location).filesystem world.filesystems
 
   pub change_seen : MakesNew old.files change → KeepsWhatIsSeen world
-      (with_change_counted nat_eq count fresh world location change)
+      (with_change nat_eq fresh world location change)
   change_seen new =
       subst (KeepsWhatIsSeen world) (sym change_of_plain)
       (seen_by_nodes world (with_filesystem nat_eq world changed_one) refl
@@ -271,14 +271,14 @@ module _ (count : ℕ → ℕ) (fresh : Fresh ℕ) (world : World ℕ) (plain : 
       (changes_keep_kinds old.files change new k))))
 
   -- the mounts and tasks stay
-  pub change_mounts : (with_change_counted nat_eq count fresh world location change).mounts ≡ world.mounts
+  pub change_mounts : (with_change nat_eq fresh world location change).mounts ≡ world.mounts
   change_mounts = ap (λ (w : World ℕ). w.mounts) change_of_plain
 
-  pub change_tasks : (with_change_counted nat_eq count fresh world location change).tasks ≡ world.tasks
+  pub change_tasks : (with_change nat_eq fresh world location change).tasks ≡ world.tasks
   change_tasks = ap (λ (w : World ℕ). w.tasks) change_of_plain
 
   pub change_filesystems : map (λ (f : Filesystem ℕ). f.number)
-      (with_change_counted nat_eq count fresh world location change).filesystems
+      (with_change nat_eq fresh world location change).filesystems
       ≡ map (λ (f : Filesystem ℕ). f.number) world.filesystems
   change_filesystems =
       ap (λ (w : World ℕ). map (λ (f : Filesystem ℕ). f.number) w.filesystems) change_of_plain

@@ -296,8 +296,8 @@ pub settling_keeps_counting_forks : SettlingKeepsCountingForks
 settling_keeps_counting_forks world counted = counted
 
 pub raising_keeps_counting_forks : RaisingKeepsCountingForks
-raising_keeps_counting_forks before world name counted =
-    counted_from (numbers_raised nat_eq before name world)
+raising_keeps_counting_forks before world name changed counted =
+    counted_from (numbers_raised nat_eq before name changed world)
     (counted_on world.tasks (map (raised_task name) world.tasks) (λ task m.
     let from = among-from_map (raised_task name) world.tasks task m in
     subst (λ (t : Task ℕ). (old : Task ℕ) × Among old world.tasks × (t.name ≡ old.name) × (old.forks ≤ t.forks))

@@ -1,7 +1,7 @@
 -- The invariants of tasks, one by one: credentials(7), path_resolution(7), open(2).
-use Rattle.std.specs.Prelude.{Contains, Some, false, nat_eq, true, ℕ, ◌++◌, ◌≡◌, ◌≤◌, ◌∷◌}
+use Rattle.std.specs.Prelude.{Contains, List, Some, false, nat_eq, true, ℕ, ◌++◌, ◌≡◌, ◌≤◌, ◌∷◌}
 use Rattle.std.specs.List.{list_all}
-use Rattle.vt_spec.specs.Machine.Apply.{apply_unraised}
+use Rattle.vt_spec.specs.Machine.Apply.{apply}
 use Rattle.vt_spec.specs.Machine.Lists.{Fresh, any_pair}
 use Rattle.vt_spec.specs.Machine.Permits.{Permit}
 use Rattle.vt_spec.specs.Machine.Policy.{numbers_raised}
@@ -38,7 +38,7 @@ abbrev pub KeptWhereForksAreCounted : (World ℕ → Type 0) → Type 0
 KeptWhereForksAreCounted Invariant =
     (world : World ℕ) (fresh : Fresh ℕ) (task : Task ℕ) (permit : Permit ℕ) → IsWorld nat_eq world → IsPlain world
     → ForksAreCounted world → Serves nat_eq world fresh → task_called world task.name ≡ Some task
-    → IsFitPermit fresh world task permit → Invariant (apply_unraised nat_eq fresh world task permit).world
+    → IsFitPermit fresh world task permit → Invariant (apply nat_eq fresh world task permit).world
 
 -- The opening world counts no fork, and has one task.
 abbrev pub OpeningCountsForks : Type 0
@@ -51,5 +51,5 @@ SettlingKeepsCountingForks = (world : World ℕ) → ForksAreCounted world → F
 -- Nor do change numbers count forks.
 abbrev pub RaisingKeepsCountingForks : Type 0
 RaisingKeepsCountingForks =
-    (before world : World ℕ) (name : TaskName) → ForksAreCounted world
-    → ForksAreCounted (numbers_raised nat_eq before name world)
+    (before world : World ℕ) (name : TaskName) (changed : List ℕ) → ForksAreCounted world
+    → ForksAreCounted (numbers_raised nat_eq before name changed world)
