@@ -23,7 +23,8 @@ use Rattle.vt_mount_laws.proofs.UnmountingPlaces.{goes_or_may, unmount_leaves_on
 use Rattle.vt_mount_laws.proofs.UnmountingTrees.{AreClosed, closed_keeps_apart, trees_closed}
 
 -- nothing stands on a mount without children
-pub none_stands : (world : World ℕ) (one : ℕ) → has_child nat_eq world one ≡ false → (x : Mount ℕ) (place : Location ℕ) → Among x world.mounts
+pub none_stands : (world : World ℕ) (one : ℕ) → has_child nat_eq world one ≡ false → (x : Mount ℕ) (place : Location ℕ)
+    → Among x world.mounts
     → x.place ≡ Some place → place.mount ≡ one → ⊥
 none_stands world one childless x place m e same =
     true≢false
@@ -37,7 +38,8 @@ places_end_in : (world : World ℕ) → MountInvariants nat_eq world → PlacesE
 places_end_in world kept = (standing_is_computed world kept.one_number).0 kept.standing
 
 -- where mounts stand, and no two at a place, the rest is kept whatever goes
-taken_keeps : (world : World ℕ) (gone : List ℕ) → MountInvariants nat_eq world → OneMountEachPlace (taken_away nat_eq world gone)
+taken_keeps : (world : World ℕ) (gone : List ℕ) → MountInvariants nat_eq world
+    → OneMountEachPlace (taken_away nat_eq world gone)
     → AllStand (taken_away nat_eq world gone) → MountInvariants nat_eq (taken_away nat_eq world gone)
 taken_keeps world gone kept places stand = record {
   one_number = taking_away_keeps_numbers world gone kept.one_number;
@@ -62,7 +64,8 @@ unmount_keeps_mounts world one kept childless =
     (lands_by_places world gone kept.one_number kept.standing (λ x place m e goes.
     ⊎_elim
     (λ itself. absurd (none_stands world one childless x place m e (itself ∙ number_found world.mounts one)))
-    (λ t. ap (λ n. is_some (mount_numbered nat_eq world n).place) t.3 ∙ ap (λ z. is_some z.place) (found_itself world.mounts kept.one_number t.0 t.1) ∙ t.4)
+    (λ t. ap (λ n. is_some (mount_numbered nat_eq world n).place) t.3
+    ∙ ap (λ z. is_some z.place) (found_itself world.mounts kept.one_number t.0 t.1) ∙ t.4)
     (goes_or_may world mount place.mount goes))))
 
 pub trees_keep_mounts : TreesKeepMounts
@@ -78,7 +81,8 @@ replaced_keeps_mounts world None kept = kept
 replaced_keeps_mounts world (Some object) kept = points_keep_mounts world object kept
 
 -- standing is of the mounts alone
-stands_alike : (world other : World ℕ) → ((number : ℕ) → mount_numbered nat_eq other number ≡ mount_numbered nat_eq world number)
+stands_alike : (world other : World ℕ) → ((number : ℕ)
+    → mount_numbered nat_eq other number ≡ mount_numbered nat_eq world number)
     → (number : ℕ) → Stands nat_eq world number → Stands nat_eq other number
 stands_alike world other same number (at_root it e) = at_root it (ap (λ m. m.place) (same it) ∙ e)
 stands_alike world other same number (on_parent it place e f stands) =
@@ -88,7 +92,8 @@ stands_alike world other same number (on_parent it place e f stands) =
 
 pub ended_namespaces_keep_mounts : EndedNamespacesKeepMounts
 ended_namespaces_keep_mounts world kept =
-    let taken = closed_keeps world (in_ended world) (ended_closed world (places_end_in world kept) kept.one_number) kept in
+    let taken =
+    closed_keeps world (in_ended world) (ended_closed world (places_end_in world kept) kept.one_number) kept in
     let left = taken_away nat_eq world (in_ended world) in
     let end = namespaces_ended nat_eq world in
     record {

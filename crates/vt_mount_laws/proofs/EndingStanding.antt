@@ -40,7 +40,8 @@ module _ (world : World ℕ) (gone : List ℕ) where
 
   fallen : (number : ℕ) (place rest : Location ℕ) → place.mount ≡ number → FallsTo world gone place rest
       → Stands nat_eq later number
-      → ((below : Location ℕ) → (before_it number).place ≡ Some below → FallsTo world gone below rest → LandsOn number rest)
+      → ((below : Location ℕ) → (before_it number).place ≡ Some below → FallsTo world gone below rest
+      → LandsOn number rest)
       → LandsOn number rest
   fallen number place rest same (rests at stays) itself deeper =
       (subst (Stands nat_eq later) (sym same) itself, ap (λ n. (before_it n).namespace) (sym same))
@@ -52,8 +53,11 @@ module _ (world : World ℕ) (gone : List ℕ) where
         → Stands nat_eq later number
         × ((place rest : Location ℕ) → place.mount ≡ number → FallsTo world gone place rest → LandsOn number rest)
     stands_later number (at_root it e) =
-        let itself : Stands nat_eq later it = at_root it (root_stays world gone it e) in
-        (itself, λ place rest same fall. fallen it place rest same fall itself (λ below f more. absurd (true≢false (sym (ap is_some f) ∙ ap is_some e))))
+        let itself : Stands nat_eq later it = at_root it (root_stays world gone it e) in (
+          itself,
+          λ place rest same fall. fallen it place rest same fall itself (λ below f more. absurd
+              (true≢false (sym (ap is_some f) ∙ ap is_some e))),
+        )
     stands_later number (on_parent it on e f stands) =
         let deeper = stands_later on.mount stands in
         let itself : Stands nat_eq later it = by (is_going nat_eq gone it) refl deeper.1 in (
@@ -64,7 +68,8 @@ module _ (world : World ℕ) (gone : List ℕ) where
         )
       where
         by : (b : Bool) → is_going nat_eq gone it ≡ b
-            → ((place rest : Location ℕ) → place.mount ≡ on.mount → FallsTo world gone place rest → LandsOn on.mount rest)
+            → ((place rest : Location ℕ) → place.mount ≡ on.mount → FallsTo world gone place rest
+            → LandsOn on.mount rest)
             → Stands nat_eq later it
         by true goes deeper = at_root it (ap (λ m. m.place) (detached_by_number world gone it goes))
         by false stays deeper =
@@ -82,13 +87,15 @@ module _ (world : World ℕ) (gone : List ℕ) where
 
   -- it is so where what goes has a place, or nothing stands on it
   pub lands_by_places : OneNumberEach world → AllStand world
-      → ((x : Mount ℕ) (place : Location ℕ) → Among x world.mounts → x.place ≡ Some place → is_going nat_eq gone place.mount ≡ true
+      → ((x : Mount ℕ) (place : Location ℕ) → Among x world.mounts → x.place ≡ Some place
+      → is_going nat_eq gone place.mount ≡ true
       → is_some (mount_at nat_eq world place).place ≡ true)
       → AllLand
   lands_by_places one all placed number place stays e =
       from place.mount (stand world one all place.mount) number place e refl
     where
-      from : (below : ℕ) → Stands nat_eq world below → (above : ℕ) (at : Location ℕ) → (before_it above).place ≡ Some at
+      from : (below : ℕ) → Stands nat_eq world below → (above : ℕ) (at : Location ℕ)
+          → (before_it above).place ≡ Some at
           → at.mount ≡ below → (rest : Location ℕ) × FallsTo world gone at rest
       from below (at_root it f) above at g same = by (is_going nat_eq gone at.mount) refl
         where
@@ -98,7 +105,8 @@ module _ (world : World ℕ) (gone : List ℕ) where
               ∙ ap (λ n. is_some (before_it n).place) same ∙ ap is_some f))
           by false rest = (at, rests at rest)
       from below (on_parent it on f same_namespace stands) above at g same =
-          by (is_going nat_eq gone at.mount) refl (from on.mount stands at.mount on (ap (λ n. (before_it n).place) same ∙ f) refl)
+          by (is_going nat_eq gone at.mount) refl
+          (from on.mount stands at.mount on (ap (λ n. (before_it n).place) same ∙ f) refl)
         where
           by : (b : Bool) → is_going nat_eq gone at.mount ≡ b → ((rest : Location ℕ) × FallsTo world gone on rest)
               → (rest : Location ℕ) × FallsTo world gone at rest

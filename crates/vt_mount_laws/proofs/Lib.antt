@@ -8,6 +8,9 @@ pub mod AttachingPlaces
 pub mod BindsStand
 pub mod Ending
 pub mod EndingCounts
+pub mod EndingLazy
+pub mod EndingLazyCounts
+pub mod EndingOrder
 pub mod EndingStanding
 pub mod Groups
 pub mod GroupsKept

@@ -6,6 +6,7 @@ use Rattle.std.proofs.lemmas.List.{length-map}
 use Rattle.std.proofs.lemmas.List.Filters.{length-filter_both}
 use Rattle.std.proofs.lemmas.Option.{same_Some}
 use Rattle.vt_spec.proofs.Lists.{Among, all_from_among, among-filter, among-from_filter, among-from_flat_map, among-map, among_from_all, among_from_list_all, among_numbers, chain_ends, chain_goes_on, last_of_chain, list_all_from_among, none_among, none_from_among, pair-filter}
+use Rattle.vt_spec.specs.Machine.Detach.{depth_of}
 use Rattle.vt_spec.specs.Machine.Lists.{any_pair, chain, holds_of, last_or, same_option}
 use Rattle.vt_spec.specs.Machine.Mounts.{Location, Mount, children, is_unbindable, no_mount, stands_on, tree_from}
 use Rattle.vt_spec.specs.Machine.Attach.{bind_tree, bindable_children, bindable_tree, bound, stands_under}
@@ -149,6 +150,21 @@ module _ (world : World ℕ) where
       let later = last_stands n place.mount stands (omega (arith, l)) in
       (ap (λ m. m.place) end ∙ later.0, f ∙ later.1 ∙ ap (λ m. m.namespace) (sym end))
 
+  chain_length : (n number : ℕ) (stands : Stand number) → depth number stands ≤ n
+      → length (chain n below (mount_of number)) ≡ suc (depth number stands)
+  unfolding depth
+  chain_length zero number (at_root it e) l = omega arith
+  chain_length zero number (on_parent it place e f stands) l = absurd (omega (arith, l))
+  chain_length (suc n) number (at_root it e) l =
+      let here = ap length (chain_ends below n (mount_of it) (ap (option_map (mount_at nat_eq world)) e)) in
+      omega (arith, here)
+  chain_length (suc n) number (on_parent it place e f stands) l =
+      let parent = mount_of place.mount in
+      let here =
+      ap length (chain_goes_on below n (mount_of it) parent (ap (option_map (mount_at nat_eq world)) e)) in
+      let later = chain_length n place.mount stands (omega (arith, l)) in
+      omega (arith, here, later)
+
   same_as_test : (a b : Option ℕ) → a ≡ b → same_option nat_eq a b ≡ true
   same_as_test None None e = refl
   same_as_test None (Some b) e = absurd (true≢false (sym (ap is_some e)))
@@ -242,7 +258,7 @@ pub data LiesIn (world : World ℕ) : ℕ → ℕ → Type 0 where
       → LiesIn world above place.mount → LiesIn world above number
 
 module _ (world : World ℕ) where
-  further_in : (a b c : ℕ) → LiesIn world a b → LiesIn world b c → LiesIn world a c
+  pub further_in : (a b c : ℕ) → LiesIn world a b → LiesIn world b c → LiesIn world a c
   further_in a b c first (itself it) = first
   further_in a b c first (under it number place e way) = under a number place e (further_in a it place.mount first way)
 
@@ -281,6 +297,12 @@ module _ (world : World ℕ) (one : OneNumberEach world) (all : AllStand world) 
       by (at_root it f) = absurd (true≢false (sym (ap is_some e) ∙ ap is_some f))
       by (on_parent it at f g x) =
           g ∙ ap (λ (p : Location ℕ). (mount_numbered nat_eq world p.mount).namespace) (same_Some at place (sym f ∙ e))
+
+  -- how deep a mount lies is counted so
+  pub depth_by_rank : (number : ℕ) → depth_of nat_eq world (mount_numbered nat_eq world number) ≡ suc (rank number)
+  unfolding depth rank
+  depth_by_rank number =
+      chain_length world (length world.mounts) number (stand number) (not_deep world number (stand number))
 
   pub lies_deeper : (above number : ℕ) → LiesIn world above number → (above ≡ number) ⊎ (rank above < rank number)
   lies_deeper above number (itself it) = inl refl

@@ -1,10 +1,11 @@
 //! What takes mounts away: the invariants of mounts that it keeps, and what namespaces have left.
-ghost use Rattle.vt_mount_laws.specs.Mounts.Ending.{UnmountKeepsMounts, TreesKeepMounts, PointsKeepMounts, ReplacedKeepsMounts, EndedNamespacesKeepMounts};
-ghost use Rattle.vt_mount_laws.specs.Mounts.Left.{ByUnmount, ByTrees, ByPoints, ByReplaced, ByEndedNamespaces, HasNoMoreMounts, TakesNoMountsIn, UnmountKeepsRootMounts, TreesKeepRootMounts, PointsKeepRootMounts, ReplacedKeepsRootMounts, EndedNamespacesKeepRootMounts};
+ghost use Rattle.vt_mount_laws.specs.Mounts.Ending.{UnmountKeepsMounts, LazyUnmountKeepsMounts, TreesKeepMounts, PointsKeepMounts, ReplacedKeepsMounts, EndedNamespacesKeepMounts, ByUnmount, ByLazyUnmount, ByTrees, ByPoints, ByReplaced, ByEndedNamespaces, HasNoMoreMounts, TakesNoMountsIn, UnmountKeepsRootMounts, LazyUnmountKeepsRootMounts, TreesKeepRootMounts, PointsKeepRootMounts, ReplacedKeepsRootMounts, EndedNamespacesKeepRootMounts};
 
-/// An unmount, the end of trees of mounts and of namespaces keep the invariants of mounts: numbers, places, standing and groups.
+/// An unmount, also a lazy one, and the end of trees of mounts and of namespaces keep the invariants of mounts: numbers,
+/// places, standing and groups.
 pub fn what_takes_mounts_away_keeps_their_invariants()
     ensures unmount { UnmountKeepsMounts }
+    ensures lazy { LazyUnmountKeepsMounts }
     ensures trees { TreesKeepMounts }
     ensures points { PointsKeepMounts }
     ensures replaced { ReplacedKeepsMounts }
@@ -14,6 +15,7 @@ pub fn what_takes_mounts_away_keeps_their_invariants()
 /// Each namespace keeps its root mounts where what goes has a place, or is in namespaces that end.
 pub fn namespaces_keep_their_root_mounts()
     ensures unmount { UnmountKeepsRootMounts }
+    ensures lazy { LazyUnmountKeepsRootMounts }
     ensures trees { TreesKeepRootMounts }
     ensures points { PointsKeepRootMounts }
     ensures replaced { ReplacedKeepsRootMounts }
@@ -23,6 +25,7 @@ pub fn namespaces_keep_their_root_mounts()
 /// No namespace has more mounts than before.
 pub fn namespaces_have_no_more_mounts()
     ensures unmount { ByUnmount HasNoMoreMounts }
+    ensures lazy { ByLazyUnmount HasNoMoreMounts }
     ensures trees { ByTrees HasNoMoreMounts }
     ensures points { ByPoints HasNoMoreMounts }
     ensures replaced { ByReplaced HasNoMoreMounts }
@@ -32,6 +35,7 @@ pub fn namespaces_have_no_more_mounts()
 /// Each mount stays in its namespace, or is in none.
 pub fn mounts_come_to_no_other_namespace()
     ensures unmount { ByUnmount TakesNoMountsIn }
+    ensures lazy { ByLazyUnmount TakesNoMountsIn }
     ensures trees { ByTrees TakesNoMountsIn }
     ensures points { ByPoints TakesNoMountsIn }
     ensures replaced { ByReplaced TakesNoMountsIn }

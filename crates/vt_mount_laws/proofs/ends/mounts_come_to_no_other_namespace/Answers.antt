@@ -1,8 +1,12 @@
 use Rattle.vt_mount_laws.proofs.EndingCounts.{ended_namespaces_take_none_in, points_take_none_in, replaced_takes_none_in, trees_take_none_in, unmount_takes_none_in}
+use Rattle.vt_mount_laws.proofs.EndingLazyCounts.{lazy_unmount_takes_none_in}
 use Rattle.vt_mount_laws.proofs.ends.mounts_come_to_no_other_namespace.Goals as goal
 
 pub returns-clause-unmount : goal.returns-clause-unmount
 returns-clause-unmount c = unmount_takes_none_in
+
+pub returns-clause-lazy : goal.returns-clause-lazy
+returns-clause-lazy c = lazy_unmount_takes_none_in
 
 pub returns-clause-trees : goal.returns-clause-trees
 returns-clause-trees c = trees_take_none_in

@@ -1,8 +1,12 @@
 use Rattle.vt_mount_laws.proofs.EndingCounts.{ended_namespaces_have_no_more, points_have_no_more, replaced_has_no_more, trees_have_no_more, unmount_has_no_more}
+use Rattle.vt_mount_laws.proofs.EndingLazyCounts.{lazy_unmount_has_no_more}
 use Rattle.vt_mount_laws.proofs.ends.namespaces_have_no_more_mounts.Goals as goal
 
 pub returns-clause-unmount : goal.returns-clause-unmount
 returns-clause-unmount c = unmount_has_no_more
+
+pub returns-clause-lazy : goal.returns-clause-lazy
+returns-clause-lazy c = lazy_unmount_has_no_more
 
 pub returns-clause-trees : goal.returns-clause-trees
 returns-clause-trees c = trees_have_no_more

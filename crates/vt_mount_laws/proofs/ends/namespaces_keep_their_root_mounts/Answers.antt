@@ -1,8 +1,12 @@
 use Rattle.vt_mount_laws.proofs.EndingCounts.{ended_namespaces_keep_roots, points_keep_roots, replaced_keeps_roots, trees_keep_roots, unmount_keeps_roots}
+use Rattle.vt_mount_laws.proofs.EndingLazyCounts.{lazy_unmount_keeps_roots}
 use Rattle.vt_mount_laws.proofs.ends.namespaces_keep_their_root_mounts.Goals as goal
 
 pub returns-clause-unmount : goal.returns-clause-unmount
 returns-clause-unmount c = unmount_keeps_roots
+
+pub returns-clause-lazy : goal.returns-clause-lazy
+returns-clause-lazy c = lazy_unmount_keeps_roots
 
 pub returns-clause-trees : goal.returns-clause-trees
 returns-clause-trees c = trees_keep_roots
