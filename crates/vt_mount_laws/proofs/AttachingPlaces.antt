@@ -26,14 +26,14 @@ use Rattle.vt_mount_laws.proofs.MountsPlaces.{one_place_of_two, one_stander, sam
 use Rattle.vt_mount_laws.proofs.MountsReplaced.{apart, found_itself}
 use Rattle.vt_mount_laws.proofs.Standing.{fewer_numbers, rank, rank_child}
 
-abbrev test : Mount ℕ → Mount ℕ → Bool
+abbrev pub test : Mount ℕ → Mount ℕ → Bool
 test a b = stand_at_one_place nat_eq a b
 
-abbrev beside : Option (Location ℕ) → Option (Location ℕ) → Bool
+abbrev pub beside : Option (Location ℕ) → Option (Location ℕ) → Bool
 beside other place = is_some place && same_option (same_location nat_eq) place other
 
 -- two places on two mounts
-differ_by_mount : (a b : Mount ℕ) (p q : Location ℕ) → a.place ≡ Some p → b.place ≡ Some q
+pub differ_by_mount : (a b : Mount ℕ) (p q : Location ℕ) → a.place ≡ Some p → b.place ≡ Some q
     → nat_eq p.mount q.mount ≡ false → test a b ≡ false
 differ_by_mount a b p q e f differ =
     ap (beside b.place) e
@@ -41,7 +41,7 @@ differ_by_mount a b p q e f differ =
     ∙ ap (λ c. c && nat_eq p.node q.node) differ
 
 -- what stands at one place has it twice
-one_place : (a b : Mount ℕ) → test a b ≡ true → (p : Location ℕ) × (a.place ≡ Some p) × (b.place ≡ Some p)
+pub one_place : (a b : Mount ℕ) → test a b ≡ true → (p : Location ℕ) × (a.place ≡ Some p) × (b.place ≡ Some p)
 one_place a b h = by a.place refl b.place refl
   where
     by : (x : Option (Location ℕ)) → a.place ≡ x → (y : Option (Location ℕ)) → b.place ≡ y
@@ -55,7 +55,7 @@ one_place a b h = by a.place refl b.place refl
         (p, e, f ∙ ap Some (sym (same_location_is p q same)))
 
 -- and the other way round
-stand_together : (a b : Mount ℕ) (p : Location ℕ) → a.place ≡ Some p → b.place ≡ Some p → test a b ≡ true
+pub stand_together : (a b : Mount ℕ) (p : Location ℕ) → a.place ≡ Some p → b.place ≡ Some p → test a b ≡ true
 stand_together a b p e f = one_place_of_two p a b e f
 
 -- of the mounts of a list no two have one place

@@ -34,6 +34,7 @@ pub mod Pivoting
 pub mod PivotingCounts
 pub mod Moving
 pub mod MovingLeaves
+pub mod MovingPlaces
 pub mod MovingRoots
 pub mod MovingStands
 pub mod Receivers

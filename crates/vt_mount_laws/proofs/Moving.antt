@@ -2,22 +2,23 @@
 use Rattle.std.proofs.Common.{◌≡◌, refl, sym, ap, subst, ◌∙◌, true, false, nat_eq, ℕ, Bool, List, [], append-nil, eqb-true, flat_map, inl, inr, is_some, length, not, suc, true≢false, zero, ⊎_elim, ◌&&◌, ◌∷◌, ◌||◌}
 use Rattle.vt_spec.proofs.Lists.{Among, among-flat_map, among-from_filter, among-from_flat_map, among-from_map, among_from_all, among_from_list_all, none_among, none_from_among}
 use Rattle.vt_spec.specs.Machine.Attach.{parts_of}
-use Rattle.vt_spec.specs.Machine.Lists.{holds_of}
-use Rattle.vt_spec.specs.Machine.Mounts.{Location, Mount, children, mount_tree, stands_on, tree_from}
+use Rattle.vt_spec.specs.Machine.Lists.{holds_of, is_among}
+use Rattle.vt_spec.specs.Machine.Mounts.{Location, Mount, children, mount_in, mount_tree, stands_on, tree_from}
 use Rattle.vt_spec.specs.Machine.Outcome.Mounting.{moved_tree}
 use Rattle.vt_spec.specs.Machine.World.{World, mount_at, mount_numbered}
 use Rattle.vt_spec.specs.Machine.WorldLaws.{MountInvariants, Stands, is_nowhere_or_attached, is_private}
 use Rattle.vt_spec.specs.Machine.WorldLaws.Stands.{at_root, on_parent}
 use Rattle.vt_mount_laws.specs.Mounts.Attaching.{numbers_of}
-use Rattle.vt_mount_laws.specs.Mounts.Moving.{CanMove, MovesKeepStanding}
+use Rattle.vt_mount_laws.specs.Mounts.Moving.{CanMove, MovesKeepPlaces, MovesKeepStanding}
 use Rattle.vt_mount_laws.proofs.Attaching.{Hangs}
 use Rattle.vt_mount_laws.proofs.Attaching.Hangs.{from_top}
 use Rattle.vt_mount_laws.proofs.BindsStand.{child_hangs}
 use Rattle.vt_mount_laws.proofs.MountsAttached.{supplied}
-use Rattle.vt_mount_laws.proofs.MountsFound.{found_there}
-use Rattle.vt_mount_laws.proofs.MountsNumbered.{supplies_serve_as_copies}
+use Rattle.vt_mount_laws.proofs.MountsFound.{found_or_none, number_found}
+use Rattle.vt_mount_laws.proofs.MountsNumbered.{is_one_of, supplies_serve_as_copies}
 use Rattle.vt_mount_laws.proofs.MountsReplaced.{apart, found_itself, tree_among}
 use Rattle.vt_mount_laws.proofs.MovingLeaves.{MayMove}
+use Rattle.vt_mount_laws.proofs.MovingPlaces.{places_moved}
 use Rattle.vt_mount_laws.proofs.MovingStands.{all_after}
 use Rattle.vt_mount_laws.proofs.Standing.{standing_is_computed, trees_have_each_once}
 use Rattle.vt_mount_laws.proofs.UnmountingTrees.{AreClosed, trees_closed}
@@ -31,6 +32,23 @@ tree_top (suc fuel) mounts top =
 
 top_among_tree : (fuel : ℕ) (mounts : List (Mount ℕ)) (top : Mount ℕ) → Among top (tree_from nat_eq fuel mounts top)
 top_among_tree fuel mounts top = let t = tree_top fuel mounts top in subst (Among top) (sym t.1) (inl refl)
+
+-- a number of a mount that has a place, or is in a namespace, is that of one that is there
+placed_there : (mounts : List (Mount ℕ)) (number : ℕ) → is_some (mount_in nat_eq mounts number).place ≡ true
+    → Among (mount_in nat_eq mounts number) mounts
+placed_there mounts number placed =
+    ⊎_elim (λ l. l)
+    (λ none. absurd (true≢false (sym placed ∙ ap (λ (x : Mount ℕ). is_some x.place) none)))
+    (found_or_none mounts number)
+
+attached_there : (mounts : List (Mount ℕ)) (number : ℕ) → is_some (mount_in nat_eq mounts number).namespace ≡ true
+    → is_among nat_eq number (numbers_of mounts) ≡ true
+attached_there mounts number attached =
+    ⊎_elim
+    (λ l. subst (λ n. is_among nat_eq n (numbers_of mounts) ≡ true) (number_found mounts number)
+    (is_one_of mounts (mount_in nat_eq mounts number) l))
+    (λ none. absurd (true≢false (sym attached ∙ ap (λ (x : Mount ℕ). is_some x.namespace) none)))
+    (found_or_none mounts number)
 
 module _ (world : World ℕ) where
   -- each of a tree hangs on another of it
@@ -59,14 +77,16 @@ module _ (world : World ℕ) where
         → Among child (children nat_eq world.mounts mount.number) → child.namespace ≡ mount.namespace
     child_namespace mount child m n =
         let from = among-from_filter (stands_on nat_eq mount.number) world.mounts child n in
-        by (among_from_all (λ (x : Mount ℕ). Stands nat_eq world x.number) world.mounts invariants.standing child from.0)
+        by
+        (among_from_all (λ (x : Mount ℕ). Stands nat_eq world x.number) world.mounts invariants.standing child from.0)
         (found_itself world.mounts invariants.one_number child from.0) from.1
       where
         by : Stands nat_eq world child.number → mount_numbered nat_eq world child.number ≡ child
             → stands_on nat_eq mount.number child ≡ true → child.namespace ≡ mount.namespace
         by (at_root it e) itself on =
             absurd (true≢false
-            (sym on ∙ ap (λ (x : Mount ℕ). holds_of (λ (p : Location ℕ). nat_eq mount.number p.mount) x.place) (sym itself)
+            (sym on
+            ∙ ap (λ (x : Mount ℕ). holds_of (λ (p : Location ℕ). nat_eq mount.number p.mount) x.place) (sym itself)
             ∙ ap (holds_of (λ (p : Location ℕ). nat_eq mount.number p.mount)) e))
         by (on_parent it at e f stands) itself on =
             let parent : mount.number ≡ at.mount =
@@ -104,13 +124,15 @@ module _ (world : World ℕ) where
         let fuel = length world.mounts in
         let mounts = moved_tree nat_eq world source in
         let begins = tree_top fuel world.mounts top in
-        let top_there = found_there world.mounts source.mount can.source_there in
+        let top_there = placed_there world.mounts source.mount can.placed in
+        let attached : is_some (mount_at nat_eq world place).namespace ≡ true =
+        ap is_some can.one_namespace ∙ in_some top top_there can.placed in
         record {
           own = trees_have_each_once world source.mount invariants.one_number invariants.standing;
           one = invariants.one_number;
           nowhere = invariants.nowhere;
           all = invariants.standing;
-          there = can.destination_there;
+          there = attached_there world.mounts place.mount attached;
           inside = λ origin m.
               ⊎_elim (λ e. subst (λ y. Among y world.mounts) (sym e) top_there) (λ l. l)
               (tree_among fuel world.mounts top origin m);
@@ -125,7 +147,7 @@ module _ (world : World ℕ) where
               ∙ apart from.0.number place.mount
               (none_among (λ (other : Mount ℕ). nat_eq other.number place.mount) mounts can.outside from.0 from.1));
           in_one = λ origin m. tree_namespace fuel top origin top_there m ∙ sym can.one_namespace;
-          attached = ap is_some can.one_namespace ∙ in_some top top_there can.placed;
+          attached = attached;
         }
       where
         in_some : (mount : Mount ℕ) → Among mount world.mounts → is_some mount.place ≡ true
@@ -144,3 +166,9 @@ moves_keep_standing world fresh source place serves invariants can =
     let mounts = moved_tree nat_eq world source in
     all_after world (supplied world fresh place mounts) place mounts (may_move world invariants source place can)
     (supplies_serve_as_copies world fresh (parts_of nat_eq world place) mounts serves)
+
+pub moves_keep_places : MovesKeepPlaces
+moves_keep_places world fresh source place serves invariants can free =
+    let mounts = moved_tree nat_eq world source in
+    places_moved world (supplied world fresh place mounts) place mounts (may_move world invariants source place can)
+    (supplies_serve_as_copies world fresh (parts_of nat_eq world place) mounts serves) invariants.one_child free

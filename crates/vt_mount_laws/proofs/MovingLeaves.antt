@@ -1,23 +1,26 @@
 -- What moves, before anything is attached for the receivers: each mount stands, at most one at a place.
-use Rattle.std.proofs.Common.{◌≡◌, refl, sym, ap, subst, ◌∙◌, true, false, nat_eq, ℕ, Bool, List, None, Option, Some, [], eq-eqb, inl, inr, is_some, map, not, option_map, true≢false, ⊎_elim, ◌&&◌, ◌∷◌, ◌||◌}
+use Rattle.std.proofs.Common.{◌≡◌, refl, sym, ap, subst, ◌∙◌, true, false, nat_eq, ℕ, Bool, List, None, Option, Some, [], eq-eqb, eqb-true, inl, inr, is_some, map, not, option_map, true≢false, ⊎_elim, ◌&&◌, ◌∷◌, ◌||◌}
 use Rattle.std.specs.List.{list_any}
 use Rattle.std.specs.Prelude.{if◌then◌else◌, unwrap_or}
-use Rattle.std.proofs.lemmas.Bool.{or_from, or_parts}
+use Rattle.std.proofs.lemmas.Bool.{false_from_ne_true, or_from, or_parts}
 use Rattle.std.proofs.lemmas.Option.{same_Some}
 use Rattle.vt_spec.proofs.Lists.{Among, all_from_among, among-from_map, among-map, among_from_all, among_from_list_all, among_numbers, list_all_from_among, none_among, none_from_among, pair-map}
 use Rattle.vt_spec.specs.Machine.Attach.{Copies, Graft, Twig, copy_at, graft_of, parts_of, place_on_copy, twig_of}
 use Rattle.vt_spec.specs.Machine.Lists.{any_pair, first_of_list, folded, holds_of, is_among}
-use Rattle.vt_spec.specs.Machine.Mounts.{Location, Mount, group_of, mount_in, with_mount}
+use Rattle.vt_spec.specs.Machine.Mounts.{Location, Mount, child_at, group_of, mount_in, stands_at, with_mount}
 use Rattle.vt_spec.specs.Machine.World.{World, mount_at, mount_numbered}
 use Rattle.vt_spec.specs.Machine.WorldLaws.{Stands, is_nowhere_or_attached, is_private}
 use Rattle.vt_spec.specs.Machine.WorldLaws.Stands.{at_root, on_parent}
 use Rattle.vt_mount_laws.specs.Mounts.Attaching.{OneNumberAMount, is_mount, numbers_of}
 use Rattle.vt_mount_laws.specs.Mounts.Conditions.{NowhereOrAttached}
 use Rattle.vt_mount_laws.specs.Mounts.Standing.{AllStand}
+use Rattle.vt_mount_laws.specs.Mounts.Places.{OneMountAPlace}
+use Rattle.vt_mount_laws.proofs.AttachingPlaces.{beside, one_place, test, two_of}
+use Rattle.vt_mount_laws.proofs.MountsPlaces.{stands_at_its_place}
 use Rattle.vt_mount_laws.proofs.Attaching.{Hangs, hanging}
 use Rattle.vt_mount_laws.proofs.Attaching.Hangs.{from_parent, from_top}
 use Rattle.vt_mount_laws.proofs.MountsAttached.{arriving, found-folded_other, keeps_number, moved_ones, numbers_moved, stays_put}
-use Rattle.vt_mount_laws.proofs.MountsFound.{found_or_none, found_there, number_found, placed_among}
+use Rattle.vt_mount_laws.proofs.MountsFound.{found_or_none, found_there, number_found, placed_among, unfound}
 use Rattle.vt_mount_laws.proofs.MountsNumbered.{is_one_of, same_number, same_origin}
 use Rattle.vt_mount_laws.proofs.MountsReplaced.{apart, found-with_mount_itself, found_itself, numbers-with_mount, one_number_by_numbers}
 
@@ -42,7 +45,7 @@ found_folded mounts (first ∷ copies) own copy m is =
     m
 
 -- two of a list, told apart by their numbers
-pair_by : (test : Mount ℕ → Mount ℕ → Bool) (list : List (Mount ℕ)) → OneNumberAMount list
+pub pair_by : (test : Mount ℕ → Mount ℕ → Bool) (list : List (Mount ℕ)) → OneNumberAMount list
     → ((a b : Mount ℕ) → Among a list → Among b list → same_number a b ≡ false → test a b ≡ false)
     → any_pair test list ≡ false
 pair_by test [] own each = refl
@@ -186,7 +189,8 @@ module _ (world : World ℕ) (new : Copies ℕ) (place : Location ℕ) (mounts :
       by mount (stayed m) = among_from_list_all is_nowhere_or_attached world.mounts may.nowhere mount m
       by mount (came origin m e) =
           ap is_nowhere_or_attached e
-          ∙ ap (λ b. b || (not (is_some (arrived origin).place) && is_private (arrived origin).propagation)) may.attached
+          ∙ ap (λ b. b || (not (is_some (arrived origin).place) && is_private (arrived origin).propagation))
+          may.attached
 
   -- it is in the namespace in which it was
   pub namespace_kept : (mount : Mount ℕ) → Among mount world.mounts
@@ -338,3 +342,52 @@ module _ (world : World ℕ) (new : Copies ℕ) (place : Location ℕ) (mounts :
           at false e =
               stayed_stands mount.number
               (among_from_all (λ (x : Mount ℕ). Stands nat_eq world x.number) world.mounts may.all mount m) e
+
+  -- Places: the top is at the place, another one where a mount of its number stood
+  data LeftPlace (mount : Mount ℕ) : Type 0 where
+    at_destination : nat_eq mount.number may.top.number ≡ true → mount.place ≡ Some place → LeftPlace mount
+    as_it_was : (old : Mount ℕ) → Among old world.mounts → old.number ≡ mount.number → mount.place ≡ old.place
+        → LeftPlace mount
+
+  left_place : (mount : Mount ℕ) → LeftCase mount → LeftPlace mount
+  left_place mount (stayed m) = as_it_was mount m refl refl
+  left_place mount (came origin m e) = by (arrived_place origin m origin.number (may.hangs origin m) refl)
+    where
+      number : mount.number ≡ origin.number
+      number = ap (λ (x : Mount ℕ). x.number) e ∙ arrived_number (twig origin)
+
+      by : ArrivedPlace origin → LeftPlace mount
+      by (at_place f g) =
+          at_destination (ap (λ k. nat_eq k may.top.number) number ∙ f) (ap (λ (x : Mount ℕ). x.place) e ∙ g)
+      by (as_before on f g) =
+          as_it_was origin (may.inside origin m) (sym number) (ap (λ (x : Mount ℕ). x.place) e ∙ g ∙ sym f)
+
+  pub places_left : OneMountAPlace world.mounts → child_at nat_eq world.mounts place ≡ None
+      → OneMountAPlace left.mounts
+  places_left places free =
+      pair_by test left.mounts one_left (λ a b m n differ.
+      by a b (left_place a (left_case a m)) (left_place b (left_case b n)) differ)
+    where
+      -- none stood at the place
+      not_there : (old : Mount ℕ) → Among old world.mounts → old.place ≡ Some place → ⊥
+      not_there old m e =
+          true≢false (sym (stands_at_its_place place old e) ∙ unfound (stands_at nat_eq place) world.mounts free old m)
+
+      by : (a b : Mount ℕ) → LeftPlace a → LeftPlace b → same_number a b ≡ false → test a b ≡ false
+      by a b (at_destination e f) (at_destination g h) differ =
+          absurd (true≢false
+          (sym (eq-eqb a.number b.number
+          (eqb-true a.number may.top.number e ∙ sym (eqb-true b.number may.top.number g)))
+          ∙ differ))
+      by a b (at_destination e f) (as_it_was old m g h) differ =
+          false_from_ne_true (test a b) (λ both.
+          let t = one_place a b both in
+          not_there old m (sym h ∙ t.2 ∙ ap Some (sym (same_Some place t.0 (sym f ∙ t.1)))))
+      by a b (as_it_was old m g h) (at_destination e f) differ =
+          false_from_ne_true (test a b) (λ both.
+          let t = one_place a b both in
+          not_there old m (sym h ∙ t.1 ∙ ap Some (sym (same_Some place t.0 (sym f ∙ t.2)))))
+      by a b (as_it_was old m e f) (as_it_was other n g h) differ =
+          ap (beside b.place) f ∙ ap (λ p. beside p old.place) h
+          ∙ two_of world.mounts places old other m n
+          (ap (λ k. nat_eq k other.number) e ∙ ap (nat_eq a.number) g ∙ differ)

@@ -77,7 +77,8 @@ module _ (namespace : ℕ) where
   count_append xs ys =
       ap (λ list. length (filter (is_root_mount nat_eq) list)) (filter-append is_in xs ys)
       ∙ ap length (filter-append (is_root_mount nat_eq) (filter is_in xs) (filter is_in ys))
-      ∙ length-append (filter (is_root_mount nat_eq) (filter is_in xs)) (filter (is_root_mount nat_eq) (filter is_in ys))
+      ∙ length-append (filter (is_root_mount nat_eq) (filter is_in xs))
+      (filter (is_root_mount nat_eq) (filter is_in ys))
 
   -- one with a place is none
   placed_no_root : (mount : Mount ℕ) → is_some mount.place ≡ true → is_root_in namespace mount ≡ false

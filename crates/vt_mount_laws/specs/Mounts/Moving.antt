@@ -8,7 +8,6 @@ use Rattle.vt_spec.specs.Machine.Outcome.Mounting.{bound_at, mounted, moved_to, 
 use Rattle.vt_spec.specs.Machine.Run.{Serves}
 use Rattle.vt_spec.specs.Machine.World.{Filesystem, World, mount_at, mounts_of}
 use Rattle.vt_spec.specs.Machine.WorldLaws.{MountInvariants, is_root_mount}
-use Rattle.vt_mount_laws.specs.Mounts.Attaching.{is_mount}
 use Rattle.vt_mount_laws.specs.Mounts.Conditions.{OneMountEachPlace, OneNumberEach}
 use Rattle.vt_mount_laws.specs.Mounts.Standing.{AllStand}
 
@@ -63,14 +62,16 @@ MovesStayInNamespaces =
 
 -- Where mounts stand after a move
 
--- A mount that has a place is moved, to a place that is on no mount of the tree that moves, in the same namespace: mount(2)
--- with MS_MOVE.
+-- the place is on this mount
+abbrev pub is_mount_of : Location ℕ → Mount ℕ → Bool
+is_mount_of place other = nat_eq other.number place.mount
+
+-- A mount that has a place is moved, to a place in its namespace that is on no mount of the tree that moves: mount(2) with
+-- MS_MOVE
 pub record CanMove (world : World ℕ) (source place : Location ℕ) : Type 0 where
-  pub source_there : is_mount world source.mount ≡ true
   pub placed : is_some (mount_at nat_eq world source).place ≡ true
-  pub destination_there : is_mount world place.mount ≡ true
   pub one_namespace : (mount_at nat_eq world place).namespace ≡ (mount_at nat_eq world source).namespace
-  pub outside : list_any (λ (other : Mount ℕ). nat_eq other.number place.mount) (moved_tree nat_eq world source) ≡ false
+  pub outside : list_any (is_mount_of place) (moved_tree nat_eq world source) ≡ false
 
 -- Then each mount stands after the move, the copies at all receivers included, and what they push up,
 abbrev pub MovesKeepStanding : Type 0
