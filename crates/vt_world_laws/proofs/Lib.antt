@@ -1,1 +1,4 @@
+pub mod MountsAlike
+pub mod MountsKept
+pub mod MountsKeptAttaching
 pub mod Sketch
