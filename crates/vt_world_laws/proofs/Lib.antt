@@ -32,3 +32,11 @@ pub mod OpeningWorld
 pub mod WordsFew
 pub mod ScriptsKept
 pub mod CallsKept
+pub mod MountsAlike
+pub mod MountsKept
+pub mod MountsKeptAttaching
+pub mod NamespacesEnding
+pub mod NamespacesKept
+pub mod NamespacesListed
+pub mod NamespacesTasks
+pub mod Sketch
