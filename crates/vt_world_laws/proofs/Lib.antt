@@ -39,4 +39,3 @@ pub mod NamespacesEnding
 pub mod NamespacesKept
 pub mod NamespacesListed
 pub mod NamespacesTasks
-pub mod Sketch

@@ -2,10 +2,10 @@
 use Rattle.std.proofs.Common.{◌≡◌, refl, ap, subst, ◌∙◌, sym, true, false, nat_eq, ℕ, Bool, List, None, Option, Some, [], ◌∷◌}
 use Rattle.vt_spec.specs.Machine.Changes.{Change}
 use Rattle.vt_spec.specs.Machine.Changes.Change.{CopyUp, SetBytes}
-use Rattle.vt_spec.specs.Machine.Filesystems.{filesystem_changed_counted, overlay_changed_counted, with_change_counted}
+use Rattle.vt_spec.specs.Machine.Filesystems.{filesystem_changed, overlay_changed, with_change}
 use Rattle.vt_spec.specs.Machine.Lists.{Fresh}
 use Rattle.vt_spec.specs.Machine.Mounts.{Location, Mount, mount_in}
-use Rattle.vt_spec.specs.Machine.Outcome.Descriptors.{overwritten, pwritten_counted, with_copy_counted}
+use Rattle.vt_spec.specs.Machine.Outcome.Descriptors.{overwritten, pwritten, with_copy}
 use Rattle.vt_spec.specs.Machine.World.{Filesystem, Layer, Overlay, World, filesystem_at, node_at}
 use Rattle.vt_spec.specs.Machine.WorldLaws.{MountInvariants, Stands}
 use Rattle.vt_spec.specs.Machine.WorldLaws.Stands.{at_root, on_parent}
@@ -56,28 +56,28 @@ pub mounts_of_files : (before after : World ℕ) → IsOfFiles before after → 
     → MountInvariants nat_eq after
 mounts_of_files before after same kept = same_mounts before after (sym same.mounts) (sym same.master) kept
 
-module _ (count : ℕ → ℕ) (fresh : Fresh ℕ) (world : World ℕ) where
+module _ (fresh : Fresh ℕ) (world : World ℕ) where
   pub change_of_files : (location : Location ℕ) (change : Change ℕ)
-      → IsOfFiles world (with_change_counted nat_eq count fresh world location change)
+      → IsOfFiles world (with_change nat_eq fresh world location change)
   change_of_files location change = by (filesystem_at nat_eq world location) (filesystem_at nat_eq world location).overlay
     where
       upper : (filesystem : Filesystem ℕ) (overlay : Overlay ℕ) (layer : Option (Layer ℕ))
-          → IsOfFiles world (overlay_changed_counted nat_eq count fresh world filesystem overlay layer change)
+          → IsOfFiles world (overlay_changed nat_eq fresh world filesystem overlay layer change)
       upper filesystem overlay None = itself_of_files world
       upper filesystem overlay (Some layer) = record { mounts = refl; master = refl; namespaces = refl; tasks = refl }
 
       by : (filesystem : Filesystem ℕ) (overlay : Option (Overlay ℕ))
-          → IsOfFiles world (filesystem_changed_counted nat_eq count fresh world filesystem overlay change)
+          → IsOfFiles world (filesystem_changed nat_eq fresh world filesystem overlay change)
       by filesystem None = record { mounts = refl; master = refl; namespaces = refl; tasks = refl }
       by filesystem (Some overlay) = upper filesystem overlay overlay.upper
 
   pub copy_of_files : (copies : Bool) (file : Location ℕ)
-      → IsOfFiles world (with_copy_counted nat_eq copies count fresh world file)
+      → IsOfFiles world (with_copy nat_eq copies fresh world file)
   copy_of_files true file = change_of_files file (CopyUp file.node)
   copy_of_files false file = itself_of_files world
 
   pub writing_of_files : (file : Location ℕ) (offset : ℕ) (bytes : List ℕ)
-      → IsOfFiles world (pwritten_counted nat_eq count fresh world file offset bytes)
+      → IsOfFiles world (pwritten nat_eq fresh world file offset bytes)
   writing_of_files file offset [] = itself_of_files world
   writing_of_files file offset (byte ∷ bytes) =
       change_of_files file (SetBytes file.node (overwritten offset (byte ∷ bytes) (bytes_in (node_at nat_eq world file))))

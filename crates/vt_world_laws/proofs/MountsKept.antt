@@ -1,7 +1,7 @@
 -- Each permit that fits keeps the invariants of mounts.
 use Rattle.std.proofs.Common.{◌≡◌, refl, sym, ap, nat_eq, ℕ, is_some}
 use Rattle.std.proofs.lemmas.Bool.{or_parts}
-use Rattle.vt_spec.specs.Machine.Apply.{apply_unraised}
+use Rattle.vt_spec.specs.Machine.Apply.{apply}
 use Rattle.vt_spec.specs.Machine.Changes.Change.{Make, Move, Remove}
 use Rattle.vt_spec.specs.Machine.Detach.{going, has_child, is_used, without_mounts_on}
 use Rattle.vt_spec.specs.Machine.Lists.{Fresh, evens, odds}
@@ -36,7 +36,7 @@ can_pivot world task new put may =
 module _ (world : World ℕ) (fresh : Fresh ℕ) (task : Task ℕ) (serves : Serves nat_eq world fresh)
     (kept : MountInvariants nat_eq world) where
   abbrev after : Permit ℕ → World ℕ
-  after permit = (apply_unraised nat_eq fresh world task permit).world
+  after permit = (apply nat_eq fresh world task permit).world
 
   abbrev same_number : ℕ → ℕ
   same_number number = number
@@ -53,30 +53,30 @@ module _ (world : World ℕ) (fresh : Fresh ℕ) (task : Task ℕ) (serves : Ser
   mounts_kept_by (ToReadPart file offset size) fits = kept
   mounts_kept_by (ToChange location change) fits =
       mounts_of_files world (after (ToChange location change))
-      (change_of_files same_number fresh world location change) kept
+      (change_of_files fresh world location change) kept
   mounts_kept_by (ToMake directory name node) fits =
       mounts_of_files world (after (ToMake directory name node))
-      (change_of_files same_number (odds fresh) world directory (Make directory.node name (evens fresh 0) node)) kept
+      (change_of_files (odds fresh) world directory (Make directory.node name (evens fresh 0) node)) kept
   mounts_kept_by (ToRemoveDirectory parent name directory) fits =
       let left = without_mounts_on nat_eq world directory in
       mounts_of_files left (after (ToRemoveDirectory parent name directory))
-      (change_of_files same_number fresh left parent (Remove parent.node name directory.node))
+      (change_of_files fresh left parent (Remove parent.node name directory.node))
       (points_keep_mounts world directory kept)
   mounts_kept_by (ToRename from old to new object replaced) fits =
       let left = without_replaced nat_eq world replaced in
       mounts_of_files left (after (ToRename from old to new object replaced))
-      (change_of_files same_number fresh left from (Move from.node old to.node new object.node))
+      (change_of_files fresh left from (Move from.node old to.node new object.node))
       (replaced_keeps_mounts world replaced kept)
   mounts_kept_by (ToOpen file access) fits =
-      let same = copy_of_files same_number fresh world (is_copied_up nat_eq world file access) file in
+      let same = copy_of_files fresh world (is_copied_up nat_eq world file access) file in
       of_tasks (after (ToOpen file access)) same.mounts same.master
   mounts_kept_by (ToOpenNew directory name node access) fits =
       let same =
-      change_of_files same_number (odds fresh) world directory (Make directory.node name (evens fresh 0) node) in
+      change_of_files (odds fresh) world directory (Make directory.node name (evens fresh 0) node) in
       of_tasks (after (ToOpenNew directory name node access)) same.mounts same.master
   mounts_kept_by (ToWritePart file offset bytes) fits =
       mounts_of_files world (after (ToWritePart file offset bytes))
-      (writing_of_files same_number fresh world file offset bytes) kept
+      (writing_of_files fresh world file offset bytes) kept
   mounts_kept_by (ToClose descriptor) fits = of_tasks (after (ToClose descriptor)) refl refl
   mounts_kept_by (ToSetDirectory directory) fits = of_tasks (after (ToSetDirectory directory)) refl refl
   mounts_kept_by (ToSetRoot root) fits = of_tasks (after (ToSetRoot root)) refl refl

@@ -1,6 +1,6 @@
 -- Each permit that fits keeps the invariants of namespaces.
 use Rattle.std.proofs.Common.{◌≡◌, refl, sym, ap, subst, None, Option, Some, filter, flat_map, length, map, nat_eq, ℕ, ◌+◌}
-use Rattle.vt_spec.specs.Machine.Apply.{apply_unraised}
+use Rattle.vt_spec.specs.Machine.Apply.{apply}
 use Rattle.vt_spec.specs.Machine.Changes.Change.{Make, Move, Remove}
 use Rattle.vt_spec.specs.Machine.Detach.{mounts_on, without_mounts_on}
 use Rattle.vt_spec.specs.Machine.Lists.{Fresh, evens, holds_of, odds}
@@ -60,7 +60,7 @@ files_stay before after same are =
 module _ (world : World ℕ) (fresh : Fresh ℕ) (task : Task ℕ) (serves : Serves nat_eq world fresh)
     (is : IsWorld nat_eq world) (there : Among task world.tasks) where
   abbrev after : Permit ℕ → World ℕ
-  after permit = (apply_unraised nat_eq fresh world task permit).world
+  after permit = (apply nat_eq fresh world task permit).world
 
   abbrev same_number : ℕ → ℕ
   same_number number = number
@@ -107,34 +107,34 @@ module _ (world : World ℕ) (fresh : Fresh ℕ) (task : Task ℕ) (serves : Ser
   namespaces_kept_by (ToRead file) fits = are
   namespaces_kept_by (ToReadPart file offset size) fits = are
   namespaces_kept_by (ToChange location change) fits =
-      files_stay world (after (ToChange location change)) (change_of_files same_number fresh world location change) are
+      files_stay world (after (ToChange location change)) (change_of_files fresh world location change) are
   namespaces_kept_by (ToMake directory name node) fits =
       files_stay world (after (ToMake directory name node))
-      (change_of_files same_number (odds fresh) world directory (Make directory.node name (evens fresh 0) node)) are
+      (change_of_files (odds fresh) world directory (Make directory.node name (evens fresh 0) node)) are
   namespaces_kept_by (ToRemoveDirectory parent name directory) fits =
       let left = without_mounts_on nat_eq world directory in
       files_stay left (after (ToRemoveDirectory parent name directory))
-      (change_of_files same_number fresh left parent (Remove parent.node name directory.node)) (points directory)
+      (change_of_files fresh left parent (Remove parent.node name directory.node)) (points directory)
   namespaces_kept_by (ToRename from old to new object replaced) fits =
       let left = without_replaced nat_eq world replaced in
       files_stay left (after (ToRename from old to new object replaced))
-      (change_of_files same_number fresh left from (Move from.node old to.node new object.node))
+      (change_of_files fresh left from (Move from.node old to.node new object.node))
       (replaced_points replaced)
   namespaces_kept_by (ToOpen file access) fits =
-      let same = copy_of_files same_number fresh world (is_copied_up nat_eq world file access) file in
+      let same = copy_of_files fresh world (is_copied_up nat_eq world file access) file in
       let new = with_descriptor task file access in
       changed_task (after (ToOpen file access)) new same.namespaces same.mounts
       (ap (map (replaced_if_called new)) same.tasks) refl refl
   namespaces_kept_by (ToOpenNew directory name node access) fits =
       let same =
-      change_of_files same_number (odds fresh) world directory (Make directory.node name (evens fresh 0) node) in
+      change_of_files (odds fresh) world directory (Make directory.node name (evens fresh 0) node) in
       let file : Location ℕ = record { mount = directory.mount; node = evens fresh 0 } in
       let new = with_descriptor task file access in
       changed_task (after (ToOpenNew directory name node access)) new same.namespaces same.mounts
       (ap (map (replaced_if_called new)) same.tasks) refl refl
   namespaces_kept_by (ToWritePart file offset bytes) fits =
       files_stay world (after (ToWritePart file offset bytes))
-      (writing_of_files same_number fresh world file offset bytes) are
+      (writing_of_files fresh world file offset bytes) are
   namespaces_kept_by (ToClose descriptor) fits =
       changed_task (after (ToClose descriptor)) (without_descriptor task descriptor) refl refl refl refl refl
   namespaces_kept_by (ToSetDirectory directory) fits =
@@ -238,6 +238,6 @@ module _ (world : World ℕ) (fresh : Fresh ℕ) (task : Task ℕ) (serves : Ser
 
 pub namespaces_kept : KeptByPermits (NamespaceInvariants nat_eq)
 namespaces_kept world fresh task permit is plain serves called fits =
-    from_namespaces (apply_unraised nat_eq fresh world task permit).world
+    from_namespaces (apply nat_eq fresh world task permit).world
     (namespaces_kept_by world fresh task serves is (called_there world.tasks task.name task called) permit fits.names)
     fits.few_mounts
