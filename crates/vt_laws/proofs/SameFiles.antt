@@ -32,7 +32,8 @@ module _ (one other : FileTree ℕ) (same : SameFiles one other) where
 
   pub under_same : (top object : ℕ) → is_under nat_eq one top object ≡ is_under nat_eq other top object
   under_same top object = λ i.
-      cond (is_directory_node ((same.tree i).node object)) (directory_under_same top object i) (file_under_same top object i)
+      cond (is_directory_node ((same.tree i).node object)) (directory_under_same top object i)
+      (file_under_same top object i)
 
   pub path_same : (top directory : ℕ) → path_down nat_eq one top directory ≡ path_down nat_eq other top directory
   path_same top directory = λ i.
@@ -62,11 +63,13 @@ module _ (tree : Tree ℕ) (object : ℕ) where
   named directory names (entry ∷ entries) = by (nat_eq object entry.1) (named directory names entries)
     where
       by : (b : Bool)
-          → first_name (option_map (λ entry. (directory, entry.0)) (find (λ entry. nat_eq object entry.1) entries)) names
+          → first_name (option_map (λ entry. (directory, entry.0))
+          (find (λ entry. nat_eq object entry.1) entries)) names
           ≡ cond (is_among nat_eq object (map (λ entry. entry.1) entries)) (Some directory)
           (option_map (λ name. name.0) (first_of_list names))
           → first_name
-          (option_map (λ entry. (directory, entry.0)) (cond b (Some entry) (find (λ entry. nat_eq object entry.1) entries)))
+          (option_map (λ entry. (directory, entry.0))
+          (cond b (Some entry) (find (λ entry. nat_eq object entry.1) entries)))
           names
           ≡ cond (b || is_among nat_eq object (map (λ entry. entry.1) entries)) (Some directory)
           (option_map (λ name. name.0) (first_of_list names))

@@ -90,7 +90,8 @@ plain_there number (filesystem ∷ list) all =
     (plain_there number list (All-tail (λ filesystem. is_overlay filesystem ≡ false) filesystem list all))
   where
     by : (b : Bool)
-        → is_overlay (unwrap_or (find (λ filesystem. nat_eq number filesystem.number) list) (no_filesystem number)) ≡ false
+        → is_overlay (unwrap_or (find (λ filesystem. nat_eq number filesystem.number) list) (no_filesystem number))
+        ≡ false
         → is_overlay
         (unwrap_or (cond b (Some filesystem) (find (λ filesystem. nat_eq number filesystem.number) list))
         (no_filesystem number)) ≡ false

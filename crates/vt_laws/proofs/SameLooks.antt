@@ -39,8 +39,10 @@ found_same number (one ∷ ones) (other ∷ others) same =
   where
     by : (b : Bool) → SameFilesystem (numbered number ones) (numbered number others)
         → SameFilesystem
-        (unwrap_or (cond b (Some one) (find (λ filesystem. nat_eq number filesystem.number) ones)) (no_filesystem number))
-        (unwrap_or (cond b (Some other) (find (λ filesystem. nat_eq number filesystem.number) others)) (no_filesystem number))
+        (unwrap_or (cond b (Some one) (find (λ filesystem. nat_eq number filesystem.number) ones))
+        (no_filesystem number))
+        (unwrap_or (cond b (Some other) (find (λ filesystem. nat_eq number filesystem.number) others))
+        (no_filesystem number))
     by true later = same.0
     by false later = later
 
@@ -80,7 +82,8 @@ any_same test again alike (one ∷ ones) (other ∷ others) same =
     ∙ sym (step again other (filter is_overlay others) (is_overlay other))
   where
     step : (passes : Filesystem ℕ → Bool) (first : Filesystem ℕ) (rest : List (Filesystem ℕ)) (b : Bool)
-        → list_any passes (cond b (first ∷ rest) rest) ≡ cond b (passes first || list_any passes rest) (list_any passes rest)
+        → list_any passes (cond b (first ∷ rest) rest)
+        ≡ cond b (passes first || list_any passes rest) (list_any passes rest)
     step passes first rest true = refl
     step passes first rest false = refl
 
@@ -114,28 +117,37 @@ module _ (one other : Filesystem ℕ) (same : SameFilesystem one other) (overlay
       flat_map (λ directory. before_first (λ d. not (lies_below overlay d)) (above directory)
       ++ option_to_list (find (λ d. not (lies_below overlay d)) (above directory))) asked
       in
-      let copied : List ℕ = filter (lies_below overlay) (object_copied change) ++ filter (lies_below overlay) parents in (
+      let copied : List ℕ =
+      filter (lies_below overlay) (object_copied change) ++ filter (lies_below overlay) parents
+      in (
         list_any (λ number. is_kind_in File (tree.node number)
             && not (node_allows overlay.mounter read_right (tree.node number))) copied,
         B1,
       )
-      ∷ (list_any (λ number. not (node_allows overlay.mounter (write_right + execute_right) (tree.node number))) parents, B1)
+      ∷ (
+        list_any (λ number. not (node_allows overlay.mounter (write_right + execute_right)
+            (tree.node number))) parents,
+        B1,
+      )
       ∷ (list_any (λ number. not (can_give_owner overlay.mounter (attr_in (tree.node number)))) copied, B2)
       ∷ []
 
   rules_same : overlay_rules nat_eq one change overlay ≡ overlay_rules nat_eq other change overlay
   rules_same = λ i.
-      rules_by (same.files.tree i) (λ directory. ancestors_same one.files other.files same.files directory i) (asked_same i)
+      rules_by (same.files.tree i) (λ directory. ancestors_same one.files other.files same.files directory i)
+      (asked_same i)
 
 -- a world, and one with other lists of numbers beside its trees
 module _ (world : World ℕ) (others : List (Filesystem ℕ)) (same : SameFilesystems world.filesystems others) where
   abbrev other : World ℕ
   other = record world { filesystems = others }
 
-  found : (number : ℕ) → SameFilesystem (filesystem_numbered nat_eq world number) (filesystem_numbered nat_eq other number)
+  found : (number : ℕ)
+      → SameFilesystem (filesystem_numbered nat_eq world number) (filesystem_numbered nat_eq other number)
   found number = found_same number world.filesystems others same
 
-  here : (location : Location ℕ) → SameFilesystem (filesystem_at nat_eq world location) (filesystem_at nat_eq other location)
+  here : (location : Location ℕ)
+      → SameFilesystem (filesystem_at nat_eq world location) (filesystem_at nat_eq other location)
   here location = found (mount_at nat_eq world location).filesystem
 
   lies_same : (filesystem object : ℕ) (layer : Layer ℕ)
@@ -158,7 +170,8 @@ module _ (world : World ℕ) (others : List (Filesystem ℕ)) (same : SameFilesy
       ≡ lies_or_counts_under nat_eq other filesystem object layer
   lies_or_counts_same filesystem object layer = λ i.
       lies_same filesystem object layer i
-      || any_same (counts_in_layer nat_eq world filesystem object layer) (counts_in_layer nat_eq other filesystem object layer)
+      || any_same (counts_in_layer nat_eq world filesystem object layer)
+      (counts_in_layer nat_eq other filesystem object layer)
       (counts_same filesystem object layer) world.filesystems others same i
 
   live_same : live_layers world ≡ live_layers other
@@ -167,7 +180,9 @@ module _ (world : World ℕ) (others : List (Filesystem ℕ)) (same : SameFilesy
   live_upper_and_work_same : live_upper_and_work world ≡ live_upper_and_work other
   live_upper_and_work_same = layers_same upper_and_work world.filesystems others same
 
-  locked_same : (filesystem object : ℕ) → is_locked nat_eq world filesystem object ≡ is_locked nat_eq other filesystem object
+  locked_same : (filesystem object : ℕ)
+      → is_locked nat_eq world filesystem object
+      ≡ is_locked nat_eq other filesystem object
   locked_same filesystem object = λ i. list_any (λ layer. lies_or_counts_same filesystem object layer i) (live_same i)
 
   overlaps_same : (layers : List (Layer ℕ)) (layer : Layer ℕ)

@@ -80,10 +80,13 @@ module _ (world : World ℕ) (others : List (Filesystem ℕ)) (namespaces : List
   abbrev other : World ℕ
   other = record world { filesystems = others; namespaces = namespaces; tasks = tasks; change = change }
 
-  found : (number : ℕ) → SameFilesystem (filesystem_numbered nat_eq world number) (filesystem_numbered nat_eq other number)
+  found : (number : ℕ)
+      → SameFilesystem (filesystem_numbered nat_eq world number) (filesystem_numbered nat_eq other number)
   found number = found_same number world.filesystems others same
 
-  takes_same : (place : Location ℕ) (mount : Mount ℕ) → takes_part nat_eq world place mount ≡ takes_part nat_eq other place mount
+  takes_same : (place : Location ℕ) (mount : Mount ℕ)
+      → takes_part nat_eq world place mount
+      ≡ takes_part nat_eq other place mount
   takes_same place mount =
       ap (λ b. not (nat_eq place.mount mount.number) && is_some mount.namespace
       && nat_eq (mount_at nat_eq world place).filesystem mount.filesystem && b)
@@ -119,7 +122,9 @@ module _ (world : World ℕ) (others : List (Filesystem ℕ)) (namespaces : List
           (type_same new parts (mount_at nat_eq world graft.place) twig part.propagation i);
     }
 
-    copies_same : (part : Mount ℕ) → copies_at nat_eq world new graft parts part ≡ copies_at nat_eq other new graft parts part
+    copies_same : (part : Mount ℕ)
+        → copies_at nat_eq world new graft parts part
+        ≡ copies_at nat_eq other new graft parts part
     copies_same part = λ i. map (λ twig. copy_same part twig i) graft.twigs
 
     pushed_same : (mount : Mount ℕ) (below : Option (Mount ℕ))
@@ -139,7 +144,8 @@ module _ (world : World ℕ) (others : List (Filesystem ℕ)) (namespaces : List
         ≡ has_too_many nat_eq (attached_at nat_eq other new graft parts)
     many_there =
         any (λ number. nat_lt most_mounts
-        (length (filter (λ mount. holds_of (nat_eq number) mount.namespace) (attached_at nat_eq world new graft parts).mounts)))
+        (length (filter (λ mount. holds_of (nat_eq number) mount.namespace)
+        (attached_at nat_eq world new graft parts).mounts)))
         ∙ (λ i. list_any (λ (namespace : Namespace ℕ). nat_lt most_mounts
         (length (filter (λ mount. holds_of (nat_eq namespace.number) mount.namespace) (mounts_same i)))) namespaces)
 
@@ -151,9 +157,12 @@ module _ (world : World ℕ) (others : List (Filesystem ℕ)) (namespaces : List
       (graft_of nat_eq world (copies_from nat_eq fresh (parts_of nat_eq world place) mounts) place moves mounts)
       (parts_of nat_eq world place)
       ∙ (λ i. has_too_many nat_eq (attached_at nat_eq other (copies_from nat_eq fresh (parts_same place i) mounts)
-      (graft_of nat_eq world (copies_from nat_eq fresh (parts_same place i) mounts) place moves mounts) (parts_same place i)))
+      (graft_of nat_eq world (copies_from nat_eq fresh (parts_same place i) mounts) place moves mounts)
+      (parts_same place i)))
 
-  under : (source : Location ℕ) (mount : Mount ℕ) → stands_under nat_eq world source mount ≡ stands_under nat_eq other source mount
+  under : (source : Location ℕ) (mount : Mount ℕ)
+      → stands_under nat_eq world source mount
+      ≡ stands_under nat_eq other source mount
   under source mount = λ i.
       holds_of (λ (place : Location ℕ). directory_under_same _ _ (found (mount_at nat_eq world source).filesystem).files
       source.node place.node i) mount.place
@@ -176,7 +185,8 @@ module _ (world : World ℕ) (others : List (Filesystem ℕ)) (namespaces : List
       → overlay_filesystem nat_eq fresh world overlay ≡ overlay_filesystem nat_eq fresh other overlay
   overlay_same fresh overlay = λ i.
       overlay_of_inodes nat_eq (evens fresh 0) (odds fresh 0) overlay
-      (merged_inodes nat_eq (odds fresh) (is_some overlay.upper) (map (λ layer. opened_same layer i) (shown_layers overlay))
+      (merged_inodes nat_eq (odds fresh) (is_some overlay.upper)
+      (map (λ layer. opened_same layer i) (shown_layers overlay))
       (merged_objects (map (λ layer. opened_same layer i) (shown_layers overlay))
       (sum (counts_same world.filesystems others same i))))
 
@@ -202,21 +212,25 @@ module _ (world : World ℕ) (others : List (Filesystem ℕ)) (namespaces : List
       mounted_same (odds fresh) place (plain_filesystem nat_eq fresh) flags
   many_same fresh task (ToMountOverlay place overlay flags) =
       mounted_same (odds fresh) place (overlay_filesystem nat_eq (evens fresh) world overlay) flags
-      ∙ (λ i. has_too_many nat_eq (mounted nat_eq (odds fresh) again place (overlay_same world others namespaces tasks change same any (evens fresh) overlay i) flags))
+      ∙ (λ i. has_too_many nat_eq (mounted nat_eq (odds fresh) again place
+      (overlay_same world others namespaces tasks change same any (evens fresh) overlay i) flags))
   many_same fresh task (ToBind source place recursive) = bound_same world others namespaces tasks change same any fresh source place recursive
   many_same fresh task (ToMove mount place) =
-      attach_same world others namespaces tasks change same any fresh place true (mount_tree nat_eq world.mounts (mount_numbered nat_eq world mount))
+      attach_same world others namespaces tasks change same any fresh place true
+      (mount_tree nat_eq world.mounts (mount_numbered nat_eq world mount))
   many_same fresh task permit = refl
 
 pub same_worlds_judge_alike : SameWorldsJudgeAlike
 same_worlds_judge_alike one other same alone fresh task call =
     only_attaches (looks_of nat_eq one) (overfills nat_eq fresh one task) task call
     ∙ (λ i. judge nat_eq (looks_of nat_eq one) (λ permit. many permit i) task call)
-    ∙ same_worlds_are_judged_alike one other same alone (λ permit. attaches permit && overfills nat_eq fresh other task permit)
+    ∙ same_worlds_are_judged_alike one other same alone
+    (λ permit. attaches permit && overfills nat_eq fresh other task permit)
     task call
     ∙ sym (only_attaches (looks_of nat_eq other) (overfills nat_eq fresh other task) task call)
   where
-    any : (test : ℕ → Bool) → list_any (λ (namespace : Namespace ℕ). test namespace.number) one.namespaces
+    any : (test : ℕ → Bool)
+        → list_any (λ (namespace : Namespace ℕ). test namespace.number) one.namespaces
         ≡ list_any (λ (namespace : Namespace ℕ). test namespace.number) other.namespaces
     any test =
         sym (any_bare test one.namespaces)

@@ -34,4 +34,5 @@ SameWorldsJudgeAlike =
 -- In a world of plain filesystems nothing lies below.
 abbrev pub PlainHasOneName : Type 0
 PlainHasOneName =
-    (world : World ℕ) → All (λ filesystem. is_overlay filesystem ≡ false) world.filesystems → BelowHasOneName nat_eq world
+    (world : World ℕ) → All (λ filesystem. is_overlay filesystem ≡ false) world.filesystems
+    → BelowHasOneName nat_eq world
