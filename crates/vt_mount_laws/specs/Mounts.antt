@@ -7,8 +7,8 @@ pub mod Ending
 pub mod Ends
 pub mod FileCalls
 pub mod Granted
-pub mod Moving
 pub mod Namespaces
+pub mod Moving
 pub mod Places
 pub mod Receivers
 pub mod Standing

@@ -1,3 +1,13 @@
+pub mod Reached
+pub mod ReachedWalks
+pub mod ReachedPlaces
+pub mod FitPermits
+pub mod FitPermitsOfNames
+pub mod FitPermitsOfTasks
+pub mod FitPermitsOfMounts
+pub mod FewMounts
+pub mod FewMountsLeft
+pub mod FitPermitsNamed
 pub mod MountsAlike
 pub mod MountsKept
 pub mod MountsKeptAttaching
@@ -5,4 +15,3 @@ pub mod NamespacesEnding
 pub mod NamespacesKept
 pub mod NamespacesListed
 pub mod NamespacesTasks
-pub mod Sketch
