@@ -15,7 +15,7 @@ use Rattle.vt_spec.specs.Machine.Policy.{call_outcome, filesystems_changed_by, f
 use Rattle.vt_spec.specs.Machine.Run.{Serves, numbers_in_use, used_by_filesystem, used_by_mount}
 use Rattle.vt_spec.specs.Machine.Settled.{settled}
 use Rattle.vt_spec.specs.Machine.World.{Filesystem, Task, TaskName, World, same_name, task_called}
-use Rattle.vt_spec.specs.Machine.WorldLaws.{IsWorld, ListsNumbers, MountInvariants, NamespaceInvariants, is_within_limits}
+use Rattle.vt_spec.specs.Machine.WorldLaws.{ForksAreCounted, IsWorld, ListsNumbers, MountInvariants, NamespaceInvariants, is_within_limits}
 use Rattle.vt_spec.specs.TreeLaws.{HasOwnParents, IsTree}
 use Rattle.vt_laws.proofs.CallsJudged.{call_is_judged_then_applied}
 use Rattle.vt_laws.proofs.OwnRules.{denial_changes_nothing}
@@ -36,8 +36,8 @@ use Rattle.vt_world_laws.specs.Worlds.Calls.{CallsKeepWorlds, PermitsFit}
 use Rattle.vt_world_laws.specs.Worlds.Kept.{IsPlain, IsUnsettled, KeptByPermits, MountsShow}
 use Rattle.vt_world_laws.specs.Worlds.Filesystems.{OneFilesystemANumber}
 use Rattle.vt_world_laws.specs.Worlds.Permits.{IsFitPermit}
-use Rattle.vt_world_laws.specs.Worlds.Tasks.{ForksAreCounted, KeptWhereForksAreCounted, LocationsAreThere, OneTaskAName, OpenFilesAreRegular, TasksStandOnDirectories}
-use Rattle.vt_world_laws.proofs.RaisedInUse.{raising_numbers_keeps_forks, raising_numbers_keeps_world, unsettled_of}
+use Rattle.vt_world_laws.specs.Worlds.Tasks.{LocationsAreThere, OneTaskAName, OpenFilesAreRegular, TasksStandOnDirectories}
+use Rattle.vt_world_laws.proofs.RaisedInUse.{raising_numbers_keeps_world, unsettled_of}
 use Rattle.vt_world_laws.proofs.ScriptsKept.{Kept}
 use Rattle.vt_world_laws.proofs.SettledTasks.{file_trees, settling_leaves_a_world}
 
@@ -92,8 +92,8 @@ new_numbers world fresh is serves =
 module _ (fit : PermitsFit)
     (kept_mounts : KeptByPermits (MountInvariants nat_eq))
     (kept_namespaces : KeptByPermits (NamespaceInvariants nat_eq))
-    (kept_names : KeptWhereForksAreCounted OneTaskAName)
-    (kept_forks : KeptWhereForksAreCounted ForksAreCounted)
+    (kept_names : KeptByPermits OneTaskAName)
+    (kept_forks : KeptByPermits ForksAreCounted)
     (kept_locations : KeptByPermits LocationsAreThere)
     (kept_directories : KeptByPermits TasksStandOnDirectories)
     (kept_files : KeptByPermits OpenFilesAreRegular)
@@ -101,7 +101,7 @@ module _ (fit : PermitsFit)
     (one_filesystem : KeptByPermits OneFilesystemANumber) where
   -- a granted call, before what nothing uses goes
   module _ (world : World ℕ) (fresh : Fresh ℕ) (task : Task ℕ) (call : Call) (permit : Permit ℕ)
-      (is : IsWorld nat_eq world) (plain : IsPlain world) (forks : ForksAreCounted world)
+      (is : IsWorld nat_eq world) (plain : IsPlain world)
       (serves : Serves nat_eq world fresh)
       (found : task_called world task.name ≡ Some task) (other : mounts_overlay call ≡ false)
       (few : names_few_groups call ≡ true) (granted : judge_in nat_eq fresh world task call ≡ Ok permit) where
@@ -155,8 +155,10 @@ module _ (fit : PermitsFit)
           (kept_namespaces world fresh task permit is plain serves found fits);
       tasks = record {
         one_task = kept_by_call OneTaskAName
-            (kept_names world fresh task permit is plain forks serves found fits);
+            (kept_names world fresh task permit is plain serves found fits);
         small_tasks = outcome_small fresh world task is.tasks.small_tasks within call few;
+        forks_counted = kept_by_call ForksAreCounted
+            (kept_forks world fresh task permit is plain serves found fits);
         locations_live = kept_by_call LocationsAreThere
             (kept_locations world fresh task permit is plain serves found fits);
         directories = kept_by_call TasksStandOnDirectories
@@ -172,20 +174,14 @@ module _ (fit : PermitsFit)
         → Kept (finished_by nat_eq false world name changed (call_outcome nat_eq fresh world task call)).world
     finished_keeps name changed =
         let left = settling_leaves_a_world after_call unsettled in
-        let last = raising_numbers_keeps_world world name changed (settled nat_eq after_call) left.0 left.1 in (
-          last.0,
-          last.1,
-          raising_numbers_keeps_forks world name changed (settled nat_eq after_call)
-              (kept_by_call ForksAreCounted
-              (kept_forks world fresh task permit is plain forks serves found fits)),
-        )
+        raising_numbers_keeps_world world name changed (settled nat_eq after_call) left.0 left.1
 
   module _ (world : World ℕ) (fresh : Fresh ℕ) (name : TaskName) (call : Call)
-      (is : IsWorld nat_eq world) (plain : IsPlain world) (forks : ForksAreCounted world)
+      (is : IsWorld nat_eq world) (plain : IsPlain world)
       (serves : Serves nat_eq world fresh)
       (other : mounts_overlay call ≡ false) (few : names_few_groups call ≡ true) where
     unchanged : (policy nat_eq fresh world name call).world ≡ world → Kept (policy nat_eq fresh world name call).world
-    unchanged same = subst Kept (sym same) (is, plain, forks)
+    unchanged same = subst Kept (sym same) (is, plain)
 
     refused : (answer : Result Answer Deny) → (policy nat_eq fresh world name call).answer ≡ answer
         → is_ok answer ≡ false
@@ -240,17 +236,17 @@ module _ (fit : PermitsFit)
                 ∙ (or_parts (only_looks call) (not (is_ok outcome.answer)) e).1))
             judged (Ok permit) f =
                 subst Kept (sym (ap (λ (o : Outcome ℕ). o.world) same))
-                (finished_keeps world fresh task call permit is plain forks serves
+                (finished_keeps world fresh task call permit is plain serves
                 (ap (task_called world) (sym (name_found world name task found)) ∙ found) other few f name changed)
 
   pub calls_keep_worlds : CallsKeepWorlds
-  calls_keep_worlds world fresh name call is plain forks serves other few = by (task_called world name) refl
+  calls_keep_worlds world fresh name call is plain serves other few = by (task_called world name) refl
     where
       by : (o : Option (Task ℕ)) → task_called world name ≡ o → Kept (policy nat_eq fresh world name call).world
       by None e =
-          unchanged world fresh name call is plain forks serves other few
+          unchanged world fresh name call is plain serves other few
           (ap (λ o. (after world (ok_or o (denial S2))
           (λ t. finished nat_eq world name call
           (filesystems_changed_by nat_eq world (judge_in nat_eq fresh world t call))
           (call_outcome nat_eq fresh world t call))).world) e)
-      by (Some task) e = called world fresh name call is plain forks serves other few task e
+      by (Some task) e = called world fresh name call is plain serves other few task e

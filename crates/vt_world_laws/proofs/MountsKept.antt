@@ -30,8 +30,8 @@ pub can_pivot : (world : World ℕ) (task : Task ℕ) (new : ℕ) (put : Locatio
     → CanPivot world task.namespace (mount_at nat_eq world task.root) (mount_numbered nat_eq world new) put
 can_pivot world task new put may =
     numbered_mounts_can_pivot world task.namespace task.root.mount (at_root_of world new) put may.own_root may.own
-    may.destination.own refl (may.below_root (at_root_of world new).node) (may.put_under (at_root_of world new).node refl)
-    may.destination.free
+    may.destination.own refl (may.below_root (at_root_of world new).node)
+    (may.put_under (at_root_of world new).node refl) may.destination.free
 
 module _ (world : World ℕ) (fresh : Fresh ℕ) (task : Task ℕ) (serves : Serves nat_eq world fresh)
     (kept : MountInvariants nat_eq world) where
@@ -42,7 +42,8 @@ module _ (world : World ℕ) (fresh : Fresh ℕ) (task : Task ℕ) (serves : Ser
   same_number number = number
 
   -- tasks alone are others
-  of_tasks : (other : World ℕ) → other.mounts ≡ world.mounts → other.master ≡ world.master → MountInvariants nat_eq other
+  of_tasks : (other : World ℕ) → other.mounts ≡ world.mounts → other.master ≡ world.master
+      → MountInvariants nat_eq other
   of_tasks other mounts master = same_mounts world other (sym mounts) (sym master) kept
 
   mounts_kept_by : (permit : Permit ℕ) → NamesWhatIsThere world task permit → MountInvariants nat_eq (after permit)
@@ -86,7 +87,8 @@ module _ (world : World ℕ) (fresh : Fresh ℕ) (task : Task ℕ) (serves : Ser
   mounts_kept_by ToExit fits =
       ended_namespaces_keep_mounts (without_task world task.name) (of_tasks (without_task world task.name) refl refl)
   mounts_kept_by ToUnshare fits =
-      ended_namespaces_keep_mounts (unshared nat_eq world fresh task) (unshare_keeps_mounts world fresh task serves kept)
+      ended_namespaces_keep_mounts (unshared nat_eq world fresh task)
+      (unshare_keeps_mounts world fresh task serves kept)
   mounts_kept_by (ToEnterNamespace namespace) fits =
       ended_namespaces_keep_mounts (namespace_entered nat_eq world task namespace)
       (of_tasks (namespace_entered nat_eq world task namespace) refl refl)
@@ -97,8 +99,8 @@ module _ (world : World ℕ) (fresh : Fresh ℕ) (task : Task ℕ) (serves : Ser
   mounts_kept_by (ToMove mount place) fits = move_kept world task mount place fresh fits serves kept
   mounts_kept_by (ToUnmount mount) fits =
       unmount_keeps_mounts world mount kept
-      (or_parts (has_child nat_eq world mount) (is_used nat_eq world (going nat_eq world (mount_numbered nat_eq world mount)))
-      fits.2).0
+      (or_parts (has_child nat_eq world mount)
+      (is_used nat_eq world (going nat_eq world (mount_numbered nat_eq world mount))) fits.2).0
   mounts_kept_by (ToUnmountLazily mount) fits = lazy_unmount_keeps_mounts world mount kept
   mounts_kept_by (ToSetFlags mount flags) fits = flags_keep_mounts world (at_root_of world mount) flags kept
   mounts_kept_by (ToSetType mount word recursive) fits =

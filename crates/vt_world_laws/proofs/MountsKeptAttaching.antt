@@ -35,8 +35,11 @@ module _ (world : World ℕ) (fresh : Fresh ℕ) (serves : Serves nat_eq world f
   apart_by : (j k : ℕ) → fresh j ≡ fresh k → j ≡ k
   apart_by j k e = serves.apart j k (eq-eqb (fresh j) (fresh k) e)
 
+  abbrev in_use_with_new : List ℕ
+  in_use_with_new = numbers_in_use (with_new_filesystem world new)
+
   -- what is in use with the new filesystem was so before, or is a number of its own
-  used_with : (number : ℕ) → Among number (numbers_in_use (with_new_filesystem world new))
+  used_with : (number : ℕ) → Among number in_use_with_new
       → Among number (numbers_in_use world) ⊎ Among number (used_by_filesystem new)
   used_with number m =
       ⊎_elim
@@ -50,7 +53,11 @@ module _ (world : World ℕ) (fresh : Fresh ℕ) (serves : Serves nat_eq world f
       (λ old. inl (among-append_left (of_mounts ++ of_filesystems) of_namespaces number
       (among-append_right of_mounts of_filesystems number
       (among-flat_map used_by_filesystem world.filesystems from.0 number old from.2))))
-      (λ last. ⊎_elim (λ same. inr (subst (λ f. Among number (used_by_filesystem f)) same from.2)) (λ none. absurd none) last)
+      (λ last.
+      ⊎_elim
+      (λ same. inr (subst (λ f. Among number (used_by_filesystem f)) same from.2))
+      (λ none. absurd none)
+      last)
       (among-append world.filesystems (new ∷ []) from.0 from.1))
       (among-append of_mounts (flat_map used_by_filesystem (world.filesystems ++ (new ∷ []))) number l))
       (λ r. inl (among-append_right (of_mounts ++ of_filesystems) of_namespaces number r))
@@ -58,11 +65,13 @@ module _ (world : World ℕ) (fresh : Fresh ℕ) (serves : Serves nat_eq world f
 
   pub serves_with_new : Serves nat_eq (with_new_filesystem world (plain_filesystem nat_eq fresh)) (odds fresh)
   serves_with_new = record {
-    unused = λ k. false_from_ne_true (is_among nat_eq (odds fresh k) (numbers_in_use (with_new_filesystem world new))) (λ is.
+    unused = λ k. false_from_ne_true (is_among nat_eq (odds fresh k) in_use_with_new) (λ is.
         ⊎_elim
-        (λ old. true≢false (sym (is_among_numbers (numbers_in_use world) (odds fresh k) old) ∙ serves.unused (2 * k + 1)))
+        (λ old.
+        true≢false
+        (sym (is_among_numbers (numbers_in_use world) (odds fresh k) old) ∙ serves.unused (2 * k + 1)))
         (own k)
-        (used_with (odds fresh k) (among_numbers (numbers_in_use (with_new_filesystem world new)) (odds fresh k) is)));
+        (used_with (odds fresh k) (among_numbers in_use_with_new (odds fresh k) is)));
     apart = λ j k e.
         let same : 2 * j + 1 ≡ 2 * k + 1 = serves.apart (2 * j + 1) (2 * k + 1) e in
         omega (arith, same);
@@ -82,8 +91,8 @@ module _ (world : World ℕ) (fresh : Fresh ℕ) (serves : Serves nat_eq world f
 module _ (world : World ℕ) (task : Task ℕ) (place : Location ℕ) (destination : IsDestination world task place) where
   pub destination_there : is_mount world place.mount ≡ true
   destination_there =
-      (and_parts (is_mount world place.mount) (is_there nat_eq world (mount_at nat_eq world place).filesystem place.node)
-      destination.directory.reached.there).0
+      (and_parts (is_mount world place.mount)
+      (is_there nat_eq world (mount_at nat_eq world place).filesystem place.node) destination.directory.reached.there).0
 
   attached : IsAttachedAt world place
   attached = ap is_some destination.own

@@ -43,7 +43,8 @@ module _ (world : World ℕ) where
   live_is_listed : (namespace : Namespace ℕ) → Among namespace world.namespaces → IsLive world namespace → (number : ℕ)
       → number ≡ namespace.number → IsListedIn ended.namespaces number
   live_is_listed namespace m live number same =
-      (namespace, among-filter (has_tasks nat_eq world) world.namespaces namespace m (has_tasks_in world namespace live), same)
+      let has = has_tasks_in world namespace live in
+      (namespace, among-filter (has_tasks nat_eq world) world.namespaces namespace m has, same)
 
   -- a mount that is left in a namespace was in it, and stays
   abbrev IsLeftFrom : Mount ℕ → ℕ → Type 0
@@ -58,7 +59,8 @@ module _ (world : World ℕ) where
       let heir = among-from_map (inheriting nat_eq detached_ones) detached_ones.mounts mount
       (subst (Among mount) (mounts-regrouped detached_ones) m) in
       let old = among-from_map (after_going nat_eq world gone) world.mounts heir.0 heir.1 in
-      by old.0 old.1 (ap (λ (x : Mount ℕ). x.namespace) (sym (ap (inheriting nat_eq detached_ones) old.2) ∙ sym heir.2) ∙ e)
+      by old.0 old.1
+      (ap (λ (x : Mount ℕ). x.namespace) (sym (ap (inheriting nat_eq detached_ones) old.2) ∙ sym heir.2) ∙ e)
       (is_going nat_eq gone old.0.number) refl
     where
       by : (old : Mount ℕ) → Among old world.mounts → (after_going nat_eq world gone old).namespace ≡ Some number
@@ -79,7 +81,8 @@ module _ (world : World ℕ) where
       let outside : is_in_ended nat_eq world old ≡ false =
       false_from_ne_true (is_in_ended nat_eq world old) (λ is.
       true≢false (sym (is_among_numbers gone old.number
-      (among-map (λ (x : Mount ℕ). x.number) in_ended old (among-filter (is_in_ended nat_eq world) world.mounts old m is)))
+      (among-map (λ (x : Mount ℕ). x.number) in_ended old
+      (among-filter (is_in_ended nat_eq world) world.mounts old m is)))
       ∙ stays)) in
       let kept : list_any (is_kept number) world.namespaces ≡ true =
       not-false (list_any (is_kept number) world.namespaces)
@@ -107,7 +110,8 @@ module _ (world : World ℕ) where
     };
     roots = λ namespace m.
         let before = among-from_filter (has_tasks nat_eq world) world.namespaces namespace m in
-        ended_namespaces_keep_roots world namespace one (contains_from_among world.namespaces namespace before.0) before.1
+        ended_namespaces_keep_roots world namespace one
+        (contains_from_among world.namespaces namespace before.0) before.1
         ∙ roots namespace before.0;
     live = λ namespace m.
         let before = among-from_filter (has_tasks nat_eq world) world.namespaces namespace m in
@@ -156,7 +160,8 @@ module _ (world : World ℕ) (fresh : Fresh ℕ) (task : Task ℕ) (serves : Ser
   abbrev after : World ℕ
   after = unshared nat_eq world fresh task
 
-  another : (namespace : Namespace ℕ) → Among namespace world.namespaces → nat_eq namespace.number (evens fresh 0) ≡ false
+  another : (namespace : Namespace ℕ) → Among namespace world.namespaces
+      → nat_eq namespace.number (evens fresh 0) ≡ false
   another namespace m =
       false_from_ne_true (nat_eq namespace.number (evens fresh 0)) (λ same.
       true≢false (sym (is_among_numbers (numbers_in_use world) (evens fresh 0)
@@ -173,8 +178,8 @@ module _ (world : World ℕ) (fresh : Fresh ℕ) (task : Task ℕ) (serves : Ser
 
   unshared_listed : AreListed after
   unshared_listed = record {
-    apart = pair-append (λ (a b : Namespace ℕ). nat_eq a.number b.number) world.namespaces (new ∷ []) are.listed.apart refl
-        (λ a b m n.
+    apart = pair-append (λ (a b : Namespace ℕ). nat_eq a.number b.number) world.namespaces (new ∷ [])
+        are.listed.apart refl (λ a b m n.
         ⊎_elim (λ e. ap (λ (x : Namespace ℕ). nat_eq a.number x.number) e ∙ another a m) (λ none. absurd none) n);
     of_mounts = λ mount m number e.
         ⊎_elim

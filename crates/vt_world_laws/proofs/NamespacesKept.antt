@@ -68,9 +68,6 @@ module _ (world : World ℕ) (fresh : Fresh ℕ) (task : Task ℕ) (serves : Ser
   are : AreNamespaces world
   are = are_namespaces world is.namespaces
 
-  abbrev Becomes : World ℕ → Type 0
-  Becomes other = KeepsNamespaces world other
-
   becomes : (other : World ℕ) → KeepsNamespaces world other → AreNamespaces other
   becomes other keeps = namespaces_stay world other keeps are
 
@@ -80,7 +77,8 @@ module _ (world : World ℕ) (fresh : Fresh ℕ) (task : Task ℕ) (serves : Ser
       let left = without_mounts_on nat_eq world directory in
       let others =
       all_but_mounts world
-      (map (λ (mount : Mount ℕ). mount.number) (flat_map (mount_tree nat_eq world.mounts) (mounts_on nat_eq world directory))) in
+      (map (λ (mount : Mount ℕ). mount.number)
+      (flat_map (mount_tree nat_eq world.mounts) (mounts_on nat_eq world directory))) in
       becomes left (record {
         namespaces = others.namespaces;
         mounts = taken_stay world left (points_take_none_in world directory);
@@ -97,8 +95,8 @@ module _ (world : World ℕ) (fresh : Fresh ℕ) (task : Task ℕ) (serves : Ser
       → other.tasks ≡ map (replaced_if_called new) world.tasks → new.name ≡ task.name → new.namespace ≡ task.namespace
       → AreNamespaces other
   changed_task other new namespaces mounts tasks name namespace =
-      same_mounts_stay world other namespaces mounts
-      (subst (TasksStay world.tasks) (sym tasks) (replaced_stays world task is.tasks.one_task there new name namespace)) are
+      let stay = replaced_stays world task is.tasks.one_task there new name namespace in
+      same_mounts_stay world other namespaces mounts (subst (TasksStay world.tasks) (sym tasks) stay) are
 
   namespaces_kept_by : (permit : Permit ℕ) → NamesWhatIsThere world task permit → AreNamespaces (after permit)
   namespaces_kept_by Allowed fits = are
@@ -144,13 +142,12 @@ module _ (world : World ℕ) (fresh : Fresh ℕ) (task : Task ℕ) (serves : Ser
   namespaces_kept_by (ToSetUmask umask) fits =
       changed_task (after (ToSetUmask umask)) (record task { umask = umask }) refl refl refl refl refl
   namespaces_kept_by (ToSetCredentials credentials) fits =
-      changed_task (after (ToSetCredentials credentials)) (record task { credentials = credentials }) refl refl refl refl
-      refl
+      changed_task (after (ToSetCredentials credentials)) (record task { credentials = credentials }) refl refl refl
+      refl refl
   namespaces_kept_by (ToFork credentials) fits =
+      let new = record task { forks = task.forks + 1 } in
       same_mounts_stay world (after (ToFork credentials)) refl refl
-      (forked_stays world task is.tasks.one_task there (record task { forks = task.forks + 1 }) (child_of task credentials)
-      refl refl refl)
-      are
+      (forked_stays world task is.tasks.one_task there new (child_of task credentials) refl refl refl) are
   namespaces_kept_by ToExit fits = exit_namespaces world task is.mounts.one_number are
   namespaces_kept_by ToUnshare fits =
       unshare_namespaces world fresh task serves is.namespaces are there

@@ -42,11 +42,13 @@ pub record AreNamespaces (world : World ℕ) : Type 0 where
   pub live : (namespace : Namespace ℕ) → Among namespace world.namespaces → IsLive world namespace
 
 -- Tests and facts
-pub listed_in : (world : World ℕ) (number : ℕ) → is_listed nat_eq world number ≡ true → IsListedIn world.namespaces number
+pub listed_in : (world : World ℕ) (number : ℕ) → is_listed nat_eq world number ≡ true
+    → IsListedIn world.namespaces number
 listed_in world number is =
     among-from_map number_of world.namespaces number (among_numbers (map number_of world.namespaces) number is)
 
-is_listed_in : (world : World ℕ) (number : ℕ) → IsListedIn world.namespaces number → is_listed nat_eq world number ≡ true
+is_listed_in : (world : World ℕ) (number : ℕ) → IsListedIn world.namespaces number
+    → is_listed nat_eq world number ≡ true
 is_listed_in world number at =
     is_among_numbers (map number_of world.namespaces) number
     (subst (λ n. Among n (map number_of world.namespaces)) (sym at.2) (among-map number_of world.namespaces at.0 at.1))
@@ -74,7 +76,8 @@ are_namespaces world is = record {
         listed_in world number
         (and_parts (is_listed nat_eq world number) true
         (ap (has_its_namespace world) (sym e)
-        ∙ among_from_list_all (λ (x : Mount ℕ). has_its_namespace world x.namespace) world.mounts is.mounts_listed mount m)).0;
+        ∙ among_from_list_all (λ (x : Mount ℕ). has_its_namespace world x.namespace) world.mounts is.mounts_listed
+        mount m)).0;
     of_tasks = λ task m.
         listed_in world task.namespace
         (among_from_list_all (λ (x : Task ℕ). is_listed nat_eq world x.namespace) world.tasks is.tasks_listed task m);
@@ -139,7 +142,8 @@ namespaces_stay before after keeps are = record {
         still task.namespace
         (subst (IsListedIn before.namespaces) (sym from.2) (are.listed.of_tasks from.0 from.1));
   };
-  roots = λ namespace m. keeps.roots namespace.number ∙ are.roots namespace (subst (Among namespace) keeps.namespaces m);
+  roots = λ namespace m.
+      keeps.roots namespace.number ∙ are.roots namespace (subst (Among namespace) keeps.namespaces m);
   live = λ namespace m.
       let old = are.live namespace (subst (Among namespace) keeps.namespaces m) in
       let now = keeps.tasks.stay old.0 old.1 in

@@ -90,7 +90,8 @@ module _ (world : World ℕ) (task : Task ℕ) (apart : AreNamedApart world.task
 pub pivoted_stay : (namespace : ℕ) (root new : Mount ℕ) (tasks : List (Task ℕ))
     → TasksStay tasks (map (pivoted_task nat_eq namespace root new) tasks)
 pivoted_stay namespace root new tasks =
-    mapped_tasks_stay (pivoted_task nat_eq namespace root new) tasks (λ task m. by task (nat_eq namespace task.namespace))
+    mapped_tasks_stay (pivoted_task nat_eq namespace root new) tasks
+    (λ task m. by task (nat_eq namespace task.namespace))
   where
     by : (task : Task ℕ) (b : Bool) → (if b then (record task {
       root = pivoted_location nat_eq root new task.root;

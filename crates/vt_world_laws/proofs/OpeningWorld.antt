@@ -23,6 +23,7 @@ use Rattle.vt_tree_laws.proofs.ChangesWithinSizes.{opening_is_fit}
 use Rattle.vt_tree_laws.proofs.TreesLimits.{opening_has_small_tasks}
 use Rattle.vt_world_laws.specs.Worlds.Calls.{OpeningIsAWorld}
 use Rattle.vt_world_laws.specs.Worlds.Kept.{MountsShow}
+use Rattle.vt_world_laws.proofs.TasksNamed.{opening_counts_forks}
 use Rattle.vt_world_laws.proofs.RaisedInUse.{world_of}
 
 directory_is_there : (o : Option (Node ℕ)) → is_directory_node o ≡ true → is_some o ≡ true
@@ -109,6 +110,7 @@ module _ (fresh : Fresh ℕ) where
   tasks = record {
     one_task = refl;
     small_tasks = opening_has_small_tasks fresh;
+    forks_counted = opening_counts_forks fresh;
     locations_live = ap (λ b. b && (b && true)) located;
     directories = ap (λ b. (b && b) && true) seen;
     open_files = refl;

@@ -15,12 +15,12 @@ use Rattle.vt_spec.specs.Machine.Outcome.Removing.{without_replaced}
 use Rattle.vt_spec.specs.Machine.Permits.{Permit}
 use Rattle.vt_spec.specs.Machine.Permits.Permit.{Allowed, ToBind, ToChange, ToClose, ToEnterNamespace, ToExit, ToFork, ToList, ToListMounts, ToMake, ToMountOverlay, ToMountPlain, ToMove, ToOpen, ToOpenNew, ToPivot, ToRead, ToReadPart, ToRemoveDirectory, ToRename, ToSetCredentials, ToSetDirectory, ToSetFlags, ToSetRoot, ToSetType, ToSetUmask, ToStat, ToUnmount, ToUnmountLazily, ToUnshare, ToWritePart}
 use Rattle.vt_spec.specs.Machine.World.{Task, World, mount_at, mount_numbered, mounts_of, replaced_if_called, same_name, without_task}
-use Rattle.vt_spec.specs.Machine.WorldLaws.{TaskInvariants}
+use Rattle.vt_spec.specs.Machine.WorldLaws.{ForksAreCounted, TaskInvariants}
 use Rattle.vt_mount_laws.proofs.MountsRetyped.{types_are_of_mounts}
 use Rattle.vt_mount_laws.proofs.UnmountingEnds.{lazy_is_of_mounts}
-use Rattle.vt_world_laws.specs.Worlds.Kept.{IsPlain}
+use Rattle.vt_world_laws.specs.Worlds.Kept.{IsPlain, KeptByPermits}
 use Rattle.vt_world_laws.specs.Worlds.Permits.{NamesWhatIsThere}
-use Rattle.vt_world_laws.specs.Worlds.Tasks.{ForksAreCounted, KeptWhereForksAreCounted, OneTaskAName, TasksAreWithinLimits}
+use Rattle.vt_world_laws.specs.Worlds.Tasks.{OneTaskAName, TasksAreWithinLimits}
 use Rattle.vt_world_laws.proofs.PermitsPlaced.{found_among, permits_keep_directories, permits_keep_locations, permits_keep_open_files}
 use Rattle.vt_world_laws.proofs.PermitsSeen.{gone_on, replaced_plain, replaced_tasks, taken_plain, taken_tasks}
 use Rattle.vt_world_laws.proofs.SeenTrees.{change_tasks}
@@ -124,26 +124,27 @@ module _ (world : World ℕ) (fresh : Fresh ℕ) (task : Task ℕ) (plain : IsPl
       (after (ToPivot new put)).tasks refl
   tasks_go_on ToListMounts fits = same_ones world.tasks refl
 
-pub permits_keep_names : KeptWhereForksAreCounted OneTaskAName
-permits_keep_names world fresh task permit is plain counted serves called fits =
+pub permits_keep_names : KeptByPermits OneTaskAName
+permits_keep_names world fresh task permit is plain serves called fits =
     go_on_apart task world.tasks
     (found_among (λ (other : Task ℕ). same_name task.name other.name) world.tasks task called)
-    is.tasks.one_task (counted_among world counted) (after world fresh task plain permit).tasks
+    is.tasks.one_task (counted_among world is.tasks.forks_counted) (after world fresh task plain permit).tasks
     (tasks_go_on world fresh task plain permit fits.names)
 
-pub permits_keep_counting_forks : KeptWhereForksAreCounted ForksAreCounted
-permits_keep_counting_forks world fresh task permit is plain counted serves called fits =
+pub permits_keep_counting_forks : KeptByPermits ForksAreCounted
+permits_keep_counting_forks world fresh task permit is plain serves called fits =
     counted_from (after world fresh task plain permit)
     (go_on_counted task world.tasks
     (found_among (λ (other : Task ℕ). same_name task.name other.name) world.tasks task called)
-    is.tasks.one_task (counted_among world counted) (after world fresh task plain permit).tasks
+    is.tasks.one_task (counted_among world is.tasks.forks_counted) (after world fresh task plain permit).tasks
     (tasks_go_on world fresh task plain permit fits.names))
 
 -- All invariants of tasks, where tasks stay within their limits
-pub permits_keep_tasks : KeptWhereForksAreCounted (λ after. TasksAreWithinLimits after → TaskInvariants nat_eq after)
-permits_keep_tasks world fresh task permit is plain counted serves called fits limits = record {
-  one_task = permits_keep_names world fresh task permit is plain counted serves called fits;
+pub permits_keep_tasks : KeptByPermits (λ after. TasksAreWithinLimits after → TaskInvariants nat_eq after)
+permits_keep_tasks world fresh task permit is plain serves called fits limits = record {
+  one_task = permits_keep_names world fresh task permit is plain serves called fits;
   small_tasks = limits;
+  forks_counted = permits_keep_counting_forks world fresh task permit is plain serves called fits;
   locations_live = permits_keep_locations world fresh task permit is plain serves called fits;
   directories = permits_keep_directories world fresh task permit is plain serves called fits;
   open_files = permits_keep_open_files world fresh task permit is plain serves called fits;

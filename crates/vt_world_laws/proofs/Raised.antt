@@ -1,5 +1,5 @@
 -- Change numbers: no invariant reads one.
-use Rattle.std.proofs.Common.{◌≡◌, refl, sym, ap, ◌∙◌, ℕ, nat_eq, Bool, true, false, cond, List, [], ◌∷◌, Some, find, map}
+use Rattle.std.proofs.Common.{◌≡◌, refl, sym, ap, subst, ◌∙◌, ◌≤◌, ℕ, nat_eq, Bool, true, false, cond, List, [], ◌∷◌, ◌++◌, Some, find, map}
 use Rattle.std.specs.Prelude.{Option, is_some, nat_lt, length, option_to_list, unwrap_or, ◌&&◌}
 use Rattle.std.specs.List.{list_all, list_any}
 use Rattle.std.proofs.lemmas.List.Elements.{All-map, All-weaker}
@@ -8,12 +8,12 @@ use Rattle.vt_spec.specs.Machine.FileTree.{FileTree, is_kind_in}
 use Rattle.vt_spec.specs.Machine.Lists.{is_among}
 use Rattle.vt_spec.specs.Machine.Mounts.{Location, Mount}
 use Rattle.vt_spec.specs.Machine.World.{Descriptor, Filesystem, Namespace, Task, World, all_locations, filesystem_numbered, is_overlay, locations_of, mount_at, mount_numbered, mounts_of, no_filesystem, same_name}
-use Rattle.vt_spec.specs.Machine.WorldLaws.{ListsNumbers, MountInvariants, NamespaceInvariants, Stands, TaskInvariants, TreeInvariants, has_one_root, is_fit_filesystem, is_listed, is_within_limits}
+use Rattle.vt_spec.specs.Machine.WorldLaws.{ForksAreCounted, ListsNumbers, MountInvariants, NamespaceInvariants, Stands, TaskInvariants, TreeInvariants, has_one_root, is_fit_filesystem, is_listed, is_within_limits}
 use Rattle.vt_spec.specs.Machine.WorldLaws.Stands.{at_root, on_parent}
 use Rattle.vt_spec.specs.Tree.{Node, is_directory_node}
 use Rattle.vt_spec.specs.declared.attributes.Kind.TheVariants.{File}
 use Rattle.vt_spec.specs.TreeLaws.{HasOwnParents, IsTree}
-use Rattle.vt_spec.proofs.Lists.{all-map, pair-map}
+use Rattle.vt_spec.proofs.Lists.{all-map, among-from_map, among_from_contains, contains_from_among, pair-map}
 use Rattle.vt_letting_go.proofs.Lists.{any-map, flat_map-map, map_twice}
 use Rattle.vt_world_laws.specs.Worlds.Kept.{IsPlain, IsUnsettled, MountsShow}
 
@@ -157,11 +157,23 @@ module _ (of_filesystem : Filesystem ℕ → ℕ) (of_namespace : Namespace ℕ 
       is_directory_node ((files mount.filesystem).tree.node mount.root)
       && list_all (λ place. is_directory_node (node_by files place)) (option_to_list mount.place)
 
+  forks_counted : ForksAreCounted world → ForksAreCounted counted
+  forks_counted is task other number rest m n e =
+      let one = among-from_map task_counted world.tasks task
+      (among_from_contains (map task_counted world.tasks) task m) in
+      let two = among-from_map task_counted world.tasks other
+      (among_from_contains (map task_counted world.tasks) other n) in
+      subst (λ k. number ≤ k) (sym (ap (λ (t : Task ℕ). t.forks) one.2))
+      (is one.0 two.0 number rest (contains_from_among world.tasks one.0 one.1)
+      (contains_from_among world.tasks two.0 two.1)
+      (sym (ap (λ (t : Task ℕ). t.name) two.2) ∙ e ∙ ap (λ (t : Task ℕ). t.name ++ (number ∷ rest)) one.2))
+
   tasks_counted : TaskInvariants nat_eq world → TaskInvariants nat_eq counted
   tasks_counted is = record {
     one_task = pair-map (λ (a b : Task ℕ). same_name a.name b.name) (λ (a b : Task ℕ). same_name a.name b.name)
         task_counted world.tasks (λ a b m n e. e) is.one_task;
     small_tasks = all-map is_within_limits task_counted (λ task e. e) world.tasks is.small_tasks;
+    forks_counted = forks_counted is.forks_counted;
     locations_live = ap (λ files. list_all (is_located_by files) (all_locations counted)) same_files
         ∙ ap (list_all (is_located_by (files_by world))) same_locations ∙ is.locations_live;
     directories = ap (λ files. list_all (stands_by files) counted.tasks) same_files

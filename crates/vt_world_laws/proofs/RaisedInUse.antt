@@ -16,7 +16,6 @@ use Rattle.vt_letting_go.proofs.InUse.{nothing_goes, what_is_left_is_in_use}
 use Rattle.vt_letting_go.proofs.Lists.{any-map, flat_map-map}
 use Rattle.vt_letting_go.proofs.OfWorlds.{uppers_of_worlds_are_plain, worlds_have_trees}
 use Rattle.vt_world_laws.specs.Worlds.Kept.{IsPlain, IsUnsettled}
-use Rattle.vt_world_laws.specs.Worlds.Tasks.{ForksAreCounted}
 use Rattle.vt_world_laws.proofs.Plain.{plain_overlays}
 use Rattle.vt_world_laws.proofs.Raised.{counted, unsettled_counted}
 
@@ -194,19 +193,3 @@ module _ (before : World ℕ) (name : TaskName) (changed : List ℕ) (world : Wo
   raising_numbers_keeps_world is plain =
       subst (λ w. IsWorld nat_eq w × IsPlain w) (sym numbers_raised_are)
       (world_counted (number_if changed world) namespace_if task_if (raised world.change) world is plain)
-
-  -- tasks count their forks as before
-  pub raising_numbers_keeps_forks : ForksAreCounted world
-      → ForksAreCounted (numbers_raised nat_eq before name changed world)
-  raising_numbers_keeps_forks is task other number rest m n e =
-      let one = among-from_map (raised_task name) world.tasks task
-      (among_from_contains (map (raised_task name) world.tasks) task m) in
-      let two = among-from_map (raised_task name) world.tasks other
-      (among_from_contains (map (raised_task name) world.tasks) other n) in
-      let same_one : task ≡ record one.0 { change = task_if one.0 } = one.2 ∙ raised_task_is one.0 in
-      let same_two : other ≡ record two.0 { change = task_if two.0 } = two.2 ∙ raised_task_is two.0 in
-      subst (λ k. number ≤ k) (sym (ap (λ (t : Task ℕ). t.forks) same_one))
-      (is one.0 two.0 number rest (contains_from_among world.tasks one.0 one.1)
-      (contains_from_among world.tasks two.0 two.1)
-      (sym (ap (λ (t : Task ℕ). t.name) same_two) ∙ e
-      ∙ ap (λ (t : Task ℕ). t.name ++ (number ∷ rest)) same_one))

@@ -11,22 +11,21 @@ use Rattle.vt_spec.specs.Machine.WorldLaws.{IsWorld}
 use Rattle.vt_laws.proofs.Unchanged.{directive_changes_nothing, refused_memory_changes_nothing}
 use Rattle.vt_world_laws.specs.Worlds.Calls.{CallsKeepWorlds, HasNoOverlays, LeadsTo, ScriptsLeadToWorlds, asks_for_overlay}
 use Rattle.vt_world_laws.specs.Worlds.Kept.{IsPlain}
-use Rattle.vt_world_laws.specs.Worlds.Tasks.{ForksAreCounted, OpeningCountsForks}
 use Rattle.vt_world_laws.proofs.OpeningWorld.{opening_is_a_world}
 use Rattle.vt_world_laws.proofs.WordsFew.{lines_name_few, request_names_few}
 
--- a world of plain filesystems that has the invariants, in which forks are counted
+-- a world of plain filesystems that has the invariants
 abbrev pub Kept : World ℕ → Type 0
-Kept world = IsWorld nat_eq world × IsPlain world × ForksAreCounted world
+Kept world = IsWorld nat_eq world × IsPlain world
 
-module _ (opening_counts_forks : OpeningCountsForks) (calls_keep : CallsKeepWorlds) where
+module _ (calls_keep : CallsKeepWorlds) where
   request_keeps : (world : World ℕ) (fresh : Fresh ℕ) → Kept world → Serves nat_eq world fresh
       → (request : Option Request)
       → asks_for_overlay request ≡ false → request_names_few request ≡ true
       → Kept (requested nat_eq world request fresh).world
   request_keeps world fresh kept serves None plain few = kept
   request_keeps world fresh kept serves (Some (Calling name call)) plain few =
-      calls_keep world fresh name call kept.0 kept.1 kept.2 serves plain few
+      calls_keep world fresh name call kept.0 kept.1 serves plain few
   request_keeps world fresh kept serves (Some (Asking directive)) plain few =
       subst Kept (sym (directive_changes_nothing world directive)) kept
 
@@ -55,6 +54,4 @@ module _ (opening_counts_forks : OpeningCountsForks) (calls_keep : CallsKeepWorl
 
   pub scripts_lead_to_worlds : ScriptsLeadToWorlds
   scripts_lead_to_worlds grammar lines refused fresh left apart plain leads =
-      let first = opening_is_a_world fresh apart in
-      (lines_keep grammar (opening nat_eq fresh) lines refused left
-      (first.0, first.1, opening_counts_forks fresh) plain leads).0
+      (lines_keep grammar (opening nat_eq fresh) lines refused left (opening_is_a_world fresh apart) plain leads).0

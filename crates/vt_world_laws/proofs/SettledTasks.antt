@@ -128,6 +128,7 @@ module _ (world : World ℕ) (unsettled : IsUnsettled world) where
   settled_tasks = record {
     one_task = unsettled.tasks.one_task;
     small_tasks = unsettled.tasks.small_tasks;
+    forks_counted = unsettled.tasks.forks_counted;
     locations_live = all_pass (is_located_well nat_eq after) (all_locations world) located_well;
     directories = all_pass (stands_on_directories nat_eq after) world.tasks (λ task m.
         on_directories task m ∙ passes (stands_on_directories nat_eq world) world.tasks unsettled.tasks.directories

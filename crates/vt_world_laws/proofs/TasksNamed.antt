@@ -10,10 +10,11 @@ use Rattle.vt_spec.specs.Machine.Namespaces.{pivoted_location, pivoted_task}
 use Rattle.vt_spec.specs.Machine.Filesystems.{raised}
 use Rattle.vt_spec.specs.Machine.Policy.{numbers_raised, raised_task}
 use Rattle.vt_spec.specs.Machine.Outcome.Tasks.{child_name, child_of}
+use Rattle.vt_spec.specs.Machine.Lists.{Fresh}
+use Rattle.vt_spec.specs.Machine.WorldLaws.{ForksAreCounted}
 use Rattle.vt_spec.specs.Machine.World.{Task, TaskName, World, first_task, opening, replaced_if_called, same_name}
 use Rattle.vt_spec.specs.Rights.{Credentials}
 use Rattle.vt_spec.proofs.Lists.{Among, among-append, among-from_filter, among-from_map, among_from_contains, contains_from_among, none_among, none_from_among, pair-filter, pair-map}
-use Rattle.vt_world_laws.specs.Worlds.Tasks.{ForksAreCounted, OpeningCountsForks, RaisingKeepsCountingForks, SettlingKeepsCountingForks}
 
 -- A name that is put together in two ways
 module _ where
@@ -284,30 +285,10 @@ module _ (task : Task ℕ) (before : List (Task ℕ)) (there : Among task before
           (sym (name_replaced parent from.0) ∙ ap (λ (t : Task ℕ). t.name) (sym from.2) ∙ h
           ∙ append_assoc task.name ((task.forks + 1) ∷ []) (number ∷ rest)))
 
-pub opening_counts_forks : OpeningCountsForks
+pub opening_counts_forks : (fresh : Fresh ℕ) → ForksAreCounted (opening nat_eq fresh)
 opening_counts_forks fresh =
     counted_from (opening nat_eq fresh) (λ task other number rest m n e.
     ⊎_elim
     (λ (one : other ≡ first_task nat_eq fresh). absurd
     (none_append task.name number rest (ap (λ (t : Task ℕ). t.name) (sym one) ∙ e)))
     (λ none. absurd none) n)
-
-pub settling_keeps_counting_forks : SettlingKeepsCountingForks
-settling_keeps_counting_forks world counted = counted
-
-pub raising_keeps_counting_forks : RaisingKeepsCountingForks
-raising_keeps_counting_forks before world name changed counted =
-    counted_from (numbers_raised nat_eq before name changed world)
-    (counted_on world.tasks (map (raised_task name) world.tasks) (λ task m.
-    let from = among-from_map (raised_task name) world.tasks task m in
-    subst (λ (t : Task ℕ). (old : Task ℕ) × Among old world.tasks × (t.name ≡ old.name) × (old.forks ≤ t.forks))
-    (sym from.2)
-    (by from.0 from.1 (same_name name from.0.name)))
-    (counted_among world counted))
-  where
-    by : (old : Task ℕ) → Among old world.tasks → (b : Bool)
-        → (o : Task ℕ) × Among o world.tasks
-        × ((if b then (record old { change = raised old.change }) else old).name ≡ o.name)
-        × (o.forks ≤ (if b then (record old { change = raised old.change }) else old).forks)
-    by old m true = (old, m, refl, omega arith)
-    by old m false = (old, m, refl, omega arith)

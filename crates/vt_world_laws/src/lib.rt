@@ -5,4 +5,5 @@
 
 pub mod opening;
 pub mod settling;
+pub mod kept;
 pub mod worlds;

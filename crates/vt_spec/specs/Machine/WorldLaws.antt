@@ -1,5 +1,5 @@
 -- The invariants of a world, which every call keeps.
-use Rattle.std.specs.Prelude.{All, Bool, List, None, Option, Some, [], false, filter, flat_map, is_some, length, map, nat_le, nat_lt, not, option_map, option_to_list, slice_get, true, ℕ, ⊤, ◌&&◌, ◌+◌, ◌==◌, ◌||◌, ◌≡◌, ◌∷◌}
+use Rattle.std.specs.Prelude.{All, Bool, Contains, List, None, Option, Some, [], false, filter, flat_map, is_some, length, map, nat_le, nat_lt, not, option_map, option_to_list, slice_get, true, ℕ, ⊤, ◌&&◌, ◌++◌, ◌+◌, ◌==◌, ◌||◌, ◌≡◌, ◌≤◌, ◌∷◌}
 use Rattle.std.specs.List.{list_all, list_any}
 use Rattle.std.specs.Str.{bytes_eq}
 use Rattle.vt_spec.specs.declared.attributes.Kind.TheVariants.{File, White}
@@ -23,7 +23,7 @@ use Rattle.vt_spec.specs.Machine.Settled.{settled}
 use Rattle.vt_spec.specs.Tree.{Content, Node, bytes_in, is_directory_node, names_in}
 use Rattle.vt_spec.specs.Tree.Content.{Directory, Regular, Symlink}
 use Rattle.vt_spec.specs.TreeLaws.{HasOwnParents, IsTree, led}
-use Rattle.vt_spec.specs.Machine.World.{Descriptor, Filesystem, Layer, Namespace, Overlay, Real, Task, World, all_locations, filesystem_numbered, is_directory_at, is_overlay, layers_of, mount_at, mount_numbered, mounts_of, node_at, open_layer, same_name, shown_layers}
+use Rattle.vt_spec.specs.Machine.World.{Descriptor, Filesystem, Layer, Namespace, Overlay, Real, Task, TaskName, World, all_locations, filesystem_numbered, is_directory_at, is_overlay, layers_of, mount_at, mount_numbered, mounts_of, node_at, open_layer, same_name, shown_layers}
 use Rattle.vt_spec.specs.Machine.World.Real.{Below, Upper}
 
 module _ {N : Type 0} where
@@ -62,6 +62,13 @@ module _ {N : Type 0} where
       nat_le (length task.descriptors) most_descriptors && are_ascending_from 0 task.descriptors
       && list_all (λ descriptor. nat_lt descriptor.number most_descriptors) task.descriptors && nat_le task.forks most_forks
       && nat_le (length task.name) deepest_name && nat_le (length task.credentials.groups) 32 && nat_lt task.umask 512
+
+  -- a task has counted its forks: where a task's name goes on from its own, the next number is no more than its count
+  -- (profile)
+  abbrev pub ForksAreCounted : World N → Type 0
+  ForksAreCounted world =
+      (task other : Task N) (number : ℕ) (rest : TaskName) → Contains world.tasks task → Contains world.tasks other
+      → other.name ≡ task.name ++ (number ∷ rest) → number ≤ task.forks
 
   abbrev pub is_no_larger : FileTree N → N → Bool
   is_no_larger files number = not (is_kind_in File (files.tree.node number)) || nat_le (length (bytes_in (files.tree.node number))) largest_file
@@ -242,6 +249,7 @@ module _ {N : Type 0} (eq : N → N → Bool) where
   pub record TaskInvariants (world : World N) : Type 0 where
     pub one_task : any_pair (λ a b. same_name a.name b.name) world.tasks ≡ false
     pub small_tasks : list_all is_within_limits world.tasks ≡ true
+    pub forks_counted : ForksAreCounted world
     pub locations_live : list_all (is_located_well world) (all_locations world) ≡ true
     pub directories : list_all (stands_on_directories world) world.tasks ≡ true
     pub open_files : list_all (has_regular_files_open world) world.tasks ≡ true

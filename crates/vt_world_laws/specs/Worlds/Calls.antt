@@ -14,7 +14,6 @@ use Rattle.vt_tree_laws.specs.Trees.Calls.{mounts_overlay}
 use Rattle.vt_tree_laws.specs.Trees.Limits.{names_few_groups}
 use Rattle.vt_world_laws.specs.Worlds.Kept.{IsPlain}
 use Rattle.vt_world_laws.specs.Worlds.Permits.{IsFitPermit}
-use Rattle.vt_world_laws.specs.Worlds.Tasks.{ForksAreCounted}
 
 -- The opening world has the invariants,
 abbrev pub OpeningIsAWorld : Type 0
@@ -28,15 +27,13 @@ PermitsFit =
     → Serves nat_eq world fresh → task_called world task.name ≡ Some task → mounts_overlay call ≡ false
     → judge_in nat_eq fresh world task call ≡ Ok permit → IsFitPermit fresh world task permit
 
--- and every call, granted or refused, leaves a world that has them, in which forks are counted if they were. A fork
--- names at most 32 groups, as its line does.
+-- and every call, granted or refused, leaves a world that has them. A fork names at most 32 groups, as its line does.
 abbrev pub CallsKeepWorlds : Type 0
 CallsKeepWorlds =
     (world : World ℕ) (fresh : Fresh ℕ) (name : TaskName) (call : Call) → IsWorld nat_eq world → IsPlain world
-    → ForksAreCounted world → Serves nat_eq world fresh → mounts_overlay call ≡ false → names_few_groups call ≡ true
+    → Serves nat_eq world fresh → mounts_overlay call ≡ false → names_few_groups call ≡ true
     → IsWorld nat_eq (policy nat_eq fresh world name call).world
     × IsPlain (policy nat_eq fresh world name call).world
-    × ForksAreCounted (policy nat_eq fresh world name call).world
 
 -- The worlds that a script leads to: each line is handed some numbers that are not in use, or was refused memory.
 abbrev pub LeadsTo : Grammar → World ℕ → List (List ℕ) → List Bool → World ℕ → Type 0
