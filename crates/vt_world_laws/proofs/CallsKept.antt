@@ -1,4 +1,4 @@
--- Every call leaves a world, where what is permitted fits, and each permit that fits keeps the invariants.
+-- Every call leaves a world: what is permitted fits, and each permit that fits keeps the invariants.
 use Rattle.std.proofs.Common.{◌≡◌, refl, sym, ap, subst, ◌∙◌, inr, ℕ, nat_eq, Bool, true, false, cond, List, [], ◌∷◌, ◌++◌, ◌||◌, not, Option, Some, None, Result, Ok, Err, find, flat_map, is_ok, map, ok_or, true≢false}
 use Rattle.std.proofs.lemmas.Bool.{or_parts}
 use Rattle.std.proofs.lemmas.Slice.Eq.{bytes_eq-Decides}
@@ -38,8 +38,14 @@ use Rattle.vt_world_laws.specs.Worlds.Filesystems.{OneFilesystemANumber}
 use Rattle.vt_world_laws.specs.Worlds.Permits.{IsFitPermit}
 use Rattle.vt_world_laws.specs.Worlds.Tasks.{LocationsAreThere, OneTaskAName, OpenFilesAreRegular, TasksStandOnDirectories}
 use Rattle.vt_world_laws.proofs.RaisedInUse.{raising_numbers_keeps_world, unsettled_of}
-use Rattle.vt_world_laws.proofs.ScriptsKept.{Kept}
 use Rattle.vt_world_laws.proofs.SettledTasks.{file_trees, settling_leaves_a_world}
+use Rattle.vt_world_laws.proofs.FitPermitsNamed.{permits_fit}
+use Rattle.vt_world_laws.proofs.MountsKept.{mounts_kept}
+use Rattle.vt_world_laws.proofs.NamespacesKept.{namespaces_kept}
+use Rattle.vt_world_laws.proofs.PermitsFilesystems.{permits_keep_filesystem_numbers}
+use Rattle.vt_world_laws.proofs.PermitsNamed.{permits_keep_counting_forks, permits_keep_names}
+use Rattle.vt_world_laws.proofs.PermitsPlaced.{permits_keep_directories, permits_keep_locations, permits_keep_open_files}
+use Rattle.vt_world_laws.proofs.PermitsShow.{permits_keep_mounts_showing}
 
 -- what is found passes
 found_passes : {A : Type 0} (test : A → Bool) (list : List A) (a : A) → find test list ≡ Some a → test a ≡ true
@@ -89,164 +95,158 @@ new_numbers world fresh is serves =
         (inr (among_numbers (fresh k) f.files.numbers e))))))
         ∙ serves.unused k))
 
-module _ (fit : PermitsFit)
-    (kept_mounts : KeptByPermits (MountInvariants nat_eq))
-    (kept_namespaces : KeptByPermits (NamespaceInvariants nat_eq))
-    (kept_names : KeptByPermits OneTaskAName)
-    (kept_forks : KeptByPermits ForksAreCounted)
-    (kept_locations : KeptByPermits LocationsAreThere)
-    (kept_directories : KeptByPermits TasksStandOnDirectories)
-    (kept_files : KeptByPermits OpenFilesAreRegular)
-    (kept_roots : KeptByPermits MountsShow)
-    (one_filesystem : KeptByPermits OneFilesystemANumber) where
-  -- a granted call, before what nothing uses goes
-  module _ (world : World ℕ) (fresh : Fresh ℕ) (task : Task ℕ) (call : Call) (permit : Permit ℕ)
-      (is : IsWorld nat_eq world) (plain : IsPlain world)
-      (serves : Serves nat_eq world fresh)
-      (found : task_called world task.name ≡ Some task) (other : mounts_overlay call ≡ false)
-      (few : names_few_groups call ≡ true) (granted : judge_in nat_eq fresh world task call ≡ Ok permit) where
-    abbrev after_call : World ℕ
-    after_call = (call_outcome nat_eq fresh world task call).world
+-- a world of plain filesystems that has the invariants
+abbrev pub Kept : World ℕ → Type 0
+Kept world = IsWorld nat_eq world × IsPlain world
 
-    applied : call_outcome nat_eq fresh world task call ≡ apply nat_eq fresh world task permit
-    applied = call_is_judged_then_applied fresh world task call
-        ∙ ap (λ j. after world j (apply nat_eq fresh world task)) granted
+-- a granted call, before what nothing uses goes
+module _ (world : World ℕ) (fresh : Fresh ℕ) (task : Task ℕ) (call : Call) (permit : Permit ℕ)
+    (is : IsWorld nat_eq world) (plain : IsPlain world)
+    (serves : Serves nat_eq world fresh)
+    (found : task_called world task.name ≡ Some task) (other : mounts_overlay call ≡ false)
+    (few : names_few_groups call ≡ true) (granted : judge_in nat_eq fresh world task call ≡ Ok permit) where
+  abbrev after_call : World ℕ
+  after_call = (call_outcome nat_eq fresh world task call).world
 
-    -- what a permit that fits keeps
-    kept_by_call : (Invariant : World ℕ → Type 0) → Invariant (apply nat_eq fresh world task permit).world
-        → Invariant after_call
-    kept_by_call Invariant h = subst (λ (o : Outcome ℕ). Invariant o.world) (sym applied) h
+  applied : call_outcome nat_eq fresh world task call ≡ apply nat_eq fresh world task permit
+  applied = call_is_judged_then_applied fresh world task call
+      ∙ ap (λ j. after world j (apply nat_eq fresh world task)) granted
 
-    fits : IsFitPermit fresh world task permit
-    fits = fit world fresh task call permit is plain serves found other granted
+  -- what a permit that fits keeps
+  kept_by_call : (Invariant : World ℕ → Type 0) → Invariant (apply nat_eq fresh world task permit).world
+      → Invariant after_call
+  kept_by_call Invariant h = subst (λ (o : Outcome ℕ). Invariant o.world) (sym applied) h
 
-    within : is_within_limits task ≡ true
-    within =
-        found_all (λ (t : Task ℕ). is_within_limits t ≡ true) (λ t. same_name task.name t.name) world.tasks task
-        (all_from_among (λ (t : Task ℕ). is_within_limits t ≡ true) world.tasks
-        (passes is_within_limits world.tasks is.tasks.small_tasks)) found
+  fits : IsFitPermit fresh world task permit
+  fits = permits_fit world fresh task call permit is plain serves found other granted
 
-    trees : IsWorldOfTrees after_call
-    trees =
-        outcome_keeps fresh world task
-        (record { plain = plain; trees = file_trees world (unsettled_of world is plain) })
-        (worlds_are_standing world is) (new_numbers world fresh is serves) call other
+  within : is_within_limits task ≡ true
+  within =
+      found_all (λ (t : Task ℕ). is_within_limits t ≡ true) (λ t. same_name task.name t.name) world.tasks task
+      (all_from_among (λ (t : Task ℕ). is_within_limits t ≡ true) world.tasks
+      (passes is_within_limits world.tasks is.tasks.small_tasks)) found
 
-    sizes : IsFitWorld after_call
-    sizes = outcome_fits fresh world task (record { plain = plain; fit = is.files.fit_filesystems }) call other
+  trees : IsWorldOfTrees after_call
+  trees =
+      outcome_keeps fresh world task
+      (record { plain = plain; trees = file_trees world (unsettled_of world is plain) })
+      (worlds_are_standing world is) (new_numbers world fresh is serves) call other
 
-    unsettled : IsUnsettled after_call
-    unsettled = record {
-      plain = trees.plain;
-      files = record {
-        trees = All-weaker (λ (f : Filesystem ℕ). IsFileTree f.files) (λ f. IsTree f.files.tree)
-            (λ f t. t.tree) after_call.filesystems trees.trees;
-        own_parents = All-weaker (λ (f : Filesystem ℕ). IsFileTree f.files) (λ f. HasOwnParents f.files.tree)
-            (λ f t. t.own_parents) after_call.filesystems trees.trees;
-        numbers = All-weaker (λ (f : Filesystem ℕ). IsFileTree f.files) (λ f. ListsNumbers nat_eq f.files)
-            (λ f t. t.numbers) after_call.filesystems trees.trees;
-        one_filesystem = kept_by_call OneFilesystemANumber
-            (one_filesystem world fresh task permit is plain serves found fits);
-        fit_filesystems = sizes.fit;
-      };
-      mounts = kept_by_call (MountInvariants nat_eq)
-          (kept_mounts world fresh task permit is plain serves found fits);
-      namespaces = kept_by_call (NamespaceInvariants nat_eq)
-          (kept_namespaces world fresh task permit is plain serves found fits);
-      tasks = record {
-        one_task = kept_by_call OneTaskAName
-            (kept_names world fresh task permit is plain serves found fits);
-        small_tasks = outcome_small fresh world task is.tasks.small_tasks within call few;
-        forks_counted = kept_by_call ForksAreCounted
-            (kept_forks world fresh task permit is plain serves found fits);
-        locations_live = kept_by_call LocationsAreThere
-            (kept_locations world fresh task permit is plain serves found fits);
-        directories = kept_by_call TasksStandOnDirectories
-            (kept_directories world fresh task permit is plain serves found fits);
-        open_files = kept_by_call OpenFilesAreRegular
-            (kept_files world fresh task permit is plain serves found fits);
-      };
-      roots = kept_by_call MountsShow (kept_roots world fresh task permit is plain serves found fits);
-    }
+  sizes : IsFitWorld after_call
+  sizes = outcome_fits fresh world task (record { plain = plain; fit = is.files.fit_filesystems }) call other
 
-    -- and then what nothing uses goes, and numbers are raised
-    finished_keeps : (name : TaskName) (changed : List ℕ)
-        → Kept (finished_by nat_eq false world name changed (call_outcome nat_eq fresh world task call)).world
-    finished_keeps name changed =
-        let left = settling_leaves_a_world after_call unsettled in
-        raising_numbers_keeps_world world name changed (settled nat_eq after_call) left.0 left.1
+  unsettled : IsUnsettled after_call
+  unsettled = record {
+    plain = trees.plain;
+    files = record {
+      trees = All-weaker (λ (f : Filesystem ℕ). IsFileTree f.files) (λ f. IsTree f.files.tree)
+          (λ f t. t.tree) after_call.filesystems trees.trees;
+      own_parents = All-weaker (λ (f : Filesystem ℕ). IsFileTree f.files) (λ f. HasOwnParents f.files.tree)
+          (λ f t. t.own_parents) after_call.filesystems trees.trees;
+      numbers = All-weaker (λ (f : Filesystem ℕ). IsFileTree f.files) (λ f. ListsNumbers nat_eq f.files)
+          (λ f t. t.numbers) after_call.filesystems trees.trees;
+      one_filesystem = kept_by_call OneFilesystemANumber
+          (permits_keep_filesystem_numbers world fresh task permit is plain serves found fits);
+      fit_filesystems = sizes.fit;
+    };
+    mounts = kept_by_call (MountInvariants nat_eq)
+        (mounts_kept world fresh task permit is plain serves found fits);
+    namespaces = kept_by_call (NamespaceInvariants nat_eq)
+        (namespaces_kept world fresh task permit is plain serves found fits);
+    tasks = record {
+      one_task = kept_by_call OneTaskAName
+          (permits_keep_names world fresh task permit is plain serves found fits);
+      small_tasks = outcome_small fresh world task is.tasks.small_tasks within call few;
+      forks_counted = kept_by_call ForksAreCounted
+          (permits_keep_counting_forks world fresh task permit is plain serves found fits);
+      locations_live = kept_by_call LocationsAreThere
+          (permits_keep_locations world fresh task permit is plain serves found fits);
+      directories = kept_by_call TasksStandOnDirectories
+          (permits_keep_directories world fresh task permit is plain serves found fits);
+      open_files = kept_by_call OpenFilesAreRegular
+          (permits_keep_open_files world fresh task permit is plain serves found fits);
+    };
+    roots = kept_by_call MountsShow (permits_keep_mounts_showing world fresh task permit is plain serves found fits);
+  }
 
-  module _ (world : World ℕ) (fresh : Fresh ℕ) (name : TaskName) (call : Call)
-      (is : IsWorld nat_eq world) (plain : IsPlain world)
-      (serves : Serves nat_eq world fresh)
-      (other : mounts_overlay call ≡ false) (few : names_few_groups call ≡ true) where
-    unchanged : (policy nat_eq fresh world name call).world ≡ world → Kept (policy nat_eq fresh world name call).world
-    unchanged same = subst Kept (sym same) (is, plain)
+  -- and then what nothing uses goes, and numbers are raised
+  finished_keeps : (name : TaskName) (changed : List ℕ)
+      → Kept (finished_by nat_eq false world name changed (call_outcome nat_eq fresh world task call)).world
+  finished_keeps name changed =
+      let left = settling_leaves_a_world after_call unsettled in
+      raising_numbers_keeps_world world name changed (settled nat_eq after_call) left.0 left.1
 
-    refused : (answer : Result Answer Deny) → (policy nat_eq fresh world name call).answer ≡ answer
-        → is_ok answer ≡ false
-        → Kept (policy nat_eq fresh world name call).world
-    refused (Ok a) e denied = absurd (true≢false denied)
-    refused (Err deny) e denied = unchanged (denial_changes_nothing fresh world name call deny e)
+module _ (world : World ℕ) (fresh : Fresh ℕ) (name : TaskName) (call : Call)
+    (is : IsWorld nat_eq world) (plain : IsPlain world)
+    (serves : Serves nat_eq world fresh)
+    (other : mounts_overlay call ≡ false) (few : names_few_groups call ≡ true) where
+  unchanged : (policy nat_eq fresh world name call).world ≡ world → Kept (policy nat_eq fresh world name call).world
+  unchanged same = subst Kept (sym same) (is, plain)
 
-    -- the call of a task that is there
-    called : (task : Task ℕ) → task_called world name ≡ Some task → Kept (policy nat_eq fresh world name call).world
-    called task found = by (only_looks call || not (is_ok outcome.answer)) refl
-      where
-        changed : List ℕ
-        changed = filesystems_changed_by nat_eq world (judge_in nat_eq fresh world task call)
+  refused : (answer : Result Answer Deny) → (policy nat_eq fresh world name call).answer ≡ answer
+      → is_ok answer ≡ false
+      → Kept (policy nat_eq fresh world name call).world
+  refused (Ok a) e denied = absurd (true≢false denied)
+  refused (Err deny) e denied = unchanged (denial_changes_nothing fresh world name call deny e)
 
-        outcome : Outcome ℕ
-        outcome = call_outcome nat_eq fresh world task call
-
-        it_is : policy nat_eq fresh world name call ≡ finished nat_eq world name call changed outcome
-        it_is = ap (λ o. after world (ok_or o (denial S2))
-            (λ t. finished nat_eq world name call
-            (filesystems_changed_by nat_eq world (judge_in nat_eq fresh world t call))
-            (call_outcome nat_eq fresh world t call))) found
-
-        by : (b : Bool) → (only_looks call || not (is_ok outcome.answer)) ≡ b
-            → Kept (policy nat_eq fresh world name call).world
-        by true e = looking (only_looks call) refl e
-          where
-            same : policy nat_eq fresh world name call ≡ outcome
-            same = it_is ∙ ap (λ b. finished_by nat_eq b world name changed outcome) e
-
-            not_ok : (b : Bool) → not b ≡ true → b ≡ false
-            not_ok true f = absurd (true≢false (sym f))
-            not_ok false f = refl
-
-            looking : (b : Bool) → only_looks call ≡ b → (b || not (is_ok outcome.answer)) ≡ true
-                → Kept (policy nat_eq fresh world name call).world
-            looking true looks f = unchanged (look_changes_nothing fresh world name call looks)
-            looking false looks f =
-                refused outcome.answer (ap (λ (o : Outcome ℕ). o.answer) same) (not_ok (is_ok outcome.answer) f)
-        by false e = judged (judge_in nat_eq fresh world task call) refl
-          where
-            same : policy nat_eq fresh world name call ≡ finished_by nat_eq false world name changed outcome
-            same = it_is ∙ ap (λ b. finished_by nat_eq b world name changed outcome) e
-
-            judged : (judgement : Judgement ℕ) → judge_in nat_eq fresh world task call ≡ judgement
-                → Kept (policy nat_eq fresh world name call).world
-            judged (Err deny) f =
-                absurd (true≢false
-                (sym (ap (λ (o : Outcome ℕ). not (is_ok o.answer))
-                (call_is_judged_then_applied fresh world task call
-                ∙ ap (λ j. after world j (apply nat_eq fresh world task)) f))
-                ∙ (or_parts (only_looks call) (not (is_ok outcome.answer)) e).1))
-            judged (Ok permit) f =
-                subst Kept (sym (ap (λ (o : Outcome ℕ). o.world) same))
-                (finished_keeps world fresh task call permit is plain serves
-                (ap (task_called world) (sym (name_found world name task found)) ∙ found) other few f name changed)
-
-  pub calls_keep_worlds : CallsKeepWorlds
-  calls_keep_worlds world fresh name call is plain serves other few = by (task_called world name) refl
+  -- the call of a task that is there
+  called : (task : Task ℕ) → task_called world name ≡ Some task → Kept (policy nat_eq fresh world name call).world
+  called task found = by (only_looks call || not (is_ok outcome.answer)) refl
     where
-      by : (o : Option (Task ℕ)) → task_called world name ≡ o → Kept (policy nat_eq fresh world name call).world
-      by None e =
-          unchanged world fresh name call is plain serves other few
-          (ap (λ o. (after world (ok_or o (denial S2))
+      changed : List ℕ
+      changed = filesystems_changed_by nat_eq world (judge_in nat_eq fresh world task call)
+
+      outcome : Outcome ℕ
+      outcome = call_outcome nat_eq fresh world task call
+
+      it_is : policy nat_eq fresh world name call ≡ finished nat_eq world name call changed outcome
+      it_is = ap (λ o. after world (ok_or o (denial S2))
           (λ t. finished nat_eq world name call
           (filesystems_changed_by nat_eq world (judge_in nat_eq fresh world t call))
-          (call_outcome nat_eq fresh world t call))).world) e)
-      by (Some task) e = called world fresh name call is plain serves other few task e
+          (call_outcome nat_eq fresh world t call))) found
+
+      by : (b : Bool) → (only_looks call || not (is_ok outcome.answer)) ≡ b
+          → Kept (policy nat_eq fresh world name call).world
+      by true e = looking (only_looks call) refl e
+        where
+          same : policy nat_eq fresh world name call ≡ outcome
+          same = it_is ∙ ap (λ b. finished_by nat_eq b world name changed outcome) e
+
+          not_ok : (b : Bool) → not b ≡ true → b ≡ false
+          not_ok true f = absurd (true≢false (sym f))
+          not_ok false f = refl
+
+          looking : (b : Bool) → only_looks call ≡ b → (b || not (is_ok outcome.answer)) ≡ true
+              → Kept (policy nat_eq fresh world name call).world
+          looking true looks f = unchanged (look_changes_nothing fresh world name call looks)
+          looking false looks f =
+              refused outcome.answer (ap (λ (o : Outcome ℕ). o.answer) same) (not_ok (is_ok outcome.answer) f)
+      by false e = judged (judge_in nat_eq fresh world task call) refl
+        where
+          same : policy nat_eq fresh world name call ≡ finished_by nat_eq false world name changed outcome
+          same = it_is ∙ ap (λ b. finished_by nat_eq b world name changed outcome) e
+
+          judged : (judgement : Judgement ℕ) → judge_in nat_eq fresh world task call ≡ judgement
+              → Kept (policy nat_eq fresh world name call).world
+          judged (Err deny) f =
+              absurd (true≢false
+              (sym (ap (λ (o : Outcome ℕ). not (is_ok o.answer))
+              (call_is_judged_then_applied fresh world task call
+              ∙ ap (λ j. after world j (apply nat_eq fresh world task)) f))
+              ∙ (or_parts (only_looks call) (not (is_ok outcome.answer)) e).1))
+          judged (Ok permit) f =
+              subst Kept (sym (ap (λ (o : Outcome ℕ). o.world) same))
+              (finished_keeps world fresh task call permit is plain serves
+              (ap (task_called world) (sym (name_found world name task found)) ∙ found) other few f name changed)
+
+pub calls_keep_worlds : CallsKeepWorlds
+calls_keep_worlds world fresh name call is plain serves other few = by (task_called world name) refl
+  where
+    by : (o : Option (Task ℕ)) → task_called world name ≡ o → Kept (policy nat_eq fresh world name call).world
+    by None e =
+        unchanged world fresh name call is plain serves other few
+        (ap (λ o. (after world (ok_or o (denial S2))
+        (λ t. finished nat_eq world name call
+        (filesystems_changed_by nat_eq world (judge_in nat_eq fresh world t call))
+        (call_outcome nat_eq fresh world t call))).world) e)
+    by (Some task) e = called world fresh name call is plain serves other few task e
