@@ -15,7 +15,7 @@ use Rattle.vt_mount_laws.proofs.AttachedMasters.{at_destination, is_elsewhere, m
 use Rattle.vt_mount_laws.proofs.Attaching.{taker_there}
 use Rattle.vt_mount_laws.proofs.GroupsKept.{found_passes, member_shared, shared_member}
 use Rattle.vt_mount_laws.proofs.GroupsUp.{LivesIn, Up, groups_live_by, lives_in, way_up}
-use Rattle.vt_mount_laws.proofs.GroupsUp.Lives.{below, top}
+use Rattle.vt_spec.specs.Machine.WorldLaws.Lives.{has_master, has_no_master}
 use Rattle.vt_mount_laws.proofs.GroupsUp.Up.{above, here}
 use Rattle.vt_mount_laws.proofs.MountsFound.{found_or_none}
 
@@ -85,9 +85,9 @@ module _ (world : World ℕ) (new : Copies ℕ) (place : Location ℕ) (moves : 
 
   -- what lived lives
   still_lives : (group : ℕ) → LivesIn world group → LivesIn after group
-  still_lives group (top it has e) = top it (stay it has) (old_master world new place moves mounts serve own it has ∙ e)
-  still_lives group (below it next has e later) =
-      below it next (stay it has) (old_master world new place moves mounts serve own it has ∙ e)
+  still_lives group (has_no_master it has e) = has_no_master it (stay it has) (old_master world new place moves mounts serve own it has ∙ e)
+  still_lives group (has_master it next has e later) =
+      has_master it next (stay it has) (old_master world new place moves mounts serve own it has ∙ e)
       (still_lives next later)
 
   destination_lives : (source : ℕ) → source_of destination.propagation ≡ Some source → LivesIn world source
@@ -153,14 +153,14 @@ module _ (world : World ℕ) (new : Copies ℕ) (place : Location ℕ) (moves : 
           (unwrap_or (group_of (type_on_shared (new.image group origin.number) kind)) (new.image group origin.number))
       by (Shared one) f = still_lives one (sourced origin m one (ap source_of f))
       by (Slave master) f =
-          below (new.image group origin.number) master (member (Slave master) f refl)
+          has_master (new.image group origin.number) master (member (Slave master) f refl)
           (master_there world new place moves mounts serve own origin m group e (Slave master) f refl)
           (still_lives master (sourced origin m master (ap source_of f)))
       by Private f =
-          top (new.image group origin.number) (member Private f refl)
+          has_no_master (new.image group origin.number) (member Private f refl)
           (master_there world new place moves mounts serve own origin m group e Private f refl)
       by Unbindable f =
-          top (new.image group origin.number) (member Unbindable f refl)
+          has_no_master (new.image group origin.number) (member Unbindable f refl)
           (master_there world new place moves mounts serve own origin m group e Unbindable f refl)
 
   -- the image of another group does where those of the groups up its masters do
@@ -187,16 +187,16 @@ module _ (world : World ℕ) (new : Copies ℕ) (place : Location ℕ) (moves : 
           ≡ option_map (image_of origin) (find (has_members nat_eq parts) (groups_up world next))
           → (found : Option ℕ) → find (has_members nat_eq parts) (groups_up world next) ≡ found
           → LivesIn after (image_of origin group)
-      found_by next e member is None f = top (image_of origin group) member (is ∙ ap (option_map (image_of origin)) f)
+      found_by next e member is None f = has_no_master (image_of origin group) member (is ∙ ap (option_map (image_of origin)) f)
       found_by next e member is (Some other) f =
           let t = found_passes (has_members nat_eq parts) (groups_up world next) other f in
-          below (image_of origin group) (image_of origin other) member (is ∙ ap (option_map (image_of origin)) f)
+          has_master (image_of origin group) (image_of origin other) member (is ∙ ap (option_map (image_of origin)) f)
           (higher next e other (way_up world.master (length world.mounts) next other t.1) t.0)
 
       by : (master : Option ℕ) → world.master group ≡ master
           → has_members nat_eq after.mounts (image_of origin group) ≡ true
           → after.master (image_of origin group) ≡ nearest origin master → LivesIn after (image_of origin group)
-      by None e member is = top (image_of origin group) member is
+      by None e member is = has_no_master (image_of origin group) member is
       by (Some next) e member is =
           found_by next e member is (find (has_members nat_eq parts) (groups_up world next)) refl
 
@@ -212,14 +212,14 @@ module _ (world : World ℕ) (new : Copies ℕ) (place : Location ℕ) (moves : 
   image_lives : (group : ℕ) → LivesIn world group → (other : ℕ) → Up world.master group other
       → has_members nat_eq parts other ≡ true → (origin : Mount ℕ) → Among origin mounts
       → LivesIn after (image_of origin other)
-  image_lives group (top it lived f) other (here same) has origin m =
+  image_lives group (has_no_master it lived f) other (here same) has origin m =
       lives_either same has origin m (λ next g o way h. absurd (true≢false (sym (ap is_some g) ∙ ap is_some f)))
-  image_lives group (top it lived f) other (above same next end g way) has origin m =
+  image_lives group (has_no_master it lived f) other (above same next end g way) has origin m =
       absurd (true≢false (sym (ap is_some g) ∙ ap is_some f))
-  image_lives group (below it next lived f later) other (here same) has origin m =
+  image_lives group (has_master it next lived f later) other (here same) has origin m =
       lives_either same has origin m (λ n g o way h.
       image_lives next later o (subst (λ x. Up world.master x o) (same_Some n next (sym g ∙ f)) way) h origin m)
-  image_lives group (below it next lived f later) other (above same step end g way) has origin m =
+  image_lives group (has_master it next lived f later) other (above same step end g way) has origin m =
       image_lives next later end (subst (λ x. Up world.master x end) (same_Some step next (sym g ∙ f)) way) has origin m
 
   -- what a copy hears of lives

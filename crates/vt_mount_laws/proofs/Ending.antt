@@ -12,6 +12,7 @@ use Rattle.vt_mount_laws.specs.Mounts.Conditions.{AreApart, OneMountEachPlace}
 use Rattle.vt_mount_laws.specs.Mounts.Ending.{EndedNamespacesKeepMounts, PointsKeepMounts, ReplacedKeepsMounts, TreesKeepMounts, UnmountKeepsMounts}
 use Rattle.vt_mount_laws.specs.Mounts.Standing.{AllStand}
 use Rattle.vt_mount_laws.specs.Mounts.Unmounting.{PlacesEnd}
+use Rattle.vt_mount_laws.proofs.GroupsLiving.{all_live, tested_live}
 use Rattle.vt_mount_laws.proofs.EndingStanding.{lands_by_closed, lands_by_places, taken_stand}
 use Rattle.vt_mount_laws.proofs.GroupsKept.{taking_away_keeps_groups}
 use Rattle.vt_mount_laws.proofs.MountsFound.{number_found}
@@ -46,7 +47,8 @@ taken_keeps world gone kept places stand = record {
   one_child = places;
   standing = stand;
   nowhere = taking_away_keeps_nowhere world gone kept.nowhere;
-  groups = taking_away_keeps_groups world gone kept.groups;
+  groups = all_live (taken_away nat_eq world gone)
+      (taking_away_keeps_groups world gone (tested_live world kept.groups));
 }
 
 closed_keeps : (world : World ℕ) (gone : List ℕ) → AreClosed world gone → MountInvariants nat_eq world

@@ -2,9 +2,9 @@
 use Rattle.std.proofs.Common.{◌≡◌, refl, sym, ap, subst, ◌∙◌, true, false, Bool, List, None, Option, Some, [], cond, eq-eqb, eqb-true, filter, find, is_some, length, map, not, true≢false, ℕ, ⊎_elim, ◌&&◌, ◌++◌, ◌||◌, ◌∷◌, nat_eq}
 use Rattle.std.specs.List.{list_any}
 use Rattle.vt_spec.specs.Machine.Mounts.Propagation.{Private, Shared, Slave, Unbindable}
-use Rattle.vt_mount_laws.proofs.GroupsUp.{EndsUp, Lives, LivesIn, Up, groups_live_by, lives_in, way_up}
+use Rattle.vt_mount_laws.proofs.GroupsUp.{EndsUp, LivesIn, Up, groups_live_by, lives_in, way_up}
 use Rattle.vt_mount_laws.proofs.GroupsUp.EndsUp.{at_top, goes_up}
-use Rattle.vt_mount_laws.proofs.GroupsUp.Lives.{below, top}
+use Rattle.vt_spec.specs.Machine.WorldLaws.Lives.{has_master, has_no_master}
 use Rattle.vt_mount_laws.proofs.GroupsUp.Up.{above, here}
 use Rattle.vt_spec.proofs.Lists.{Among, among-append, among-append_left, among-filter, among-from_filter, among-from_map, among-map, among_from_list_all, any_among, any_from_among, head_among, none_among, tail_among}
 use Rattle.vt_mount_laws.specs.Mounts.Receivers.{GroupsLive}
@@ -19,7 +19,7 @@ use Rattle.vt_mount_laws.proofs.Unmounting.{going_is_detached, middle, staying_i
 use Rattle.vt_spec.specs.Machine.Receives.{groups_up, has_members, heir, inherited, inheriting, is_lost_group, is_member_of, lost_a_group, regrouped, regrouped_by, slave_of_heir}
 use Rattle.std.specs.Prelude.{if◌then◌else◌}
 use Rattle.vt_spec.specs.Machine.Settled.{is_located, mount_lives, settled}
-use Rattle.vt_spec.specs.Machine.WorldLaws.{is_nowhere_or_attached, is_private}
+use Rattle.vt_spec.specs.Machine.WorldLaws.{Lives, is_nowhere_or_attached, is_private}
 use Rattle.vt_mount_laws.proofs.Groups.{members-inherited}
 use Rattle.std.proofs.lemmas.Bool.{not-false, or_parts}
 use Rattle.vt_mount_laws.proofs.MountsFound.{number_found}
@@ -42,12 +42,12 @@ found_passes p (y ∷ ys) x e = by (p y) refl (found_passes p ys x)
 
 lives_weaker : (p q : ℕ → Bool) (master : ℕ → Option ℕ) → ((group : ℕ) → p group ≡ true → q group ≡ true) → (group : ℕ)
     → Lives p master group → Lives q master group
-lives_weaker p q master more group (top it has e) = top it (more it has) e
-lives_weaker p q master more group (below it next has e later) = below it next (more it has) e (lives_weaker p q master more next later)
+lives_weaker p q master more group (has_no_master it has e) = has_no_master it (more it has) e
+lives_weaker p q master more group (has_master it next has e later) = has_master it next (more it has) e (lives_weaker p q master more next later)
 
 lives_end : (p : ℕ → Bool) (master : ℕ → Option ℕ) (group : ℕ) → Lives p master group → EndsUp master group
-lives_end p master group (top it has e) = at_top it e
-lives_end p master group (below it next has e later) = goes_up it next e (lives_end p master next later)
+lives_end p master group (has_no_master it has e) = at_top it e
+lives_end p master group (has_master it next has e later) = goes_up it next e (lives_end p master next later)
 
 -- a member of a group is shared
 pub member_shared : (group : ℕ) (mount : Mount ℕ) → is_member_of nat_eq group mount ≡ true → mount.propagation ≡ Shared group
@@ -79,24 +79,24 @@ module _ (world : World ℕ) where
   -- where masters end, each group with members that comes up them lives after the inheritance
   inherits_live : (group : ℕ) → EndsUp world.master group → (other : ℕ) → Up world.master group other → members other ≡ true
       → Lives members inherited_master other
-  inherits_live group (at_top it e) other (here same) has = top same has (ap (heir nat_eq world) e)
+  inherits_live group (at_top it e) other (here same) has = has_no_master same has (ap (heir nat_eq world) e)
   inherits_live group (at_top it e) other (above same next end f way) has = absurd (true≢false (sym (ap is_some f) ∙ ap is_some e))
   inherits_live group (goes_up it next e rest) other (here same) has = by (heir nat_eq world (Some next)) refl (inherits_live next rest)
     where
       by : (found : Option ℕ) → heir nat_eq world (Some next) ≡ found
           → ((o : ℕ) → Up world.master next o → members o ≡ true → Lives members inherited_master o) → Lives members inherited_master same
-      by None f later = top same has (ap (heir nat_eq world) e ∙ f)
+      by None f later = has_no_master same has (ap (heir nat_eq world) e ∙ f)
       by (Some end) f later =
           let t = heir_found next end f in
-          below same end has (ap (heir nat_eq world) e ∙ f) (later end t.1 t.0)
+          has_master same end has (ap (heir nat_eq world) e ∙ f) (later end t.1 t.0)
   inherits_live group (goes_up it next e rest) other (above same step end f way) has =
       inherits_live next rest end (subst (λ g. Up world.master g end) (same_Some step next (sym f ∙ e)) way) has
 
   -- where no group is lost, each lives already
   lives_unlost : ((mount : Mount ℕ) → Among mount world.mounts → lost_a_group nat_eq world mount ≡ false) → (group : ℕ)
       → EndsUp world.master group → members group ≡ true → LivesIn world group
-  lives_unlost unlost group (at_top it e) has = top it has e
-  lives_unlost unlost group (goes_up it next e rest) has = below it next has e (lives_unlost unlost next rest (not-false _ kept))
+  lives_unlost unlost group (at_top it e) has = has_no_master it has e
+  lives_unlost unlost group (goes_up it next e rest) has = has_master it next has e (lives_unlost unlost next rest (not-false _ kept))
     where
       kept : not (members next) ≡ false
       kept =
@@ -217,9 +217,9 @@ unshare_keeps_groups world fresh task live =
 -- a way up the masters goes by groups that have members, so it is there where only these keep their masters
 lives_with_members : (members : ℕ → Bool) (master : ℕ → Option ℕ) (group : ℕ) → Lives members master group
     → Lives members (λ other. if members other then master other else None) group
-lives_with_members members master group (top it has f) = top it has (ap (λ b. if b then master it else None) has ∙ f)
-lives_with_members members master group (below it next has f later) =
-    below it next has (ap (λ b. if b then master it else None) has ∙ f) (lives_with_members members master next later)
+lives_with_members members master group (has_no_master it has f) = has_no_master it has (ap (λ b. if b then master it else None) has ∙ f)
+lives_with_members members master group (has_master it next has f later) =
+    has_master it next has (ap (λ b. if b then master it else None) has ∙ f) (lives_with_members members master next later)
 
 pub settling_keeps_groups : SettlingKeepsGroups
 settling_keeps_groups world nowhere live = groups_live_by (settled nat_eq world) (λ mount m source e.

@@ -6,7 +6,7 @@ use Rattle.vt_spec.specs.Machine.Mounts.Propagation.{Private, Shared, Slave, Unb
 use Rattle.vt_spec.specs.Machine.Calls.TypeWord.{ToPrivate, ToShared, ToSlave, ToUnbindable}
 use Rattle.vt_mount_laws.proofs.GroupsUp.{EndsUp, LivesIn, lives_in}
 use Rattle.vt_mount_laws.proofs.GroupsUp.EndsUp.{at_top, goes_up}
-use Rattle.vt_mount_laws.proofs.GroupsUp.Lives.{below, top}
+use Rattle.vt_spec.specs.Machine.WorldLaws.Lives.{has_master, has_no_master}
 use Rattle.vt_spec.proofs.Lists.{Among, among-from_map, any_among, is_among_numbers}
 use Rattle.vt_spec.specs.Machine.Lists.{is_among}
 use Rattle.vt_mount_laws.specs.Mounts.Receivers.{GroupsLive}
@@ -109,8 +109,8 @@ module _ (world : World ℕ) (group : ℕ → ℕ) (word : TypeWord) (named : Li
       (new_or_old group world.master named one)
 
   still_ends : (one : ℕ) → LivesIn world one → EndsUp after_all one
-  still_ends one (top it has e) = at_top it (other_master it has ∙ e)
-  still_ends one (below it next has e later) = goes_up it next (other_master it has ∙ e) (still_ends next later)
+  still_ends one (has_no_master it has e) = at_top it (other_master it has ∙ e)
+  still_ends one (has_master it next has e later) = goes_up it next (other_master it has ∙ e) (still_ends next later)
 
   new_ends : (mount : Mount ℕ) → Among mount named → EndsUp after_all (group mount.number)
   unfolding IsNewMaster

@@ -10,7 +10,8 @@ use Rattle.vt_mount_laws.specs.Mounts.Receivers.{GroupsLive}
 use Rattle.vt_spec.specs.Machine.Mounts.{Mount, group_of, source_of}
 use Rattle.vt_spec.specs.Machine.World.{World}
 use Rattle.vt_spec.specs.Machine.Receives.{groups_up, has_members, is_member_of}
-use Rattle.vt_spec.specs.Machine.WorldLaws.{has_living_groups, masters_end}
+use Rattle.vt_spec.specs.Machine.WorldLaws.{Lives, has_living_groups, masters_end}
+use Rattle.vt_spec.specs.Machine.WorldLaws.Lives.{has_master, has_no_master}
 use Rattle.std.specs.Prelude.{option_to_list}
 use Rattle.std.proofs.lemmas.Option.{same_Some}
 
@@ -23,11 +24,6 @@ pub data Up (master : ℕ → Option ℕ) : ℕ → ℕ → Type 0 where
 pub data EndsUp (master : ℕ → Option ℕ) : ℕ → Type 0 where
   at_top : (group : ℕ) → master group ≡ None → EndsUp master group
   goes_up : (group next : ℕ) → master group ≡ Some next → EndsUp master next → EndsUp master group
-
--- and each has members
-pub data Lives (members : ℕ → Bool) (master : ℕ → Option ℕ) : ℕ → Type 0 where
-  top : (group : ℕ) → members group ≡ true → master group ≡ None → Lives members master group
-  below : (group next : ℕ) → members group ≡ true → master group ≡ Some next → Lives members master next → Lives members master group
 
 none_there : {A : Type 0} (found : Option A) → is_some found ≡ false → found ≡ None
 none_there None e = refl
@@ -55,81 +51,81 @@ module _ (master : ℕ → Option ℕ) where
   module _ (members : ℕ → Bool) where
     pub lives_by_chain : (n group : ℕ) → list_all members (chain n master group) ≡ true
         → is_some (master (last_or group (chain n master group))) ≡ false → Lives members master group
-    lives_by_chain zero group all e = top group (and_parts (members group) true all).0 (none_there (master group) e)
+    lives_by_chain zero group all e = has_no_master group (and_parts (members group) true all).0 (none_there (master group) e)
     lives_by_chain (suc n) group all e = by (master group) refl (lives_by_chain n)
       where
         by : (found : Option ℕ) → master group ≡ found
             → ((next : ℕ) → list_all members (chain n master next) ≡ true → is_some (master (last_or next (chain n master next))) ≡ false → Lives members master next)
             → Lives members master group
-        by None f later = top group (and_parts (members group) true (sym (ap (list_all members) (chain_ends master n group f)) ∙ all)).0 f
+        by None f later = has_no_master group (and_parts (members group) true (sym (ap (list_all members) (chain_ends master n group f)) ∙ all)).0 f
         by (Some next) f later =
             let parts : (members group ≡ true) × (list_all members (chain n master next) ≡ true) = and_parts _ _ (sym (ap (list_all members) (chain_goes_on master n group next f)) ∙ all) in
-            below group next parts.0 f
+            has_master group next parts.0 f
             (later next parts.1 (sym (ap (λ g. is_some (master g)) (ap (last_or group) (chain_goes_on master n group next f) ∙ last_of_chain master n next group)) ∙ e))
 
     pub live_members : (group : ℕ) → Lives members master group → members group ≡ true
-    live_members group (top it has f) = has
-    live_members group (below it next has f later) = has
+    live_members group (has_no_master it has f) = has
+    live_members group (has_master it next has f later) = has
 
     -- the groups on the way
     abbrev way : (group : ℕ) → Lives members master group → List ℕ
-    way group (top it has f) = it ∷ []
-    way group (below it next has f later) = it ∷ way next later
+    way group (has_no_master it has f) = it ∷ []
+    way group (has_master it next has f later) = it ∷ way next later
 
     all_on_way : (n group : ℕ) → Lives members master group → list_all members (chain n master group) ≡ true
     all_on_way zero group life = ap (λ b. b && true) (live_members group life)
-    all_on_way (suc n) group (top it has f) = ap (list_all members) (chain_ends master n it f) ∙ ap (λ b. b && true) has
-    all_on_way (suc n) group (below it next has f later) =
+    all_on_way (suc n) group (has_no_master it has f) = ap (list_all members) (chain_ends master n it f) ∙ ap (λ b. b && true) has
+    all_on_way (suc n) group (has_master it next has f later) =
         ap (list_all members) (chain_goes_on master n it next f) ∙ ap (λ b. b && list_all members (chain n master next)) has ∙ all_on_way n next later
 
     ends_within : (n group : ℕ) (life : Lives members master group) → length (way group life) ≤ suc n
         → is_some (master (last_or group (chain n master group))) ≡ false
-    ends_within zero group (top it has f) l = ap is_some f
-    ends_within (suc n) group (top it has f) l = ap (λ gs. is_some (master (last_or it gs))) (chain_ends master n it f) ∙ ap is_some f
-    ends_within zero group (below it next has f later) l = absurd (too_long next later l)
+    ends_within zero group (has_no_master it has f) l = ap is_some f
+    ends_within (suc n) group (has_no_master it has f) l = ap (λ gs. is_some (master (last_or it gs))) (chain_ends master n it f) ∙ ap is_some f
+    ends_within zero group (has_master it next has f later) l = absurd (too_long next later l)
       where
         too_long : (g : ℕ) (life : Lives members master g) → suc (length (way g life)) ≤ 1 → ⊥
-        too_long g (top x h e) t = omega (arith, t)
-        too_long g (below x y h e r) t = omega (arith, t)
-    ends_within (suc n) group (below it next has f later) l =
+        too_long g (has_no_master x h e) t = omega (arith, t)
+        too_long g (has_master x y h e r) t = omega (arith, t)
+    ends_within (suc n) group (has_master it next has f later) l =
         ap (λ g. is_some (master g)) (ap (last_or it) (chain_goes_on master n it next f) ∙ last_of_chain master n next it)
         ∙ ends_within n next later (omega (arith, l))
 
     same_length : (a : ℕ) (life : Lives members master a) (b : ℕ) (other : Lives members master b) → a ≡ b
         → length (way a life) ≡ length (way b other)
-    same_length a (top x has f) b (top y has_too g) e = refl
-    same_length a (top x has f) b (below y next has_too g later) e = absurd (true≢false (sym (ap is_some (ap master e ∙ g)) ∙ ap is_some f))
-    same_length a (below x next has f later) b (top y has_too g) e = absurd (true≢false (sym (ap is_some (ap master (sym e) ∙ f)) ∙ ap is_some g))
-    same_length a (below x next has f later) b (below y after has_too g later_too) e =
+    same_length a (has_no_master x has f) b (has_no_master y has_too g) e = refl
+    same_length a (has_no_master x has f) b (has_master y next has_too g later) e = absurd (true≢false (sym (ap is_some (ap master e ∙ g)) ∙ ap is_some f))
+    same_length a (has_master x next has f later) b (has_no_master y has_too g) e = absurd (true≢false (sym (ap is_some (ap master (sym e) ∙ f)) ∙ ap is_some g))
+    same_length a (has_master x next has f later) b (has_master y after has_too g later_too) e =
         ap suc (same_length next later after later_too (same_Some next after (sym f ∙ ap master e ∙ g)))
 
     -- what is on the way has a way that is no longer
     rest_of_way : (group : ℕ) (life : Lives members master group) (other : ℕ) → Among other (way group life)
         → (rest : Lives members master other) × (length (way other rest) ≤ length (way group life))
-    rest_of_way group (top it has f) other m = ⊎_elim (λ e. by other (sym e)) (λ none. absurd none) m
+    rest_of_way group (has_no_master it has f) other m = ⊎_elim (λ e. by other (sym e)) (λ none. absurd none) m
       where
         by : (o : ℕ) → it ≡ o → (rest : Lives members master o) × (length (way o rest) ≤ 1)
-        by o e = subst (λ g. (rest : Lives members master g) × (length (way g rest) ≤ 1)) e (top it has f, omega arith)
-    rest_of_way group (below it next has f later) other m =
+        by o e = subst (λ g. (rest : Lives members master g) × (length (way g rest) ≤ 1)) e (has_no_master it has f, omega arith)
+    rest_of_way group (has_master it next has f later) other m =
         ⊎_elim
-        (λ e. subst (λ g. (rest : Lives members master g) × (length (way g rest) ≤ suc (length (way next later)))) (sym e) (below it next has f later, omega arith))
+        (λ e. subst (λ g. (rest : Lives members master g) × (length (way g rest) ≤ suc (length (way next later)))) (sym e) (has_master it next has f later, omega arith))
         (λ l. let t = rest_of_way next later other l in (t.0, omega (arith, t.1)))
         m
 
     -- no group comes twice
     way_apart : (group : ℕ) (life : Lives members master group) → any_pair nat_eq (way group life) ≡ false
-    way_apart group (top it has f) = refl
-    way_apart group (below it next has f later) =
+    way_apart group (has_no_master it has f) = refl
+    way_apart group (has_master it next has f later) =
         or_from (list_any (nat_eq it) (way next later)) (any_pair nat_eq (way next later))
         (false_from_ne_true (list_any (nat_eq it) (way next later)) (λ h.
         let t = rest_of_way next later it (among_numbers (way next later) it h) in
-        let same : length (way it t.0) ≡ suc (length (way next later)) = same_length it t.0 it (below it next has f later) refl in
+        let same : length (way it t.0) ≡ suc (length (way next later)) = same_length it t.0 it (has_master it next has f later) refl in
         absurd (omega (arith, t.1, same))))
         (way_apart next later)
 
     way_members : (group : ℕ) (life : Lives members master group) → list_all members (way group life) ≡ true
-    way_members group (top it has f) = ap (λ b. b && true) has
-    way_members group (below it next has f later) = ap (λ b. b && list_all members (way next later)) has ∙ way_members next later
+    way_members group (has_no_master it has f) = ap (λ b. b && true) has
+    way_members group (has_master it next has f later) = ap (λ b. b && list_all members (way next later)) has ∙ way_members next later
 
 -- groups that each have a member are no more than the mounts
 fewer_groups : (groups : List ℕ) (mounts : List (Mount ℕ)) → any_pair nat_eq groups ≡ false
@@ -164,6 +160,7 @@ fewer_groups (group ∷ groups) mounts distinct all =
         no_member (Some k) e = ap not (ap (nat_eq one) (sym (eqb-true other k e)) ∙ differ)
 
 -- A world whose groups live, told by the groups themselves
+-- as in the invariants of mounts
 abbrev pub LivesIn : World ℕ → ℕ → Type 0
 LivesIn world group = Lives (has_members nat_eq world.mounts) world.master group
 

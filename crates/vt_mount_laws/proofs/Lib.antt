@@ -14,6 +14,7 @@ pub mod EndingOrder
 pub mod EndingStanding
 pub mod Groups
 pub mod GroupsKept
+pub mod GroupsLiving
 pub mod GroupsRetyped
 pub mod GroupsUp
 pub mod MountsApart

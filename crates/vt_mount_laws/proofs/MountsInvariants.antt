@@ -11,6 +11,7 @@ use Rattle.vt_spec.specs.Machine.World.{World, mount_at, mount_numbered}
 use Rattle.vt_spec.specs.Machine.WorldLaws.{MountInvariants, is_nowhere_or_attached, is_private}
 use Rattle.vt_mount_laws.specs.Mounts.Conditions.{NowhereOrAttached, OneNumberEach}
 use Rattle.vt_mount_laws.specs.Mounts.Namespaces.{SetFlagsKeepCounts, SetFlagsKeepMounts, SetTypeKeepsCounts, SetTypeKeepsMounts}
+use Rattle.vt_mount_laws.proofs.GroupsLiving.{all_live, tested_live}
 use Rattle.vt_mount_laws.proofs.Groups.{mounts-regrouped}
 use Rattle.vt_mount_laws.proofs.GroupsKept.{flags_keep_groups}
 use Rattle.vt_mount_laws.proofs.GroupsRetyped.{type_keeps_groups}
@@ -94,7 +95,8 @@ type_keeps_mounts world fresh number word recursive serves named mounts =
           (type_keeps_places_ending world fresh number word recursive mounts.one_number
           ((standing_is_computed world mounts.one_number).0 mounts.standing));
       nowhere = type_keeps_nowhere world mounts fresh number word recursive named;
-      groups = type_keeps_groups world fresh number word recursive serves mounts.groups;
+      groups = all_live after
+          (type_keeps_groups world fresh number word recursive serves (tested_live world mounts.groups));
     }
 
 pub flags_keep_mounts : SetFlagsKeepMounts
@@ -110,7 +112,7 @@ flags_keep_mounts world here flags mounts =
           (flags_keep_places_ending world here flags mounts.one_number
           ((standing_is_computed world mounts.one_number).0 mounts.standing));
       nowhere = flags_keep_nowhere world here flags mounts.one_number mounts.nowhere;
-      groups = flags_keep_groups world here flags mounts.one_number mounts.groups;
+      groups = all_live after (flags_keep_groups world here flags mounts.one_number (tested_live world mounts.groups));
     }
 
 -- Counts

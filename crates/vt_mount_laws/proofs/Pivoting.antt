@@ -13,6 +13,7 @@ use Rattle.vt_spec.specs.Machine.World.{World, mount_at, mount_numbered}
 use Rattle.vt_spec.specs.Machine.WorldLaws.{MountInvariants, Stands, is_nowhere_or_attached, is_private, stand_at_one_place}
 use Rattle.vt_spec.specs.Machine.WorldLaws.Stands.{at_root, on_parent}
 use Rattle.vt_mount_laws.specs.Mounts.Namespaces.{CanPivot, NumberedMountsCanPivot, PivotKeepsMounts}
+use Rattle.vt_mount_laws.proofs.GroupsLiving.{all_live, tested_live}
 use Rattle.vt_mount_laws.proofs.GroupsKept.{pivot_keeps_groups}
 use Rattle.vt_mount_laws.proofs.MountsFound.{found_or_none, number_found, placed_among, unfound}
 use Rattle.vt_mount_laws.proofs.MountsKept.{pivot_keeps_numbers, pivot_number}
@@ -435,7 +436,7 @@ pivot_keeps_mounts world namespace root new put may mounts =
       nowhere = list_all_from_among is_nowhere_or_attached later.mounts (λ mount m.
           let from = among-from_map (pivoted_mount nat_eq root new put) world.mounts mount m in
           ap is_nowhere_or_attached from.2 ∙ nowhere_after world namespace root new put may mounts from.0 from.1);
-      groups = pivot_keeps_groups world namespace root new put mounts.groups;
+      groups = all_live later (pivot_keeps_groups world namespace root new put (tested_live world mounts.groups));
     }
 
 pub numbered_mounts_can_pivot : NumberedMountsCanPivot

@@ -11,6 +11,7 @@ use Rattle.vt_spec.specs.Machine.World.{Task, World, mount_numbered, mounts_of}
 use Rattle.vt_spec.specs.Machine.WorldLaws.{MountInvariants, Stands, is_nowhere_or_attached, is_private, stand_at_one_place}
 use Rattle.vt_spec.specs.Machine.WorldLaws.Stands.{at_root, on_parent}
 use Rattle.vt_mount_laws.specs.Mounts.Namespaces.{UnshareKeepsMounts}
+use Rattle.vt_mount_laws.proofs.GroupsLiving.{all_live, tested_live}
 use Rattle.vt_mount_laws.proofs.GroupsKept.{unshare_keeps_groups}
 use Rattle.vt_mount_laws.proofs.MountsApart.{unshare_keeps_nowhere}
 use Rattle.vt_mount_laws.proofs.MountsFound.{found_or_none, number_found}
@@ -226,5 +227,6 @@ unshare_keeps_mounts world fresh task serves mounts = record {
   standing = all_from_among (λ (mount : Mount ℕ). Stands nat_eq (unshared nat_eq world fresh task) mount.number)
       (unshared nat_eq world fresh task).mounts (all_stand_after world fresh task serves mounts);
   nowhere = unshare_keeps_nowhere world fresh task mounts.nowhere;
-  groups = unshare_keeps_groups world fresh task mounts.groups;
+  groups = all_live (unshared nat_eq world fresh task)
+      (unshare_keeps_groups world fresh task (tested_live world mounts.groups));
 }

@@ -7,7 +7,7 @@ ghost use Rattle.vt_mount_laws.specs.Mounts.Ends.{TheMountItselfGoes, TakenAreDe
 ghost use Rattle.vt_mount_laws.specs.Mounts.FileCalls.{FileCallsLeaveMounts};
 ghost use Rattle.vt_mount_laws.specs.Mounts.Granted.{BindBinds, MoveMoves, MountMounts, OverlayMounts, LazyUnmounts, RemountSetsFlags, TypeIsSet, PivotPivots, RmdirTakesMounts, RenameReplaces, RenameOfOneObject, ExitEnds, UnshareCopies, SetnsEnters};
 ghost use Rattle.vt_mount_laws.specs.Mounts.Places.{StandsAloneAtItsPlace};
-ghost use Rattle.vt_mount_laws.specs.Mounts.Receivers.{ReceivesIsComputed, ReceiversReceive, ReceiversAreClosed, ReceiversAreLeast, GroupsLive};
+ghost use Rattle.vt_mount_laws.specs.Mounts.Receivers.{ReceivesIsComputed, ReceiversReceive, ReceiversAreClosed, ReceiversAreLeast, GroupsLive, LivingIsComputed};
 ghost use Rattle.vt_mount_laws.specs.Mounts.Standing.{BindsKeepNumbers, BindsKeepPlaces, BindsKeepStanding, BindsTakeEachOnce, MovesKeepNumbers, NewMountsKeepNumbers, NewMountsKeepPlaces, NewMountsKeepStanding, StandingIsComputed, TreesHaveEachOnce};
 ghost use Rattle.vt_mount_laws.specs.Mounts.Unmounting.{WhatGoesIsNamed, UnmountKeepsTheOrder, WhatGoesIsDetached, WhatStaysKeeps, WhatStaysKeepsItsPlace, RootMountsStay, WhatCoveredFalls, WhatStaysKeepsItsType, SlavesAreInherited, GroupsKeepTheirMasters, UnmountIsOfMounts, UmountUnmounts};
 
@@ -181,6 +181,7 @@ pub fn granted_calls_make_these_changes()
 /// The group or master of each mount has members, and so has each group up the masters, which come to an end: changes of
 /// mounts keep that.
 pub fn groups_live_on()
+    ensures computed { LivingIsComputed }
     ensures taking_away { KeptByTakingAway GroupsLive }
     ensures unmount { KeptByUnmount GroupsLive }
     ensures lazy { KeptByLazyUnmount GroupsLive }

@@ -11,6 +11,7 @@ use Rattle.vt_spec.proofs.Lists.{Among, among-append, among-map, among-append_le
 use Rattle.vt_mount_laws.specs.Mounts.Attached.{IsAttachedAt}
 use Rattle.vt_mount_laws.specs.Mounts.Attaching.{is_mount, numbers_of}
 use Rattle.vt_mount_laws.specs.Mounts.Moving.{CanMove}
+use Rattle.vt_mount_laws.proofs.GroupsLiving.{all_live, tested_live}
 use Rattle.vt_mount_laws.proofs.AttachedKept.{binds_keep_groups, moves_keep_groups, new_mounts_keep_groups}
 use Rattle.vt_mount_laws.proofs.AttachedNowhere.{binds_keep_nowhere, moves_keep_nowhere, new_mounts_keep_nowhere}
 use Rattle.vt_mount_laws.proofs.BindsStand.{binds_keep_numbers, binds_keep_places, binds_keep_standing, moves_keep_numbers, new_mounts_keep_numbers, new_mounts_keep_places, new_mounts_keep_standing}
@@ -109,7 +110,8 @@ module _ (world : World ℕ) (task : Task ℕ) (place : Location ℕ) (destinati
         standing = new_mounts_keep_standing world (odds fresh) place new flags larger kept.one_number kept.nowhere
             kept.standing destination_there;
         nowhere = new_mounts_keep_nowhere world (odds fresh) place new flags kept.nowhere attached;
-        groups = new_mounts_keep_groups world (odds fresh) place new flags larger kept.groups;
+        groups = all_live (mounted nat_eq (odds fresh) world place new flags)
+            (new_mounts_keep_groups world (odds fresh) place new flags larger (tested_live world kept.groups));
       }
 
   pub bind_kept : (fresh : Fresh ℕ) (source : Location ℕ) (recursive : Bool) → Serves nat_eq world fresh
@@ -121,7 +123,9 @@ module _ (world : World ℕ) (task : Task ℕ) (place : Location ℕ) (destinati
     standing = binds_keep_standing world fresh source place recursive serves kept.one_number kept.nowhere kept.standing
         destination_there;
     nowhere = binds_keep_nowhere world fresh source place recursive kept.nowhere attached;
-    groups = binds_keep_groups world fresh source place recursive serves kept.one_number kept.standing kept.groups;
+    groups = all_live (bound_at nat_eq fresh world source place recursive)
+        (binds_keep_groups world fresh source place recursive serves kept.one_number kept.standing
+        (tested_live world kept.groups));
   }
 
 -- a mount of a namespace is there
@@ -153,6 +157,7 @@ move_kept world task mount place fresh may serves kept =
       one_child = moves_keep_places world fresh source place serves kept can may.destination.free;
       standing = moves_keep_standing world fresh source place serves kept can;
       nowhere = moves_keep_nowhere world fresh source place kept.nowhere (ap is_some may.destination.own);
-      groups = moves_keep_groups world fresh source place serves kept.one_number kept.standing
-          (own_there world task mount may.own) kept.groups;
+      groups = all_live (moved_to nat_eq fresh world source place)
+          (moves_keep_groups world fresh source place serves kept.one_number kept.standing
+          (own_there world task mount may.own) (tested_live world kept.groups));
     }

@@ -25,6 +25,7 @@ use Rattle.vt_world_laws.specs.Worlds.Calls.{OpeningIsAWorld}
 use Rattle.vt_world_laws.specs.Worlds.Kept.{MountsShow}
 use Rattle.vt_world_laws.proofs.TasksNamed.{opening_counts_forks}
 use Rattle.vt_world_laws.proofs.RaisedInUse.{world_of}
+use Rattle.vt_mount_laws.proofs.GroupsLiving.{all_live}
 
 directory_is_there : (o : Option (Node ℕ)) → is_directory_node o ≡ true → is_some o ≡ true
 directory_is_there None e = e
@@ -77,7 +78,7 @@ module _ (fresh : Fresh ℕ) where
         (at_root (fresh 0) (ap (λ (m : Mount ℕ). m.place) found_mount))
         (All-nil (λ (mount : Mount ℕ). Stands nat_eq first_world mount.number));
     nowhere = refl;
-    groups = refl;
+    groups = all_live first_world refl;
   }
 
   namespaces : NamespaceInvariants nat_eq first_world

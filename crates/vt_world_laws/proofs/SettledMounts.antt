@@ -11,6 +11,7 @@ use Rattle.vt_spec.specs.Machine.WorldLaws.{MountInvariants, NamespaceInvariants
 use Rattle.vt_spec.specs.Machine.WorldLaws.Stands.{at_root, on_parent}
 use Rattle.vt_spec.proofs.Lists.{all-filter}
 use Rattle.vt_letting_go.proofs.Lists.{Among, all_from_among, among-from_filter, among_from_all, filter_twice}
+use Rattle.vt_mount_laws.proofs.GroupsLiving.{all_live, tested_live}
 use Rattle.vt_mount_laws.proofs.GroupsKept.{settling_keeps_groups}
 use Rattle.vt_mount_laws.proofs.MountsApart.{settling_keeps_apart}
 use Rattle.vt_mount_laws.proofs.MountsKept.{settling_keeps_nowhere}
@@ -72,7 +73,8 @@ module _ (world : World ℕ) (unsettled : IsUnsettled world) where
             unsettled.mounts.standing mount was.0)
             (ap (mount_lives nat_eq world) (itself world unsettled mount was.0) ∙ was.1));
         nowhere = settling_keeps_nowhere world unsettled.mounts.nowhere;
-        groups = settling_keeps_groups world unsettled.mounts.nowhere unsettled.mounts.groups;
+        groups = all_live later
+            (settling_keeps_groups world unsettled.mounts.nowhere (tested_live world unsettled.mounts.groups));
       }
 
   -- Namespaces keep their mounts

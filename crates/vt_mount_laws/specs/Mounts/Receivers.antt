@@ -5,11 +5,18 @@ use Rattle.vt_spec.specs.Machine.Mounts.{Mount}
 use Rattle.vt_spec.specs.Machine.Mounts.Propagation.{Shared, Slave}
 use Rattle.vt_spec.specs.Machine.Receives.{Receives, receivers, receives}
 use Rattle.vt_spec.specs.Machine.World.{World}
-use Rattle.vt_spec.specs.Machine.WorldLaws.{has_living_groups}
+use Rattle.vt_spec.specs.Machine.WorldLaws.{HasLivingGroups, has_living_groups}
 
 -- the group or master of each mount has members, and so has each group up the masters, which come to an end
 abbrev pub GroupsLive : World ℕ → Type 0
 GroupsLive world = list_all (has_living_groups nat_eq world) world.mounts ≡ true
+
+-- The group or master of each mount lives; that is what the test of it computes.
+abbrev pub AllGroupsLive : World ℕ → Type 0
+AllGroupsLive world = All (HasLivingGroups nat_eq world) world.mounts
+
+abbrev pub LivingIsComputed : Type 0
+LivingIsComputed = (world : World ℕ) → GroupsLive world ↔ AllGroupsLive world
 
 -- A mount is found to receive from a group just where it does: as a member of it, as a slave of it, or because it receives
 -- from a group whose master it is.

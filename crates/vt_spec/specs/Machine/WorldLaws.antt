@@ -104,6 +104,12 @@ pub data Stands {N : Type 0} (eq : N → N → Bool) (world : World N) : N → T
       → (mount_numbered eq world number).namespace ≡ (mount_numbered eq world place.mount).namespace
       → Stands eq world place.mount → Stands eq world number
 
+-- A peer group lives: it has a member, and its master, if it has one, lives. Groups are given by their numbers.
+pub data Lives {N : Type 0} (members : N → Bool) (master : N → Option N) : N → Type 0 where
+  has_no_master : (group : N) → members group ≡ true → master group ≡ None → Lives members master group
+  has_master : (group above : N) → members group ≡ true → master group ≡ Some above → Lives members master above
+      → Lives members master group
+
 module _ {N : Type 0} (eq : N → N → Bool) where
   -- Mounts
 
@@ -118,7 +124,12 @@ module _ {N : Type 0} (eq : N → N → Bool) where
   stands_in_its_namespace world mount =
       not (is_some (last_below world mount).place) && same_option eq mount.namespace (last_below world mount).namespace
 
-  -- the masters above a group come to an end, and each group has a member
+  -- the peer group or master of each mount lives
+  abbrev pub HasLivingGroups : World N → Mount N → Type 0
+  HasLivingGroups world mount =
+      (group : N) → source_of mount.propagation ≡ Some group → Lives (has_members eq world.mounts) world.master group
+
+  -- as a test: the masters above a group come to an end, and each group has a member
   abbrev pub masters_end : World N → N → Bool
   masters_end world group = not (is_some (world.master (last_or group (groups_up world group))))
 
@@ -234,7 +245,7 @@ module _ {N : Type 0} (eq : N → N → Bool) where
     pub one_child : any_pair stand_at_one_place world.mounts ≡ false
     pub standing : All (λ mount. Stands eq world mount.number) world.mounts
     pub nowhere : list_all is_nowhere_or_attached world.mounts ≡ true
-    pub groups : list_all (has_living_groups world) world.mounts ≡ true
+    pub groups : All (HasLivingGroups world) world.mounts
 
   -- Invariants of namespaces: mount_namespaces(7)
   pub record NamespaceInvariants (world : World N) : Type 0 where

@@ -1,5 +1,6 @@
 use Rattle.vt_mount_laws.proofs.GroupsKept.{ended_namespaces_keep_groups, flags_keep_groups, inheritance_keeps_groups, lazy_keeps_groups, pivot_keeps_groups, settling_keeps_groups, taking_away_keeps_groups, unmount_keeps_groups, unshare_keeps_groups}
 use Rattle.vt_mount_laws.proofs.GroupsRetyped.{type_keeps_groups}
+use Rattle.vt_mount_laws.proofs.GroupsLiving.{living_is_computed}
 use Rattle.vt_mount_laws.proofs.mounts.groups_live_on.Goals as goal
 
 pub returns-clause-taking_away : goal.returns-clause-taking_away
@@ -31,3 +32,6 @@ returns-clause-unshare c = unshare_keeps_groups
 
 pub returns-clause-settling : goal.returns-clause-settling
 returns-clause-settling c = settling_keeps_groups
+
+pub returns-clause-computed : goal.returns-clause-computed
+returns-clause-computed c = living_is_computed
