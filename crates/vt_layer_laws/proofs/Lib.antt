@@ -31,3 +31,4 @@ pub mod UpperFit
 pub mod UpperLine
 pub mod UpperShown
 pub mod UpperWorld
+pub mod ViewsEntries
