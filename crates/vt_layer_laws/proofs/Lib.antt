@@ -32,3 +32,4 @@ pub mod UpperLine
 pub mod UpperShown
 pub mod UpperWorld
 pub mod ViewsEntries
+pub mod ViewsWalks
