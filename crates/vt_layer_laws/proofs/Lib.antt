@@ -32,4 +32,5 @@ pub mod UpperLine
 pub mod UpperShown
 pub mod UpperWorld
 pub mod ViewsEntries
+pub mod ViewsNames
 pub mod ViewsWalks
