@@ -33,4 +33,5 @@ pub mod UpperShown
 pub mod UpperWorld
 pub mod ViewsEntries
 pub mod ViewsNames
+pub mod ViewsStay
 pub mod ViewsWalks
