@@ -32,6 +32,8 @@ pub mod UpperLine
 pub mod UpperShown
 pub mod UpperWorld
 pub mod ViewsEntries
+pub mod ViewsMoves
 pub mod ViewsNames
+pub mod ViewsShown
 pub mod ViewsStay
 pub mod ViewsWalks

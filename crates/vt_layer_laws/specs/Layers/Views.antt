@@ -93,12 +93,11 @@ NamesLeaveInodes =
     → changes_names_alone change ≡ true → IsAlike ((view_in files top).node inode) ((view_after files change top).node inode)
 
 -- A move: the object has the old name, the new name is of a directory that does not lie under the object, and what had the new
--- name is another object without names in it.
+-- name has no names in it.
 pub record CanMove (tree : Tree ℕ) (from : ℕ) (old : List ℕ) (to : ℕ) (new : List ℕ) (object : ℕ) : Type 0 where
   pub named : entry_at tree from old ≡ Some object
   pub in_directory : IsDirectory tree to
   pub not_under : (names : List (List ℕ)) → led tree object names ≢ Some to
-  pub replaced_other : entry_at tree to new ≢ Some object
   pub replaced_empty : (replaced : ℕ) → entry_at tree to new ≡ Some replaced → entries_in (tree.node replaced) ≡ []
 
 -- What follows the new name leads on from the object as it did before it was moved, from wherever,
