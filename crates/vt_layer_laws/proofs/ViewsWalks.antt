@@ -169,3 +169,98 @@ module _ (before after : Tree ℕ) (directory : ℕ) (name : List ℕ) (to : Opt
       by true is (next ∷ rest) later = here (is_that_entry directory name start word is) next rest
       by false is [] later = ap (λ b. cond b to (led before start (word ∷ []))) (sym is)
       by false is (next ∷ rest) later = on (entry_at before start word) next rest later
+
+-- One entry that leads nowhere: no path goes on through it
+
+module _ (before after : Tree ℕ) (directory : ℕ) (name : List ℕ)
+    (told : (other : ℕ) (word : List ℕ) → entry_at after other word ≡ cond (is_entry directory name other word) None (entry_at before other word)) where
+
+  pub entry_gone : (path : List (List ℕ)) (start : ℕ) → led after start path ≡ cond (passes before directory name start path) None (led before start path)
+  entry_gone [] start = refl
+  entry_gone (word ∷ rest) start =
+      ap (option_and_then (λ next. led after next rest)) (told start word)
+      ∙ by (is_entry directory name start word) (entry_at before start word) (entry_gone rest)
+    where
+      by : (b : Bool) (o : Option ℕ) → ((inner : ℕ) → led after inner rest ≡ cond (passes before directory name inner rest) None (led before inner rest))
+          → option_and_then (λ next. led after next rest) (cond b None o)
+          ≡ cond (b || holds_of (λ inner. passes before directory name inner rest) o) None (option_and_then (λ next. led before next rest) o)
+      by true o later = refl
+      by false None later = refl
+      by false (Some inner) later = later inner
+
+-- One entry that leads to what has no entries, in the place of what does not lead back to its directory
+
+module _ (before after : Tree ℕ) (directory : ℕ) (name : List ℕ) (to : Option ℕ)
+    (told : (other : ℕ) (word : List ℕ) → entry_at after other word ≡ cond (is_entry directory name other word) to (entry_at before other word))
+    (not_back : (object : ℕ) → entry_at before directory name ≡ Some object → (names : List (List ℕ)) → led before object names ≢ Some directory)
+    (leaf_after : (object : ℕ) → to ≡ Some object → (word : List ℕ) → entry_at after object word ≡ None) where
+
+  ends_led : (path : List (List ℕ)) (start : ℕ) → ends_in before directory name start path ≡ true → (way : List (List ℕ)) × (led before start way ≡ Some directory)
+  ends_led [] start e = absurd (true≢false (sym e))
+  ends_led (word ∷ []) start e = ([], ap Some (is_that_entry directory name start word e).0)
+  ends_led (word ∷ next ∷ rest) start e = by (entry_at before start word) refl e (ends_led (next ∷ rest))
+    where
+      by : (o : Option ℕ) → entry_at before start word ≡ o → holds_of (λ inner. ends_in before directory name inner (next ∷ rest)) o ≡ true
+          → ((inner : ℕ) → ends_in before directory name inner (next ∷ rest) ≡ true → (way : List (List ℕ)) × (led before inner way ≡ Some directory))
+          → (way : List (List ℕ)) × (led before start way ≡ Some directory)
+      by None f e later = absurd (true≢false (sym e))
+      by (Some inner) f e later =
+          let found = later inner e in
+          (word ∷ found.0, ap (option_and_then (λ n. led before n found.0)) f ∙ found.1)
+
+  over_ends : (o : Option ℕ) → entry_at before directory name ≡ o → (path : List (List ℕ)) → holds_of (λ inner. ends_in before directory name inner path) o ≡ false
+  over_ends None e path = refl
+  over_ends (Some object) e path = by (ends_in before directory name object path) refl
+    where
+      by : (b : Bool) → ends_in before directory name object path ≡ b → b ≡ false
+      by false f = refl
+      by true f = let found = ends_led path object f in absurd (not_back object e found.0 found.1)
+
+  over_leads_no_more : (o : Option ℕ) → ((object : ℕ) → o ≡ Some object → (word : List ℕ) → entry_at after object word ≡ None)
+      → (word : List ℕ) (rest : List (List ℕ)) → option_and_then (λ next. led after next (word ∷ rest)) o ≡ None
+  over_leads_no_more None leaf word rest = refl
+  over_leads_no_more (Some object) leaf word rest = ap (option_and_then (λ next. led after next rest)) (leaf object refl word)
+
+  abbrev led_over : ℕ → List (List ℕ) → Option ℕ
+  led_over start path =
+      cond (ends_in before directory name start path) to (cond (passes before directory name start path) None (led before start path))
+
+  pub entry_over : (path : List (List ℕ)) (start : ℕ) → led after start path ≡ led_over start path
+  entry_over [] start = refl
+  entry_over (word ∷ rest) start =
+      ap (option_and_then (λ next. led after next rest)) (told start word)
+      ∙ by (is_entry directory name start word) refl rest (entry_over rest)
+    where
+      itself : (o : Option ℕ) → option_and_then (λ next. Some next) o ≡ o
+      itself None = refl
+      itself (Some next) = refl
+
+      alone : (o : Option ℕ) → o ≡ cond (holds_of (λ inner. false) o) None (option_and_then (λ next. Some next) o)
+      alone None = refl
+      alone (Some next) = refl
+
+      on : (o : Option ℕ) (next : List ℕ) (rest : List (List ℕ)) → ((inner : ℕ) → led after inner (next ∷ rest) ≡ led_over inner (next ∷ rest))
+          → option_and_then (λ inner. led after inner (next ∷ rest)) o
+          ≡ cond (holds_of (λ inner. ends_in before directory name inner (next ∷ rest)) o) to
+          (cond (holds_of (λ inner. passes before directory name inner (next ∷ rest)) o) None (option_and_then (λ inner. led before inner (next ∷ rest)) o))
+      on None next rest later = refl
+      on (Some inner) next rest later = later inner
+
+      by : (b : Bool) → is_entry directory name start word ≡ b → (rest : List (List ℕ)) → ((inner : ℕ) → led after inner rest ≡ led_over inner rest)
+          → option_and_then (λ next. led after next rest) (cond b to (entry_at before start word)) ≡ led_over start (word ∷ rest)
+      by true is [] later =
+          itself to ∙ ap (λ b. cond b to (cond (passes before directory name start (word ∷ [])) None (led before start (word ∷ [])))) (sym is)
+      by true is (next ∷ rest) later =
+          let same = is_that_entry directory name start word is in
+          let entry : entry_at before start word ≡ entry_at before directory name = ap (λ d. entry_at before d word) same.0 ∙ ap (entry_at before directory) same.1 in
+          over_leads_no_more to leaf_after next rest
+          ∙ ap (λ b. cond (b || holds_of (λ inner. passes before directory name inner (next ∷ rest)) (entry_at before start word)) None (led before start (word ∷ next ∷ rest))) (sym is)
+          ∙ ap (λ b. cond b to (cond (passes before directory name start (word ∷ next ∷ rest)) None (led before start (word ∷ next ∷ rest))))
+          (sym (ap (holds_of (λ inner. ends_in before directory name inner (next ∷ rest))) entry ∙ over_ends (entry_at before directory name) refl (next ∷ rest)))
+      by false is [] later =
+          itself (entry_at before start word) ∙ alone (entry_at before start word)
+          ∙ ap (λ b. cond b to (cond (b || holds_of (λ inner. false) (entry_at before start word)) None (led before start (word ∷ [])))) (sym is)
+      by false is (next ∷ rest) later =
+          on (entry_at before start word) next rest later
+          ∙ ap (λ b. cond (ends_in before directory name start (word ∷ next ∷ rest)) to
+          (cond (b || holds_of (λ inner. passes before directory name inner (next ∷ rest)) (entry_at before start word)) None (led before start (word ∷ next ∷ rest)))) (sym is)

@@ -37,16 +37,16 @@ ThroughIsSplit =
     → goes_through (view_in files top) directory name path ≡ true
     → (way rest : List (List ℕ)) × (way ++ name ∷ rest ≡ path) × ((view_in files top).leads way ≡ Some directory)
 
--- a free name of a directory
-pub record IsFreeName (tree : Tree ℕ) (directory : ℕ) (name : List ℕ) : Type 0 where
+-- a name of a directory that is free, or of what has no names in it, as a whiteout
+pub record TakesName (tree : Tree ℕ) (directory : ℕ) (name : List ℕ) : Type 0 where
   pub in_directory : IsDirectory tree directory
-  pub free : entry_at tree directory name ≡ None
+  pub bare : (replaced : ℕ) → entry_at tree directory name ≡ Some replaced → entries_in (tree.node replaced) ≡ []
 
--- A new object without names in it under a free name: the path to that name leads to it, and every other path where it led.
+-- A new object without names in it under such a name: the path to the name leads to it, and every other path where it led.
 abbrev pub MakeAddsPath : Type 0
 MakeAddsPath =
     (files : FileTree ℕ) (top directory number : ℕ) (name : List ℕ) (node : Node ℕ)
-    → IsFreeName files.tree directory name → files.tree.node number ≡ None → entries_of node.content ≡ []
+    → TakesName files.tree directory name → files.tree.node number ≡ None → entries_of node.content ≡ []
     → (path : List (List ℕ))
     → (view_after files (Make directory name number node) top).leads path
     ≡ (if names_entry (view_in files top) directory name path then Some number else (view_in files top).leads path)
@@ -55,19 +55,49 @@ MakeAddsPath =
 abbrev pub MakeAddsInode : Type 0
 MakeAddsInode =
     (files : FileTree ℕ) (top directory number : ℕ) (name : List ℕ) (node : Node ℕ)
-    → IsFreeName files.tree directory name → files.tree.node number ≡ None
+    → IsDirectory files.tree directory → files.tree.node number ≡ None
     → ((view_after files (Make directory name number node) top).node number ≡ Some node)
     × ((inode : ℕ) → inode ≢ number
     → IsAlike ((view_in files top).node inode) ((view_after files (Make directory name number node) top).node inode))
+
+-- So the new inode is at its path, and at every other one what was there.
+abbrev pub MakeIsSeen : Type 0
+MakeIsSeen =
+    (files : FileTree ℕ) (top directory number : ℕ) (name : List ℕ) (node : Node ℕ)
+    → IsTree files.tree → IsDirectory files.tree top
+    → TakesName files.tree directory name → files.tree.node number ≡ None → entries_of node.content ≡ []
+    → (path : List (List ℕ))
+    → IsAlike (if names_entry (view_in files top) directory name path then Some node else node_led (view_in files top) path)
+    (node_led (view_after files (Make directory name number node) top) path)
+
+-- A new object in the place of what has names in it, but none that lead back to the directory: what lay under that is gone.
+abbrev pub MakeEndsPaths : Type 0
+MakeEndsPaths =
+    (files : FileTree ℕ) (top directory number : ℕ) (name : List ℕ) (node : Node ℕ)
+    → IsDirectory files.tree directory → files.tree.node number ≡ None → entries_of node.content ≡ []
+    → ((replaced : ℕ) (names : List (List ℕ))
+    → entry_at files.tree directory name ≡ Some replaced → led files.tree replaced names ≢ Some directory)
+    → (path : List (List ℕ))
+    → (view_after files (Make directory name number node) top).leads path
+    ≡ (if names_entry (view_in files top) directory name path then Some number
+    else if goes_through (view_in files top) directory name path then None else (view_in files top).leads path)
 
 -- A further name of an object that is no directory.
 abbrev pub AddNameAddsPath : Type 0
 AddNameAddsPath =
     (files : FileTree ℕ) (top directory object : ℕ) (name : List ℕ)
-    → IsFreeName files.tree directory name → is_directory_node (files.tree.node object) ≡ false
+    → TakesName files.tree directory name → is_directory_node (files.tree.node object) ≡ false
     → (path : List (List ℕ))
     → (view_after files (AddName directory name object) top).leads path
     ≡ (if names_entry (view_in files top) directory name path then Some object else (view_in files top).leads path)
+
+abbrev pub AddNameIsSeen : Type 0
+AddNameIsSeen =
+    (files : FileTree ℕ) (top directory object : ℕ) (name : List ℕ)
+    → TakesName files.tree directory name → is_directory_node (files.tree.node object) ≡ false
+    → (path : List (List ℕ))
+    → IsAlike (if names_entry (view_in files top) directory name path then files.tree.node object else node_led (view_in files top) path)
+    (node_led (view_after files (AddName directory name object) top) path)
 
 -- A name that is taken from an object without names in it.
 abbrev pub RemoveTakesPath : Type 0
@@ -77,6 +107,21 @@ RemoveTakesPath =
     → (path : List (List ℕ))
     → (view_after files (Remove directory name object) top).leads path
     ≡ (if names_entry (view_in files top) directory name path then None else (view_in files top).leads path)
+
+abbrev pub RemoveIsSeen : Type 0
+RemoveIsSeen =
+    (files : FileTree ℕ) (top directory object : ℕ) (name : List ℕ)
+    → entry_at files.tree directory name ≡ Some object → entries_in (files.tree.node object) ≡ []
+    → (path : List (List ℕ))
+    → IsAlike (if names_entry (view_in files top) directory name path then None else node_led (view_in files top) path)
+    (node_led (view_after files (Remove directory name object) top) path)
+
+-- A name that is taken, whatever it led to: what lay under that is gone too.
+abbrev pub RemoveEndsPaths : Type 0
+RemoveEndsPaths =
+    (files : FileTree ℕ) (top directory object : ℕ) (name : List ℕ) (path : List (List ℕ))
+    → (view_after files (Remove directory name object) top).leads path
+    ≡ (if goes_through (view_in files top) directory name path then None else (view_in files top).leads path)
 
 -- changes that give, take or move a name and make nothing
 abbrev pub changes_names_alone : Change ℕ → Bool
