@@ -5,10 +5,10 @@ use Rattle.std.specs.Cmp.Lexicographic.{bytes_decides, texts_ties}
 use Rattle.std.specs.Str.{bytes_eq}
 use Rattle.vt_spec.specs.Machine.Changes.{changed_node, node_with_parent, node_without_entry, with_name, without_entry, without_name, without_parent}
 use Rattle.vt_spec.specs.Machine.FileTree.{FileTree}
-use Rattle.vt_spec.specs.Tree.{Content, Node, entries_in, entries_of, entry_named, node_with_entry, with_entries, with_entry}
+use Rattle.vt_spec.specs.Tree.{Content, Node, entries_in, entries_of, entry_named, node_with_entry, with_entries}
 use Rattle.vt_spec.specs.Tree.Content.{Directory, Regular, Symlink, Whiteout}
 use Rattle.vt_spec.specs.TreeLaws.{IsDirectory, entry_at}
-use Rattle.vt_spec.proofs.Nodes.{entries-node_with_entry, entry_named-with_entry, entry_named-without_entry, node_other, node_set, part_kept}
+use Rattle.vt_spec.proofs.Nodes.{entries-node_with_entry, entry_named-with_entry, entry_named-without_entry, part_kept}
 use Rattle.vt_layer_laws.proofs.CopyingNames.{parent_entries}
 
 -- the one entry

@@ -1,10 +1,10 @@
 -- Views that lead alike show the same.
-use Rattle.std.proofs.Common.{◌≡◌, refl, sym, ap, subst, ◌∙◌, ℕ, ◌+◌, Bool, true, false, not, List, [], ◌∷◌, Option, Some, None}
+use Rattle.std.proofs.Common.{◌≡◌, refl, ap, subst, ◌∙◌, ℕ, ◌+◌, Bool, true, false, not, List, [], ◌∷◌, Option, Some, None}
 use Rattle.std.specs.List.{list_any}
 use Rattle.vt_spec.specs.declared.attributes.Kind.TheVariants.{White}
 use Rattle.vt_spec.specs.Machine.FileTree.{is_kind_in}
 use Rattle.vt_spec.specs.Machine.Lists.{fronts, then_some, when}
-use Rattle.vt_spec.specs.Machine.Views.{Shown, View, cuts, hides, node_led, shown_from, shown_over}
+use Rattle.vt_spec.specs.Machine.Views.{Shown, View, cuts, node_led, shown_from, shown_over}
 use Rattle.vt_layer_laws.specs.Layers.Mounted.{IsAlike}
 use Rattle.vt_layer_laws.specs.Layers.Views.{AllLeadAlike, LeadAlike, ShownByViews}
 use Rattle.vt_layer_laws.proofs.ShownAlike.{hides_alike, white_alike}

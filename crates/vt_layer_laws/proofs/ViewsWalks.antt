@@ -1,14 +1,14 @@
 -- Where paths lead when one entry of a tree changes.
-use Rattle.std.proofs.Common.{◌≡◌, ◌≢◌, refl, sym, ap, subst, ◌∙◌, true≢false, ℕ, nat_eq, Bool, true, false, not, cond, ◌&&◌, ◌||◌, List, [], ◌∷◌, ◌++◌, map, Option, Some, None, is_some, option_and_then}
+use Rattle.std.proofs.Common.{◌≡◌, ◌≢◌, refl, sym, ap, ◌∙◌, true≢false, ℕ, nat_eq, Bool, true, false, cond, ◌&&◌, ◌||◌, List, [], ◌∷◌, ◌++◌, map, Option, Some, None, option_and_then}
 use Rattle.std.specs.List.{list_any}
 use Rattle.std.specs.Str.{bytes_eq}
-use Rattle.vt_spec.specs.Machine.Lists.{front_of, fronts, holds_of, is_empty_list, last_or, same_option}
+use Rattle.vt_spec.specs.Machine.Lists.{front_of, fronts, holds_of, last_or, same_option}
 use Rattle.vt_spec.specs.Machine.Views.{View}
 use Rattle.vt_spec.specs.Tree.{Tree}
 use Rattle.vt_spec.specs.TreeLaws.{entry_at, led}
 use Rattle.vt_layer_laws.specs.Layers.Views.{goes_through, names_entry}
-use Rattle.vt_layer_laws.proofs.ShownAtPath.{none_is_some, some_is_one}
-use Rattle.vt_layer_laws.proofs.ShownFronts.{front_found, list_any_of_map}
+use Rattle.vt_layer_laws.proofs.ShownAtPath.{none_is_some}
+use Rattle.vt_layer_laws.proofs.ShownFronts.{list_any_of_map}
 use Rattle.vt_layer_laws.proofs.ViewsEntries.{is_entry, is_that_entry}
 
 -- what starts at a directory of a tree
