@@ -31,7 +31,9 @@ pub mod UpperFit
 pub mod UpperLine
 pub mod UpperShown
 pub mod UpperWorld
+pub mod ViewsAfter
 pub mod ViewsEntries
+pub mod ViewsFronts
 pub mod ViewsMoves
 pub mod ViewsNames
 pub mod ViewsShown
