@@ -32,6 +32,7 @@ pub mod UpperLine
 pub mod UpperShown
 pub mod UpperWorld
 pub mod ViewsAfter
+pub mod ViewsBelow
 pub mod ViewsEntries
 pub mod ViewsFronts
 pub mod ViewsMoves

@@ -28,7 +28,7 @@ use Rattle.vt_layer_laws.proofs.ViewsStay.{attr_changes_one_inode, bytes_change_
 
 -- Fronts of fronts
 
-fails : (b : Bool) → b ≢ true → b ≡ false
+pub fails : (b : Bool) → b ≢ true → b ≡ false
 fails true not_so = absurd (not_so refl)
 fails false not_so = refl
 
@@ -36,7 +36,7 @@ fails false not_so = refl
 front_fails : (test : List (List ℕ) → Bool) (path front : List (List ℕ)) → IsFrontOf front path → list_any test (fronts path) ≡ false → test front ≡ false
 front_fails test path front is none = fails (test front) (λ e. true≢false (sym (front_passes test path front is.0 is.1 is.2 e) ∙ none))
 
-fronts_fail : (test : List (List ℕ) → Bool) (path front : List (List ℕ)) → IsFrontOf front path → list_any test (fronts path) ≡ false → list_any test (fronts front) ≡ false
+pub fronts_fail : (test : List (List ℕ) → Bool) (path front : List (List ℕ)) → IsFrontOf front path → list_any test (fronts path) ≡ false → list_any test (fronts front) ≡ false
 fronts_fail test path front is none = fails (list_any test (fronts front)) (λ e. found (front_found test front e))
   where
     found : (inner : List (List ℕ)) × IsFrontOf inner front × (test inner ≡ true) → ⊥
@@ -150,7 +150,7 @@ module _ (files : FileTree ℕ) (top : ℕ) where
         all_stay change path (stays path none)
         (λ front is. stays front (fronts_fail (names_entry (view_in files top) directory name) path front is none))
 
-    lead_alike : (change : Change ℕ) → IsPlainChange files.tree change → (path : List (List ℕ)) → may_show (view_in files top) change path ≡ false → Alike change path
+    pub lead_alike : (change : Change ℕ) → IsPlainChange files.tree change → (path : List (List ℕ)) → may_show (view_in files top) change path ≡ false → Alike change path
     lead_alike (Make directory name number node) plain path none =
         through_none (Make directory name number node) directory name stays path none
       where

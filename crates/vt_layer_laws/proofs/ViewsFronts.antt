@@ -35,12 +35,15 @@ fronts_agree one other (word ∷ path) same =
     ∙ ap (λ b. b || list_any one (map (λ front. word ∷ front) (fronts path))) (same (word ∷ []) (path, refl, cons_is_not_empty word []))
 
 module _ (path : List (List ℕ)) where
+  pub cuts_alike : (one other : View ℕ) → LeadAlikeTo path one other → cuts other path ≡ cuts one path
+  cuts_alike one other is =
+      fronts_agree (λ front. hides (node_led one front)) (λ front. hides (node_led other front)) path
+      (λ front f. hiding_alike (node_led one front) (node_led other front) (is.on_the_way front f))
+
   over_alike : (one other : View ℕ) → LeadAlikeTo path one other → (depth : ℕ) (lower : Option (Shown ℕ))
       → shown_over other depth (other.leads path) (cuts other path) lower ≡ shown_over one depth (one.leads path) (cuts one path) lower
   over_alike one other is depth lower =
-      ap (λ b. shown_over other depth (other.leads path) b lower)
-      (fronts_agree (λ front. hides (node_led one front)) (λ front. hides (node_led other front)) path
-      (λ front f. hiding_alike (node_led one front) (node_led other front) (is.on_the_way front f)))
+      ap (λ b. shown_over other depth (other.leads path) b lower) (cuts_alike one other is)
       ∙ ap (λ o. shown_over other depth o (cuts one path) lower) is.leads
       ∙ by (one.leads path) refl (cuts one path)
     where

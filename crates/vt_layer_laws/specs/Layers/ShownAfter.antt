@@ -6,9 +6,9 @@ use Rattle.vt_spec.specs.Machine.Changes.{Change}
 use Rattle.vt_spec.specs.Machine.Changes.Change.{AddName, CopyUp, Make, Move, Remove, SetAttr, SetBytes, SetMark}
 use Rattle.vt_spec.specs.Machine.FileTree.{FileTree, is_kind, is_kind_in, is_opaque_in, kind_in}
 use Rattle.vt_spec.specs.Machine.Lists.{fronts, same_option, when}
-use Rattle.vt_spec.specs.Machine.Views.{View, node_led, shown}
+use Rattle.vt_spec.specs.Machine.Views.{View, below, node_led, shown}
 use Rattle.vt_spec.specs.Tree.{Node, Tree, entries_of, is_directory_node, kind_of}
-use Rattle.vt_spec.specs.TreeLaws.{IsDirectory, IsTree}
+use Rattle.vt_spec.specs.TreeLaws.{IsDirectory, IsTree, entry_at}
 use Rattle.vt_layer_laws.specs.Layers.Shown.{IsFrontOf}
 use Rattle.vt_layer_laws.specs.Layers.Views.{CanMove, TakesName, goes_through, names_entry, view_after, view_in}
 
@@ -86,3 +86,20 @@ LinkIsShown =
     → (path : List (List ℕ)) → names_entry (view_in files top) directory name path ≡ true
     → shown (view_after files (AddName directory name object) top ∷ lowers) path
     ≡ when (not (is_kind_in White (files.tree.node object))) (record { layer = 0; object = object })
+
+-- Shown at a removed name is what would be shown if the upper layer had nothing there,
+abbrev pub RemovedShowsBelow : Type 0
+RemovedShowsBelow =
+    (files : FileTree ℕ) (top directory object : ℕ) (name : List ℕ) (lowers : List (View ℕ))
+    → IsTree files.tree → IsDirectory files.tree top → entry_at files.tree directory name ≡ Some object
+    → (path : List (List ℕ)) → names_entry (view_in files top) directory name path ≡ true
+    → shown (view_after files (Remove directory name object) top ∷ lowers) path ≡ below (view_in files top) lowers path
+
+-- and so at a name from which an object was moved away.
+abbrev pub MovedShowsBelow : Type 0
+MovedShowsBelow =
+    (files : FileTree ℕ) (top from to object : ℕ) (old new : List ℕ) (lowers : List (View ℕ))
+    → IsTree files.tree → IsDirectory files.tree top → CanMove files.tree from old to new object
+    → (path : List (List ℕ)) → names_entry (view_in files top) from old path ≡ true
+    → goes_through (view_in files top) to new path ≡ false
+    → shown (view_after files (Move from old to new object) top ∷ lowers) path ≡ below (view_in files top) lowers path
