@@ -37,6 +37,5 @@ pub mod ViewsEntries
 pub mod ViewsFronts
 pub mod ViewsMoves
 pub mod ViewsNames
-pub mod ViewsShown
 pub mod ViewsStay
 pub mod ViewsWalks

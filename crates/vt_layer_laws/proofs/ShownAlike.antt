@@ -19,7 +19,7 @@ use Rattle.vt_layer_laws.proofs.ShownDirectories.{AreOpen}
 
 -- Inodes that are alike
 
-pub hides_alike : (one other : Option (Node ℕ)) → IsAlike one other → hides other ≡ hides one
+hides_alike : (one other : Option (Node ℕ)) → IsAlike one other → hides other ≡ hides one
 hides_alike None None is = refl
 hides_alike None (Some there) is = absurd (true≢false is.there)
 hides_alike (Some here) None is = absurd (true≢false (sym is.there))

@@ -1,5 +1,5 @@
 -- What a change of the upper layer leaves of what is shown.
-use Rattle.std.proofs.Common.{◌≡◌, ◌≢◌, refl, sym, ap, subst, ◌∙◌, true≢false, ℕ, nat_eq, Bool, true, false, not, cond, ◌||◌, List, [], ◌∷◌, ◌++◌, ⊎_elim, Option, Some, None, is_some}
+use Rattle.std.proofs.Common.{◌≡◌, ◌≢◌, refl, sym, ap, subst, ◌∙◌, true≢false, ℕ, nat_eq, Bool, true, false, not, cond, List, [], ◌∷◌, ◌++◌, ⊎_elim, Option, Some, None}
 use Rattle.std.proofs.lemmas.Bool.Decides.{eqb_tells}
 use Rattle.std.proofs.lemmas.List.{append-nil}
 use Rattle.std.specs.List.{list_any}
@@ -9,8 +9,8 @@ use Rattle.vt_spec.specs.Machine.Changes.{Change, changed, changed_node, content
 use Rattle.vt_spec.specs.Machine.Changes.Change.{AddName, CopyUp, Make, Move, Remove, SetAttr, SetBytes, SetMark}
 use Rattle.vt_spec.specs.Machine.FileTree.{FileTree, is_kind, is_kind_in, opaque_of}
 use Rattle.vt_spec.specs.Machine.Lists.{fronts, same_option, then_some, when}
-use Rattle.vt_spec.specs.Machine.Views.{Shown, View, cuts, node_led, shown_from, shown_over, visible}
-use Rattle.vt_spec.specs.Tree.{Content, Node, Tree, bytes_of, kind_of, node_with_bytes, with_bytes}
+use Rattle.vt_spec.specs.Machine.Views.{View, cuts, node_led, shown_from, shown_over}
+use Rattle.vt_spec.specs.Tree.{Content, Node, Tree, kind_of, node_with_bytes, with_bytes}
 use Rattle.vt_spec.specs.Tree.Content.{Directory, Regular, Symlink, Whiteout}
 use Rattle.vt_spec.specs.TreeLaws.{IsDirectory, IsTree, led}
 use Rattle.vt_layer_laws.specs.Layers.Mounted.{IsAlike}
@@ -21,9 +21,9 @@ use Rattle.vt_layer_laws.proofs.LowersKept.{first_fails, kept_elsewhere, second_
 use Rattle.vt_layer_laws.proofs.ShownAlike.{white_alike}
 use Rattle.vt_layer_laws.proofs.ShownDirectories.{append_assoc}
 use Rattle.vt_layer_laws.proofs.ShownFronts.{cons_is_not_empty, front_found, front_passes}
-use Rattle.vt_layer_laws.proofs.ViewsFronts.{shown_below_alike}
+use Rattle.vt_layer_laws.proofs.ViewsFronts.{hides_so, shown_below_alike}
 use Rattle.vt_layer_laws.proofs.ViewsMoves.{old_leads_nowhere}
-use Rattle.vt_layer_laws.proofs.ViewsNames.{add_name_adds_path, add_name_is_seen, make_adds_inode, make_adds_path, make_is_seen, names_leave_inodes, remove_ends_paths}
+use Rattle.vt_layer_laws.proofs.ViewsNames.{add_name_adds_path, make_adds_inode, make_adds_path, make_is_seen, names_leave_inodes, remove_ends_paths}
 use Rattle.vt_layer_laws.proofs.ViewsStay.{attr_changes_one_inode, bytes_change_one_inode, mark_changes_one_inode}
 
 -- Fronts of fronts
@@ -49,9 +49,6 @@ itself_fails test (word ∷ path) start none =
     front_fails test (word ∷ path) (word ∷ path) ([], append-nil (word ∷ path), cons_is_not_empty word path) none
 
 -- Inodes that hide alike
-
-hides_so : (one other : Option (Node ℕ)) → IsAlike one other → HidesAlike one other
-hides_so one other is = record { of_kind = record { there = is.there; kind = is.kind }; mark = is.mark }
 
 hides_itself : (one : Option (Node ℕ)) → HidesAlike one one
 hides_itself one = record { of_kind = record { there = refl; kind = refl }; mark = refl }
@@ -121,16 +118,20 @@ not_named files top directory name path none = itself_fails (names_entry (view_i
 module _ (files : FileTree ℕ) (top : ℕ) where
   names_stay : (change : Change ℕ) → Rattle.vt_layer_laws.specs.Layers.Views.changes_names_alone change ≡ true → (path : List (List ℕ))
       → led (changed nat_eq files change).tree top path ≡ led files.tree top path → Stays (view_in files top) (view_after files change top) path
-  names_stay change is path e =
-      (e, holds_led HidesAlike hides_itself files.tree (changed nat_eq files change).tree top path e
-      (λ inode l. hides_so (files.tree.node inode) _ (names_leave_inodes files change top inode is)))
+  names_stay change is path e = (
+    e,
+    holds_led HidesAlike hides_itself files.tree (changed nat_eq files change).tree top path e
+        (λ inode l. hides_so (files.tree.node inode) _ (names_leave_inodes files change top inode is)),
+  )
 
   one_stays : (number : ℕ) (change : Option (Node ℕ) → Option (Node ℕ)) → ((o : Option (Node ℕ)) → HidesAlike o (change o)) → (path : List (List ℕ))
       → led (changed_node nat_eq files number change).tree top path ≡ led files.tree top path
       → Stays (view_in files top) (view_in (changed_node nat_eq files number change) top) path
-  one_stays number change hides path e =
-      (e, holds_led HidesAlike hides_itself files.tree (changed_node nat_eq files number change).tree top path e
-      (λ inode l. holds_after HidesAlike files number change hides_itself hides inode))
+  one_stays number change hides path e = (
+    e,
+    holds_led HidesAlike hides_itself files.tree (changed_node nat_eq files number change).tree top path e
+        (λ inode l. holds_after HidesAlike files number change hides_itself hides inode),
+  )
 
   module _ (tree : IsTree files.tree) (is_top : IsDirectory files.tree top) where
     abbrev Alike : Change ℕ → List (List ℕ) → Type 0
@@ -156,11 +157,12 @@ module _ (files : FileTree ℕ) (top : ℕ) where
       where
         stays : (path : List (List ℕ)) → goes_through (view_in files top) directory name path ≡ false → Stays (view_in files top) (view_after files (Make directory name number node) top) path
         stays path none =
-            let no = not_named files top directory name path none in
-            (make_adds_path files top directory number name node plain.0 plain.1 plain.2 path
-            ∙ ap (λ b. cond b (Some number) (led files.tree top path)) no,
-            hides_so _ _ (subst (λ b. IsAlike (cond b (Some node) (node_led (view_in files top) path)) (node_led (view_after files (Make directory name number node) top) path)) no
-            (make_is_seen files top directory number name node tree is_top plain.0 plain.1 plain.2 path)))
+            let no = not_named files top directory name path none in (
+              make_adds_path files top directory number name node plain.0 plain.1 plain.2 path
+                  ∙ ap (λ b. cond b (Some number) (led files.tree top path)) no,
+              hides_so _ _ (subst (λ b. IsAlike (cond b (Some node) (node_led (view_in files top) path)) (node_led (view_after files (Make directory name number node) top) path)) no
+                  (make_is_seen files top directory number name node tree is_top plain.0 plain.1 plain.2 path)),
+            )
     lead_alike (AddName directory name object) plain path none =
         through_none (AddName directory name object) directory name
         (λ path none. names_stay (AddName directory name object) refl path

@@ -2,16 +2,16 @@
 use Rattle.std.proofs.Common.{◌≡◌, ◌≢◌, refl, sym, ap, subst, ◌∙◌, true≢false, ℕ, Bool, true, false, cond, ◌||◌, List, [], ◌∷◌, ◌++◌, map, Option, Some, None, option_and_then}
 use Rattle.std.proofs.lemmas.List.{append-nil}
 use Rattle.std.specs.List.{list_any}
-use Rattle.vt_spec.specs.Machine.Changes.{Change}
 use Rattle.vt_spec.specs.Machine.Changes.Change.{Move, Remove}
 use Rattle.vt_spec.specs.Machine.FileTree.{FileTree}
 use Rattle.vt_spec.specs.Machine.Lists.{front_of, fronts, holds_of, then_some}
 use Rattle.vt_spec.specs.Machine.Views.{Shown, View, below, cuts, hides, node_led, shown_from, shown_over}
 use Rattle.vt_spec.specs.Tree.{Tree}
-use Rattle.vt_spec.specs.TreeLaws.{IsDirectory, IsTree, entry_at, led}
+use Rattle.vt_spec.specs.TreeLaws.{IsTree, entry_at, led}
 use Rattle.vt_layer_laws.specs.Layers.ShownAfter.{LeadAlikeTo, MovedShowsBelow, RemovedShowsBelow}
 use Rattle.vt_layer_laws.specs.Layers.Views.{goes_through, names_entry, view_after, view_in}
 use Rattle.vt_layer_laws.proofs.ShownFronts.{cons_is_not_empty, front_passes, list_any_of_map}
+use Rattle.vt_layer_laws.proofs.UpperShown.{front_of_longer}
 use Rattle.vt_layer_laws.proofs.ViewsAfter.{fails, fronts_fail, lead_alike}
 use Rattle.vt_layer_laws.proofs.ViewsEntries.{is_that_entry}
 use Rattle.vt_layer_laws.proofs.ViewsFronts.{cuts_alike}
@@ -55,11 +55,6 @@ fronts_longer test (word ∷ way) name =
     shifted true b c = refl
     shifted false b c = refl
 
-front_longer : (way : List (List ℕ)) (name : List ℕ) → front_of (way ++ name ∷ []) ≡ way
-front_longer [] name = refl
-front_longer (word ∷ []) name = refl
-front_longer (word ∷ next ∷ way) name = ap (λ p. word ∷ p) (front_longer (next ∷ way) name)
-
 -- a layer that leads nowhere at a path, and on the way there as another
 shown_under : (before after : View ℕ) (lowers : List (View ℕ)) (way : List (List ℕ)) (name : List ℕ)
     → after.leads (way ++ name ∷ []) ≡ None → LeadAlikeTo way before after
@@ -83,7 +78,7 @@ shown_under before after lowers way name gone alike =
         ∙ ap (λ o. cuts after way || hides (then_some o after.node)) gone
         ∙ or_false (cuts after way)
         ∙ cuts_alike way before after alike
-        ∙ ap (cuts before) (sym (front_longer way name))
+        ∙ ap (cuts before) (sym (front_of_longer way name))
 
 module _ (files : FileTree ℕ) (top directory : ℕ) (name : List ℕ) where
   is_named : (path : List (List ℕ)) → names_entry (view_in files top) directory name path ≡ true → IsNamed files.tree top directory name path

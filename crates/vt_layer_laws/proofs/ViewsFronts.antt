@@ -1,5 +1,5 @@
 -- Views that lead alike along a path show the same there.
-use Rattle.std.proofs.Common.{◌≡◌, ◌≢◌, refl, sym, ap, subst, ◌∙◌, true≢false, ℕ, ◌+◌, Bool, true, false, not, ◌||◌, List, [], ◌∷◌, ◌++◌, map, Option, Some, None, is_some}
+use Rattle.std.proofs.Common.{◌≡◌, refl, sym, ap, subst, ◌∙◌, true≢false, ℕ, ◌+◌, Bool, true, false, not, ◌||◌, List, [], ◌∷◌, map, Option, Some, None}
 use Rattle.std.specs.List.{list_any}
 use Rattle.vt_spec.specs.declared.attributes.Kind.TheVariants.{White}
 use Rattle.vt_spec.specs.Machine.FileTree.{is_kind, is_kind_in}
@@ -7,9 +7,14 @@ use Rattle.vt_spec.specs.Machine.Lists.{fronts, then_some, when}
 use Rattle.vt_spec.specs.Machine.Views.{Shown, View, cuts, hides, node_led, shown_from, shown_over}
 use Rattle.vt_spec.specs.Rights.{is_directory}
 use Rattle.vt_spec.specs.Tree.{Node}
+use Rattle.vt_layer_laws.specs.Layers.Mounted.{IsAlike}
 use Rattle.vt_layer_laws.specs.Layers.Shown.{IsFrontOf}
 use Rattle.vt_layer_laws.specs.Layers.ShownAfter.{AllLeadAlikeTo, HidesAlike, IsOneKind, LeadAlikeTo, ShownByFronts}
+use Rattle.vt_layer_laws.specs.Layers.Views.{AllLeadAlike, ShownByViews}
 use Rattle.vt_layer_laws.proofs.ShownFronts.{cons_is_not_empty, list_any_of_map}
+
+pub hides_so : (one other : Option (Node ℕ)) → IsAlike one other → HidesAlike one other
+hides_so one other is = record { of_kind = record { there = is.there; kind = is.kind }; mark = is.mark }
 
 hiding_alike : (one other : Option (Node ℕ)) → HidesAlike one other → hides other ≡ hides one
 hiding_alike None None is = refl
@@ -72,3 +77,20 @@ module _ (path : List (List ℕ)) where
 
 pub shown_by_fronts : ShownByFronts
 shown_by_fronts views others path are = all_shown path views others are 0
+
+-- views that lead alike everywhere
+all_lead_alike : (path : List (List ℕ)) (views others : List (View ℕ)) → AllLeadAlike views others → AllLeadAlikeTo path views others
+all_lead_alike path [] [] are = tt
+all_lead_alike path [] (other ∷ others) are = absurd are
+all_lead_alike path (view ∷ views) [] are = absurd are
+all_lead_alike path (view ∷ views) (other ∷ others) are = (
+  record {
+    leads = are.0.leads path;
+    inode = (hides_so (node_led view path) (node_led other path) (are.0.inodes path)).of_kind;
+    on_the_way = λ front is. hides_so (node_led view front) (node_led other front) (are.0.inodes front);
+  },
+  all_lead_alike path views others are.1,
+)
+
+pub shown_by_views : ShownByViews
+shown_by_views views others are path = shown_by_fronts views others path (all_lead_alike path views others are)

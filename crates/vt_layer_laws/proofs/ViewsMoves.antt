@@ -74,7 +74,6 @@ no_way_up files tree from old object named names e =
 
 module _ (before after : Tree ℕ) (from : ℕ) (old : List ℕ) (to : ℕ) (new : List ℕ) (object : ℕ)
     (told : (other : ℕ) (word : List ℕ) → entry_at after other word ≡ cond (is_entry to new other word) (Some object) (cond (is_entry from old other word) None (entry_at before other word))) where
-
   pub others_led : (path : List (List ℕ)) (start : ℕ) → passes before to new start path ≡ false
       → led after start path ≡ cond (passes before from old start path) None (led before start path)
   others_led [] start e = refl
@@ -95,7 +94,6 @@ module _ (before after : Tree ℕ) (from : ℕ) (old : List ℕ) (to : ℕ) (new
       (not_under : (names : List (List ℕ)) → led before object names ≢ Some to)
       (not_up : (names : List (List ℕ)) → led before object names ≢ Some from)
       (replaced : (k : ℕ) → entry_at before to new ≡ Some k → entries_in (before.node k) ≡ []) where
-
     passes_not : (directory : ℕ) (name : List ℕ) (start : ℕ) (path : List (List ℕ))
         → ((way rest : List (List ℕ)) → way ++ name ∷ rest ≡ path → led before start way ≡ Some directory → ⊥)
         → passes before directory name start path ≡ false

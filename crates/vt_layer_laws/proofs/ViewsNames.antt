@@ -38,7 +38,6 @@ file_is_empty (Some node) e = by node.content e
 module _ (before after : Tree ℕ) (directory : ℕ) (name : List ℕ) (object : ℕ)
     (told : (other : ℕ) (word : List ℕ) → entry_at after other word ≡ cond (is_entry directory name other word) (Some object) (entry_at before other word))
     (other_one : object ≢ directory) (empty : entries_in (before.node object) ≡ []) where
-
   stays_empty : (word : List ℕ) → entry_at after object word ≡ None
   stays_empty word = told object word ∙ by (is_entry directory name object word) refl
     where

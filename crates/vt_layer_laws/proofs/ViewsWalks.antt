@@ -108,7 +108,6 @@ module _ (before after : Tree ℕ) (directory : ℕ) (name : List ℕ) (to : Opt
     (told : (other : ℕ) (word : List ℕ) → entry_at after other word ≡ cond (is_entry directory name other word) to (entry_at before other word))
     (leaf_before : (object : ℕ) → entry_at before directory name ≡ Some object → (word : List ℕ) → entry_at before object word ≡ None)
     (leaf_after : (object : ℕ) → to ≡ Some object → (word : List ℕ) → entry_at after object word ≡ None) where
-
   -- no path from what it led to is that of an entry
   leaf_ends : (object : ℕ) → entry_at before directory name ≡ Some object → (path : List (List ℕ)) → ends_in before directory name object path ≡ false
   leaf_ends object e [] = refl
@@ -174,7 +173,6 @@ module _ (before after : Tree ℕ) (directory : ℕ) (name : List ℕ) (to : Opt
 
 module _ (before after : Tree ℕ) (directory : ℕ) (name : List ℕ)
     (told : (other : ℕ) (word : List ℕ) → entry_at after other word ≡ cond (is_entry directory name other word) None (entry_at before other word)) where
-
   pub entry_gone : (path : List (List ℕ)) (start : ℕ) → led after start path ≡ cond (passes before directory name start path) None (led before start path)
   entry_gone [] start = refl
   entry_gone (word ∷ rest) start =
@@ -194,7 +192,6 @@ module _ (before after : Tree ℕ) (directory : ℕ) (name : List ℕ) (to : Opt
     (told : (other : ℕ) (word : List ℕ) → entry_at after other word ≡ cond (is_entry directory name other word) to (entry_at before other word))
     (not_back : (object : ℕ) → entry_at before directory name ≡ Some object → (names : List (List ℕ)) → led before object names ≢ Some directory)
     (leaf_after : (object : ℕ) → to ≡ Some object → (word : List ℕ) → entry_at after object word ≡ None) where
-
   ends_led : (path : List (List ℕ)) (start : ℕ) → ends_in before directory name start path ≡ true → (way : List (List ℕ)) × (led before start way ≡ Some directory)
   ends_led [] start e = absurd (true≢false (sym e))
   ends_led (word ∷ []) start e = ([], ap Some (is_that_entry directory name start word e).0)

@@ -1,4 +1,6 @@
 //! Laws of views: what each change of a plain tree is on the view of a layer in it, and that views say what is shown.
+ghost use Rattle.vt_layer_laws.specs.Layers.ShownAfter.{LinkIsShown, MovedShowsBelow, NewNameIsShown, RemovedShowsBelow};
+ghost use Rattle.vt_layer_laws.specs.Layers.ShownAfter.{ShownByFronts, ShownElsewhereStays};
 ghost use Rattle.vt_layer_laws.specs.Layers.Views.{AddNameAddsPath, AddNameIsSeen, AttrChangesOneInode, BytesChangeOneInode};
 ghost use Rattle.vt_layer_laws.specs.Layers.Views.{ElsewhereKeepsView, MakeAddsInode, MakeAddsPath, MakeEndsPaths, MakeIsSeen};
 ghost use Rattle.vt_layer_laws.specs.Layers.Views.{MarkChangesOneInode, MovedLeadsOn, NamesLeaveInodes, NewLeadsAsOld};
@@ -42,7 +44,19 @@ pub fn views_change_there_alone()
     ensures elsewhere { ElsewhereKeepsView }
 {}
 
-/// What layers show at a path is a function of their views alone.
+/// What layers show at a path is a function of their views alone: of where each leads there, and what it has at the fronts
+/// of the path.
 pub fn views_say_what_is_shown()
-    ensures { ShownByViews }
+    ensures everywhere { ShownByViews }
+    ensures at_a_path { ShownByFronts }
+{}
+
+/// A change of the upper layer leaves what is shown at all paths but those through its names, and those through a directory
+/// whose mark it sets. At a new name the new object is shown; at one that was removed or left, what was below.
+pub fn changes_of_the_upper_layer_show_there_alone()
+    ensures elsewhere { ShownElsewhereStays }
+    ensures made { NewNameIsShown }
+    ensures linked { LinkIsShown }
+    ensures removed { RemovedShowsBelow }
+    ensures left { MovedShowsBelow }
 {}
