@@ -29,7 +29,8 @@ white_of_kind (Some here) None is = absurd (true≢false (sym is.there))
 white_of_kind (Some here) (Some there) is = ap (is_kind White) is.kind
 
 -- tests that agree on the fronts of a path
-fronts_agree : (one other : List (List ℕ) → Bool) (path : List (List ℕ)) → ((front : List (List ℕ)) → IsFrontOf front path → other front ≡ one front)
+fronts_agree : (one other : List (List ℕ) → Bool) (path : List (List ℕ))
+    → ((front : List (List ℕ)) → IsFrontOf front path → other front ≡ one front)
     → list_any other (fronts path) ≡ list_any one (fronts path)
 fronts_agree one other [] same = refl
 fronts_agree one other (word ∷ path) same =
@@ -37,7 +38,8 @@ fronts_agree one other (word ∷ path) same =
     ∙ fronts_agree (λ front. one (word ∷ front)) (λ front. other (word ∷ front)) path
     (λ front is. same (word ∷ front) (is.0, ap (λ p. word ∷ p) is.1, cons_is_not_empty word front))
     ∙ sym (list_any_of_map one (λ front. word ∷ front) (fronts path)))
-    ∙ ap (λ b. b || list_any one (map (λ front. word ∷ front) (fronts path))) (same (word ∷ []) (path, refl, cons_is_not_empty word []))
+    ∙ ap (λ b. b || list_any one (map (λ front. word ∷ front) (fronts path)))
+    (same (word ∷ []) (path, refl, cons_is_not_empty word []))
 
 module _ (path : List (List ℕ)) where
   pub cuts_alike : (one other : View ℕ) → LeadAlikeTo path one other → cuts other path ≡ cuts one path
@@ -46,24 +48,28 @@ module _ (path : List (List ℕ)) where
       (λ front f. hiding_alike (node_led one front) (node_led other front) (is.on_the_way front f))
 
   over_alike : (one other : View ℕ) → LeadAlikeTo path one other → (depth : ℕ) (lower : Option (Shown ℕ))
-      → shown_over other depth (other.leads path) (cuts other path) lower ≡ shown_over one depth (one.leads path) (cuts one path) lower
+      → shown_over other depth (other.leads path) (cuts other path) lower
+      ≡ shown_over one depth (one.leads path) (cuts one path) lower
   over_alike one other is depth lower =
       ap (λ b. shown_over other depth (other.leads path) b lower) (cuts_alike one other is)
       ∙ ap (λ o. shown_over other depth o (cuts one path) lower) is.leads
       ∙ by (one.leads path) refl (cuts one path)
     where
-      whiteouts : (object : ℕ) → one.leads path ≡ Some object → is_kind_in White (other.node object) ≡ is_kind_in White (one.node object)
+      whiteouts : (object : ℕ) → one.leads path ≡ Some object
+          → is_kind_in White (other.node object) ≡ is_kind_in White (one.node object)
       whiteouts object e =
           white_of_kind (one.node object) (other.node object)
           (subst (λ o. IsOneKind (then_some o one.node) (other.node object)) e
           (subst (λ o. IsOneKind (node_led one path) (then_some o other.node)) (is.leads ∙ e) is.inode))
 
-      by : (o : Option ℕ) → one.leads path ≡ o → (cut : Bool) → shown_over other depth o cut lower ≡ shown_over one depth o cut lower
+      by : (o : Option ℕ) → one.leads path ≡ o → (cut : Bool)
+          → shown_over other depth o cut lower ≡ shown_over one depth o cut lower
       by None e true = refl
       by None e false = refl
       by (Some object) e cut = ap (λ b. when (not b) (record { layer = depth; object = object })) (whiteouts object e)
 
-  all_shown : (views others : List (View ℕ)) → AllLeadAlikeTo path views others → (depth : ℕ) → shown_from depth others path ≡ shown_from depth views path
+  all_shown : (views others : List (View ℕ)) → AllLeadAlikeTo path views others → (depth : ℕ)
+      → shown_from depth others path ≡ shown_from depth views path
   all_shown [] [] are depth = refl
   all_shown [] (other ∷ others) are depth = absurd are
   all_shown (view ∷ views) [] are depth = absurd are
@@ -72,14 +78,16 @@ module _ (path : List (List ℕ)) where
       ∙ ap (shown_over view depth (view.leads path) (cuts view path)) (all_shown views others are.1 (depth + 1))
 
   -- one view over the same others
-  pub shown_below_alike : (one other : View ℕ) → LeadAlikeTo path one other → (lowers : List (View ℕ)) → shown_from 0 (other ∷ lowers) path ≡ shown_from 0 (one ∷ lowers) path
+  pub shown_below_alike : (one other : View ℕ) → LeadAlikeTo path one other → (lowers : List (View ℕ))
+      → shown_from 0 (other ∷ lowers) path ≡ shown_from 0 (one ∷ lowers) path
   shown_below_alike one other is lowers = over_alike one other is 0 (shown_from 1 lowers path)
 
 pub shown_by_fronts : ShownByFronts
 shown_by_fronts views others path are = all_shown path views others are 0
 
 -- views that lead alike everywhere
-all_lead_alike : (path : List (List ℕ)) (views others : List (View ℕ)) → AllLeadAlike views others → AllLeadAlikeTo path views others
+all_lead_alike : (path : List (List ℕ)) (views others : List (View ℕ)) → AllLeadAlike views others
+    → AllLeadAlikeTo path views others
 all_lead_alike path [] [] are = tt
 all_lead_alike path [] (other ∷ others) are = absurd are
 all_lead_alike path (view ∷ views) [] are = absurd are

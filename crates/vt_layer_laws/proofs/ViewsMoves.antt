@@ -22,9 +22,11 @@ through_is_split files top directory name path e =
     split files.tree directory name path top (sym (goes_through_it files.tree directory name path top) ∙ e)
 
 -- a path in two parts
-pub led_parts : (tree : Tree ℕ) (way : List (List ℕ)) (rest : List (List ℕ)) (start middle : ℕ) → led tree start way ≡ Some middle → led tree start (way ++ rest) ≡ led tree middle rest
+pub led_parts : (tree : Tree ℕ) (way : List (List ℕ)) (rest : List (List ℕ)) (start middle : ℕ)
+    → led tree start way ≡ Some middle → led tree start (way ++ rest) ≡ led tree middle rest
 led_parts tree [] rest start middle e = ap (λ d. led tree d rest) (some_is_one start middle e)
-led_parts tree (word ∷ way) rest start middle e = by (entry_at tree start word) e (λ next. led_parts tree way rest next middle)
+led_parts tree (word ∷ way) rest start middle e =
+    by (entry_at tree start word) e (λ next. led_parts tree way rest next middle)
   where
     by : (o : Option ℕ) → option_and_then (λ next. led tree next way) o ≡ Some middle
         → ((next : ℕ) → led tree next way ≡ Some middle → led tree next (way ++ rest) ≡ led tree middle rest)
@@ -43,48 +45,63 @@ more_steps : (names : List (List ℕ)) (steps : ℕ) → steps ≤ after_steps n
 more_steps [] steps = omega arith
 more_steps (name ∷ names) steps = let h = more_steps names (suc steps) in omega arith
 
-leads_to_directory : (tree : Tree ℕ) (names : List (List ℕ)) (next to : ℕ) → led tree next names ≡ Some to → IsDirectory tree to → IsDirectory tree next
+leads_to_directory : (tree : Tree ℕ) (names : List (List ℕ)) (next to : ℕ) → led tree next names ≡ Some to
+    → IsDirectory tree to → IsDirectory tree next
 leads_to_directory tree [] next to e d = subst (IsDirectory tree) (sym (some_is_one next to e)) d
 leads_to_directory tree (name ∷ names) next to e d = step (entry_at tree next name) refl e
   where
-    step : (o : Option ℕ) → entry_at tree next name ≡ o → option_and_then (λ n. led tree n names) o ≡ Some to → IsDirectory tree next
+    step : (o : Option ℕ) → entry_at tree next name ≡ o → option_and_then (λ n. led tree n names) o ≡ Some to
+        → IsDirectory tree next
     step None o e = none_is_some to e
     step (Some n) o e = has_entries tree next name n o
 
-steps_on : (tree : Tree ℕ) (names : List (List ℕ)) (steps from to : ℕ) → ReachedIn tree steps from → led tree from names ≡ Some to → IsDirectory tree to → ReachedIn tree (after_steps names steps) to
+steps_on : (tree : Tree ℕ) (names : List (List ℕ)) (steps from to : ℕ) → ReachedIn tree steps from
+    → led tree from names ≡ Some to → IsDirectory tree to → ReachedIn tree (after_steps names steps) to
 steps_on tree [] steps from to r e d = subst (ReachedIn tree steps) (some_is_one from to e) r
-steps_on tree (name ∷ names) steps from to r e d = by (entry_at tree from name) refl e (λ next. steps_on tree names (suc steps) next to)
+steps_on tree (name ∷ names) steps from to r e d =
+    by (entry_at tree from name) refl e (λ next. steps_on tree names (suc steps) next to)
   where
     by : (o : Option ℕ) → entry_at tree from name ≡ o → option_and_then (λ next. led tree next names) o ≡ Some to
-        → ((next : ℕ) → ReachedIn tree (suc steps) next → led tree next names ≡ Some to → IsDirectory tree to → ReachedIn tree (after_steps names (suc steps)) to)
+        → ((next : ℕ) → ReachedIn tree (suc steps) next → led tree next names ≡ Some to → IsDirectory tree to
+        → ReachedIn tree (after_steps names (suc steps)) to)
         → ReachedIn tree (after_steps names (suc steps)) to
     by None o e on = none_is_some to e
     by (Some next) o e on = on next (from, name, r, o, leads_to_directory tree names next to e d) e d
 
-pub no_way_up : (files : FileTree ℕ) → IsTree files.tree → (from : ℕ) (old : List ℕ) (object : ℕ) → entry_at files.tree from old ≡ Some object → (names : List (List ℕ)) → led files.tree object names ≢ Some from
+pub no_way_up : (files : FileTree ℕ) → IsTree files.tree → (from : ℕ) (old : List ℕ) (object : ℕ)
+    → entry_at files.tree from old ≡ Some object → (names : List (List ℕ)) → led files.tree object names ≢ Some from
 no_way_up files tree from old object named names e =
     let d = has_entries files.tree from old object named in
     let reached = is_reached_in files tree from old object named in
-    let again = steps_on files.tree (old ∷ names) reached.0 from from reached.1 (ap (option_and_then (λ next. led files.tree next names)) named ∙ e) d in
-    let same : after_steps (old ∷ names) reached.0 ≡ reached.0 = one_depth files tree (after_steps (old ∷ names) reached.0) reached.0 from again reached.1 in
+    let again = steps_on files.tree (old ∷ names) reached.0 from from reached.1
+    (ap (option_and_then (λ next. led files.tree next names)) named ∙ e) d in
+    let same : after_steps (old ∷ names) reached.0
+    ≡ reached.0 = one_depth files tree (after_steps (old ∷ names) reached.0) reached.0 from again reached.1 in
     let more : suc reached.0 ≤ after_steps (old ∷ names) reached.0 = more_steps names (suc reached.0) in
     let no : ⊥ = omega arith in no
 
 -- Two trees, of which the one has an object under another name
 
 module _ (before after : Tree ℕ) (from : ℕ) (old : List ℕ) (to : ℕ) (new : List ℕ) (object : ℕ)
-    (told : (other : ℕ) (word : List ℕ) → entry_at after other word ≡ cond (is_entry to new other word) (Some object) (cond (is_entry from old other word) None (entry_at before other word))) where
+    (told : (other : ℕ) (word : List ℕ)
+    → entry_at after other word
+    ≡ cond (is_entry to new other word) (Some object)
+    (cond (is_entry from old other word) None (entry_at before other word))) where
   pub others_led : (path : List (List ℕ)) (start : ℕ) → passes before to new start path ≡ false
       → led after start path ≡ cond (passes before from old start path) None (led before start path)
   others_led [] start e = refl
   others_led (word ∷ rest) start e =
       ap (option_and_then (λ next. led after next rest)) (told start word)
-      ∙ by (is_entry to new start word) (is_entry from old start word) (entry_at before start word) e (others_led rest)
+      ∙ by (is_entry to new start word) (is_entry from old start word) (entry_at before start word) e
+      (others_led rest)
     where
-      by : (is_new is_old : Bool) (o : Option ℕ) → (is_new || holds_of (λ inner. passes before to new inner rest) o) ≡ false
-          → ((inner : ℕ) → passes before to new inner rest ≡ false → led after inner rest ≡ cond (passes before from old inner rest) None (led before inner rest))
+      by : (is_new is_old : Bool) (o : Option ℕ)
+          → (is_new || holds_of (λ inner. passes before to new inner rest) o) ≡ false
+          → ((inner : ℕ) → passes before to new inner rest ≡ false
+          → led after inner rest ≡ cond (passes before from old inner rest) None (led before inner rest))
           → option_and_then (λ next. led after next rest) (cond is_new (Some object) (cond is_old None o))
-          ≡ cond (is_old || holds_of (λ inner. passes before from old inner rest) o) None (option_and_then (λ next. led before next rest) o)
+          ≡ cond (is_old || holds_of (λ inner. passes before from old inner rest) o) None
+          (option_and_then (λ next. led before next rest) o)
       by true is_old o e later = absurd (true≢false e)
       by false true o e later = refl
       by false false None e later = refl
@@ -101,38 +118,47 @@ module _ (before after : Tree ℕ) (from : ℕ) (old : List ℕ) (to : ℕ) (new
       where
         by : (b : Bool) → passes before directory name start path ≡ b → b ≡ false
         by false e = refl
-        by true e = let parts = split before directory name path start e in absurd (none parts.0 parts.1 parts.2 parts.3)
+        by true e =
+            let parts = split before directory name path start e in absurd (none parts.0 parts.1 parts.2 parts.3)
 
     -- what lies under the object goes through neither name
     object_led : (path : List (List ℕ)) → led after object path ≡ led before object path
     object_led path =
         others_led path object (passes_not to new object path (λ way rest is l. not_under way l))
-        ∙ ap (λ b. cond b None (led before object path)) (passes_not from old object path (λ way rest is l. not_up way l))
+        ∙ ap (λ b. cond b None (led before object path))
+        (passes_not from old object path (λ way rest is l. not_up way l))
 
     -- nothing leads on over what is replaced
-    stops_there : (o : Option ℕ) → entry_at before to new ≡ o → (rest : List (List ℕ)) → option_and_then (λ next. led before next rest) o ≡ Some to → ⊥
+    stops_there : (o : Option ℕ) → entry_at before to new ≡ o → (rest : List (List ℕ))
+        → option_and_then (λ next. led before next rest) o ≡ Some to → ⊥
     stops_there None e rest l = none_is_some to l
     stops_there (Some k) e [] l =
-        none_is_some k (sym (no_entries before k (replaced k e) new) ∙ ap (λ n. entry_at before n new) (some_is_one k to l) ∙ e)
+        none_is_some k (sym (no_entries before k (replaced k e) new)
+        ∙ ap (λ n. entry_at before n new) (some_is_one k to l) ∙ e)
     stops_there (Some k) e (word ∷ rest) l =
-        none_is_some to (sym (ap (option_and_then (λ next. led before next rest)) (no_entries before k (replaced k e) word)) ∙ l)
+        none_is_some to (sym
+        (ap (option_and_then (λ next. led before next rest)) (no_entries before k (replaced k e) word)) ∙ l)
 
     -- nor does a way to the new name's directory
     way_led : (way : List (List ℕ)) (start : ℕ) → led before start way ≡ Some to → led after start way ≡ Some to
     way_led way start e =
         others_led way start
         (passes_not to new start way (λ first rest is l.
-        stops_there (entry_at before to new) refl rest (sym (led_parts before first (new ∷ rest) start to l) ∙ ap (led before start) is ∙ e)))
+        stops_there (entry_at before to new) refl rest (sym (led_parts before first (new ∷ rest) start to l)
+        ∙ ap (led before start) is ∙ e)))
         ∙ ap (λ b. cond b None (led before start way))
         (passes_not from old start way (λ first rest is l.
-        not_under rest (sym (ap (option_and_then (λ next. led before next rest)) named) ∙ sym (led_parts before first (old ∷ rest) start from l) ∙ ap (led before start) is ∙ e)))
+        not_under rest (sym (ap (option_and_then (λ next. led before next rest)) named)
+        ∙ sym (led_parts before first (old ∷ rest) start from l) ∙ ap (led before start) is ∙ e)))
         ∙ e
 
-    pub moved_led : (way rest : List (List ℕ)) (start : ℕ) → led before start way ≡ Some to → led after start (way ++ new ∷ rest) ≡ led before object rest
+    pub moved_led : (way rest : List (List ℕ)) (start : ℕ) → led before start way ≡ Some to
+        → led after start (way ++ new ∷ rest) ≡ led before object rest
     moved_led way rest start e =
         led_parts after way (new ∷ rest) start to (way_led way start e)
         ∙ ap (option_and_then (λ next. led after next rest))
-        (told to new ∙ ap (λ b. cond b (Some object) (cond (is_entry from old to new) None (entry_at before to new))) itself)
+        (told to new ∙ ap (λ b. cond b (Some object)
+        (cond (is_entry from old to new) None (entry_at before to new))) itself)
         ∙ object_led rest
       where
         itself : is_entry to new to new ≡ true
@@ -140,26 +166,33 @@ module _ (before after : Tree ℕ) (from : ℕ) (old : List ℕ) (to : ℕ) (new
 
 -- The moved tree
 
-module _ (files : FileTree ℕ) (from : ℕ) (old : List ℕ) (to : ℕ) (new : List ℕ) (object : ℕ) (is : IsDirectory files.tree to) where
-  still : (replaced : Option ℕ) → IsDirectory (without_name nat_eq (without_parent nat_eq files replaced) from old).tree to
+module _ (files : FileTree ℕ) (from : ℕ) (old : List ℕ) (to : ℕ) (new : List ℕ) (object : ℕ)
+    (is : IsDirectory files.tree to) where
+  still : (replaced : Option ℕ)
+      → IsDirectory (without_name nat_eq (without_parent nat_eq files replaced) from old).tree to
   still replaced =
-      kept_part is_directory_node (without_parent nat_eq files replaced) from (node_without_entry old) (without_entry_keeps old).directory to ∙ freed replaced
+      kept_part is_directory_node (without_parent nat_eq files replaced) from (node_without_entry old)
+      (without_entry_keeps old).directory to ∙ freed replaced
     where
       freed : (replaced : Option ℕ) → IsDirectory (without_parent nat_eq files replaced).tree to
       freed None = is
       freed (Some k) = kept_part is_directory_node files k (node_with_parent k) (parent_keeps k).directory to ∙ is
 
-  pub move_told : (other : ℕ) (word : List ℕ) → entry_at (with_moved nat_eq files from old to new object).tree other word
-      ≡ cond (is_entry to new other word) (Some object) (cond (is_entry from old other word) None (entry_at files.tree other word))
+  pub move_told : (other : ℕ) (word : List ℕ)
+      → entry_at (with_moved nat_eq files from old to new object).tree other word
+      ≡ cond (is_entry to new other word) (Some object)
+      (cond (is_entry from old other word) None (entry_at files.tree other word))
   move_told other word =
       let replaced = entry_named new (entries_in (files.tree.node to)) in
       let freed = without_parent nat_eq files replaced in
       let left = without_name nat_eq freed from old in
-      ap (entry_named word) (entries_stay (with_name nat_eq left to new object) object (node_with_parent to) (parent_entries to) other)
+      ap (entry_named word)
+      (entries_stay (with_name nat_eq left to new object) object (node_with_parent to) (parent_entries to) other)
       ∙ given left to new object (still replaced) other word
       ∙ ap (cond (is_entry to new other word) (Some object))
       (taken freed from old other word
-      ∙ ap (λ entries. cond (is_entry from old other word) None (entry_named word entries)) (parents_aside files replaced other))
+      ∙ ap (λ entries. cond (is_entry from old other word) None (entry_named word entries))
+      (parents_aside files replaced other))
 
 pub moved_leads_on : MovedLeadsOn
 moved_leads_on files top from to object old new tree can way rest e =
@@ -170,7 +203,8 @@ moved_leads_on files top from to object old new tree can way rest e =
 pub new_leads_as_old : NewLeadsAsOld
 new_leads_as_old files top from to object old new tree can old_way new_way rest e f =
     moved_leads_on files top from to object old new tree can new_way rest f
-    ∙ sym (led_parts files.tree old_way (old ∷ rest) top from e ∙ ap (option_and_then (λ next. led files.tree next rest)) can.named)
+    ∙ sym (led_parts files.tree old_way (old ∷ rest) top from e
+    ∙ ap (option_and_then (λ next. led files.tree next rest)) can.named)
 
 pub old_leads_nowhere : OldLeadsNowhere
 old_leads_nowhere files top from to object old new can path e =

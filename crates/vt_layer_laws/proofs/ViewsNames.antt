@@ -21,7 +21,8 @@ use Rattle.vt_layer_laws.proofs.ViewsEntries.{given, is_entry, is_that_entry, pa
 use Rattle.vt_layer_laws.proofs.ViewsWalks.{entry_gone, entry_led, entry_over, goes_through_it, names_it}
 
 -- an inode that has no names in it
-pub no_entries : (tree : Tree ℕ) (object : ℕ) → entries_in (tree.node object) ≡ [] → (word : List ℕ) → entry_at tree object word ≡ None
+pub no_entries : (tree : Tree ℕ) (object : ℕ) → entries_in (tree.node object) ≡ [] → (word : List ℕ)
+    → entry_at tree object word ≡ None
 no_entries tree object empty word = ap (entry_named word) empty
 
 file_is_empty : (o : Option (Node ℕ)) → is_directory_node o ≡ false → entries_in o ≡ []
@@ -36,17 +37,23 @@ file_is_empty (Some node) e = by node.content e
 
 -- A name given to what has no names in it
 module _ (before after : Tree ℕ) (directory : ℕ) (name : List ℕ) (object : ℕ)
-    (told : (other : ℕ) (word : List ℕ) → entry_at after other word ≡ cond (is_entry directory name other word) (Some object) (entry_at before other word))
+    (told : (other : ℕ) (word : List ℕ)
+    → entry_at after other word
+    ≡ cond (is_entry directory name other word) (Some object) (entry_at before other word))
     (other_one : object ≢ directory) (empty : entries_in (before.node object) ≡ []) where
   stays_empty : (word : List ℕ) → entry_at after object word ≡ None
   stays_empty word = told object word ∙ by (is_entry directory name object word) refl
     where
-      by : (b : Bool) → is_entry directory name object word ≡ b → cond b (Some object) (entry_at before object word) ≡ None
+      by : (b : Bool) → is_entry directory name object word ≡ b
+          → cond b (Some object) (entry_at before object word) ≡ None
       by true is = absurd (other_one (is_that_entry directory name object word is).0)
       by false is = no_entries before object empty word
 
-  pub given_led : ((k : ℕ) → entry_at before directory name ≡ Some k → entries_in (before.node k) ≡ []) → (start : ℕ) (path : List (List ℕ))
-      → led after start path ≡ cond (names_entry (record { leads = λ p. led before start p; node = λ n. before.node n }) directory name path) (Some object) (led before start path)
+  pub given_led : ((k : ℕ) → entry_at before directory name ≡ Some k → entries_in (before.node k) ≡ [])
+      → (start : ℕ) (path : List (List ℕ))
+      → led after start path
+      ≡ cond (names_entry (record { leads = λ p. led before start p; node = λ n. before.node n }) directory name path)
+      (Some object) (led before start path)
   given_led bare start path =
       entry_led before after directory name (Some object) told
       (λ k e. no_entries before k (bare k e))
@@ -57,10 +64,12 @@ module _ (before after : Tree ℕ) (directory : ℕ) (name : List ℕ) (object :
 -- Inodes but for their names
 
 pub alike_kept : (one other : Option (Node ℕ)) → IsKept one other → IsAlike one other
-alike_kept one other is = record { there = is.there; kind = is.kind; attr = is.attr; bytes = is.bytes; mark = is.mark }
+alike_kept one other is =
+    record { there = is.there; kind = is.kind; attr = is.attr; bytes = is.bytes; mark = is.mark }
 
 pub alike_same : (one other : Option (Node ℕ)) → other ≡ one → IsAlike one other
-alike_same one other e = subst (λ o. IsAlike one o) (sym e) (record { there = refl; kind = refl; attr = refl; bytes = refl; mark = refl })
+alike_same one other e =
+    subst (λ o. IsAlike one o) (sym e) (record { there = refl; kind = refl; attr = refl; bytes = refl; mark = refl })
 
 pub alike_both : (one middle other : Option (Node ℕ)) → IsAlike one middle → IsAlike middle other → IsAlike one other
 alike_both one middle other a b = record {
@@ -71,11 +80,13 @@ alike_both one middle other a b = record {
   mark = b.mark ∙ a.mark;
 }
 
-alike_after : (files : FileTree ℕ) (number : ℕ) (change : Option (Node ℕ) → Option (Node ℕ)) → KeepsButNames change → (inode : ℕ)
+alike_after : (files : FileTree ℕ) (number : ℕ) (change : Option (Node ℕ) → Option (Node ℕ)) → KeepsButNames change
+    → (inode : ℕ)
     → IsAlike (files.tree.node inode) ((changed_node nat_eq files number change).tree.node inode)
 alike_after files number change keeps inode =
     ⊎_elim
-    (λ t. subst (λ b. IsAlike (files.tree.node inode) (cond b (change (files.tree.node number)) (files.tree.node inode))) (sym t.0)
+    (λ t. subst (λ b. IsAlike (files.tree.node inode)
+    (cond b (change (files.tree.node number)) (files.tree.node inode))) (sym t.0)
     (subst (λ n. IsAlike (files.tree.node n) (change (files.tree.node number))) (sym t.1) kept))
     (λ t. alike_same (files.tree.node inode) _ (kept_elsewhere files number change inode t.0))
     (eqb_tells inode number)
@@ -90,7 +101,8 @@ alike_after files number change keeps inode =
     }
 
 -- A new inode, and its name
-module _ (files : FileTree ℕ) (directory number : ℕ) (name : List ℕ) (node : Node ℕ) (is : IsDirectory files.tree directory) (vacant : files.tree.node number ≡ None) where
+module _ (files : FileTree ℕ) (directory number : ℕ) (name : List ℕ) (node : Node ℕ)
+    (is : IsDirectory files.tree directory) (vacant : files.tree.node number ≡ None) where
   abbrev grown : FileTree ℕ
   grown = with_inode nat_eq files number node
 
@@ -114,16 +126,21 @@ module _ (files : FileTree ℕ) (directory number : ℕ) (name : List ℕ) (node
     grown_entries : (other : ℕ) → entries_in (grown.tree.node other) ≡ entries_in (files.tree.node other)
     grown_entries other =
         ⊎_elim
-        (λ t. ap (λ n. entries_in (grown.tree.node n)) t.1 ∙ ap entries_in (node_set files.tree number (Some node)) ∙ bare
+        (λ t. ap (λ n. entries_in (grown.tree.node n)) t.1 ∙ ap entries_in (node_set files.tree number (Some node))
+        ∙ bare
         ∙ sym (ap entries_in vacant) ∙ ap (λ n. entries_in (files.tree.node n)) (sym t.1))
         (λ t. ap entries_in (node_other files.tree number (Some node) other t.1))
         (eqb_tells other number)
 
-    made_told : (other : ℕ) (word : List ℕ) → entry_at made.tree other word ≡ cond (is_entry directory name other word) (Some number) (entry_at files.tree other word)
+    made_told : (other : ℕ) (word : List ℕ)
+        → entry_at made.tree other word
+        ≡ cond (is_entry directory name other word) (Some number) (entry_at files.tree other word)
     made_told other word =
         given grown directory name number
-        (ap is_directory_node (node_other files.tree number (Some node) directory (λ same. number_differs (sym same))) ∙ is) other word
-        ∙ ap (λ entries. cond (is_entry directory name other word) (Some number) (entry_named word entries)) (grown_entries other)
+        (ap is_directory_node (node_other files.tree number (Some node) directory (λ same. number_differs (sym same)))
+        ∙ is) other word
+        ∙ ap (λ entries. cond (is_entry directory name other word) (Some number) (entry_named word entries))
+        (grown_entries other)
 
 pub make_adds_path : MakeAddsPath
 make_adds_path files top directory number name node is vacant bare path =
@@ -159,21 +176,27 @@ module _ (files : FileTree ℕ) (directory object : ℕ) (name : List ℕ) where
   abbrev left : FileTree ℕ
   left = without_parent nat_eq (without_name nat_eq files directory name) (Some object)
 
-  left_told : (other : ℕ) (word : List ℕ) → entry_at left.tree other word ≡ cond (is_entry directory name other word) None (entry_at files.tree other word)
+  left_told : (other : ℕ) (word : List ℕ)
+      → entry_at left.tree other word
+      ≡ cond (is_entry directory name other word) None (entry_at files.tree other word)
   left_told other word =
-      ap (entry_named word) (parents_aside (without_name nat_eq files directory name) (Some object) other) ∙ taken files directory name other word
+      ap (entry_named word) (parents_aside (without_name nat_eq files directory name) (Some object) other)
+      ∙ taken files directory name other word
 
 pub remove_takes_path : RemoveTakesPath
 remove_takes_path files top directory object name named empty path =
-    entry_led files.tree (left files directory object name).tree directory name None (left_told files directory object name)
-    (λ k e word. no_entries files.tree k (ap (λ n. entries_in (files.tree.node n)) (some_is_one k object (sym e ∙ named)) ∙ empty) word)
+    entry_led files.tree (left files directory object name).tree directory name None
+    (left_told files directory object name)
+    (λ k e word. no_entries files.tree k
+    (ap (λ n. entries_in (files.tree.node n)) (some_is_one k object (sym e ∙ named)) ∙ empty) word)
     (λ k e. none_is_some k e)
     path top
     ∙ ap (λ b. cond b None (led files.tree top path)) (sym (names_it files.tree directory name path top))
 
 pub remove_ends_paths : RemoveEndsPaths
 remove_ends_paths files top directory object name path =
-    entry_gone files.tree (left files directory object name).tree directory name (left_told files directory object name) path top
+    entry_gone files.tree (left files directory object name).tree directory name
+    (left_told files directory object name) path top
     ∙ ap (λ b. cond b None (led files.tree top path)) (sym (goes_through_it files.tree directory name path top))
 
 pub names_leave_inodes : NamesLeaveInodes
@@ -189,7 +212,8 @@ names_leave_inodes files (Move from old to new object) top inode e =
     let left = without_name nat_eq freed from old in
     let named = with_name nat_eq left to new object in
     alike_both (files.tree.node inode) (freed.tree.node inode) _
-    (alike_kept (files.tree.node inode) _ (kept_without_parent files (entry_named new (entries_in (files.tree.node to))) inode))
+    (alike_kept (files.tree.node inode) _
+    (kept_without_parent files (entry_named new (entries_in (files.tree.node to))) inode))
     (alike_both (freed.tree.node inode) (left.tree.node inode) _
     (alike_after freed from (node_without_entry old) (without_entry_keeps old) inode)
     (alike_both (left.tree.node inode) (named.tree.node inode) _
@@ -217,7 +241,8 @@ module _ (before after : Tree ℕ) (top : ℕ) (path : List (List ℕ)) where
       subst (λ o. IsAlike (then_some (led before top path) before.node) (then_some o after.node)) (sym e)
       (by (led before top path) others)
     where
-      by : (o : Option ℕ) → ((inode : ℕ) → o ≡ Some inode → IsAlike (before.node inode) (after.node inode)) → IsAlike (then_some o before.node) (then_some o after.node)
+      by : (o : Option ℕ) → ((inode : ℕ) → o ≡ Some inode → IsAlike (before.node inode) (after.node inode))
+          → IsAlike (then_some o before.node) (then_some o after.node)
       by None others = make_seen None
       by (Some inode) others = others inode refl
 

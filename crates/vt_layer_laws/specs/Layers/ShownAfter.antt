@@ -1,4 +1,5 @@
--- What layers show by the fronts of a path alone, and so what a change of the upper layer may change in what is shown.
+-- What layers show by the fronts of a path alone, and so what a change of the upper layer may change in what is
+-- shown.
 use Rattle.std.specs.Prelude.{Bool, List, None, Option, Some, [], false, is_some, nat_eq, not, true, ℕ, ⊤, ◌||◌, ◌∷◌, ◌≡◌}
 use Rattle.std.specs.List.{list_any}
 use Rattle.vt_spec.specs.declared.attributes.Kind.TheVariants.{White}
@@ -26,39 +27,47 @@ pub record HidesAlike (one other : Option (Node ℕ)) : Type 0 where
 pub record LeadAlikeTo (path : List (List ℕ)) (one other : View ℕ) : Type 0 where
   pub leads : other.leads path ≡ one.leads path
   pub inode : IsOneKind (node_led one path) (node_led other path)
-  pub on_the_way : (front : List (List ℕ)) → IsFrontOf front path → HidesAlike (node_led one front) (node_led other front)
+  pub on_the_way : (front : List (List ℕ)) → IsFrontOf front path
+      → HidesAlike (node_led one front) (node_led other front)
 
 abbrev pub AllLeadAlikeTo : List (List ℕ) → List (View ℕ) → List (View ℕ) → Type 0
 AllLeadAlikeTo path [] [] = ⊤
 AllLeadAlikeTo path [] (other ∷ others) = ⊥
 AllLeadAlikeTo path (view ∷ views) [] = ⊥
-AllLeadAlikeTo path (view ∷ views) (other ∷ others) = LeadAlikeTo path view other × AllLeadAlikeTo path views others
+AllLeadAlikeTo path (view ∷ views) (other ∷ others) =
+    LeadAlikeTo path view other × AllLeadAlikeTo path views others
 
 -- Layers whose views lead alike along a path show the same object of the same layer there.
 abbrev pub ShownByFronts : Type 0
 ShownByFronts =
-    (views others : List (View ℕ)) (path : List (List ℕ)) → AllLeadAlikeTo path views others → shown others path ≡ shown views path
+    (views others : List (View ℕ)) (path : List (List ℕ)) → AllLeadAlikeTo path views others
+    → shown others path ≡ shown views path
 
 -- the path, or a front of it, leads to this inode
 abbrev pub leads_over : View ℕ → ℕ → List (List ℕ) → Bool
-leads_over view inode path = list_any (λ front. same_option nat_eq (view.leads front) (Some inode)) (fronts path)
+leads_over view inode path =
+    list_any (λ front. same_option nat_eq (view.leads front) (Some inode)) (fronts path)
 
--- where a change of a layer may change what is shown: at its names and below them, and below a directory whose mark it sets
+-- where a change of a layer may change what is shown: at its names and below them, and below a directory whose mark
+-- it sets
 abbrev pub may_show : View ℕ → Change ℕ → List (List ℕ) → Bool
 may_show view (Make directory name number node) path = goes_through view directory name path
 may_show view (AddName directory name object) path = goes_through view directory name path
 may_show view (Remove directory name object) path = goes_through view directory name path
-may_show view (Move from old to new object) path = goes_through view to new path || goes_through view from old path
+may_show view (Move from old to new object) path =
+    goes_through view to new path || goes_through view from old path
 may_show view (SetBytes file bytes) path = false
 may_show view (SetAttr object attr) path = false
 may_show view (SetMark directory opaque) path = leads_over view directory path
 may_show view (CopyUp object) path = false
 
--- what is made has no names in it, what is linked is no directory, and a name is given in the place of what has no names in it
+-- what is made has no names in it, what is linked is no directory, and a name is given in the place of what has no
+-- names in it
 abbrev pub IsPlainChange : Tree ℕ → Change ℕ → Type 0
 IsPlainChange tree (Make directory name number node) =
     TakesName tree directory name × (tree.node number ≡ None) × (entries_of node.content ≡ [])
-IsPlainChange tree (AddName directory name object) = TakesName tree directory name × (is_directory_node (tree.node object) ≡ false)
+IsPlainChange tree (AddName directory name object) =
+    TakesName tree directory name × (is_directory_node (tree.node object) ≡ false)
 IsPlainChange tree (Move from old to new object) = CanMove tree from old to new object
 IsPlainChange tree change = ⊤
 
@@ -73,8 +82,10 @@ ShownElsewhereStays =
 -- Shown at a new name is the new object, or the one that the name is given to, unless it is a whiteout.
 abbrev pub NewNameIsShown : Type 0
 NewNameIsShown =
-    (files : FileTree ℕ) (top directory number : ℕ) (name : List ℕ) (node : Node ℕ) (lowers : List (View ℕ))
-    → TakesName files.tree directory name → files.tree.node number ≡ None → entries_of node.content ≡ []
+    (files : FileTree ℕ) (top directory number : ℕ) (name : List ℕ) (node : Node ℕ)
+    (lowers : List (View ℕ))
+    → TakesName files.tree directory name → files.tree.node number ≡ None
+    → entries_of node.content ≡ []
     → (path : List (List ℕ)) → names_entry (view_in files top) directory name path ≡ true
     → shown (view_after files (Make directory name number node) top ∷ lowers) path
     ≡ when (not (is_kind White (kind_of node.content))) (record { layer = 0; object = number })
@@ -91,9 +102,11 @@ LinkIsShown =
 abbrev pub RemovedShowsBelow : Type 0
 RemovedShowsBelow =
     (files : FileTree ℕ) (top directory object : ℕ) (name : List ℕ) (lowers : List (View ℕ))
-    → IsTree files.tree → IsDirectory files.tree top → entry_at files.tree directory name ≡ Some object
+    → IsTree files.tree → IsDirectory files.tree top
+    → entry_at files.tree directory name ≡ Some object
     → (path : List (List ℕ)) → names_entry (view_in files top) directory name path ≡ true
-    → shown (view_after files (Remove directory name object) top ∷ lowers) path ≡ below (view_in files top) lowers path
+    → shown (view_after files (Remove directory name object) top ∷ lowers) path
+    ≡ below (view_in files top) lowers path
 
 -- and so at a name from which an object was moved away.
 abbrev pub MovedShowsBelow : Type 0
@@ -102,4 +115,5 @@ MovedShowsBelow =
     → IsTree files.tree → IsDirectory files.tree top → CanMove files.tree from old to new object
     → (path : List (List ℕ)) → names_entry (view_in files top) from old path ≡ true
     → goes_through (view_in files top) to new path ≡ false
-    → shown (view_after files (Move from old to new object) top ∷ lowers) path ≡ below (view_in files top) lowers path
+    → shown (view_after files (Move from old to new object) top ∷ lowers) path
+    ≡ below (view_in files top) lowers path

@@ -1,4 +1,5 @@
--- What each change of a plain tree is on the view of a layer in it (`Machine/Views.antt`): which paths lead elsewhere than they
+-- What each change of a plain tree is on the view of a layer in it (`Machine/Views.antt`): which paths lead elsewhere
+-- than they
 -- led, and which inodes are other than they were. What layers show at a path is a function of their views alone.
 use Rattle.std.specs.Prelude.{Bool, List, None, Some, [], false, if◌then◌else◌, nat_eq, not, true, ℕ, ⊤, ◌&&◌, ◌++◌, ◌∷◌, ◌≡◌, ◌≢◌}
 use Rattle.std.specs.List.{list_any}
@@ -24,7 +25,9 @@ view_after files change top = view_in (changed nat_eq files change) top
 -- the path is that of an entry: its last word is the name, and the words before it lead to the directory
 abbrev pub names_entry : View ℕ → ℕ → List ℕ → List (List ℕ) → Bool
 names_entry view directory name path =
-    not (is_empty_list path) && (same_option nat_eq (view.leads (front_of path)) (Some directory) && bytes_eq (last_or [] path) name)
+    not (is_empty_list path) &&
+    (same_option nat_eq (view.leads (front_of path)) (Some directory) && bytes_eq
+    (last_or [] path) name)
 
 -- some front of the path, or the path itself, is that of an entry
 abbrev pub goes_through : View ℕ → ℕ → List ℕ → List (List ℕ) → Bool
@@ -35,21 +38,26 @@ abbrev pub ThroughIsSplit : Type 0
 ThroughIsSplit =
     (files : FileTree ℕ) (top directory : ℕ) (name : List ℕ) (path : List (List ℕ))
     → goes_through (view_in files top) directory name path ≡ true
-    → (way rest : List (List ℕ)) × (way ++ name ∷ rest ≡ path) × ((view_in files top).leads way ≡ Some directory)
+    → (way rest : List (List ℕ)) × (way ++ name ∷ rest ≡ path)
+    × ((view_in files top).leads way ≡ Some directory)
 
 -- a name of a directory that is free, or of what has no names in it, as a whiteout
 pub record TakesName (tree : Tree ℕ) (directory : ℕ) (name : List ℕ) : Type 0 where
   pub in_directory : IsDirectory tree directory
-  pub bare : (replaced : ℕ) → entry_at tree directory name ≡ Some replaced → entries_in (tree.node replaced) ≡ []
+  pub bare : (replaced : ℕ) → entry_at tree directory name ≡ Some replaced
+      → entries_in (tree.node replaced) ≡ []
 
--- A new object without names in it under such a name: the path to the name leads to it, and every other path where it led.
+-- A new object without names in it under such a name: the path to the name leads to it, and every other path where it
+-- led.
 abbrev pub MakeAddsPath : Type 0
 MakeAddsPath =
     (files : FileTree ℕ) (top directory number : ℕ) (name : List ℕ) (node : Node ℕ)
-    → TakesName files.tree directory name → files.tree.node number ≡ None → entries_of node.content ≡ []
+    → TakesName files.tree directory name → files.tree.node number ≡ None
+    → entries_of node.content ≡ []
     → (path : List (List ℕ))
     → (view_after files (Make directory name number node) top).leads path
-    ≡ (if names_entry (view_in files top) directory name path then Some number else (view_in files top).leads path)
+    ≡ (if names_entry (view_in files top) directory name path then Some number else
+    (view_in files top).leads path)
 
 -- The new inode is as it was asked for, and all others are as they were but for names.
 abbrev pub MakeAddsInode : Type 0
@@ -58,29 +66,36 @@ MakeAddsInode =
     → IsDirectory files.tree directory → files.tree.node number ≡ None
     → ((view_after files (Make directory name number node) top).node number ≡ Some node)
     × ((inode : ℕ) → inode ≢ number
-    → IsAlike ((view_in files top).node inode) ((view_after files (Make directory name number node) top).node inode))
+    → IsAlike ((view_in files top).node inode)
+    ((view_after files (Make directory name number node) top).node inode))
 
 -- So the new inode is at its path, and at every other one what was there.
 abbrev pub MakeIsSeen : Type 0
 MakeIsSeen =
     (files : FileTree ℕ) (top directory number : ℕ) (name : List ℕ) (node : Node ℕ)
     → IsTree files.tree → IsDirectory files.tree top
-    → TakesName files.tree directory name → files.tree.node number ≡ None → entries_of node.content ≡ []
+    → TakesName files.tree directory name → files.tree.node number ≡ None
+    → entries_of node.content ≡ []
     → (path : List (List ℕ))
-    → IsAlike (if names_entry (view_in files top) directory name path then Some node else node_led (view_in files top) path)
+    → IsAlike (if names_entry (view_in files top) directory name path then Some node else node_led
+    (view_in files top) path)
     (node_led (view_after files (Make directory name number node) top) path)
 
--- A new object in the place of what has names in it, but none that lead back to the directory: what lay under that is gone.
+-- A new object in the place of what has names in it, but none that lead back to the directory: what lay under that is
+-- gone.
 abbrev pub MakeEndsPaths : Type 0
 MakeEndsPaths =
     (files : FileTree ℕ) (top directory number : ℕ) (name : List ℕ) (node : Node ℕ)
-    → IsDirectory files.tree directory → files.tree.node number ≡ None → entries_of node.content ≡ []
+    → IsDirectory files.tree directory → files.tree.node number ≡ None
+    → entries_of node.content ≡ []
     → ((replaced : ℕ) (names : List (List ℕ))
-    → entry_at files.tree directory name ≡ Some replaced → led files.tree replaced names ≢ Some directory)
+    → entry_at files.tree directory name ≡ Some replaced
+    → led files.tree replaced names ≢ Some directory)
     → (path : List (List ℕ))
     → (view_after files (Make directory name number node) top).leads path
     ≡ (if names_entry (view_in files top) directory name path then Some number
-    else if goes_through (view_in files top) directory name path then None else (view_in files top).leads path)
+    else if goes_through (view_in files top) directory name path then None else
+    (view_in files top).leads path)
 
 -- A further name of an object that is no directory.
 abbrev pub AddNameAddsPath : Type 0
@@ -89,14 +104,17 @@ AddNameAddsPath =
     → TakesName files.tree directory name → is_directory_node (files.tree.node object) ≡ false
     → (path : List (List ℕ))
     → (view_after files (AddName directory name object) top).leads path
-    ≡ (if names_entry (view_in files top) directory name path then Some object else (view_in files top).leads path)
+    ≡ (if names_entry (view_in files top) directory name path then Some object else
+    (view_in files top).leads path)
 
 abbrev pub AddNameIsSeen : Type 0
 AddNameIsSeen =
     (files : FileTree ℕ) (top directory object : ℕ) (name : List ℕ)
     → TakesName files.tree directory name → is_directory_node (files.tree.node object) ≡ false
     → (path : List (List ℕ))
-    → IsAlike (if names_entry (view_in files top) directory name path then files.tree.node object else node_led (view_in files top) path)
+    → IsAlike (if names_entry
+    (view_in files top) directory name path then files.tree.node object else node_led
+    (view_in files top) path)
     (node_led (view_after files (AddName directory name object) top) path)
 
 -- A name that is taken from an object without names in it.
@@ -106,14 +124,16 @@ RemoveTakesPath =
     → entry_at files.tree directory name ≡ Some object → entries_in (files.tree.node object) ≡ []
     → (path : List (List ℕ))
     → (view_after files (Remove directory name object) top).leads path
-    ≡ (if names_entry (view_in files top) directory name path then None else (view_in files top).leads path)
+    ≡ (if names_entry (view_in files top) directory name path then None else
+    (view_in files top).leads path)
 
 abbrev pub RemoveIsSeen : Type 0
 RemoveIsSeen =
     (files : FileTree ℕ) (top directory object : ℕ) (name : List ℕ)
     → entry_at files.tree directory name ≡ Some object → entries_in (files.tree.node object) ≡ []
     → (path : List (List ℕ))
-    → IsAlike (if names_entry (view_in files top) directory name path then None else node_led (view_in files top) path)
+    → IsAlike (if names_entry (view_in files top) directory name path then None else node_led
+    (view_in files top) path)
     (node_led (view_after files (Remove directory name object) top) path)
 
 -- A name that is taken, whatever it led to: what lay under that is gone too.
@@ -121,7 +141,8 @@ abbrev pub RemoveEndsPaths : Type 0
 RemoveEndsPaths =
     (files : FileTree ℕ) (top directory object : ℕ) (name : List ℕ) (path : List (List ℕ))
     → (view_after files (Remove directory name object) top).leads path
-    ≡ (if goes_through (view_in files top) directory name path then None else (view_in files top).leads path)
+    ≡ (if goes_through (view_in files top) directory name path then None else
+    (view_in files top).leads path)
 
 -- changes that give, take or move a name and make nothing
 abbrev pub changes_names_alone : Change ℕ → Bool
@@ -135,15 +156,19 @@ changes_names_alone change = false
 abbrev pub NamesLeaveInodes : Type 0
 NamesLeaveInodes =
     (files : FileTree ℕ) (change : Change ℕ) (top inode : ℕ)
-    → changes_names_alone change ≡ true → IsAlike ((view_in files top).node inode) ((view_after files change top).node inode)
+    → changes_names_alone change ≡ true
+    → IsAlike ((view_in files top).node inode) ((view_after files change top).node inode)
 
--- A move: the object has the old name, the new name is of a directory that does not lie under the object, and what had the new
+-- A move: the object has the old name, the new name is of a directory that does not lie under the object, and what
+-- had the new
 -- name has no names in it.
-pub record CanMove (tree : Tree ℕ) (from : ℕ) (old : List ℕ) (to : ℕ) (new : List ℕ) (object : ℕ) : Type 0 where
+pub record CanMove (tree : Tree ℕ) (from : ℕ) (old : List ℕ) (to : ℕ) (new : List ℕ)
+    (object : ℕ) : Type 0 where
   pub named : entry_at tree from old ≡ Some object
   pub in_directory : IsDirectory tree to
   pub not_under : (names : List (List ℕ)) → led tree object names ≢ Some to
-  pub replaced_empty : (replaced : ℕ) → entry_at tree to new ≡ Some replaced → entries_in (tree.node replaced) ≡ []
+  pub replaced_empty : (replaced : ℕ) → entry_at tree to new ≡ Some replaced
+      → entries_in (tree.node replaced) ≡ []
 
 -- What follows the new name leads on from the object as it did before it was moved, from wherever,
 abbrev pub MovedLeadsOn : Type 0
@@ -151,7 +176,8 @@ MovedLeadsOn =
     (files : FileTree ℕ) (top from to object : ℕ) (old new : List ℕ)
     → IsTree files.tree → CanMove files.tree from old to new object
     → (way rest : List (List ℕ)) → (view_in files top).leads way ≡ Some to
-    → (view_after files (Move from old to new object) top).leads (way ++ new ∷ rest) ≡ (view_in files object).leads rest
+    → (view_after files (Move from old to new object) top).leads (way ++ new ∷ rest)
+    ≡ (view_in files object).leads rest
 
 -- so a path through the new name leads where the one through the old name led.
 abbrev pub NewLeadsAsOld : Type 0
@@ -170,29 +196,36 @@ OldLeadsNowhere =
     → CanMove files.tree from old to new object
     → (path : List (List ℕ)) → goes_through (view_in files top) to new path ≡ false
     → (view_after files (Move from old to new object) top).leads path
-    ≡ (if goes_through (view_in files top) from old path then None else (view_in files top).leads path)
+    ≡ (if goes_through (view_in files top) from old path then None else
+    (view_in files top).leads path)
 
 -- Bytes, attributes and marks move no path, and change the one inode.
 abbrev pub BytesChangeOneInode : Type 0
 BytesChangeOneInode =
     (files : FileTree ℕ) (top file : ℕ) (bytes : List ℕ)
-    → ((path : List (List ℕ)) → (view_after files (SetBytes file bytes) top).leads path ≡ (view_in files top).leads path)
+    → ((path : List (List ℕ))
+    → (view_after files (SetBytes file bytes) top).leads path ≡ (view_in files top).leads path)
     × ((inode : ℕ) → (view_after files (SetBytes file bytes) top).node inode
-    ≡ (if nat_eq inode file then node_with_bytes bytes ((view_in files top).node file) else (view_in files top).node inode))
+    ≡ (if nat_eq inode file then node_with_bytes bytes ((view_in files top).node file) else
+    (view_in files top).node inode))
 
 abbrev pub AttrChangesOneInode : Type 0
 AttrChangesOneInode =
     (files : FileTree ℕ) (top object : ℕ) (attr : Attr)
-    → ((path : List (List ℕ)) → (view_after files (SetAttr object attr) top).leads path ≡ (view_in files top).leads path)
+    → ((path : List (List ℕ))
+    → (view_after files (SetAttr object attr) top).leads path ≡ (view_in files top).leads path)
     × ((inode : ℕ) → (view_after files (SetAttr object attr) top).node inode
-    ≡ (if nat_eq inode object then node_with_attr attr ((view_in files top).node object) else (view_in files top).node inode))
+    ≡ (if nat_eq inode object then node_with_attr attr ((view_in files top).node object) else
+    (view_in files top).node inode))
 
 abbrev pub MarkChangesOneInode : Type 0
 MarkChangesOneInode =
     (files : FileTree ℕ) (top directory : ℕ) (opaque : Bool)
-    → ((path : List (List ℕ)) → (view_after files (SetMark directory opaque) top).leads path ≡ (view_in files top).leads path)
+    → ((path : List (List ℕ))
+    → (view_after files (SetMark directory opaque) top).leads path ≡ (view_in files top).leads path)
     × ((inode : ℕ) → (view_after files (SetMark directory opaque) top).node inode
-    ≡ (if nat_eq inode directory then node_with_mark opaque ((view_in files top).node directory) else (view_in files top).node inode))
+    ≡ (if nat_eq inode directory then node_with_mark opaque
+    ((view_in files top).node directory) else (view_in files top).node inode))
 
 -- the inodes that were there and get other names, bytes, attributes or mark
 abbrev pub old_inodes_changed : Change ℕ → List ℕ
@@ -215,7 +248,8 @@ abbrev pub ElsewhereKeepsView : Type 0
 ElsewhereKeepsView =
     (files : FileTree ℕ) (change : Change ℕ) (top : ℕ)
     → IsTree files.tree → IsDirectory files.tree top → MakesWithNewNumber files.tree change
-    → ((way : List (List ℕ)) (inode : ℕ) → (view_in files top).leads way ≡ Some inode → is_among nat_eq inode (old_inodes_changed change) ≡ false)
+    → ((way : List (List ℕ)) (inode : ℕ) → (view_in files top).leads way ≡ Some inode
+    → is_among nat_eq inode (old_inodes_changed change) ≡ false)
     → (path : List (List ℕ))
     → ((view_after files change top).leads path ≡ (view_in files top).leads path)
     × IsAlike (node_led (view_in files top) path) (node_led (view_after files change top) path)
@@ -234,4 +268,5 @@ AllLeadAlike (view ∷ views) (other ∷ others) = LeadAlike view other × AllLe
 -- They show the same object of the same layer at every path.
 abbrev pub ShownByViews : Type 0
 ShownByViews =
-    (views others : List (View ℕ)) → AllLeadAlike views others → (path : List (List ℕ)) → shown others path ≡ shown views path
+    (views others : List (View ℕ)) → AllLeadAlike views others → (path : List (List ℕ))
+    → shown others path ≡ shown views path
