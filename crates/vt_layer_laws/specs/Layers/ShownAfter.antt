@@ -1,5 +1,4 @@
--- What layers show by the fronts of a path alone, and so what a change of the upper layer may change in what is
--- shown.
+-- What layers show at a path, by what each has at its fronts, and so what a change of the upper layer changes in that.
 use Rattle.std.specs.Prelude.{Bool, List, None, Option, Some, [], false, is_some, nat_eq, not, true, ℕ, ⊤, ◌||◌, ◌∷◌, ◌≡◌}
 use Rattle.std.specs.List.{list_any}
 use Rattle.vt_spec.specs.declared.attributes.Kind.TheVariants.{White}

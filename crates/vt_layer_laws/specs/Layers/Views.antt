@@ -1,6 +1,5 @@
 -- What each change of a plain tree is on the view of a layer in it (`Machine/Views.antt`): which paths lead elsewhere
--- than they
--- led, and which inodes are other than they were. What layers show at a path is a function of their views alone.
+-- than they led, and which inodes are other than they were. What layers show is a function of their views alone.
 use Rattle.std.specs.Prelude.{Bool, List, None, Some, [], false, if◌then◌else◌, nat_eq, not, true, ℕ, ⊤, ◌&&◌, ◌++◌, ◌∷◌, ◌≡◌, ◌≢◌}
 use Rattle.std.specs.List.{list_any}
 use Rattle.std.specs.Str.{bytes_eq}
@@ -25,9 +24,8 @@ view_after files change top = view_in (changed nat_eq files change) top
 -- the path is that of an entry: its last word is the name, and the words before it lead to the directory
 abbrev pub names_entry : View ℕ → ℕ → List ℕ → List (List ℕ) → Bool
 names_entry view directory name path =
-    not (is_empty_list path) &&
-    (same_option nat_eq (view.leads (front_of path)) (Some directory) && bytes_eq
-    (last_or [] path) name)
+    not (is_empty_list path)
+    && (same_option nat_eq (view.leads (front_of path)) (Some directory) && bytes_eq (last_or [] path) name)
 
 -- some front of the path, or the path itself, is that of an entry
 abbrev pub goes_through : View ℕ → ℕ → List ℕ → List (List ℕ) → Bool
@@ -47,8 +45,8 @@ pub record TakesName (tree : Tree ℕ) (directory : ℕ) (name : List ℕ) : Typ
   pub bare : (replaced : ℕ) → entry_at tree directory name ≡ Some replaced
       → entries_in (tree.node replaced) ≡ []
 
--- A new object without names in it under such a name: the path to the name leads to it, and every other path where it
--- led.
+-- A new object without names in it under such a name: the path to the name leads to it, and every other path
+-- where it led.
 abbrev pub MakeAddsPath : Type 0
 MakeAddsPath =
     (files : FileTree ℕ) (top directory number : ℕ) (name : List ℕ) (node : Node ℕ)
@@ -56,8 +54,8 @@ MakeAddsPath =
     → entries_of node.content ≡ []
     → (path : List (List ℕ))
     → (view_after files (Make directory name number node) top).leads path
-    ≡ (if names_entry (view_in files top) directory name path then Some number else
-    (view_in files top).leads path)
+    ≡ (if names_entry (view_in files top) directory name path then Some number
+    else (view_in files top).leads path)
 
 -- The new inode is as it was asked for, and all others are as they were but for names.
 abbrev pub MakeAddsInode : Type 0
@@ -77,8 +75,8 @@ MakeIsSeen =
     → TakesName files.tree directory name → files.tree.node number ≡ None
     → entries_of node.content ≡ []
     → (path : List (List ℕ))
-    → IsAlike (if names_entry (view_in files top) directory name path then Some node else node_led
-    (view_in files top) path)
+    → IsAlike (if names_entry (view_in files top) directory name path then Some node
+    else node_led (view_in files top) path)
     (node_led (view_after files (Make directory name number node) top) path)
 
 -- A new object in the place of what has names in it, but none that lead back to the directory: what lay under that is
@@ -94,8 +92,8 @@ MakeEndsPaths =
     → (path : List (List ℕ))
     → (view_after files (Make directory name number node) top).leads path
     ≡ (if names_entry (view_in files top) directory name path then Some number
-    else if goes_through (view_in files top) directory name path then None else
-    (view_in files top).leads path)
+    else if goes_through (view_in files top) directory name path then None
+    else (view_in files top).leads path)
 
 -- A further name of an object that is no directory.
 abbrev pub AddNameAddsPath : Type 0
@@ -104,17 +102,16 @@ AddNameAddsPath =
     → TakesName files.tree directory name → is_directory_node (files.tree.node object) ≡ false
     → (path : List (List ℕ))
     → (view_after files (AddName directory name object) top).leads path
-    ≡ (if names_entry (view_in files top) directory name path then Some object else
-    (view_in files top).leads path)
+    ≡ (if names_entry (view_in files top) directory name path then Some object
+    else (view_in files top).leads path)
 
 abbrev pub AddNameIsSeen : Type 0
 AddNameIsSeen =
     (files : FileTree ℕ) (top directory object : ℕ) (name : List ℕ)
     → TakesName files.tree directory name → is_directory_node (files.tree.node object) ≡ false
     → (path : List (List ℕ))
-    → IsAlike (if names_entry
-    (view_in files top) directory name path then files.tree.node object else node_led
-    (view_in files top) path)
+    → IsAlike (if names_entry (view_in files top) directory name path then files.tree.node object
+    else node_led (view_in files top) path)
     (node_led (view_after files (AddName directory name object) top) path)
 
 -- A name that is taken from an object without names in it.
@@ -124,16 +121,16 @@ RemoveTakesPath =
     → entry_at files.tree directory name ≡ Some object → entries_in (files.tree.node object) ≡ []
     → (path : List (List ℕ))
     → (view_after files (Remove directory name object) top).leads path
-    ≡ (if names_entry (view_in files top) directory name path then None else
-    (view_in files top).leads path)
+    ≡ (if names_entry (view_in files top) directory name path then None
+    else (view_in files top).leads path)
 
 abbrev pub RemoveIsSeen : Type 0
 RemoveIsSeen =
     (files : FileTree ℕ) (top directory object : ℕ) (name : List ℕ)
     → entry_at files.tree directory name ≡ Some object → entries_in (files.tree.node object) ≡ []
     → (path : List (List ℕ))
-    → IsAlike (if names_entry (view_in files top) directory name path then None else node_led
-    (view_in files top) path)
+    → IsAlike (if names_entry (view_in files top) directory name path then None
+    else node_led (view_in files top) path)
     (node_led (view_after files (Remove directory name object) top) path)
 
 -- A name that is taken, whatever it led to: what lay under that is gone too.
@@ -141,8 +138,8 @@ abbrev pub RemoveEndsPaths : Type 0
 RemoveEndsPaths =
     (files : FileTree ℕ) (top directory object : ℕ) (name : List ℕ) (path : List (List ℕ))
     → (view_after files (Remove directory name object) top).leads path
-    ≡ (if goes_through (view_in files top) directory name path then None else
-    (view_in files top).leads path)
+    ≡ (if goes_through (view_in files top) directory name path then None
+    else (view_in files top).leads path)
 
 -- changes that give, take or move a name and make nothing
 abbrev pub changes_names_alone : Change ℕ → Bool
@@ -160,8 +157,7 @@ NamesLeaveInodes =
     → IsAlike ((view_in files top).node inode) ((view_after files change top).node inode)
 
 -- A move: the object has the old name, the new name is of a directory that does not lie under the object, and what
--- had the new
--- name has no names in it.
+-- had the new name has no names in it.
 pub record CanMove (tree : Tree ℕ) (from : ℕ) (old : List ℕ) (to : ℕ) (new : List ℕ)
     (object : ℕ) : Type 0 where
   pub named : entry_at tree from old ≡ Some object
@@ -196,8 +192,8 @@ OldLeadsNowhere =
     → CanMove files.tree from old to new object
     → (path : List (List ℕ)) → goes_through (view_in files top) to new path ≡ false
     → (view_after files (Move from old to new object) top).leads path
-    ≡ (if goes_through (view_in files top) from old path then None else
-    (view_in files top).leads path)
+    ≡ (if goes_through (view_in files top) from old path then None
+    else (view_in files top).leads path)
 
 -- Bytes, attributes and marks move no path, and change the one inode.
 abbrev pub BytesChangeOneInode : Type 0
@@ -206,8 +202,8 @@ BytesChangeOneInode =
     → ((path : List (List ℕ))
     → (view_after files (SetBytes file bytes) top).leads path ≡ (view_in files top).leads path)
     × ((inode : ℕ) → (view_after files (SetBytes file bytes) top).node inode
-    ≡ (if nat_eq inode file then node_with_bytes bytes ((view_in files top).node file) else
-    (view_in files top).node inode))
+    ≡ (if nat_eq inode file then node_with_bytes bytes ((view_in files top).node file)
+    else (view_in files top).node inode))
 
 abbrev pub AttrChangesOneInode : Type 0
 AttrChangesOneInode =
@@ -215,8 +211,8 @@ AttrChangesOneInode =
     → ((path : List (List ℕ))
     → (view_after files (SetAttr object attr) top).leads path ≡ (view_in files top).leads path)
     × ((inode : ℕ) → (view_after files (SetAttr object attr) top).node inode
-    ≡ (if nat_eq inode object then node_with_attr attr ((view_in files top).node object) else
-    (view_in files top).node inode))
+    ≡ (if nat_eq inode object then node_with_attr attr ((view_in files top).node object)
+    else (view_in files top).node inode))
 
 abbrev pub MarkChangesOneInode : Type 0
 MarkChangesOneInode =
@@ -224,8 +220,8 @@ MarkChangesOneInode =
     → ((path : List (List ℕ))
     → (view_after files (SetMark directory opaque) top).leads path ≡ (view_in files top).leads path)
     × ((inode : ℕ) → (view_after files (SetMark directory opaque) top).node inode
-    ≡ (if nat_eq inode directory then node_with_mark opaque
-    ((view_in files top).node directory) else (view_in files top).node inode))
+    ≡ (if nat_eq inode directory then node_with_mark opaque ((view_in files top).node directory)
+    else (view_in files top).node inode))
 
 -- the inodes that were there and get other names, bytes, attributes or mark
 abbrev pub old_inodes_changed : Change ℕ → List ℕ
