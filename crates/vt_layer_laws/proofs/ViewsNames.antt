@@ -100,6 +100,18 @@ alike_after files number change keeps inode =
       mark = keeps.mark (files.tree.node number);
     }
 
+-- a new inode alone, without names in it, leaves all entries
+pub inode_entries : (files : FileTree ℕ) (number : ℕ) (node : Node ℕ) → files.tree.node number ≡ None
+    → entries_of node.content ≡ [] → (other : ℕ)
+    → entries_in ((with_inode nat_eq files number node).tree.node other) ≡ entries_in (files.tree.node other)
+inode_entries files number node vacant bare other =
+    ⊎_elim
+    (λ t. ap (λ n. entries_in ((with_inode nat_eq files number node).tree.node n)) t.1
+    ∙ ap entries_in (node_set files.tree number (Some node)) ∙ bare
+    ∙ sym (ap entries_in vacant) ∙ ap (λ n. entries_in (files.tree.node n)) (sym t.1))
+    (λ t. ap entries_in (node_other files.tree number (Some node) other t.1))
+    (eqb_tells other number)
+
 -- A new inode, and its name
 module _ (files : FileTree ℕ) (directory number : ℕ) (name : List ℕ) (node : Node ℕ)
     (is : IsDirectory files.tree directory) (vacant : files.tree.node number ≡ None) where
@@ -123,15 +135,6 @@ module _ (files : FileTree ℕ) (directory number : ℕ) (name : List ℕ) (node
       (alike_after grown directory (node_with_entry name number) (entry_keeps name number) inode)
 
   module _ (bare : entries_of node.content ≡ []) where
-    grown_entries : (other : ℕ) → entries_in (grown.tree.node other) ≡ entries_in (files.tree.node other)
-    grown_entries other =
-        ⊎_elim
-        (λ t. ap (λ n. entries_in (grown.tree.node n)) t.1 ∙ ap entries_in (node_set files.tree number (Some node))
-        ∙ bare
-        ∙ sym (ap entries_in vacant) ∙ ap (λ n. entries_in (files.tree.node n)) (sym t.1))
-        (λ t. ap entries_in (node_other files.tree number (Some node) other t.1))
-        (eqb_tells other number)
-
     made_told : (other : ℕ) (word : List ℕ)
         → entry_at made.tree other word
         ≡ cond (is_entry directory name other word) (Some number) (entry_at files.tree other word)
@@ -140,7 +143,7 @@ module _ (files : FileTree ℕ) (directory number : ℕ) (name : List ℕ) (node
         (ap is_directory_node (node_other files.tree number (Some node) directory (λ same. number_differs (sym same)))
         ∙ is) other word
         ∙ ap (λ entries. cond (is_entry directory name other word) (Some number) (entry_named word entries))
-        (grown_entries other)
+        (inode_entries files number node vacant bare other)
 
 pub make_adds_path : MakeAddsPath
 make_adds_path files top directory number name node is vacant bare path =

@@ -1,7 +1,7 @@
 -- Changes that move no path of a layer: bytes, attributes and marks, and changes elsewhere in its tree.
 use Rattle.std.proofs.Common.{◌≡◌, refl, sym, ap, subst, ◌∙◌, true≢false, ne_eqb, ℕ, nat_eq, Bool, true, false, ◌||◌, List, [], ◌∷◌, Option, Some, None, is_some, option_and_then}
 use Rattle.vt_spec.specs.declared.attributes.Attr.{Attr}
-use Rattle.vt_spec.specs.Machine.Changes.{Change, changed, changed_node, content_with_mark, node_with_attr, node_with_mark}
+use Rattle.vt_spec.specs.Machine.Changes.{Change, changed, changed_node, content_with_mark, node_with_attr, node_with_mark, with_inode}
 use Rattle.vt_spec.specs.Machine.Changes.Change.{AddName, CopyUp, Make, Move, Remove, SetAttr, SetBytes, SetMark}
 use Rattle.vt_spec.specs.Machine.FileTree.{FileTree}
 use Rattle.vt_spec.specs.Machine.Lists.{is_among, then_some}
@@ -15,7 +15,7 @@ use Rattle.vt_layer_laws.specs.Layers.Views.{AttrChangesOneInode, BytesChangeOne
 use Rattle.vt_layer_laws.proofs.LowersKept.{others_stay}
 use Rattle.vt_layer_laws.proofs.ShownDirectories.{led_is_there}
 use Rattle.vt_layer_laws.proofs.ViewsEntries.{entries_stay}
-use Rattle.vt_layer_laws.proofs.ViewsNames.{alike_kept, alike_same}
+use Rattle.vt_layer_laws.proofs.ViewsNames.{alike_kept, alike_same, inode_entries}
 
 -- where entries are as they were at all that a directory leads to, so are paths
 pub led_where : (before after : Tree ℕ) (path : List (List ℕ)) (start : ℕ)
@@ -43,6 +43,14 @@ stays_led : (files : FileTree ℕ) (number : ℕ) (change : Option (Node ℕ) �
 stays_led files number change keeps top path =
     led_where files.tree (changed_node nat_eq files number change).tree path top
     (λ way inode l word. ap (entry_named word) (entries_stay files number change keeps inode))
+
+-- so does a new inode without names in it, before it has a name
+pub inode_moves_no_path : (files : FileTree ℕ) (number : ℕ) (node : Node ℕ) → files.tree.node number ≡ None
+    → entries_of node.content ≡ [] → (top : ℕ) (path : List (List ℕ))
+    → led (with_inode nat_eq files number node).tree top path ≡ led files.tree top path
+inode_moves_no_path files number node vacant bare top path =
+    led_where files.tree (with_inode nat_eq files number node).tree path top
+    (λ way inode l word. ap (entry_named word) (inode_entries files number node vacant bare inode))
 
 attr_entries : (attr : Attr) (o : Option (Node ℕ)) → entries_in (node_with_attr attr o) ≡ entries_in o
 attr_entries attr None = refl
