@@ -31,3 +31,11 @@ pub mod UpperFit
 pub mod UpperLine
 pub mod UpperShown
 pub mod UpperWorld
+pub mod ViewsAfter
+pub mod ViewsBelow
+pub mod ViewsEntries
+pub mod ViewsFronts
+pub mod ViewsMoves
+pub mod ViewsNames
+pub mod ViewsStay
+pub mod ViewsWalks

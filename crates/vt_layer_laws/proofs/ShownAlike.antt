@@ -25,7 +25,7 @@ hides_alike None (Some there) is = absurd (true≢false is.there)
 hides_alike (Some here) None is = absurd (true≢false (sym is.there))
 hides_alike (Some here) (Some there) is = λ i. not (is_directory (is.kind i)) || is.mark i
 
-white_alike : (one other : Option (Node ℕ)) → IsAlike one other → is_kind_in White other ≡ is_kind_in White one
+pub white_alike : (one other : Option (Node ℕ)) → IsAlike one other → is_kind_in White other ≡ is_kind_in White one
 white_alike None None is = refl
 white_alike None (Some there) is = absurd (true≢false is.there)
 white_alike (Some here) None is = absurd (true≢false (sym is.there))

@@ -4,3 +4,5 @@ pub mod Untouched
 pub mod Upper
 pub mod ChangesUpper
 pub mod Mounted
+pub mod Views
+pub mod ShownAfter

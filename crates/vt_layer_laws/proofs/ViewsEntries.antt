@@ -1,0 +1,103 @@
+-- The entries of a tree after a change of one inode.
+use Rattle.std.proofs.Common.{◌≡◌, refl, sym, ap, ◌∙◌, true≢false, ℕ, nat_eq, Bool, true, false, not, cond, ◌&&◌, List, ⊎_elim, Option, Some, None}
+use Rattle.std.proofs.lemmas.Bool.Decides.{eqb_tells}
+use Rattle.std.specs.Cmp.Lexicographic.{bytes_decides, texts_ties}
+use Rattle.std.specs.Str.{bytes_eq}
+use Rattle.vt_spec.specs.Machine.Changes.{changed_node, node_with_parent, node_without_entry, with_name, without_entry, without_name, without_parent}
+use Rattle.vt_spec.specs.Machine.FileTree.{FileTree}
+use Rattle.vt_spec.specs.Tree.{Content, Node, entries_in, entries_of, entry_named, node_with_entry, with_entries}
+use Rattle.vt_spec.specs.Tree.Content.{Directory, Regular, Symlink, Whiteout}
+use Rattle.vt_spec.specs.TreeLaws.{IsDirectory, entry_at}
+use Rattle.vt_spec.proofs.Nodes.{entries-node_with_entry, entry_named-with_entry, entry_named-without_entry, part_kept}
+use Rattle.vt_layer_laws.proofs.CopyingNames.{parent_entries}
+
+-- the one entry
+abbrev pub is_entry : ℕ → List ℕ → ℕ → List ℕ → Bool
+is_entry directory name other word = nat_eq other directory && bytes_eq word name
+
+pub is_that_entry : (directory : ℕ) (name : List ℕ) (other : ℕ) (word : List ℕ)
+    → is_entry directory name other word ≡ true → (other ≡ directory) × (word ≡ name)
+is_that_entry directory name other word e =
+    ⊎_elim
+    (λ t. (t.1, (bytes_decides word name).0 (sym (ap (λ b. b && bytes_eq word name) t.0) ∙ e)))
+    (λ t. absurd (true≢false (sym e ∙ ap (λ b. b && bytes_eq word name) t.0)))
+    (eqb_tells other directory)
+
+-- without an entry its directory has the others
+without_entries : (name : List ℕ) (o : Option (Node ℕ))
+    → entries_in (node_without_entry name o) ≡ without_entry name (entries_in o)
+without_entries name None = refl
+without_entries name (Some node) = by node.content
+  where
+    by : (content : Content ℕ)
+        → entries_of (with_entries content (without_entry name (entries_of content)))
+        ≡ without_entry name (entries_of content)
+    by (Directory parent entries opaque) = refl
+    by (Regular bytes) = refl
+    by (Symlink text) = refl
+    by Whiteout = refl
+
+module _ (files : FileTree ℕ) (directory : ℕ) (name : List ℕ) where
+  -- a change of one inode that gives one of its names another meaning
+  one_entry : (change : Option (Node ℕ) → Option (Node ℕ)) (to : Option ℕ)
+      → ((word : List ℕ) → entry_named word (entries_in (change (files.tree.node directory)))
+      ≡ cond (bytes_eq word name) to (entry_at files.tree directory word))
+      → (other : ℕ) (word : List ℕ)
+      → entry_at (changed_node nat_eq files directory change).tree other word
+      ≡ cond (is_entry directory name other word) to (entry_at files.tree other word)
+  one_entry change to told other word =
+      ⊎_elim
+      (λ t. ap (λ b. entry_named word
+      (entries_in (cond b (change (files.tree.node directory)) (files.tree.node other)))) t.0
+      ∙ told word
+      ∙ ap (λ d. cond (bytes_eq word name) to (entry_at files.tree d word)) (sym t.1)
+      ∙ ap (λ b. cond (b && bytes_eq word name) to (entry_at files.tree other word)) (sym t.0))
+      (λ t. ap (λ b. entry_named word
+      (entries_in (cond b (change (files.tree.node directory)) (files.tree.node other)))) t.0
+      ∙ ap (λ b. cond (b && bytes_eq word name) to (entry_at files.tree other word)) (sym t.0))
+      (eqb_tells other directory)
+
+  pub given : (number : ℕ) → IsDirectory files.tree directory
+      → (other : ℕ) (word : List ℕ)
+      → entry_at (with_name nat_eq files directory name number).tree other word
+      ≡ cond (is_entry directory name other word) (Some number) (entry_at files.tree other word)
+  given number is = one_entry (node_with_entry name number) (Some number) told
+    where
+      told : (word : List ℕ)
+          → entry_named word (entries_in (node_with_entry name number (files.tree.node directory)))
+          ≡ cond (bytes_eq word name) (Some number) (entry_at files.tree directory word)
+      told word =
+          ap (entry_named word) (entries-node_with_entry name number (files.tree.node directory) is)
+          ∙ entry_named-with_entry word name number (entries_in (files.tree.node directory))
+          ∙ ap (λ b. cond b (Some number) (entry_at files.tree directory word)) (sym (texts_ties word name))
+
+  pub taken : (other : ℕ) (word : List ℕ)
+      → entry_at (without_name nat_eq files directory name).tree other word
+      ≡ cond (is_entry directory name other word) None (entry_at files.tree other word)
+  taken = one_entry (node_without_entry name) None told
+    where
+      turned : (b : Bool) (o : Option ℕ) → cond (not b) o None ≡ cond b None o
+      turned true o = refl
+      turned false o = refl
+
+      told : (word : List ℕ)
+          → entry_named word (entries_in (node_without_entry name (files.tree.node directory)))
+          ≡ cond (bytes_eq word name) None (entry_at files.tree directory word)
+      told word =
+          ap (entry_named word) (without_entries name (files.tree.node directory))
+          ∙ entry_named-without_entry word name (entries_in (files.tree.node directory))
+          ∙ turned (bytes_eq word name) (entry_at files.tree directory word)
+
+-- a change of one inode that keeps its entries keeps all
+pub entries_stay : (files : FileTree ℕ) (number : ℕ) (change : Option (Node ℕ) → Option (Node ℕ))
+    → ((o : Option (Node ℕ)) → entries_in (change o) ≡ entries_in o)
+    → (other : ℕ) → entries_in ((changed_node nat_eq files number change).tree.node other)
+    ≡ entries_in (files.tree.node other)
+entries_stay files number change same other =
+    part_kept entries_in files.tree number (change (files.tree.node number)) (same (files.tree.node number)) other
+
+pub parents_aside : (files : FileTree ℕ) (object : Option ℕ) (other : ℕ)
+    → entries_in ((without_parent nat_eq files object).tree.node other) ≡ entries_in (files.tree.node other)
+parents_aside files None other = refl
+parents_aside files (Some object) other =
+    entries_stay files object (node_with_parent object) (parent_entries object) other
