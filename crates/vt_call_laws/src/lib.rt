@@ -1,0 +1,6 @@
+//! What calls may change: tasks, inodes and filesystems, each by its own calls.
+//!
+//! Each public function is a theorem of the written policy, and does nothing.
+#![tactic(auto)]
+
+pub mod given;
