@@ -1,1 +1,5 @@
 pub mod GivenPermits
+pub mod TasksFound
+pub mod TasksLaws
+pub mod TasksLeft
+pub mod TasksOwn

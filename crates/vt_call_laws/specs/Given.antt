@@ -1,8 +1,8 @@
 -- Which call each permit is given to, and what it holds of what the call asked.
-use Rattle.std.specs.Prelude.{Bool, List, None, Ok, Option, Some, [], false, nat_eq, true, ℕ, ⊤, ◌∷◌, ◌≡◌, ◌⊎◌}
+use Rattle.std.specs.Prelude.{Bool, List, Ok, Option, [], false, nat_eq, true, ℕ, ⊤, ◌∷◌, ◌≡◌, ◌⊎◌}
 use Rattle.vt_spec.specs.declared.attributes.Attr.{Attr}
 use Rattle.vt_spec.specs.Errors.{Rules}
-use Rattle.vt_spec.specs.Machine.Calls.{Access, Call, CapabilityWord, Creation, ForkWords, OverlayWords, TypeWord}
+use Rattle.vt_spec.specs.Machine.Calls.{Call, CapabilityWord, Creation, ForkWords, OverlayWords}
 use Rattle.vt_spec.specs.Machine.Calls.Call.{Bind, Chdir, Chmod, Chown, Chroot, Close, Drop, Exec, Exit, Fork, Lazy, LinkTo, ListMounts, Ls, Lstat, MakeWhiteout, Mkdir, MountOverlay, MountPlain, MoveMount, Opaque, OpenFile, PivotRoot, Pread, Pwrite, Read, Readlink, Remount, Rename, Rmdir, SetType, Setns, Stat, SymlinkAt, Umask, Umount, Unlink, Unshare, Write}
 use Rattle.vt_spec.specs.Machine.Calls.Creation.{Exclusive, NoCreation, OrCreate}
 use Rattle.vt_spec.specs.Machine.Changes.Change.{AddName, CopyUp, Make, Move, Remove, SetAttr, SetBytes, SetMark}
@@ -17,7 +17,6 @@ use Rattle.vt_spec.specs.Machine.Permits.Permit.{Allowed, ToBind, ToChange, ToCl
 use Rattle.vt_spec.specs.Machine.Rules.Attributes.{attr_at}
 use Rattle.vt_spec.specs.Machine.Rules.Tasks.{fork_rules}
 use Rattle.vt_spec.specs.Machine.World.{Task, TaskName, World}
-use Rattle.vt_spec.specs.Rights.{Credentials}
 
 -- no rule of a table fails
 abbrev pub NoneFails : Rules → Type 0

@@ -4,3 +4,4 @@
 #![tactic(auto)]
 
 pub mod given;
+pub mod tasks;
