@@ -1,4 +1,8 @@
 pub mod GivenPermits
+pub mod InodesLeft
+pub mod InodesOwn
+pub mod InodesParts
+pub mod InodesSettled
 pub mod TasksFound
 pub mod TasksLaws
 pub mod TasksLeft

@@ -4,4 +4,5 @@
 #![tactic(auto)]
 
 pub mod given;
+pub mod inodes;
 pub mod tasks;
