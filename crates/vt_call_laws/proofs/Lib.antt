@@ -1,6 +1,7 @@
 pub mod GivenPermits
 pub mod InodesLeft
 pub mod InodesOwn
+pub mod InodesPartLaws
 pub mod InodesParts
 pub mod InodesSettled
 pub mod TasksFound
