@@ -33,7 +33,7 @@ module _ {A : Type 0} (part : Node ℕ → A) where
   abbrev pub Stays : Option (Node ℕ) → Option (Node ℕ) → Type 0
   Stays = StaysIfThere part
 
-  itself : (o : Option (Node ℕ)) → Stays o o
+  pub itself : (o : Option (Node ℕ)) → Stays o o
   itself None = tt
   itself (Some node) = refl
 
@@ -90,7 +90,7 @@ module _ {A : Type 0} (part : Node ℕ → A) where
     pub then_kept : (a b c : FileTree ℕ) → KeptIn a b → KeptIn b c → KeptIn a c
     then_kept a b c = next (a.tree.node other) (b.tree.node other) (c.tree.node other)
 
-    kept_at : (files : FileTree ℕ) (number : ℕ) (new : Option (Node ℕ) → Option (Node ℕ)) → KeptBy new
+    pub kept_at : (files : FileTree ℕ) (number : ℕ) (new : Option (Node ℕ) → Option (Node ℕ)) → KeptBy new
         → KeptIn files (changed_node nat_eq files number new)
     kept_at files number new kept = at_node files number new (λ same. kept (files.tree.node number))
 

@@ -1,4 +1,5 @@
 pub mod GivenPermits
+pub mod InodesEntries
 pub mod InodesLeft
 pub mod InodesOwn
 pub mod InodesPartLaws

@@ -171,3 +171,31 @@ KindsStay = OnlyTheseChange (λ call. false) (λ node. kind_of node.content)
 
 abbrev pub LinkTextsStay : Type 0
 LinkTextsStay = OnlyTheseChange (λ call. false) (λ node. link_text (Some node))
+
+-- Entries
+
+-- the entries that a change names, each by its directory and its name
+abbrev pub entries_named_by : Change ℕ → List (ℕ × List ℕ)
+entries_named_by (Make directory name number node) = (directory, name) ∷ []
+entries_named_by (AddName directory name object) = (directory, name) ∷ []
+entries_named_by (Remove directory name object) = (directory, name) ∷ []
+entries_named_by (Move from old to new object) = (from, old) ∷ (to, new) ∷ []
+entries_named_by change = []
+
+abbrev pub same_entry : ℕ × List ℕ → ℕ × List ℕ → Bool
+same_entry one other = nat_eq one.0 other.0 && bytes_eq one.1 other.1
+
+abbrev pub is_own_entry : Fresh ℕ → World ℕ → Permit ℕ → ℕ → ℕ → List ℕ → Bool
+is_own_entry fresh world permit filesystem directory entry =
+    holds_of (λ made.
+    nat_eq filesystem (mount_at nat_eq world made.0).filesystem
+    && is_among same_entry (directory, entry) (entries_named_by made.1)) (change_of fresh world permit)
+
+-- in a directory that stays, a call changes no entry but those that its permit names
+abbrev pub OtherEntriesStay : Type 0
+OtherEntriesStay =
+    (entry : List ℕ)
+    → OfGrantedCalls (λ fresh world permit left filesystem directory.
+    is_own_entry fresh world permit filesystem directory entry ≡ false → IsNotHanded fresh directory
+    → StaysIfThere (λ node. entry_named entry (entries_of node.content)) (inode_in world filesystem directory)
+    (inode_in left filesystem directory))

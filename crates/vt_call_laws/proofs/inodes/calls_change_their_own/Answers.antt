@@ -1,5 +1,9 @@
+use Rattle.vt_call_laws.proofs.InodesEntries.{other_entries_stay}
 use Rattle.vt_call_laws.proofs.InodesOwn.{calls_change_their_own}
 use Rattle.vt_call_laws.proofs.inodes.calls_change_their_own.Goals as goal
 
-pub returns : goal.returns
-returns c = record { own = calls_change_their_own }
+pub returns-clause-own : goal.returns-clause-own
+returns-clause-own c = calls_change_their_own
+
+pub returns-clause-entries : goal.returns-clause-entries
+returns-clause-entries c = other_entries_stay
