@@ -1,5 +1,5 @@
 -- In a directory that stays, a call changes no entry but those that its permit names.
-use Rattle.std.proofs.Common.{◌≡◌, refl, sym, ap, subst, ◌∙◌, true≢false, ℕ, nat_eq, eq-eqb, Bool, true, false, cond, not, ◌&&◌, List, [], ◌∷◌, Option, Some, None, Result, Ok}
+use Rattle.std.proofs.Common.{◌≡◌, refl, sym, ap, ◌∙◌, true≢false, ℕ, nat_eq, eq-eqb, Bool, true, false, cond, not, ◌&&◌, List, [], ◌∷◌, Option, Some, None}
 use Rattle.std.specs.Cmp.Lexicographic.{bytes_decides}
 use Rattle.std.specs.Ordering.{eq_by_cmp}
 use Rattle.std.specs.Str.{bytes_eq}
@@ -12,15 +12,15 @@ use Rattle.vt_call_laws.specs.Given.{IsFor}
 use Rattle.vt_call_laws.specs.Inodes.{HasNoOverlays, IsNotHanded, OtherEntriesStay, change_of, entries_named_by, inode_in, is_own_entry, mounts_overlay, same_entry}
 use Rattle.vt_spec.specs.declared.attributes.Attr.{Attr}
 use Rattle.vt_spec.specs.Machine.Calls.{Call}
-use Rattle.vt_spec.specs.Machine.Changes.{Change, changed, content_with_mark, content_with_parent, node_with_attr, node_with_mark, node_with_parent, node_without_entry, with_name, without_entry, without_name}
+use Rattle.vt_spec.specs.Machine.Changes.{Change, changed, content_with_mark, content_with_parent, node_with_attr, node_with_mark, node_without_entry, with_name, without_entry, without_name}
 use Rattle.vt_spec.specs.Machine.Changes.Change.{AddName, CopyUp, Make, Move, Remove, SetAttr, SetBytes, SetMark}
 use Rattle.vt_spec.specs.Machine.FileTree.{FileTree}
 use Rattle.vt_spec.specs.Machine.Judge.{judge_in}
 use Rattle.vt_spec.specs.Machine.Lists.{Fresh, evens, holds_of, is_among}
-use Rattle.vt_spec.specs.Machine.Looks.{Looks, looks_of}
+use Rattle.vt_spec.specs.Machine.Looks.{looks_of}
 use Rattle.vt_spec.specs.Machine.Mounts.{Location}
 use Rattle.vt_spec.specs.Machine.Permits.{Permit}
-use Rattle.vt_spec.specs.Machine.Permits.Permit.{ToChange, ToMake, ToMountOverlay, ToMountPlain, ToOpenNew, ToRemoveDirectory, ToRename, ToWritePart}
+use Rattle.vt_spec.specs.Machine.Permits.Permit.{ToChange, ToMake, ToMountOverlay, ToMountPlain, ToOpenNew, ToWritePart}
 use Rattle.vt_spec.specs.Machine.World.{Task, World, files_at, mount_at}
 use Rattle.vt_spec.specs.Tree.{Content, Node, entries_of, entry_named, name_cmp, node_with_bytes, node_with_entry, with_bytes, with_entries, with_entry}
 use Rattle.vt_spec.specs.Tree.Content.{Directory, Regular, Symlink, Whiteout}

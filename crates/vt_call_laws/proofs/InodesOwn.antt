@@ -1,22 +1,22 @@
 -- A granted call changes no inode but those that its permit names.
-use Rattle.std.proofs.Common.{◌≡◌, refl, sym, ap, subst, ◌∙◌, true≢false, inl, inr, ◌⊎◌, ℕ, nat_eq, eqb-true, eq-eqb, Bool, true, false, cond, ◌&&◌, ◌||◌, List, [], ◌∷◌, Option, Some, None, is_some, Result, Ok, Err}
+use Rattle.std.proofs.Common.{◌≡◌, refl, sym, ap, ◌∙◌, true≢false, inl, inr, ◌⊎◌, ℕ, nat_eq, eq-eqb, Bool, true, false, cond, ◌&&◌, ◌||◌, [], ◌∷◌, Option, Some, None}
 use Rattle.std.specs.Prelude.{option_to_list}
 use Rattle.vt_call_laws.proofs.GivenPermits.{permits_are_for_their_calls}
 use Rattle.vt_call_laws.proofs.InodesLeft.{LeftBy, MadeBy, inode_left}
-use Rattle.vt_call_laws.proofs.InodesSettled.{HoldsIn, inode_after_call}
+use Rattle.vt_call_laws.proofs.InodesSettled.{inode_after_call}
 use Rattle.vt_call_laws.specs.Given.{IsFor}
-use Rattle.vt_call_laws.specs.Inodes.{CallsChangeTheirOwn, HasNoOverlays, change_of, inode_in, is_own, mounts_overlay, named_by, own_by, own_of}
+use Rattle.vt_call_laws.specs.Inodes.{CallsChangeTheirOwn, HasNoOverlays, change_of, inode_in, is_own, mounts_overlay, named_by, own_by}
 use Rattle.vt_spec.specs.Machine.Calls.{Call}
-use Rattle.vt_spec.specs.Machine.Changes.{Change, changed, changed_node, with_name, without_name, without_parent}
+use Rattle.vt_spec.specs.Machine.Changes.{Change, changed, with_name, without_name, without_parent}
 use Rattle.vt_spec.specs.Machine.Changes.Change.{AddName, CopyUp, Make, Move, Remove, SetAttr, SetBytes, SetMark}
 use Rattle.vt_spec.specs.Machine.FileTree.{FileTree}
 use Rattle.vt_spec.specs.Machine.Judge.{judge_in}
 use Rattle.vt_spec.specs.Machine.Lists.{Fresh, evens, holds_of, is_among}
-use Rattle.vt_spec.specs.Machine.Looks.{Looks, looks_of}
+use Rattle.vt_spec.specs.Machine.Looks.{looks_of}
 use Rattle.vt_spec.specs.Machine.Mounts.{Location}
 use Rattle.vt_spec.specs.Machine.Permits.{Permit}
-use Rattle.vt_spec.specs.Machine.Permits.Permit.{ToChange, ToMake, ToMountOverlay, ToMountPlain, ToOpenNew, ToRemoveDirectory, ToRename, ToWritePart}
-use Rattle.vt_spec.specs.Machine.World.{Task, World, files_at, filesystem_numbered, mount_at}
+use Rattle.vt_spec.specs.Machine.Permits.Permit.{ToMountOverlay, ToMountPlain}
+use Rattle.vt_spec.specs.Machine.World.{Task, World, files_at, mount_at}
 use Rattle.vt_spec.specs.Tree.{Node, entries_in, entry_named}
 
 pub neither : (a b : Bool) → (a || b) ≡ false → (a ≡ false) × (b ≡ false)
@@ -77,7 +77,6 @@ changed_elsewhere files (SetAttr object attr) other apart =
 changed_elsewhere files (SetMark directory opaque) other apart =
     skip (nat_eq other directory) _ _ (neither (nat_eq other directory) false apart).0
 changed_elsewhere files (CopyUp object) other apart = refl
-
 
 -- an overlay is mounted by its own call
 module _ (fresh : Fresh ℕ) (world : World ℕ) (plain : HasNoOverlays world) (filesystem number : ℕ) where

@@ -1,7 +1,5 @@
 -- What settling and raising leave of inodes: each is as it was, or gone.
-use Rattle.std.proofs.Common.{◌≡◌, refl, sym, ap, subst, ◌∙◌, true≢false, ℕ, nat_eq, eqb-true, eq-eqb, Bool, true, false, not, cond, ◌||◌, List, [], ◌∷◌, ◌++◌, map, filter, find, Option, Some, None, unwrap_or, Result, Ok, Err, ok_or}
-use Rattle.std.specs.List.{list_all, list_any}
-use Rattle.vt_call_laws.specs.Inodes.{inode_in}
+use Rattle.std.proofs.Common.{◌≡◌, refl, sym, ap, subst, ◌∙◌, true≢false, ℕ, nat_eq, eqb-true, Bool, true, false, not, cond, ◌||◌, List, [], ◌∷◌, map, filter, find, Option, Some, None, unwrap_or, Ok, Err, ok_or}
 use Rattle.vt_laws.proofs.CallsJudged.{policy_judges_then_applies}
 use Rattle.vt_laws.proofs.NumbersRaised.{numbers_are_raised_last}
 use Rattle.vt_spec.specs.declared.errors.Rule.TheVariants.{S2}
@@ -14,7 +12,7 @@ use Rattle.vt_spec.specs.Machine.Lists.{Fresh, is_among}
 use Rattle.vt_spec.specs.Machine.Outcomes.{after, denied}
 use Rattle.vt_spec.specs.Machine.Permits.{Permit}
 use Rattle.vt_spec.specs.Machine.Policy.{finished, finished_by, only_looks, policy}
-use Rattle.vt_spec.specs.Machine.Settled.{filesystem_lives, only_used, only_used_by, only_used_of, settled, used_in, without_dead_filesystems, without_dead_in, without_dead_mounts}
+use Rattle.vt_spec.specs.Machine.Settled.{filesystem_lives, only_used, only_used_by, settled, used_in, without_dead_filesystems, without_dead_in, without_dead_mounts}
 use Rattle.vt_spec.specs.Machine.World.{Filesystem, Task, TaskName, World, is_overlay, no_filesystem, task_called}
 use Rattle.vt_spec.specs.Tree.{Node}
 use Rattle.vt_tree_laws.proofs.TreesOfWorlds.{numbered}
