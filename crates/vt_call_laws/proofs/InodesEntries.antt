@@ -178,7 +178,7 @@ module _ (entry : List ℕ) where
           ≡ false
 
       made_kept_by : (made : Option (Location ℕ × Change ℕ)) → NewApartIn made → IsOther made
-          → MadeBy (Stays Led Was) tt filesystem other fresh world plain (itself Led Was) made
+          → MadeBy (Stays Led Was) filesystem other fresh world plain (itself Led Was) made
       made_kept_by None new apart = tt
       made_kept_by (Some made) new apart =
           λ same.
@@ -202,7 +202,7 @@ module _ (entry : List ℕ) where
 
       left_kept : (task : Task ℕ) (call : Call) → mounts_overlay call ≡ false → (permit : Permit ℕ)
           → IsFor (looks_of nat_eq world) task call permit → IsOther (change_of fresh world permit)
-          → LeftBy (Stays Led Was) tt filesystem other fresh world plain (itself Led Was) permit
+          → LeftBy (Stays Led Was) filesystem other fresh world plain (itself Led Was) permit
       left_kept task call no_overlay (ToMountPlain place flags) for apart =
           λ same is. absurd (true≢false (sym (eq-eqb other (evens fresh 1) is) ∙ handed 2))
       left_kept task call no_overlay (ToMountOverlay place overlay flags) for apart =
@@ -212,9 +212,9 @@ module _ (entry : List ℕ) where
 
 pub other_entries_stay : OtherEntriesStay
 other_entries_stay entry fresh world name call task permit filesystem other plain no_overlay is judged apart handed =
-    inode_after_call (Stays (Led entry) was) tt filesystem other fresh world name call (itself (Led entry) was)
+    inode_after_call (Stays (Led entry) was) filesystem other tt fresh world name call (itself (Led entry) was)
     (λ one given is_one judged_one.
-    inode_left (Stays (Led entry) was) tt filesystem other fresh world plain (itself (Led entry) was) one given
+    inode_left (Stays (Led entry) was) filesystem other fresh world plain (itself (Led entry) was) one given
     (left_kept entry other fresh world plain filesystem handed one call no_overlay given
     (permits_are_for_their_calls fresh world one call given judged_one)
     (let same : one ≡ task = cc in

@@ -1,7 +1,6 @@
 -- What each permit leaves of an inode, in worlds without overlays.
 use Rattle.std.proofs.Common.{◌≡◌, refl, sym, ap, subst, ◌∙◌, true≢false, ℕ, nat_eq, eqb-true, eq-eqb, Bool, true, false, cond, List, [], ◌∷◌, ◌++◌, map, find, Option, Some, None, is_some, unwrap_or}
 use Rattle.std.specs.List.{All}
-use Rattle.vt_call_laws.proofs.InodesSettled.{HoldsIn}
 use Rattle.vt_call_laws.specs.Inodes.{HasNoOverlays, change_of}
 use Rattle.vt_spec.specs.Machine.Apply.{apply_unraised}
 use Rattle.vt_spec.specs.Machine.Calls.{TypeWord}
@@ -60,9 +59,9 @@ replaced_files : (world : World ℕ) (replaced : Option (Location ℕ)) (locatio
 replaced_files world None location = refl
 replaced_files world (Some gone) location = taken_files world _ location
 
-module _ (Q : Option (Node ℕ) → Type 0) (gone : Q None) (number inode : ℕ) where
+module _ (Q : Option (Node ℕ) → Type 0) (number inode : ℕ) where
   abbrev Holds : List (Filesystem ℕ) → Type 0
-  Holds = HoldsIn Q gone number inode
+  Holds list = Q ((numbered number list).files.tree.node inode)
 
   abbrev found : Bool → Filesystem ℕ → List (Filesystem ℕ) → Filesystem ℕ
   found b one others =
@@ -93,13 +92,13 @@ module _ (Q : Option (Node ℕ) → Type 0) (gone : Q None) (number inode : ℕ)
       by false e false f h later = subst (λ c. Q ((found c first others).files.tree.node inode)) (sym f) (later h)
 
   -- one filesystem more
-  added_holds : (new : Filesystem ℕ) → (number ≡ new.number → Q (new.files.tree.node inode))
+  added_holds : (new : Filesystem ℕ) → (number ≡ new.number → Q None → Q (new.files.tree.node inode))
       → (list : List (Filesystem ℕ)) → Holds list → Holds (list ++ (new ∷ []))
   added_holds new here [] h = by (nat_eq number new.number) refl
     where
       by : (b : Bool) → nat_eq number new.number ≡ b → Q ((found b new []).files.tree.node inode)
-      by true e = here (eqb-true number new.number e)
-      by false e = gone
+      by true e = here (eqb-true number new.number e) h
+      by false e = h
   added_holds new here (first ∷ rest) h = by (nat_eq number first.number) h (added_holds new here rest)
     where
       by : (b : Bool) → Q ((found b first rest).files.tree.node inode) → (Holds rest → Holds (rest ++ (new ∷ [])))
@@ -192,13 +191,13 @@ module _ (Q : Option (Node ℕ) → Type 0) (gone : Q None) (number inode : ℕ)
     inode_left task (ToMountPlain place flags) here =
         added_holds (new_plain nat_eq (evens fresh 0) (evens fresh 1)) root world.filesystems h
       where
-        root : number ≡ evens fresh 0 → Q ((new_plain nat_eq (evens fresh 0) (evens fresh 1)).files.tree.node inode)
-        root same = by (nat_eq inode (evens fresh 1)) refl
+        root : number ≡ evens fresh 0 → Q None → Q ((new_plain nat_eq (evens fresh 0) (evens fresh 1)).files.tree.node inode)
+        root same none = by (nat_eq inode (evens fresh 1)) refl
           where
             by : (b : Bool) → nat_eq inode (evens fresh 1) ≡ b
                 → Q (cond b (Some (record { attr = root_attr; content = new_directory (evens fresh 1) })) None)
             by true e = here same (eqb-true inode (evens fresh 1) e)
-            by false e = gone
+            by false e = none
     inode_left task (ToMountOverlay place overlay flags) here = absurd here
     inode_left task (ToUnmount mount) here = same_list _ (taken_filesystems world _)
     inode_left task (ToUnmountLazily mount) here =

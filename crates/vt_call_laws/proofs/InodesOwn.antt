@@ -87,12 +87,12 @@ module _ (fresh : Fresh ℕ) (world : World ℕ) (plain : HasNoOverlays world) (
   Kept now = (now ≡ Was) ⊎ (now ≡ None)
 
   abbrev Left : Permit ℕ → Type 0
-  Left = LeftBy Kept (inr refl) filesystem number fresh world plain (inl refl)
+  Left = LeftBy Kept filesystem number fresh world plain (inl refl)
 
   -- what is made by a change that does not name the inode
   made_elsewhere : (made : Option (Location ℕ × Change ℕ))
       → holds_of (λ own. nat_eq filesystem own.0 && is_among nat_eq number own.1) (own_by world made) ≡ false
-      → MadeBy Kept (inr refl) filesystem number fresh world plain (inl refl) made
+      → MadeBy Kept filesystem number fresh world plain (inl refl) made
   made_elsewhere None apart = tt
   made_elsewhere (Some made) apart =
       λ same.
@@ -118,10 +118,10 @@ module _ (fresh : Fresh ℕ) (world : World ℕ) (plain : HasNoOverlays world) (
 
 pub calls_change_their_own : CallsChangeTheirOwn
 calls_change_their_own fresh world name call task permit filesystem number plain no_overlay is judged apart =
-    inode_after_call (Kept fresh world plain filesystem number) (inr refl) filesystem number fresh world name call
+    inode_after_call (Kept fresh world plain filesystem number) filesystem number (inr refl) fresh world name call
     (inl refl)
     (λ other given is_other judged_other.
-    inode_left (Kept fresh world plain filesystem number) (inr refl) filesystem number fresh world plain (inl refl) other
+    inode_left (Kept fresh world plain filesystem number) filesystem number fresh world plain (inl refl) other
     given
     (left_elsewhere fresh world plain filesystem number other call no_overlay given
     (permits_are_for_their_calls fresh world other call given judged_other)

@@ -154,12 +154,12 @@ module _ {A : Type 0} (part : Node ℕ → A) where
       Was = inode_in world filesystem other
 
       abbrev Left : Permit ℕ → Type 0
-      Left = LeftBy (Stays Was) tt filesystem other fresh world plain (itself Was)
+      Left = LeftBy (Stays Was) filesystem other fresh world plain (itself Was)
 
       -- in the filesystem of a location
       pub here : (location : Location ℕ) (change : Change ℕ)
           → KeptIn (files_at nat_eq world location) (changed nat_eq (files_at nat_eq world location) change)
-          → ChangeHolds (Stays Was) tt filesystem other world location change
+          → ChangeHolds (Stays Was) filesystem other world location change
       here location change kept same =
           subst (λ n. Stays (inode_in world n other) ((changed nat_eq (files_at nat_eq world location) change).tree.node other))
           (sym same) kept
@@ -169,7 +169,7 @@ module _ {A : Type 0} (part : Node ℕ → A) where
           (modes : sets_mode call ≡ true → KeptByMode) (owners : sets_owner call ≡ true → KeptByOwner)
           (marks : sets_mark call ≡ true → KeptByMark) where
         made : changes_names call ≡ true → (directory : Location ℕ) (name : List ℕ) (node : Node ℕ)
-            → ChangeHolds (Stays Was) tt filesystem other world directory (Make directory.node name (evens fresh 0) node)
+            → ChangeHolds (Stays Was) filesystem other world directory (Make directory.node name (evens fresh 0) node)
         made is directory name node =
             here directory (Make directory.node name (evens fresh 0) node)
             (made_kept (files_at nat_eq world directory) directory.node name (evens fresh 0) node (handed 0)
@@ -177,7 +177,7 @@ module _ {A : Type 0} (part : Node ℕ → A) where
 
         set : (location : Location ℕ) (object : ℕ) (attr : Attr) → object ≡ location.node
             → IsForAttr (looks_of nat_eq world) call location attr
-            → ChangeHolds (Stays Was) tt filesystem other world location (SetAttr object attr)
+            → ChangeHolds (Stays Was) filesystem other world location (SetAttr object attr)
         set location object attr at for =
             here location (SetAttr object attr)
             (at_node (files_at nat_eq world location) object (node_with_attr attr) (λ same. by for))
@@ -199,7 +199,7 @@ module _ {A : Type 0} (part : Node ℕ → A) where
                 (owners (ap sets_owner chown.3) chown.1 chown.2 there)
 
         part_written : (file : Location ℕ) (offset : ℕ) (bytes : List ℕ) → writes_bytes call ≡ true
-            → MadeBy (Stays Was) tt filesystem other fresh world plain (itself Was)
+            → MadeBy (Stays Was) filesystem other fresh world plain (itself Was)
             (change_of fresh world (ToWritePart file offset bytes))
         part_written file offset [] is = tt
         part_written file offset (byte ∷ bytes) is =
@@ -256,9 +256,9 @@ module _ {A : Type 0} (part : Node ℕ → A) where
       → Stays (inode_in world filesystem other)
       (inode_in (policy nat_eq fresh world name call).world filesystem other)
   only_these fresh world name call filesystem other plain no_overlay handed names bytes modes owners marks =
-      inode_after_call (Stays was) tt filesystem other fresh world name call (itself was)
+      inode_after_call (Stays was) filesystem other tt fresh world name call (itself was)
       (λ task permit is judged.
-      inode_left (Stays was) tt filesystem other fresh world plain (itself was) task permit
+      inode_left (Stays was) filesystem other fresh world plain (itself was) task permit
       (left_kept other fresh world plain filesystem handed task call no_overlay names bytes modes owners marks permit
       (permits_are_for_their_calls fresh world task call permit judged)))
     where

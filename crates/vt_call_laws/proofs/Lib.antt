@@ -4,6 +4,7 @@ pub mod InodesLeft
 pub mod InodesOwn
 pub mod InodesPartLaws
 pub mod InodesParts
+pub mod InodesRemain
 pub mod InodesSettled
 pub mod TasksFound
 pub mod TasksLaws

@@ -1,8 +1,9 @@
 -- Laws of inodes: what calls leave as it was, in worlds without overlays.
-use Rattle.std.specs.Prelude.{Bool, List, None, Ok, Option, Some, [], false, nat_eq, option_to_list, true, ℕ, ⊤, ◌&&◌, ◌∷◌, ◌≡◌, ◌⊎◌}
+use Rattle.std.specs.Prelude.{Bool, List, None, Ok, Option, Some, [], false, is_some, nat_eq, option_to_list, true, ℕ, ⊤, ◌&&◌, ◌∷◌, ◌≡◌, ◌⊎◌}
 use Rattle.std.specs.List.{All}
 use Rattle.std.specs.Str.{bytes_eq}
 use Rattle.vt_call_laws.specs.Given.{may_create}
+use Rattle.vt_spec.specs.Machine.Apply.{apply}
 use Rattle.vt_spec.specs.Machine.Calls.{Call}
 use Rattle.vt_spec.specs.Machine.Calls.Call.{Chmod, Chown, LinkTo, MakeWhiteout, Mkdir, MountOverlay, Opaque, OpenFile, Pwrite, Rename, Rmdir, SymlinkAt, Unlink, Write}
 use Rattle.vt_spec.specs.Machine.Changes.{Change}
@@ -92,6 +93,14 @@ CallsChangeTheirOwn =
     is_own fresh world permit filesystem number ≡ false
     → (inode_in left filesystem number ≡ inode_in world filesystem number)
     ⊎ (inode_in left filesystem number ≡ None))
+
+-- A granted call takes no inode away itself: one that was there is there until what nothing uses goes.
+abbrev pub OnlyUnusedInodesEnd : Type 0
+OnlyUnusedInodesEnd =
+    (fresh : Fresh ℕ) (world : World ℕ) (call : Call) (task : Task ℕ) (permit : Permit ℕ) (filesystem number : ℕ)
+    → HasNoOverlays world → mounts_overlay call ≡ false → judge_in nat_eq fresh world task call ≡ Ok permit
+    → is_some (inode_in world filesystem number) ≡ true
+    → is_some (inode_in (apply nat_eq fresh world task permit).world filesystem number) ≡ true
 
 -- Parts of inodes
 

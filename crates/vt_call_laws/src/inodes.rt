@@ -1,16 +1,18 @@
 //! What calls leave of inodes, in worlds without overlays.
-ghost use Rattle.vt_call_laws.specs.Inodes.{CallsChangeTheirOwn, KindsStay, LinkTextsStay, OnlyChmodChangesModes, OnlyChownChangesOwners, OnlyNamingChangesEntries, OnlyOpaqueChangesMarks, OnlyWritesChangeBytes, OtherEntriesStay};
+ghost use Rattle.vt_call_laws.specs.Inodes.{CallsChangeTheirOwn, KindsStay, LinkTextsStay, OnlyChmodChangesModes, OnlyChownChangesOwners, OnlyNamingChangesEntries, OnlyOpaqueChangesMarks, OnlyUnusedInodesEnd, OnlyWritesChangeBytes, OtherEntriesStay};
 
 /// A granted call changes no inode but those that its permit names, in the filesystem of its location: for a new object it and
 /// its directory, mkdir(2), symlink(2), mknod(2), open(2); for a link or a removal the object and its directory, link(2),
 /// unlink(2), rmdir(2); for a rename both directories, the object and what it replaces, rename(2); and the object for write(2),
 /// pwrite(2), chmod(2), chown(2) and the opaque mark. mount(2) of a tmpfs makes the root of a new filesystem.
 ///
-/// Each other inode is as it was, or is gone, as nothing uses it any more. In a directory that stays no entry is changed but
+/// Each other inode is as it was, or is gone: no call takes an inode away itself, it goes with what nothing uses when the call
+/// has been applied, unlink(2). In a directory that stays no entry is changed but
 /// those that the permit names.
 pub fn calls_change_their_own()
     ensures own { CallsChangeTheirOwn }
     ensures entries { OtherEntriesStay }
+    ensures ends { OnlyUnusedInodesEnd }
 {}
 
 /// Each part of an inode is changed by its own calls alone: bytes by write(2) and pwrite(2), the mode by chmod(2), owner and
