@@ -90,7 +90,8 @@ module _ (looks : Looks ℕ) (too_many : Permit ℕ → Bool) (task : Task ℕ) 
       ruled (make_rules looks task place (unnumbered place (new_file task file_mode bytes))) _ (λ pass.
       h (make_permit place (new_file task file_mode bytes)) refl))
 
-  renamed_leads : (old new : List ℕ) → HoldsFor (Rename old new) → (same : Bool) (from to : Place ℕ) (object : Location ℕ)
+  renamed_leads : (old new : List ℕ) → HoldsFor (Rename old new)
+      → (same : Bool) (from to : Place ℕ) (object : Location ℕ)
       → R (renamed_permit nat_eq same looks task from to object)
   renamed_leads old new h true from to object =
       ruled (same_object_rules nat_eq looks from to) _ (λ pass. h Allowed refl)

@@ -84,7 +84,8 @@ module _ (entry : List ℕ) where
   node_entered name object apart None = tt
   node_entered name object apart (Some node) = entered node.content name object apart
 
-  node_taken : (name : List ℕ) → bytes_eq entry name ≡ false → (o : Option (Node ℕ)) → Stays Led o (node_without_entry name o)
+  node_taken : (name : List ℕ) → bytes_eq entry name ≡ false → (o : Option (Node ℕ))
+      → Stays Led o (node_without_entry name o)
   node_taken name apart None = tt
   node_taken name apart (Some node) = taken node.content name apart
 
@@ -112,7 +113,8 @@ module _ (entry : List ℕ) where
     Apart directory name = same_entry (other, entry) (directory, name) ≡ false
 
     -- in the directory itself the names are others
-    other_name : (directory : ℕ) (name : List ℕ) → Apart directory name → other ≡ directory → bytes_eq entry name ≡ false
+    other_name : (directory : ℕ) (name : List ℕ) → Apart directory name → other ≡ directory
+        → bytes_eq entry name ≡ false
     other_name directory name apart same =
         ap (λ b. b && bytes_eq entry name) (sym (eq-eqb other directory same)) ∙ apart
 

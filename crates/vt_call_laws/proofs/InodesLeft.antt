@@ -182,7 +182,8 @@ module _ (Q : Option (Node ℕ) → Type 0) (number inode : ℕ) where
     inode_left task (ToRemoveDirectory parent name directory) here = replaced_left (Some directory) parent _ here
     inode_left task (ToRename from old to new object replaced) here = replaced_left replaced from _ here
     inode_left task (ToOpen file access) here = copied_left (is_copied_up nat_eq world file access) file
-    inode_left task (ToOpenNew directory name node access) here = change_left (odds fresh) world directory _ plain h here
+    inode_left task (ToOpenNew directory name node access) here =
+        change_left (odds fresh) world directory _ plain h here
     inode_left task (ToWritePart file offset bytes) here = written_left file offset bytes here
     inode_left task ToExit here = same_list _ (taken_filesystems (without_task world task.name) _)
     inode_left task ToUnshare here = same_list _ (taken_filesystems (unshared nat_eq world fresh task) _)
@@ -191,7 +192,8 @@ module _ (Q : Option (Node ℕ) → Type 0) (number inode : ℕ) where
     inode_left task (ToMountPlain place flags) here =
         added_holds (new_plain nat_eq (evens fresh 0) (evens fresh 1)) root world.filesystems h
       where
-        root : number ≡ evens fresh 0 → Q None → Q ((new_plain nat_eq (evens fresh 0) (evens fresh 1)).files.tree.node inode)
+        root : number ≡ evens fresh 0 → Q None
+            → Q ((new_plain nat_eq (evens fresh 0) (evens fresh 1)).files.tree.node inode)
         root same none = by (nat_eq inode (evens fresh 1)) refl
           where
             by : (b : Bool) → nat_eq inode (evens fresh 1) ≡ b

@@ -28,10 +28,12 @@ skip : (b : Bool) (new was : Option (Node ℕ)) → b ≡ false → cond b new w
 skip false new was e = refl
 skip true new was e = cc
 
-parent_stays : (files : FileTree ℕ) (object : Option ℕ) (other : ℕ) → is_among nat_eq other (option_to_list object) ≡ false
+parent_stays : (files : FileTree ℕ) (object : Option ℕ) (other : ℕ)
+    → is_among nat_eq other (option_to_list object) ≡ false
     → (without_parent nat_eq files object).tree.node other ≡ files.tree.node other
 parent_stays files None other apart = refl
-parent_stays files (Some object) other apart = skip (nat_eq other object) _ _ (neither (nat_eq other object) false apart).0
+parent_stays files (Some object) other apart =
+    skip (nat_eq other object) _ _ (neither (nat_eq other object) false apart).0
 
 changed_elsewhere : (files : FileTree ℕ) (change : Change ℕ) (other : ℕ)
     → is_among nat_eq other (named_by files change) ≡ false
@@ -126,5 +128,6 @@ calls_change_their_own fresh world name call task permit filesystem number plain
     (left_elsewhere fresh world plain filesystem number other call no_overlay given
     (permits_are_for_their_calls fresh world other call given judged_other)
     (let same : other ≡ task = cc in
-    let one : given ≡ permit = let both = sym judged_other ∙ ap (λ t. judge_in nat_eq fresh world t call) same ∙ judged in cc in
+    let one : given ≡ permit =
+    let both = sym judged_other ∙ ap (λ t. judge_in nat_eq fresh world t call) same ∙ judged in cc in
     ap (λ p. is_own fresh world p filesystem number) one ∙ apart)))

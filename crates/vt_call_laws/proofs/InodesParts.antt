@@ -105,7 +105,8 @@ module _ {A : Type 0} (part : Node ℕ → A) where
         (itself (files.tree.node other)))
         (named (with_inode nat_eq files number node))
 
-    parent_kept : KeptByParents → (files : FileTree ℕ) (object : Option ℕ) → KeptIn files (without_parent nat_eq files object)
+    parent_kept : KeptByParents → (files : FileTree ℕ) (object : Option ℕ)
+        → KeptIn files (without_parent nat_eq files object)
     parent_kept parents files None = itself (files.tree.node other)
     parent_kept parents files (Some object) = kept_at files object (node_with_parent object) (parents object)
 
@@ -142,7 +143,8 @@ module _ {A : Type 0} (part : Node ℕ → A) where
 
     named_kept : KeptByNames → (directory : ℕ) (name : List ℕ) (object : ℕ) (left : FileTree ℕ)
         → KeptIn left (with_name nat_eq left directory name object)
-    named_kept names directory name object left = kept_at left directory (node_with_entry name object) (names.0 name object)
+    named_kept names directory name object left =
+        kept_at left directory (node_with_entry name object) (names.0 name object)
 
     unnamed_kept : KeptByNames → (directory : ℕ) (name : List ℕ) (left : FileTree ℕ)
         → KeptIn left (without_name nat_eq left directory name)

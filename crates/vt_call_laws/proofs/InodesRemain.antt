@@ -58,7 +58,8 @@ module _ (other : ℕ) where
       → RemainsIn files (without_name nat_eq files directory name)
   unnamed_remains files directory name = at_node files directory (node_without_entry name) (λ node. refl)
 
-  made_remains : (files : FileTree ℕ) (number : ℕ) (node : Node ℕ) → RemainsIn files (with_inode nat_eq files number node)
+  made_remains : (files : FileTree ℕ) (number : ℕ) (node : Node ℕ)
+      → RemainsIn files (with_inode nat_eq files number node)
   made_remains files number node there = by (nat_eq other number)
     where
       by : (b : Bool) → is_some (cond b (Some node) (files.tree.node other)) ≡ true

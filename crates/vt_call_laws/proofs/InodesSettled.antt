@@ -26,8 +26,10 @@ module _ (Q : Inode → Type 0) (number inode : ℕ) where
   HoldsIn list = Q ((numbered number list).files.tree.node inode)
 
   -- a change of each filesystem that keeps its number, and its inodes where it keeps any
-  mapped : (change : Filesystem ℕ → Filesystem ℕ) → ((filesystem : Filesystem ℕ) → (change filesystem).number ≡ filesystem.number)
-      → ((filesystem : Filesystem ℕ) → Q (filesystem.files.tree.node inode) → Q ((change filesystem).files.tree.node inode))
+  mapped : (change : Filesystem ℕ → Filesystem ℕ) → ((filesystem : Filesystem ℕ)
+      → (change filesystem).number ≡ filesystem.number)
+      → ((filesystem : Filesystem ℕ) → Q (filesystem.files.tree.node inode)
+      → Q ((change filesystem).files.tree.node inode))
       → (list : List (Filesystem ℕ)) → HoldsIn list → HoldsIn (map change list)
   mapped change keeps holds [] h = h
   mapped change keeps holds (first ∷ rest) h =
@@ -185,7 +187,8 @@ module _ (Q : Inode → Type 0) (number inode : ℕ) where
               by_looks false = settled_holds (apply nat_eq fresh world task permit).world left
           by_permit task is (Err deny) judged = by_looks (only_looks call)
             where
-              by_looks : (b : Bool) → HoldsIn (finished_by nat_eq (b || true) world name (denied world deny)).world.filesystems
+              by_looks : (b : Bool)
+                  → HoldsIn (finished_by nat_eq (b || true) world name (denied world deny)).world.filesystems
               by_looks true = same
               by_looks false = same
 

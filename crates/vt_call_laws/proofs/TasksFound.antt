@@ -21,7 +21,8 @@ abbrev pub called : TaskName → List (Task ℕ) → Found
 called name tasks = find (λ task. same_name name task.name) tasks
 
 -- what is found by a name has it
-pub found_name : (name : TaskName) (tasks : List (Task ℕ)) (task : Task ℕ) → called name tasks ≡ Some task → name ≡ task.name
+pub found_name : (name : TaskName) (tasks : List (Task ℕ)) (task : Task ℕ) → called name tasks ≡ Some task
+    → name ≡ task.name
 found_name name [] task e = cc
 found_name name (first ∷ rest) task e = by (same_name name first.name) refl e (found_name name rest task)
   where
@@ -111,7 +112,8 @@ others_left name other apart (first ∷ rest) =
         ap (λ c. cond c (Some first) (called other stay)) f ∙ ap (λ found. cond c (Some first) found) later
 
 -- one more at the end is found where nobody was
-pub find_appended : (B : Found → Type 0) (name : TaskName) (new : Task ℕ) (tasks : List (Task ℕ)) → B (called name tasks)
+pub find_appended : (B : Found → Type 0) (name : TaskName) (new : Task ℕ) (tasks : List (Task ℕ))
+    → B (called name tasks)
     → (called name tasks ≡ None → B (cond (same_name name new.name) (Some new) None))
     → B (called name (tasks ++ (new ∷ [])))
 find_appended B name new [] before later = later refl

@@ -172,7 +172,8 @@ only_exit_leaves fresh world name call was is gone = by it.0 it.1.0 it.1.1
     it : (left : Found) × Left fresh world name call name (Some was) left None
     it = found fresh world name call name (Some was) None is gone
 
-    by : (left : Found) → Becomes fresh world name call name (Some was) left → IsRaised name name left None → call ≡ Exit
+    by : (left : Found) → Becomes fresh world name call name (Some was) left → IsRaised name name left None
+        → call ≡ Exit
     by None so raised = so.1
     by (Some left) so raised = absurd raised
 

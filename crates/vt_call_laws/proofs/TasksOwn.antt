@@ -150,7 +150,8 @@ module _ (fresh : Fresh ℕ) (world : World ℕ) (name : TaskName) (call : Call)
         (sym (find_mapped (replaced_if_called new) (replaced_keeps_name new) other world.tasks))
         (by (task_called world other) refl)
       where
-        by : (found : Found) → task_called world other ≡ found → Becomes found (option_map (replaced_if_called new) found)
+        by : (found : Found) → task_called world other ≡ found
+            → Becomes found (option_map (replaced_if_called new) found)
         by None e = tt
         by (Some entry) e = inside (same_name new.name entry.name) refl
           where
@@ -231,7 +232,11 @@ module _ (fresh : Fresh ℕ) (world : World ℕ) (name : TaskName) (call : Call)
             moved = pivoted_location nat_eq root there
 
             inside : (b : Bool) → nat_eq task.namespace entry.namespace ≡ b
-                → BecomesTask entry (cond b (record entry { root = moved entry.root; directory = moved entry.directory }) entry)
+                → BecomesTask entry (cond b (record entry {
+                  root =
+                      moved entry.root;
+                  directory = moved entry.directory;
+                }) entry)
             inside false e = inl refl
             inside true e =
                 inr (inr (
@@ -346,13 +351,15 @@ module _ (fresh : Fresh ℕ) (world : World ℕ) (name : TaskName) (call : Call)
   is_itself None = tt
   is_itself (Some task) = (refl, inl refl)
 
-  is_raised : (tasks : List (Task ℕ)) → IsRaised name other (called other tasks) (called other (map (raised_task name) tasks))
+  is_raised : (tasks : List (Task ℕ))
+      → IsRaised name other (called other tasks) (called other (map (raised_task name) tasks))
   is_raised tasks =
       subst (IsRaised name other (called other tasks))
       (sym (find_mapped (raised_task name) (λ task. ap (λ t. t.name) (raised_is name task)) other tasks))
       (by (called other tasks) refl)
     where
-      by : (found : Found) → called other tasks ≡ found → IsRaised name other found (option_map (raised_task name) found)
+      by : (found : Found) → called other tasks ≡ found
+          → IsRaised name other found (option_map (raised_task name) found)
       by None e = tt
       by (Some task) e = (raised_is name task, inside (same_name name task.name) refl)
         where

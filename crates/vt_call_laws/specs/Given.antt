@@ -54,7 +54,8 @@ abbrev pub IsFor : Looks ℕ → Task ℕ → Call → Permit ℕ → Type 0
 IsFor looks task call Allowed = may_do_nothing call ≡ true
 IsFor looks task call (ToList directory) = (path : List ℕ) × (call ≡ Ls path)
 IsFor looks task call (ToStat object) = ((path : List ℕ) × (call ≡ Stat path)) ⊎ ((path : List ℕ) × (call ≡ Lstat path))
-IsFor looks task call (ToRead file) = ((path : List ℕ) × (call ≡ Read path)) ⊎ ((path : List ℕ) × (call ≡ Readlink path))
+IsFor looks task call (ToRead file) =
+    ((path : List ℕ) × (call ≡ Read path)) ⊎ ((path : List ℕ) × (call ≡ Readlink path))
 IsFor looks task call (ToReadPart file offset size) = (descriptor : ℕ) × (call ≡ Pread descriptor offset size)
 IsFor looks task call (ToChange location (Make directory name number node)) = ⊥
 IsFor looks task call (ToChange location (AddName directory name object)) =
