@@ -86,7 +86,7 @@ OfGrantedCalls law =
     → task_called world name ≡ Some task → judge_in nat_eq fresh world task call ≡ Ok permit
     → law fresh world permit (policy nat_eq fresh world name call).world filesystem number
 
--- A call changes no inode but those that its permit names: another one is as it was, or is gone, as nothing uses it.
+-- A call changes no inode but those that its permit names: another one is as it was, or is gone.
 abbrev pub CallsChangeTheirOwn : Type 0
 CallsChangeTheirOwn =
     OfGrantedCalls (λ fresh world permit left filesystem number.

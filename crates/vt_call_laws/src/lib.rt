@@ -1,4 +1,4 @@
-//! What calls may change: tasks, inodes and filesystems, each by its own calls.
+//! What calls may change: tasks and inodes, each by its own calls.
 //!
 //! Each public function is a theorem of the written policy, and does nothing.
 #![tactic(auto)]
