@@ -1,0 +1,12 @@
+pub mod GivenPermits
+pub mod InodesEntries
+pub mod InodesLeft
+pub mod InodesOwn
+pub mod InodesPartLaws
+pub mod InodesParts
+pub mod InodesRemain
+pub mod InodesSettled
+pub mod TasksFound
+pub mod TasksLaws
+pub mod TasksLeft
+pub mod TasksOwn

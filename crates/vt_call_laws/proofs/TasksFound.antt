@@ -1,0 +1,129 @@
+-- Tasks by their names, in lists that are changed.
+use Rattle.std.proofs.Common.{◌≡◌, refl, sym, ap, ◌∙◌, true≢false, ℕ, Bool, true, false, not, cond, List, [], ◌∷◌, ◌++◌, map, filter, find, Option, Some, None, option_map}
+use Rattle.std.specs.Cmp.Lexicographic.{bytes_decides}
+use Rattle.vt_spec.specs.Machine.Filesystems.{raised}
+use Rattle.vt_spec.specs.Machine.Mounts.{Mount}
+use Rattle.vt_spec.specs.Machine.Namespaces.{pivoted_location, pivoted_task}
+use Rattle.vt_spec.specs.Machine.Policy.{raised_task}
+use Rattle.vt_spec.specs.Machine.World.{Task, TaskName, replaced_if_called, same_name}
+use Rattle.std.proofs.Common.{nat_eq}
+
+pub same_is : (a b : TaskName) → same_name a b ≡ true → a ≡ b
+same_is a b e = (bytes_decides a b).0 e
+
+pub same_self : (a : TaskName) → same_name a a ≡ true
+same_self a = (bytes_decides a a).1 refl
+
+abbrev pub Found : Type 0
+Found = Option (Task ℕ)
+
+abbrev pub called : TaskName → List (Task ℕ) → Found
+called name tasks = find (λ task. same_name name task.name) tasks
+
+-- what is found by a name has it
+pub found_name : (name : TaskName) (tasks : List (Task ℕ)) (task : Task ℕ) → called name tasks ≡ Some task
+    → name ≡ task.name
+found_name name [] task e = cc
+found_name name (first ∷ rest) task e = by (same_name name first.name) refl e (found_name name rest task)
+  where
+    by : (b : Bool) → same_name name first.name ≡ b → cond b (Some first) (called name rest) ≡ Some task
+        → (called name rest ≡ Some task → name ≡ task.name) → name ≡ task.name
+    by true is e later =
+        let same : first ≡ task = cc in same_is name first.name is ∙ ap (λ t. t.name) same
+    by false is e later = later e
+
+-- a change that keeps names is found changed
+pub find_mapped : (change : Task ℕ → Task ℕ) → ((task : Task ℕ) → (change task).name ≡ task.name)
+    → (name : TaskName) (tasks : List (Task ℕ)) → called name (map change tasks) ≡ option_map change (called name tasks)
+find_mapped change keeps name [] = refl
+find_mapped change keeps name (first ∷ rest) =
+    ap (λ n. cond (same_name name n) (Some (change first)) (called name (map change rest))) (keeps first)
+    ∙ by (same_name name first.name) (find_mapped change keeps name rest)
+  where
+    by : (b : Bool) → called name (map change rest) ≡ option_map change (called name rest)
+        → cond b (Some (change first)) (called name (map change rest))
+        ≡ option_map change (cond b (Some first) (called name rest))
+    by true later = refl
+    by false later = later
+
+pub replaced_keeps_name : (new old : Task ℕ) → (replaced_if_called new old).name ≡ old.name
+replaced_keeps_name new old = by (same_name new.name old.name) refl
+  where
+    by : (b : Bool) → same_name new.name old.name ≡ b → (cond b new old).name ≡ old.name
+    by true e = same_is new.name old.name e
+    by false e = refl
+
+-- raising changes the change number alone
+pub raised_is : (name : TaskName) (task : Task ℕ)
+    → raised_task name task ≡ record task { change = (raised_task name task).change }
+raised_is name task = by (same_name name task.name)
+  where
+    by : (b : Bool)
+        → cond b (record task { change = raised task.change }) task
+        ≡ record task { change = (cond b (record task { change = raised task.change }) task).change }
+    by true = refl
+    by false = refl
+
+pub pivoted_keeps_name : (namespace : ℕ) (root new : Mount ℕ) (task : Task ℕ)
+    → (pivoted_task nat_eq namespace root new task).name ≡ task.name
+pivoted_keeps_name namespace root new task = by (nat_eq namespace task.namespace)
+  where
+    by : (b : Bool)
+        → (cond b (record task {
+          root = pivoted_location nat_eq root new task.root;
+          directory = pivoted_location nat_eq root new task.directory;
+        }) task).name
+        ≡ task.name
+    by true = refl
+    by false = refl
+
+-- without those of a name nobody is found by it
+pub none_left : (name : TaskName) (tasks : List (Task ℕ))
+    → called name (filter (λ task. not (same_name name task.name)) tasks) ≡ None
+none_left name [] = refl
+none_left name (first ∷ rest) = by (same_name name first.name) refl (none_left name rest)
+  where
+    stay : List (Task ℕ)
+    stay = filter (λ task. not (same_name name task.name)) rest
+
+    by : (b : Bool) → same_name name first.name ≡ b → called name stay ≡ None
+        → called name (cond (not b) (first ∷ stay) stay) ≡ None
+    by true e later = later
+    by false e later = ap (λ b. cond b (Some first) (called name stay)) e ∙ later
+
+-- and each other one as before
+pub others_left : (name other : TaskName) → same_name name other ≡ false → (tasks : List (Task ℕ))
+    → called other (filter (λ task. not (same_name name task.name)) tasks) ≡ called other tasks
+others_left name other apart [] = refl
+others_left name other apart (first ∷ rest) =
+    by (same_name name first.name) refl (same_name other first.name) refl (others_left name other apart rest)
+  where
+    stay : List (Task ℕ)
+    stay = filter (λ task. not (same_name name task.name)) rest
+
+    by : (b : Bool) → same_name name first.name ≡ b → (c : Bool) → same_name other first.name ≡ c
+        → called other stay ≡ called other rest
+        → called other (cond (not b) (first ∷ stay) stay) ≡ cond c (Some first) (called other rest)
+    by true e true f later =
+        let same : name ≡ other = same_is name first.name e ∙ sym (same_is other first.name f) in
+        absurd (true≢false (sym (same_self name) ∙ ap (same_name name) same ∙ apart))
+    by true e false f later = later
+    by false e c f later =
+        ap (λ c. cond c (Some first) (called other stay)) f ∙ ap (λ found. cond c (Some first) found) later
+
+-- one more at the end is found where nobody was
+pub find_appended : (B : Found → Type 0) (name : TaskName) (new : Task ℕ) (tasks : List (Task ℕ))
+    → B (called name tasks)
+    → (called name tasks ≡ None → B (cond (same_name name new.name) (Some new) None))
+    → B (called name (tasks ++ (new ∷ [])))
+find_appended B name new [] before later = later refl
+find_appended B name new (first ∷ rest) before later =
+    by (same_name name first.name) before later (find_appended B name new rest)
+  where
+    by : (b : Bool) → B (cond b (Some first) (called name rest))
+        → (cond b (Some first) (called name rest) ≡ None → B (cond (same_name name new.name) (Some new) None))
+        → (B (called name rest) → (called name rest ≡ None → B (cond (same_name name new.name) (Some new) None))
+        → B (called name (rest ++ (new ∷ []))))
+        → B (cond b (Some first) (called name (rest ++ (new ∷ []))))
+    by true before later next = before
+    by false before later next = next before later

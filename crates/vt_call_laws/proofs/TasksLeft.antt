@@ -1,0 +1,189 @@
+-- The tasks that each permit leaves, and that settling and raising leave of them.
+use Rattle.std.proofs.Common.{◌≡◌, refl, sym, ap, subst, ◌∙◌, ℕ, ◌+◌, nat_eq, Bool, true, false, not, cond, ◌||◌, List, [], ◌∷◌, ◌++◌, map, filter, Option, Some, None, unwrap_or, Ok, Err, ok_or}
+use Rattle.vt_laws.proofs.CallsJudged.{policy_judges_then_applies}
+use Rattle.vt_laws.proofs.NumbersRaised.{numbers_are_raised_last}
+use Rattle.vt_spec.specs.declared.errors.Rule.TheVariants.{S2}
+use Rattle.vt_spec.specs.Errors.{denial}
+use Rattle.vt_spec.specs.Machine.Apply.{apply, apply_unraised}
+use Rattle.vt_spec.specs.Machine.Calls.{Call, TypeWord}
+use Rattle.vt_spec.specs.Machine.Changes.{Change}
+use Rattle.vt_spec.specs.Machine.Detach.{after_going, deepest_first, taken_away, unmounted, unmounted_if_there, without_mounts_on}
+use Rattle.vt_spec.specs.Machine.Filesystems.{filesystem_changed_counted, overlay_changed_counted, with_change_counted}
+use Rattle.vt_spec.specs.Machine.Judge.{Judgement, judge_in}
+use Rattle.vt_spec.specs.Machine.Lists.{Fresh, evens, folded, odds}
+use Rattle.vt_spec.specs.Machine.Mounts.{Location, Mount, mount_tree, numbers_by}
+use Rattle.vt_spec.specs.Machine.Namespaces.{entered_at, namespace_entered, namespace_root, pivoted_task, unshared, unshared_task}
+use Rattle.vt_spec.specs.Machine.Outcome.Descriptors.{is_copied_up, pwritten_counted, with_copy_counted, with_descriptor, without_descriptor}
+use Rattle.vt_spec.specs.Machine.Outcome.Removing.{without_replaced}
+use Rattle.vt_spec.specs.Machine.Outcome.Tasks.{child_of}
+use Rattle.vt_spec.specs.Machine.Outcomes.{after, denied}
+use Rattle.vt_spec.specs.Machine.Permits.{Permit}
+use Rattle.vt_spec.specs.Machine.Permits.Permit.{ToChange, ToClose, ToEnterNamespace, ToExit, ToFork, ToMake, ToOpen, ToOpenNew, ToPivot, ToRemoveDirectory, ToRename, ToSetCredentials, ToSetDirectory, ToSetRoot, ToSetType, ToSetUmask, ToUnmount, ToUnmountLazily, ToUnshare, ToWritePart}
+use Rattle.vt_spec.specs.Machine.Policy.{finished, finished_by, only_looks, policy, raised_task}
+use Rattle.vt_spec.specs.Machine.Receives.{regrouped, regrouped_by}
+use Rattle.vt_spec.specs.Machine.Types.{named_mounts, retyped_mount, with_new_groups, with_type}
+use Rattle.vt_spec.specs.Machine.World.{Overlay, Layer, Task, TaskName, World, filesystem_at, mount_at, mount_numbered, mounts_of, replaced_if_called, same_name, task_called, with_mounts, without_task}
+
+-- the worlds on the way keep the tasks
+changed_tasks : (count : ℕ → ℕ) (fresh : Fresh ℕ) (world : World ℕ) (location : Location ℕ) (change : Change ℕ)
+    → (with_change_counted nat_eq count fresh world location change).tasks ≡ world.tasks
+changed_tasks count fresh world location change = by (filesystem_at nat_eq world location).overlay
+  where
+    by_upper : (overlay : Overlay ℕ) (o : Option (Layer ℕ))
+        → (overlay_changed_counted nat_eq count fresh world (filesystem_at nat_eq world location) overlay o change).tasks
+        ≡ world.tasks
+    by_upper overlay None = refl
+    by_upper overlay (Some upper) = refl
+
+    by : (o : Option (Overlay ℕ))
+        → (filesystem_changed_counted nat_eq count fresh world (filesystem_at nat_eq world location) o change).tasks
+        ≡ world.tasks
+    by None = refl
+    by (Some overlay) = by_upper overlay overlay.upper
+
+regrouped_tasks : (world : World ℕ) → (regrouped nat_eq world).tasks ≡ world.tasks
+regrouped_tasks world = by _
+  where
+    by : (b : Bool) → (regrouped_by nat_eq b world).tasks ≡ world.tasks
+    by true = refl
+    by false = refl
+
+taken_tasks : (world : World ℕ) (gone : List ℕ) → (taken_away nat_eq world gone).tasks ≡ world.tasks
+taken_tasks world gone = regrouped_tasks (with_mounts world (map (after_going nat_eq world gone) world.mounts))
+
+lazily_tasks : (mounts : List (Mount ℕ)) (world : World ℕ)
+    → (folded (unmounted_if_there nat_eq) world mounts).tasks ≡ world.tasks
+lazily_tasks [] world = refl
+lazily_tasks (mount ∷ mounts) world = lazily_tasks mounts (unmounted_if_there nat_eq world mount) ∙ by _
+  where
+    by : (b : Bool) → (cond b (unmounted nat_eq world mount.number) world).tasks ≡ world.tasks
+    by true = taken_tasks world _
+    by false = refl
+
+typed_tasks : (fresh : Fresh ℕ) (world : World ℕ) (number : ℕ) (word : TypeWord) (recursive : Bool)
+    → (with_type nat_eq fresh world number word recursive).tasks ≡ world.tasks
+typed_tasks fresh world number word recursive = regrouped_tasks (record world {
+  mounts = map (retyped_mount nat_eq group word named) world.mounts;
+  master = with_new_groups nat_eq group world.master named;
+})
+  where
+    named : List (Mount ℕ)
+    named = named_mounts nat_eq world number recursive
+
+    group : ℕ → ℕ
+    group = numbers_by nat_eq fresh named
+
+replaced_tasks : (world : World ℕ) (replaced : Option (Location ℕ))
+    → (without_replaced nat_eq world replaced).tasks ≡ world.tasks
+replaced_tasks world None = refl
+replaced_tasks world (Some location) = taken_tasks world _
+
+copied_tasks : (copies : Bool) (count : ℕ → ℕ) (fresh : Fresh ℕ) (world : World ℕ) (file : Location ℕ)
+    → (with_copy_counted nat_eq copies count fresh world file).tasks ≡ world.tasks
+copied_tasks true count fresh world file = changed_tasks count fresh world file _
+copied_tasks false count fresh world file = refl
+
+written_tasks : (count : ℕ → ℕ) (fresh : Fresh ℕ) (world : World ℕ) (file : Location ℕ) (offset : ℕ) (bytes : List ℕ)
+    → (pwritten_counted nat_eq count fresh world file offset bytes).tasks ≡ world.tasks
+written_tasks count fresh world file offset [] = refl
+written_tasks count fresh world file offset (byte ∷ bytes) = changed_tasks count fresh world file _
+
+abbrev Tasks : Type 0
+Tasks = List (Task ℕ)
+
+-- the caller in its place
+abbrev pub with_new : World ℕ → Task ℕ → Tasks
+with_new world new = map (replaced_if_called new) world.tasks
+
+module _ (fresh : Fresh ℕ) (world : World ℕ) (task : Task ℕ) where
+  -- the caller as unshare(2) and setns(2) leave it
+  abbrev pub alone : Task ℕ
+  alone =
+      unshared_task nat_eq (mounts_of nat_eq world task.namespace)
+      (numbers_by nat_eq (odds fresh) (mounts_of nat_eq world task.namespace)) (evens fresh 0) task
+
+  abbrev pub entered : ℕ → Task ℕ
+  entered namespace = entered_at task namespace (unwrap_or (namespace_root nat_eq world namespace) task.root)
+
+  -- the tasks that a permit leaves
+  abbrev pub left_tasks : Permit ℕ → Tasks
+  left_tasks (ToOpen file access) = with_new world (with_descriptor task file access)
+  left_tasks (ToOpenNew directory name node access) =
+      with_new world (with_descriptor task (record { mount = directory.mount; node = evens fresh 0 }) access)
+  left_tasks (ToClose descriptor) = with_new world (without_descriptor task descriptor)
+  left_tasks (ToSetDirectory directory) = with_new world (record task { directory = directory })
+  left_tasks (ToSetRoot root) = with_new world (record task { root = root })
+  left_tasks (ToSetUmask umask) = with_new world (record task { umask = umask })
+  left_tasks (ToSetCredentials credentials) = with_new world (record task { credentials = credentials })
+  left_tasks (ToFork credentials) =
+      with_new world (record task { forks = task.forks + 1 }) ++ (child_of task credentials ∷ [])
+  left_tasks ToExit = filter (λ other. not (same_name task.name other.name)) world.tasks
+  left_tasks ToUnshare = with_new world alone
+  left_tasks (ToEnterNamespace namespace) = with_new world (entered namespace)
+  left_tasks (ToPivot new put) =
+      map (pivoted_task nat_eq task.namespace (mount_at nat_eq world task.root) (mount_numbered nat_eq world new))
+      world.tasks
+  left_tasks permit = world.tasks
+
+  pub tasks_left : (permit : Permit ℕ) → (apply_unraised nat_eq fresh world task permit).world.tasks ≡ left_tasks permit
+  tasks_left (ToChange location change) = changed_tasks (λ number. number) fresh world location change
+  tasks_left (ToMake directory name node) = changed_tasks (λ number. number) (odds fresh) world directory _
+  tasks_left (ToRemoveDirectory parent name directory) =
+      changed_tasks (λ number. number) fresh (without_mounts_on nat_eq world directory) parent _ ∙ taken_tasks world _
+  tasks_left (ToRename from old to new object replaced) =
+      changed_tasks (λ number. number) fresh (without_replaced nat_eq world replaced) from _
+      ∙ replaced_tasks world replaced
+  tasks_left (ToOpen file access) =
+      ap (map (replaced_if_called (with_descriptor task file access)))
+      (copied_tasks (is_copied_up nat_eq world file access) (λ number. number) fresh world file)
+  tasks_left (ToOpenNew directory name node access) =
+      ap (map (replaced_if_called
+      (with_descriptor task (record { mount = directory.mount; node = evens fresh 0 }) access)))
+      (changed_tasks (λ number. number) (odds fresh) world directory _)
+  tasks_left (ToWritePart file offset bytes) = written_tasks (λ number. number) fresh world file offset bytes
+  tasks_left ToExit = taken_tasks (without_task world task.name) _
+  tasks_left ToUnshare = taken_tasks (unshared nat_eq world fresh task) _
+  tasks_left (ToEnterNamespace namespace) = taken_tasks (namespace_entered nat_eq world task namespace) _
+  tasks_left (ToUnmount mount) = taken_tasks world _
+  tasks_left (ToUnmountLazily mount) =
+      lazily_tasks (deepest_first nat_eq world (mount_tree nat_eq world.mounts (mount_numbered nat_eq world mount))) world
+  tasks_left (ToSetType mount word recursive) = typed_tasks fresh world mount word recursive
+  tasks_left permit = refl
+
+-- What holds of the tasks where nothing happens, and of those that each granted permit leaves, with the caller's change
+-- number raised or not, holds of those after the call.
+pub tasks_after_call : (P : Tasks → Type 0) (fresh : Fresh ℕ) (world : World ℕ) (name : TaskName) (call : Call)
+    → P world.tasks
+    → ((task : Task ℕ) (permit : Permit ℕ) → task_called world name ≡ Some task
+    → judge_in nat_eq fresh world task call ≡ Ok permit
+    → P (left_tasks fresh world task permit) × P (map (raised_task name) (left_tasks fresh world task permit)))
+    → P (policy nat_eq fresh world name call).world.tasks
+tasks_after_call P fresh world name call same done =
+    subst (λ outcome. P outcome.world.tasks) (sym (policy_judges_then_applies fresh world name call))
+    (by_task (task_called world name) refl)
+  where
+    by_permit : (task : Task ℕ) → task_called world name ≡ Some task → (judgement : Judgement ℕ)
+        → judge_in nat_eq fresh world task call ≡ judgement
+        → P (finished nat_eq world name call (after world judgement (apply nat_eq fresh world task))).world.tasks
+    by_permit task is (Ok permit) judged = by_looks _
+      where
+        left : (apply nat_eq fresh world task permit).world.tasks ≡ left_tasks fresh world task permit
+        left =
+            ap (λ w. w.tasks) (numbers_are_raised_last fresh world task permit).1 ∙ tasks_left fresh world task permit
+
+        by_looks : (b : Bool)
+            → P (finished_by nat_eq b world name (apply nat_eq fresh world task permit)).world.tasks
+        by_looks true = subst P (sym left) (done task permit is judged).0
+        by_looks false = subst (λ tasks. P (map (raised_task name) tasks)) (sym left) (done task permit is judged).1
+    by_permit task is (Err deny) judged = by_looks (only_looks call)
+      where
+        by_looks : (b : Bool) → P (finished_by nat_eq (b || true) world name (denied world deny)).world.tasks
+        by_looks true = same
+        by_looks false = same
+
+    by_task : (o : Option (Task ℕ)) → task_called world name ≡ o
+        → P (after world (ok_or o (denial S2)) (λ task.
+        finished nat_eq world name call
+        (after world (judge_in nat_eq fresh world task call) (apply nat_eq fresh world task)))).world.tasks
+    by_task None is = same
+    by_task (Some task) is = by_permit task is (judge_in nat_eq fresh world task call) refl
