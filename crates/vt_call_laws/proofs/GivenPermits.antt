@@ -214,9 +214,9 @@ module _ (looks : Looks ℕ) (too_many : Permit ℕ → Bool) (task : Task ℕ) 
   judged_leads Exit h = h ToExit refl
   judged_leads Unshare h = ruled (admin_rules task) _ (λ pass. h ToUnshare refl)
   judged_leads (Setns name) h =
-      then_next (ok_or (looks.task_called name) (denial S2)) _ (λ target.
+      then_next (ok_or (looks.namespace_called name) (denial S2)) _ (λ namespace.
       ruled ((lacks task cap_sys_admin || lacks task cap_sys_chroot, K1) ∷ []) _ (λ pass.
-      h (ToEnterNamespace target.namespace) (name, refl)))
+      h (ToEnterNamespace namespace) (name, refl)))
   judged_leads (MountPlain path flags) h =
       ruled (admin_rules task) _ (λ admin.
       then_next (walk_end (destination_walk nat_eq looks task path)) _ (λ here.

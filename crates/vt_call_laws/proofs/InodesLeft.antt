@@ -2,16 +2,16 @@
 use Rattle.std.proofs.Common.{◌≡◌, refl, sym, ap, subst, ◌∙◌, true≢false, ℕ, nat_eq, eqb-true, eq-eqb, Bool, true, false, cond, List, [], ◌∷◌, ◌++◌, map, find, Option, Some, None, is_some, unwrap_or}
 use Rattle.std.specs.List.{All}
 use Rattle.vt_call_laws.specs.Inodes.{HasNoOverlays, change_of}
-use Rattle.vt_spec.specs.Machine.Apply.{apply_unraised}
+use Rattle.vt_spec.specs.Machine.Apply.{apply}
 use Rattle.vt_spec.specs.Machine.Calls.{TypeWord}
 use Rattle.vt_spec.specs.Machine.Changes.{Change, changed}
 use Rattle.vt_spec.specs.Machine.Changes.Change.{CopyUp}
 use Rattle.vt_spec.specs.Machine.Detach.{deepest_first, unmounted, unmounted_if_there}
-use Rattle.vt_spec.specs.Machine.Filesystems.{filesystem_changed_counted, with_change_counted, with_files_counted}
+use Rattle.vt_spec.specs.Machine.Filesystems.{filesystem_changed, with_change, with_files}
 use Rattle.vt_spec.specs.Machine.Lists.{Fresh, evens, folded, odds}
 use Rattle.vt_spec.specs.Machine.Mounts.{Location, Mount, mount_tree, numbers_by}
 use Rattle.vt_spec.specs.Machine.Namespaces.{namespace_entered, unshared}
-use Rattle.vt_spec.specs.Machine.Outcome.Descriptors.{is_copied_up, pwritten_counted, with_copy_counted}
+use Rattle.vt_spec.specs.Machine.Outcome.Descriptors.{is_copied_up, pwritten, with_copy}
 use Rattle.vt_spec.specs.Machine.Outcome.Removing.{without_replaced}
 use Rattle.vt_spec.specs.Machine.Permits.{Permit}
 use Rattle.vt_spec.specs.Machine.Permits.Permit.{ToChange, ToEnterNamespace, ToExit, ToMake, ToMountOverlay, ToMountPlain, ToOpen, ToOpenNew, ToRemoveDirectory, ToRename, ToSetType, ToUnmount, ToUnmountLazily, ToUnshare, ToWritePart}
@@ -114,7 +114,7 @@ module _ (Q : Option (Node ℕ) → Type 0) (number inode : ℕ) where
 
   change_left : (fresh : Fresh ℕ) (world : World ℕ) (location : Location ℕ) (change : Change ℕ) → HasNoOverlays world
       → Holds world.filesystems → ChangeHolds world location change
-      → Holds (with_change_counted nat_eq (λ count. count) fresh world location change).filesystems
+      → Holds (with_change nat_eq fresh world location change).filesystems
   change_left fresh world location change plain h here = by at.overlay overlay
     where
       at : Filesystem ℕ
@@ -127,9 +127,9 @@ module _ (Q : Option (Node ℕ) → Type 0) (number inode : ℕ) where
       overlay = numbered_anyhow (λ filesystem. is_overlay filesystem ≡ false) shown world.filesystems plain refl
 
       by : (o : Option (Overlay ℕ)) → is_some o ≡ false
-          → Holds (filesystem_changed_counted nat_eq (λ count. count) fresh world at o change).filesystems
+          → Holds (filesystem_changed nat_eq fresh world at o change).filesystems
       by None e =
-          replaced_holds (with_files_counted (λ count. count) at (changed nat_eq at.files change))
+          replaced_holds (with_files at (changed nat_eq at.files change))
           (λ same. here (same ∙ number_numbered shown world.filesystems)) world.filesystems h
       by (Some overlay) e = absurd (true≢false e)
 
@@ -152,7 +152,7 @@ module _ (Q : Option (Node ℕ) → Type 0) (number inode : ℕ) where
     -- a change, where mounts were taken away before
     replaced_left : (replaced : Option (Location ℕ)) (location : Location ℕ) (change : Change ℕ)
         → ChangeHolds world location change
-        → Holds (with_change_counted nat_eq (λ count. count) fresh (without_replaced nat_eq world replaced) location
+        → Holds (with_change nat_eq fresh (without_replaced nat_eq world replaced) location
         change).filesystems
     replaced_left replaced location change here =
         change_left fresh (without_replaced nat_eq world replaced) location change
@@ -163,7 +163,7 @@ module _ (Q : Option (Node ℕ) → Type 0) (number inode : ℕ) where
         (here (same ∙ replaced_shows world replaced location)))
 
     copied_left : (copies : Bool) (file : Location ℕ)
-        → Holds (with_copy_counted nat_eq copies (λ count. count) fresh world file).filesystems
+        → Holds (with_copy nat_eq copies fresh world file).filesystems
     copied_left true file =
         change_left fresh world file (CopyUp file.node) plain h
         (λ same. subst (λ n. Q ((numbered n world.filesystems).files.tree.node inode)) same h)
@@ -171,12 +171,12 @@ module _ (Q : Option (Node ℕ) → Type 0) (number inode : ℕ) where
 
     written_left : (file : Location ℕ) (offset : ℕ) (bytes : List ℕ)
         → MadeBy (change_of fresh world (ToWritePart file offset bytes))
-        → Holds (pwritten_counted nat_eq (λ count. count) fresh world file offset bytes).filesystems
+        → Holds (pwritten nat_eq fresh world file offset bytes).filesystems
     written_left file offset [] here = h
     written_left file offset (byte ∷ bytes) here = change_left fresh world file _ plain h here
 
     pub inode_left : (task : Task ℕ) (permit : Permit ℕ) → LeftBy permit
-        → Holds (apply_unraised nat_eq fresh world task permit).world.filesystems
+        → Holds (apply nat_eq fresh world task permit).world.filesystems
     inode_left task (ToChange location change) here = change_left fresh world location change plain h here
     inode_left task (ToMake directory name node) here = change_left (odds fresh) world directory _ plain h here
     inode_left task (ToRemoveDirectory parent name directory) here = replaced_left (Some directory) parent _ here

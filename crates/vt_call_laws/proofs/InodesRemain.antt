@@ -4,9 +4,8 @@ use Rattle.vt_call_laws.proofs.GivenPermits.{permits_are_for_their_calls}
 use Rattle.vt_call_laws.proofs.InodesLeft.{LeftBy, MadeBy, inode_left}
 use Rattle.vt_call_laws.specs.Given.{IsFor}
 use Rattle.vt_call_laws.specs.Inodes.{HasNoOverlays, OnlyUnusedInodesEnd, change_of, inode_in, mounts_overlay}
-use Rattle.vt_laws.proofs.NumbersRaised.{numbers_are_raised_last}
 use Rattle.vt_call_laws.proofs.InodesSettled.{raised_holds}
-use Rattle.vt_spec.specs.Machine.Apply.{apply_unraised, filesystems_changed}
+use Rattle.vt_spec.specs.Machine.Apply.{apply, filesystems_changed}
 use Rattle.vt_spec.specs.Machine.Calls.{Call}
 use Rattle.vt_spec.specs.Machine.Changes.{Change, changed, changed_node, node_with_attr, node_with_mark, node_with_parent, node_without_entry, with_inode, with_name, without_name, without_parent}
 use Rattle.vt_spec.specs.Machine.Changes.Change.{AddName, CopyUp, Make, Move, Remove, SetAttr, SetBytes, SetMark}
@@ -114,10 +113,6 @@ module _ (other : ℕ) where
 
 pub only_unused_inodes_end : OnlyUnusedInodesEnd
 only_unused_inodes_end fresh world call task permit filesystem number plain no_overlay judged =
-    subst (λ w. Remains (inode_in world filesystem number) (inode_in w filesystem number))
-    (sym (numbers_are_raised_last fresh world task permit).1)
-    (raised_holds (Remains (inode_in world filesystem number)) filesystem number
-    (filesystems_changed nat_eq world permit) (apply_unraised nat_eq fresh world task permit).world
-    (inode_left (Remains (inode_in world filesystem number)) filesystem number fresh world plain (λ there. there) task permit
+    inode_left (Remains (inode_in world filesystem number)) filesystem number fresh world plain (λ there. there) task permit
     (left number fresh world plain filesystem task call no_overlay permit
-    (permits_are_for_their_calls fresh world task call permit judged))))
+    (permits_are_for_their_calls fresh world task call permit judged))

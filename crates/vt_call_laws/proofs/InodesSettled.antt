@@ -1,17 +1,16 @@
 -- What settling and raising leave of inodes: each is as it was, or gone.
 use Rattle.std.proofs.Common.{◌≡◌, refl, sym, ap, subst, ◌∙◌, true≢false, ℕ, nat_eq, eqb-true, Bool, true, false, not, cond, ◌||◌, List, [], ◌∷◌, map, filter, find, Option, Some, None, unwrap_or, Ok, Err, ok_or}
 use Rattle.vt_laws.proofs.CallsJudged.{policy_judges_then_applies}
-use Rattle.vt_laws.proofs.NumbersRaised.{numbers_are_raised_last}
 use Rattle.vt_spec.specs.declared.errors.Rule.TheVariants.{S2}
 use Rattle.vt_spec.specs.Errors.{denial}
-use Rattle.vt_spec.specs.Machine.Apply.{apply, apply_unraised, filesystems_changed}
+use Rattle.vt_spec.specs.Machine.Apply.{apply}
 use Rattle.vt_spec.specs.Machine.Calls.{Call}
 use Rattle.vt_spec.specs.Machine.Filesystems.{filesystems_raised, raised, raised_if_changed}
 use Rattle.vt_spec.specs.Machine.Judge.{Judgement, judge_in}
 use Rattle.vt_spec.specs.Machine.Lists.{Fresh, is_among}
 use Rattle.vt_spec.specs.Machine.Outcomes.{after, denied}
 use Rattle.vt_spec.specs.Machine.Permits.{Permit}
-use Rattle.vt_spec.specs.Machine.Policy.{finished, finished_by, only_looks, policy}
+use Rattle.vt_spec.specs.Machine.Policy.{filesystems_changed_by, finished, finished_by, only_looks, policy}
 use Rattle.vt_spec.specs.Machine.Settled.{filesystem_lives, only_used, only_used_by, settled, used_in, without_dead_filesystems, without_dead_in, without_dead_mounts}
 use Rattle.vt_spec.specs.Machine.World.{Filesystem, Task, TaskName, World, is_overlay, no_filesystem, task_called}
 use Rattle.vt_spec.specs.Tree.{Node}
@@ -164,37 +163,39 @@ module _ (Q : Inode → Type 0) (number inode : ℕ) where
       pub inode_after_call : HoldsIn world.filesystems
           → ((task : Task ℕ) (permit : Permit ℕ) → task_called world name ≡ Some task
           → judge_in nat_eq fresh world task call ≡ Ok permit
-          → HoldsIn (apply_unraised nat_eq fresh world task permit).world.filesystems)
+          → HoldsIn (apply nat_eq fresh world task permit).world.filesystems)
           → HoldsIn (policy nat_eq fresh world name call).world.filesystems
       inode_after_call same done =
           subst (λ outcome. HoldsIn outcome.world.filesystems) (sym (policy_judges_then_applies fresh world name call))
           (by_task (task_called world name) refl)
         where
-          by_permit : (task : Task ℕ) → task_called world name ≡ Some task → (judgement : Judgement ℕ)
-              → judge_in nat_eq fresh world task call ≡ judgement
-              → HoldsIn (finished nat_eq world name call (after world judgement (apply nat_eq fresh world task))).world.filesystems
-          by_permit task is (Ok permit) judged = by_looks _
+          by_permit : (changed : List ℕ) (task : Task ℕ) → task_called world name ≡ Some task
+              → (judgement : Judgement ℕ) → judge_in nat_eq fresh world task call ≡ judgement
+              → HoldsIn (finished nat_eq world name call changed (after world judgement (apply nat_eq fresh world task))).world.filesystems
+          by_permit changed task is (Ok permit) judged = by_looks _
             where
               left : HoldsIn (apply nat_eq fresh world task permit).world.filesystems
-              left =
-                  subst (λ w. HoldsIn w.filesystems) (sym (numbers_are_raised_last fresh world task permit).1)
-                  (raised_holds (filesystems_changed nat_eq world permit) (apply_unraised nat_eq fresh world task permit).world
-                  (done task permit is judged))
+              left = done task permit is judged
 
               by_looks : (b : Bool)
-                  → HoldsIn (finished_by nat_eq b world name (apply nat_eq fresh world task permit)).world.filesystems
+                  → HoldsIn (finished_by nat_eq b world name changed (apply nat_eq fresh world task permit)).world.filesystems
               by_looks true = left
-              by_looks false = settled_holds (apply nat_eq fresh world task permit).world left
-          by_permit task is (Err deny) judged = by_looks (only_looks call)
+              by_looks false =
+                  raised_holds changed (settled nat_eq (apply nat_eq fresh world task permit).world)
+                  (settled_holds (apply nat_eq fresh world task permit).world left)
+          by_permit changed task is (Err deny) judged = by_looks (only_looks call)
             where
               by_looks : (b : Bool)
-                  → HoldsIn (finished_by nat_eq (b || true) world name (denied world deny)).world.filesystems
+                  → HoldsIn (finished_by nat_eq (b || true) world name changed (denied world deny)).world.filesystems
               by_looks true = same
               by_looks false = same
 
           by_task : (o : Option (Task ℕ)) → task_called world name ≡ o
               → HoldsIn (after world (ok_or o (denial S2)) (λ task.
               finished nat_eq world name call
+              (filesystems_changed_by nat_eq world (judge_in nat_eq fresh world task call))
               (after world (judge_in nat_eq fresh world task call) (apply nat_eq fresh world task)))).world.filesystems
           by_task None is = same
-          by_task (Some task) is = by_permit task is (judge_in nat_eq fresh world task call) refl
+          by_task (Some task) is =
+              by_permit (filesystems_changed_by nat_eq world (judge_in nat_eq fresh world task call)) task is
+              (judge_in nat_eq fresh world task call) refl

@@ -1,42 +1,41 @@
 -- The tasks that each permit leaves, and that settling and raising leave of them.
 use Rattle.std.proofs.Common.{◌≡◌, refl, sym, ap, subst, ◌∙◌, ℕ, ◌+◌, nat_eq, Bool, true, false, not, cond, ◌||◌, List, [], ◌∷◌, ◌++◌, map, filter, Option, Some, None, unwrap_or, Ok, Err, ok_or}
 use Rattle.vt_laws.proofs.CallsJudged.{policy_judges_then_applies}
-use Rattle.vt_laws.proofs.NumbersRaised.{numbers_are_raised_last}
 use Rattle.vt_spec.specs.declared.errors.Rule.TheVariants.{S2}
 use Rattle.vt_spec.specs.Errors.{denial}
-use Rattle.vt_spec.specs.Machine.Apply.{apply, apply_unraised}
+use Rattle.vt_spec.specs.Machine.Apply.{apply}
 use Rattle.vt_spec.specs.Machine.Calls.{Call, TypeWord}
 use Rattle.vt_spec.specs.Machine.Changes.{Change}
 use Rattle.vt_spec.specs.Machine.Detach.{after_going, deepest_first, taken_away, unmounted, unmounted_if_there, without_mounts_on}
-use Rattle.vt_spec.specs.Machine.Filesystems.{filesystem_changed_counted, overlay_changed_counted, with_change_counted}
+use Rattle.vt_spec.specs.Machine.Filesystems.{filesystem_changed, overlay_changed, with_change}
 use Rattle.vt_spec.specs.Machine.Judge.{Judgement, judge_in}
 use Rattle.vt_spec.specs.Machine.Lists.{Fresh, evens, folded, odds}
 use Rattle.vt_spec.specs.Machine.Mounts.{Location, Mount, mount_tree, numbers_by}
 use Rattle.vt_spec.specs.Machine.Namespaces.{entered_at, namespace_entered, namespace_root, pivoted_task, unshared, unshared_task}
-use Rattle.vt_spec.specs.Machine.Outcome.Descriptors.{is_copied_up, pwritten_counted, with_copy_counted, with_descriptor, without_descriptor}
+use Rattle.vt_spec.specs.Machine.Outcome.Descriptors.{is_copied_up, pwritten, with_copy, with_descriptor, without_descriptor}
 use Rattle.vt_spec.specs.Machine.Outcome.Removing.{without_replaced}
 use Rattle.vt_spec.specs.Machine.Outcome.Tasks.{child_of}
 use Rattle.vt_spec.specs.Machine.Outcomes.{after, denied}
 use Rattle.vt_spec.specs.Machine.Permits.{Permit}
 use Rattle.vt_spec.specs.Machine.Permits.Permit.{ToChange, ToClose, ToEnterNamespace, ToExit, ToFork, ToMake, ToOpen, ToOpenNew, ToPivot, ToRemoveDirectory, ToRename, ToSetCredentials, ToSetDirectory, ToSetRoot, ToSetType, ToSetUmask, ToUnmount, ToUnmountLazily, ToUnshare, ToWritePart}
-use Rattle.vt_spec.specs.Machine.Policy.{finished, finished_by, only_looks, policy, raised_task}
+use Rattle.vt_spec.specs.Machine.Policy.{filesystems_changed_by, finished, finished_by, only_looks, policy, raised_task}
 use Rattle.vt_spec.specs.Machine.Receives.{regrouped, regrouped_by}
 use Rattle.vt_spec.specs.Machine.Types.{named_mounts, retyped_mount, with_new_groups, with_type}
 use Rattle.vt_spec.specs.Machine.World.{Overlay, Layer, Task, TaskName, World, filesystem_at, mount_at, mount_numbered, mounts_of, replaced_if_called, same_name, task_called, with_mounts, without_task}
 
 -- the worlds on the way keep the tasks
-changed_tasks : (count : ℕ → ℕ) (fresh : Fresh ℕ) (world : World ℕ) (location : Location ℕ) (change : Change ℕ)
-    → (with_change_counted nat_eq count fresh world location change).tasks ≡ world.tasks
-changed_tasks count fresh world location change = by (filesystem_at nat_eq world location).overlay
+changed_tasks : (fresh : Fresh ℕ) (world : World ℕ) (location : Location ℕ) (change : Change ℕ)
+    → (with_change nat_eq fresh world location change).tasks ≡ world.tasks
+changed_tasks fresh world location change = by (filesystem_at nat_eq world location).overlay
   where
     by_upper : (overlay : Overlay ℕ) (o : Option (Layer ℕ))
-        → (overlay_changed_counted nat_eq count fresh world (filesystem_at nat_eq world location) overlay o change).tasks
+        → (overlay_changed nat_eq fresh world (filesystem_at nat_eq world location) overlay o change).tasks
         ≡ world.tasks
     by_upper overlay None = refl
     by_upper overlay (Some upper) = refl
 
     by : (o : Option (Overlay ℕ))
-        → (filesystem_changed_counted nat_eq count fresh world (filesystem_at nat_eq world location) o change).tasks
+        → (filesystem_changed nat_eq fresh world (filesystem_at nat_eq world location) o change).tasks
         ≡ world.tasks
     by None = refl
     by (Some overlay) = by_upper overlay overlay.upper
@@ -78,15 +77,15 @@ replaced_tasks : (world : World ℕ) (replaced : Option (Location ℕ))
 replaced_tasks world None = refl
 replaced_tasks world (Some location) = taken_tasks world _
 
-copied_tasks : (copies : Bool) (count : ℕ → ℕ) (fresh : Fresh ℕ) (world : World ℕ) (file : Location ℕ)
-    → (with_copy_counted nat_eq copies count fresh world file).tasks ≡ world.tasks
-copied_tasks true count fresh world file = changed_tasks count fresh world file _
-copied_tasks false count fresh world file = refl
+copied_tasks : (copies : Bool) (fresh : Fresh ℕ) (world : World ℕ) (file : Location ℕ)
+    → (with_copy nat_eq copies fresh world file).tasks ≡ world.tasks
+copied_tasks true fresh world file = changed_tasks fresh world file _
+copied_tasks false fresh world file = refl
 
-written_tasks : (count : ℕ → ℕ) (fresh : Fresh ℕ) (world : World ℕ) (file : Location ℕ) (offset : ℕ) (bytes : List ℕ)
-    → (pwritten_counted nat_eq count fresh world file offset bytes).tasks ≡ world.tasks
-written_tasks count fresh world file offset [] = refl
-written_tasks count fresh world file offset (byte ∷ bytes) = changed_tasks count fresh world file _
+written_tasks : (fresh : Fresh ℕ) (world : World ℕ) (file : Location ℕ) (offset : ℕ) (bytes : List ℕ)
+    → (pwritten nat_eq fresh world file offset bytes).tasks ≡ world.tasks
+written_tasks fresh world file offset [] = refl
+written_tasks fresh world file offset (byte ∷ bytes) = changed_tasks fresh world file _
 
 abbrev Tasks : Type 0
 Tasks = List (Task ℕ)
@@ -125,22 +124,22 @@ module _ (fresh : Fresh ℕ) (world : World ℕ) (task : Task ℕ) where
       world.tasks
   left_tasks permit = world.tasks
 
-  pub tasks_left : (permit : Permit ℕ) → (apply_unraised nat_eq fresh world task permit).world.tasks ≡ left_tasks permit
-  tasks_left (ToChange location change) = changed_tasks (λ number. number) fresh world location change
-  tasks_left (ToMake directory name node) = changed_tasks (λ number. number) (odds fresh) world directory _
+  pub tasks_left : (permit : Permit ℕ) → (apply nat_eq fresh world task permit).world.tasks ≡ left_tasks permit
+  tasks_left (ToChange location change) = changed_tasks fresh world location change
+  tasks_left (ToMake directory name node) = changed_tasks (odds fresh) world directory _
   tasks_left (ToRemoveDirectory parent name directory) =
-      changed_tasks (λ number. number) fresh (without_mounts_on nat_eq world directory) parent _ ∙ taken_tasks world _
+      changed_tasks fresh (without_mounts_on nat_eq world directory) parent _ ∙ taken_tasks world _
   tasks_left (ToRename from old to new object replaced) =
-      changed_tasks (λ number. number) fresh (without_replaced nat_eq world replaced) from _
+      changed_tasks fresh (without_replaced nat_eq world replaced) from _
       ∙ replaced_tasks world replaced
   tasks_left (ToOpen file access) =
       ap (map (replaced_if_called (with_descriptor task file access)))
-      (copied_tasks (is_copied_up nat_eq world file access) (λ number. number) fresh world file)
+      (copied_tasks (is_copied_up nat_eq world file access) fresh world file)
   tasks_left (ToOpenNew directory name node access) =
       ap (map (replaced_if_called
       (with_descriptor task (record { mount = directory.mount; node = evens fresh 0 }) access)))
-      (changed_tasks (λ number. number) (odds fresh) world directory _)
-  tasks_left (ToWritePart file offset bytes) = written_tasks (λ number. number) fresh world file offset bytes
+      (changed_tasks (odds fresh) world directory _)
+  tasks_left (ToWritePart file offset bytes) = written_tasks fresh world file offset bytes
   tasks_left ToExit = taken_tasks (without_task world task.name) _
   tasks_left ToUnshare = taken_tasks (unshared nat_eq world fresh task) _
   tasks_left (ToEnterNamespace namespace) = taken_tasks (namespace_entered nat_eq world task namespace) _
@@ -162,28 +161,29 @@ tasks_after_call P fresh world name call same done =
     subst (λ outcome. P outcome.world.tasks) (sym (policy_judges_then_applies fresh world name call))
     (by_task (task_called world name) refl)
   where
-    by_permit : (task : Task ℕ) → task_called world name ≡ Some task → (judgement : Judgement ℕ)
+    by_permit : (changed : List ℕ) (task : Task ℕ) → task_called world name ≡ Some task → (judgement : Judgement ℕ)
         → judge_in nat_eq fresh world task call ≡ judgement
-        → P (finished nat_eq world name call (after world judgement (apply nat_eq fresh world task))).world.tasks
-    by_permit task is (Ok permit) judged = by_looks _
+        → P (finished nat_eq world name call changed (after world judgement (apply nat_eq fresh world task))).world.tasks
+    by_permit changed task is (Ok permit) judged = by_looks _
       where
         left : (apply nat_eq fresh world task permit).world.tasks ≡ left_tasks fresh world task permit
-        left =
-            ap (λ w. w.tasks) (numbers_are_raised_last fresh world task permit).1 ∙ tasks_left fresh world task permit
+        left = tasks_left fresh world task permit
 
         by_looks : (b : Bool)
-            → P (finished_by nat_eq b world name (apply nat_eq fresh world task permit)).world.tasks
+            → P (finished_by nat_eq b world name changed (apply nat_eq fresh world task permit)).world.tasks
         by_looks true = subst P (sym left) (done task permit is judged).0
         by_looks false = subst (λ tasks. P (map (raised_task name) tasks)) (sym left) (done task permit is judged).1
-    by_permit task is (Err deny) judged = by_looks (only_looks call)
+    by_permit changed task is (Err deny) judged = by_looks (only_looks call)
       where
-        by_looks : (b : Bool) → P (finished_by nat_eq (b || true) world name (denied world deny)).world.tasks
+        by_looks : (b : Bool) → P (finished_by nat_eq (b || true) world name changed (denied world deny)).world.tasks
         by_looks true = same
         by_looks false = same
 
     by_task : (o : Option (Task ℕ)) → task_called world name ≡ o
         → P (after world (ok_or o (denial S2)) (λ task.
-        finished nat_eq world name call
+        finished nat_eq world name call (filesystems_changed_by nat_eq world (judge_in nat_eq fresh world task call))
         (after world (judge_in nat_eq fresh world task call) (apply nat_eq fresh world task)))).world.tasks
     by_task None is = same
-    by_task (Some task) is = by_permit task is (judge_in nat_eq fresh world task call) refl
+    by_task (Some task) is =
+        by_permit (filesystems_changed_by nat_eq world (judge_in nat_eq fresh world task call)) task is
+        (judge_in nat_eq fresh world task call) refl
