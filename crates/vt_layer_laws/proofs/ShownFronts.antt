@@ -11,7 +11,7 @@ use Rattle.vt_layer_laws.specs.Layers.Shown.{HidesLower, IsFrontOf}
 use Rattle.vt_layer_laws.specs.Layers.Shown.HidesLower.{a_file, a_link, a_whiteout, an_opaque_directory}
 
 -- a test of a list is the test of what it was made of
-list_any_of_map : {A B : Type 0} (test : B → Bool) (f : A → B) (list : List A) → list_any test (map f list) ≡ list_any (λ a. test (f a)) list
+pub list_any_of_map : {A B : Type 0} (test : B → Bool) (f : A → B) (list : List A) → list_any test (map f list) ≡ list_any (λ a. test (f a)) list
 list_any_of_map test f [] = refl
 list_any_of_map test f (a ∷ list) = ap (λ b. test (f a) || b) (list_any_of_map test f list)
 

@@ -165,8 +165,7 @@ module _ (layers : List (OpenLayer ℕ)) (are_open : AreOpen layers) (longest : 
       by (Some inode) e =
           let is = is_of_object n inode e in
           subst (SameObject (Some inode.node))
-          (sym (ap (behind layers has_upper) is.real ∙ behind_object is.object is.layer has_upper is.object.seen.layer refl))
-          (
+          (sym (ap (behind layers has_upper) is.real ∙ behind_object is.object is.layer has_upper is.object.seen.layer refl)) (
             ap (λ node. node.attr) is.node,
             ap (λ node. same_content node.content is.layer.node.content) is.node
                 ∙ same_merged is.object.path is.layer.node.content (not_white is.object is.among is.layer),

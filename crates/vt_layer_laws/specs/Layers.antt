@@ -4,3 +4,4 @@ pub mod Untouched
 pub mod Upper
 pub mod ChangesUpper
 pub mod Mounted
+pub mod Directories
