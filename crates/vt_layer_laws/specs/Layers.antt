@@ -5,3 +5,4 @@ pub mod Upper
 pub mod ChangesUpper
 pub mod Mounted
 pub mod Directories
+pub mod DirectoryTrees

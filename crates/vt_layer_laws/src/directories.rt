@@ -1,5 +1,6 @@
 //! Laws of merged directories: what layers show is found one directory at a time.
 ghost use Rattle.vt_layer_laws.specs.Layers.Directories.{ShownUnderName, MergedAreViews, PlacedShowTheSame, PlacesAreCountedBack, LayersAreViews, DirectoriesAreMerged};
+ghost use Rattle.vt_layer_laws.specs.Layers.DirectoryTrees.{OneDirectoryIsEnough, ObjectsAreThoseShown, OverlaysAreMergedByDirectory, RealObjectsAreThoseShown};
 
 /// What layers show under a name is what the directories show that are merged under it: those of the layers that have one
 /// there, from the top to the first that is opaque or that has something else there. In trees these are found by the one
@@ -11,4 +12,14 @@ pub fn layers_merge_one_directory_at_a_time()
     ensures counted { PlacesAreCountedBack }
     ensures layers { LayersAreViews }
     ensures directories { DirectoriesAreMerged }
+{}
+
+/// A tree of which each directory has under each name what its views show there, the root all layers' and a directory under
+/// a name those that are merged under it, has at every path what the layers show; and what is found so as the real object of
+/// an inode is the one that is shown.
+pub fn one_directory_at_a_time_is_enough()
+    ensures tree { OneDirectoryIsEnough }
+    ensures objects { ObjectsAreThoseShown }
+    ensures overlays { OverlaysAreMergedByDirectory }
+    ensures real { RealObjectsAreThoseShown }
 {}
