@@ -6,3 +6,4 @@ pub mod ChangesUpper
 pub mod Mounted
 pub mod Directories
 pub mod DirectoryTrees
+pub mod NewOverlays

@@ -1,0 +1,14 @@
+use Rattle.vt_layer_laws.proofs.DirectoriesFit.{new_overlay_has_own_parents, new_overlay_is_fit, new_overlay_is_tree, new_overlay_lists_numbers}
+use Rattle.vt_layer_laws.proofs.directories.a_new_overlay_meets_the_invariants.Goals as goal
+
+pub returns-clause-tree : goal.returns-clause-tree
+returns-clause-tree c = new_overlay_is_tree
+
+pub returns-clause-own_parents : goal.returns-clause-own_parents
+returns-clause-own_parents c = new_overlay_has_own_parents
+
+pub returns-clause-numbers : goal.returns-clause-numbers
+returns-clause-numbers c = new_overlay_lists_numbers
+
+pub returns-clause-fit : goal.returns-clause-fit
+returns-clause-fit c = new_overlay_is_fit
