@@ -22,19 +22,19 @@ module _ {A : Type 0} where
   Pairwise R [] = ⊤
   Pairwise R (a ∷ list) = ((b : A) → Among list b → R a b) × Pairwise R list
 
-  from_append : (list other : List A) (a : A) → Among (list ++ other) a → Among list a ⊎ Among other a
+  pub from_append : (list other : List A) (a : A) → Among (list ++ other) a → Among list a ⊎ Among other a
   from_append [] other a among = inr among
   from_append (first ∷ list) other a (inl e) = inl (inl e)
   from_append (first ∷ list) other a (inr among) = ⊎_elim (λ l. inl (inr l)) (λ r. inr r) (from_append list other a among)
 
-  pairwise_append : (R : A → A → Type 0) (list other : List A) → Pairwise R list → Pairwise R other → ((a b : A) → Among list a → Among other b → R a b) → Pairwise R (list ++ other)
+  pub pairwise_append : (R : A → A → Type 0) (list other : List A) → Pairwise R list → Pairwise R other → ((a b : A) → Among list a → Among other b → R a b) → Pairwise R (list ++ other)
   pairwise_append R [] other p q across = q
   pairwise_append R (first ∷ list) other p q across = (
     λ b among. ⊎_elim (λ l. p.0 b l) (λ r. across first b (inl refl) r) (from_append list other b among),
     pairwise_append R list other p.1 q (λ a b l r. across a b (inr l) r),
   )
 
-  among_filtered : (test : A → Bool) (list : List A) (a : A) → Among (filter test list) a → Among list a
+  pub among_filtered : (test : A → Bool) (list : List A) (a : A) → Among (filter test list) a → Among list a
   among_filtered test [] a among = absurd among
   among_filtered test (first ∷ list) a among = by (test first) among (among_filtered test list a)
     where

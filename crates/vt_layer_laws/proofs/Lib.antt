@@ -9,6 +9,7 @@ pub mod CopyingReady
 pub mod CopyingSound
 pub mod DirectoriesBelow
 pub mod DirectoriesFit
+pub mod DirectoriesLater
 pub mod DirectoriesMerged
 pub mod DirectoriesOrder
 pub mod DirectoriesTree
