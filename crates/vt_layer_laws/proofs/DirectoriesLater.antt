@@ -37,7 +37,7 @@ not_found n (first ∷ list) e = by (nat_eq n first.number) e (not_found n list)
     by true e rest = absurd (true≢false e)
     by false e rest = rest e
 
-any_found : {A : Type 0} (test : A → Bool) (list : List A) → list_any test list ≡ true → (a : A) × (test a ≡ true)
+pub any_found : {A : Type 0} (test : A → Bool) (list : List A) → list_any test list ≡ true → (a : A) × (test a ≡ true)
 any_found test [] e = absurd (true≢false (sym e))
 any_found test (first ∷ list) e = by (test first) refl e (any_found test list)
   where

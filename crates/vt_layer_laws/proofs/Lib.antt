@@ -7,6 +7,7 @@ pub mod CopyingParts
 pub mod CopyingReaches
 pub mod CopyingReady
 pub mod CopyingSound
+pub mod DirectoriesApart
 pub mod DirectoriesBelow
 pub mod DirectoriesFit
 pub mod DirectoriesLater
