@@ -36,7 +36,7 @@ module _ {A : Type 0} where
   none_pass test [] h = refl
   none_pass test (first ∷ list) h = ap (λ b. b || list_any test list) (h first (inl refl)) ∙ none_pass test list (λ a among. h a (inr among))
 
-  each_passes : (test : A → Bool) (list : List A) → list_all test list ≡ true → (a : A) → Among list a → test a ≡ true
+  pub each_passes : (test : A → Bool) (list : List A) → list_all test list ≡ true → (a : A) → Among list a → test a ≡ true
   each_passes test [] e a among = absurd among
   each_passes test (first ∷ list) e a (inl same) = ap test (sym same) ∙ and_first (test first) _ e
   each_passes test (first ∷ list) e a (inr among) = each_passes test list (and_second (test first) _ e) a among

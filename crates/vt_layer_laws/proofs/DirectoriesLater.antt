@@ -29,7 +29,7 @@ find_skips : (test : Filesystem ℕ → Bool) (list : List (Filesystem ℕ)) (la
 find_skips test [] last e = ap (λ b. cond b (Some last) None) e
 find_skips test (first ∷ list) last e = ap (cond (test first) (Some first)) (find_skips test list last e)
 
-not_found : (n : ℕ) (list : List (Filesystem ℕ)) → list_any (nat_eq n) (map (λ f. f.number) list) ≡ false → find (λ f. nat_eq n f.number) list ≡ None
+pub not_found : (n : ℕ) (list : List (Filesystem ℕ)) → list_any (nat_eq n) (map (λ f. f.number) list) ≡ false → find (λ f. nat_eq n f.number) list ≡ None
 not_found n [] e = refl
 not_found n (first ∷ list) e = by (nat_eq n first.number) e (not_found n list)
   where
@@ -69,7 +69,7 @@ module _ (world : World ℕ) (conditions : IsWorld nat_eq world) (overlay : Over
   abbrev pub IsOld : Layer ℕ → Type 0
   IsOld layer = nat_eq layer.filesystem new.number ≡ false
 
-  same_filesystem : (n : ℕ) → nat_eq n new.number ≡ false → filesystem_numbered nat_eq later n ≡ filesystem_numbered nat_eq world n
+  pub same_filesystem : (n : ℕ) → nat_eq n new.number ≡ false → filesystem_numbered nat_eq later n ≡ filesystem_numbered nat_eq world n
   same_filesystem n e = ap (λ o. unwrap_or o (no_filesystem n)) (find_skips (λ f. nat_eq n f.number) world.filesystems new e)
 
   is_there : (layer : Layer ℕ) → is_plain_layer nat_eq world layer ≡ true → is_directory_node ((filesystem_numbered nat_eq world layer.filesystem).files.tree.node layer.directory) ≡ true

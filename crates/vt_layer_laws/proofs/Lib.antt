@@ -13,6 +13,7 @@ pub mod DirectoriesFit
 pub mod DirectoriesLater
 pub mod DirectoriesMerged
 pub mod DirectoriesOrder
+pub mod DirectoriesStill
 pub mod DirectoriesTree
 pub mod DirectoriesUnder
 pub mod LowersCalls

@@ -162,7 +162,7 @@ module _ (world : World ℕ) (conditions : IsWorld nat_eq world) (overlay : Over
     pub odd_distinct : (j k : ℕ) → odds fresh j ≡ odds fresh k → j ≡ k
     odd_distinct j k e = let same = distinct (2 * j + 1) (2 * k + 1) e in omega arith
 
-    abbrev made : Overlay ℕ
+    abbrev pub made : Overlay ℕ
     made = record overlay { real = real_of nat_eq (merged_inodes nat_eq (odds fresh) (is_some overlay.upper) layers (merged_objects layers (inode_count world))) }
 
     pub made_merged : IsMerged nat_eq world (overlay_filesystem nat_eq fresh world overlay) made

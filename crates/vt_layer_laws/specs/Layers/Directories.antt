@@ -33,11 +33,13 @@ module _ {N : Type 0} where
   -- what such views show, with the places of their layers
   abbrev pub shown_in : List (PlacedView N) → List (List ℕ) → Option (Shown N)
   shown_in [] path = None
-  shown_in (top ∷ lower) path = shown_over top.view top.layer (top.view.leads path) (cuts top.view path) (shown_in lower path)
+  shown_in (top ∷ lower) path =
+      shown_over top.view top.layer (top.view.leads path) (cuts top.view path) (shown_in lower path)
 
   -- what is shown by views that are counted from the top, with the places of their layers
   abbrev pub counted_back : List (PlacedView N) → Shown N → Option (Shown N)
-  counted_back views seen = then_some (slice_get views seen.layer) (λ top. Some (record { layer = top.layer; object = seen.object }))
+  counted_back views seen =
+      then_some (slice_get views seen.layer) (λ top. Some (record { layer = top.layer; object = seen.object }))
 
   -- a view that goes on from a name
   abbrev pub view_under : List ℕ → View N → View N
@@ -53,7 +55,8 @@ module _ {N : Type 0} where
   abbrev pub merged_under : List (PlacedView N) → List ℕ → List (PlacedView N)
   merged_under [] name = []
   merged_under (top ∷ lower) name =
-      merged_over (record { layer = top.layer; view = view_under name top.view }) (node_led top.view (name ∷ [])) (merged_under lower name)
+      merged_over (record { layer = top.layer; view = view_under name top.view })
+      (node_led top.view (name ∷ [])) (merged_under lower name)
 
   -- the same for directories of trees: each is looked into for one name
   abbrev pub directory_over : PlacedLayer N → Option N → List (PlacedLayer N) → List (PlacedLayer N)
@@ -73,7 +76,8 @@ module _ {N : Type 0} where
 
 -- A view as that of a tree: what names lead to is there, and is reached through directories.
 pub record IsView (view : View ℕ) : Type 0 where
-  pub there : (path : List (List ℕ)) (object : ℕ) → view.leads path ≡ Some object → is_some (view.node object) ≡ true
+  pub there : (path : List (List ℕ)) (object : ℕ)
+      → view.leads path ≡ Some object → is_some (view.node object) ≡ true
   pub through : (front rest : List (List ℕ)) (object : ℕ)
       → rest ≢ [] → view.leads (front ++ rest) ≡ Some object → is_directory_node (node_led view front) ≡ true
 
@@ -88,11 +92,13 @@ ShownUnderName =
 
 -- which are views again
 abbrev pub MergedAreViews : Type 0
-MergedAreViews = (views : List (PlacedView ℕ)) (name : List ℕ) → AreViews views → AreViews (merged_under views name)
+MergedAreViews =
+    (views : List (PlacedView ℕ)) (name : List ℕ) → AreViews views → AreViews (merged_under views name)
 
 -- all layers, each with its place, show what they show
 abbrev pub PlacedShowTheSame : Type 0
-PlacedShowTheSame = (views : List (View ℕ)) (path : List (List ℕ)) → shown views path ≡ shown_in (placed views) path
+PlacedShowTheSame =
+    (views : List (View ℕ)) (path : List (List ℕ)) → shown views path ≡ shown_in (placed views) path
 
 -- and some of them what they show by themselves, with the places counted back
 abbrev pub PlacesAreCountedBack : Type 0
@@ -102,7 +108,8 @@ PlacesAreCountedBack =
 
 -- the view of a directory of a tree is one
 abbrev pub LayersAreViews : Type 0
-LayersAreViews = (layer : OpenLayer ℕ) → IsTree layer.tree → IsDirectory layer.tree layer.directory → IsView (view_of layer)
+LayersAreViews =
+    (layer : OpenLayer ℕ) → IsTree layer.tree → IsDirectory layer.tree layer.directory → IsView (view_of layer)
 
 -- and the directories that are merged under a name are found by that name in each layer's directory
 abbrev pub DirectoriesAreMerged : Type 0
