@@ -1,6 +1,6 @@
--- What the layers of an overlay show, found one directory at a time: a name in a merged directory leads to the directories
--- that are merged under it. The kernel's overlayfs document, "directories", "whiteouts and opaque directories" and "multiple
--- lower layers".
+-- What the layers of an overlay show, found one directory at a time: a name in a merged directory leads to the
+-- directories that are merged under it. The kernel's overlayfs document, "directories", "whiteouts and opaque
+-- directories" and "multiple lower layers".
 use Rattle.std.specs.Prelude.{All, List, None, Option, Some, [], if◌then◌else◌, map, slice_get, true, ℕ, ◌++◌, ◌+◌, ◌∷◌, ◌≡◌, ◌≢◌, is_some}
 use Rattle.vt_spec.specs.Machine.Layers.{OpenLayer, view_of}
 use Rattle.vt_spec.specs.Machine.Lists.{then_some}
@@ -50,8 +50,8 @@ module _ {N : Type 0} where
   merged_over own node lower =
       (if is_directory_node node then own ∷ [] else []) ++ (if hides node then [] else lower)
 
-  -- The directories that are merged under a name: those of the layers that have one there, from the top to the first that is
-  -- opaque or that has something else there.
+  -- The directories that are merged under a name: those of the layers that have one there, from the top to the first
+  -- that is opaque or that has something else there.
   abbrev pub merged_under : List (PlacedView N) → List ℕ → List (PlacedView N)
   merged_under [] name = []
   merged_under (top ∷ lower) name =
@@ -62,7 +62,8 @@ module _ {N : Type 0} where
   abbrev pub directory_over : PlacedLayer N → Option N → List (PlacedLayer N) → List (PlacedLayer N)
   directory_over top None lower = lower
   directory_over top (Some object) lower =
-      merged_over (record { layer = top.layer; open_layer = record { tree = top.open_layer.tree; directory = object } })
+      merged_over
+      (record { layer = top.layer; open_layer = record { tree = top.open_layer.tree; directory = object } })
       (top.open_layer.tree.node object) lower
 
   abbrev pub directories_under : List (PlacedLayer N) → List ℕ → List (PlacedLayer N)

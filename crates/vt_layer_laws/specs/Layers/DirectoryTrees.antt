@@ -20,9 +20,10 @@ node_shown_by views some_views path = then_some (shown_in some_views path) (show
 abbrev pub ViewsOf : Type 0
 ViewsOf = ℕ → List (PlacedView ℕ)
 
--- A directory of a tree, with its views: its names lead to what the views show there, and the views of a directory under a
--- name are those of the directories that are merged there.
-pub record IsMergedDirectory (views : List (View ℕ)) (tree : Tree ℕ) (views_of : ViewsOf) (directory : ℕ) : Type 0 where
+-- A directory of a tree, with its views: its names lead to what the views show there, and the views of a directory
+-- under a name are those of the directories that are merged there.
+pub record IsMergedDirectory (views : List (View ℕ)) (tree : Tree ℕ) (views_of : ViewsOf)
+    (directory : ℕ) : Type 0 where
   pub entries : (name : List ℕ)
       → SameObject (then_some (entry_at tree directory name) tree.node)
       (node_shown_by views (views_of directory) (name ∷ []))
@@ -45,7 +46,7 @@ OneDirectoryIsEnough =
     → AreViews (placed views) → IsMergedByDirectory views tree views_of
     → SameObject (then_some (led tree tree.root path) tree.node) (then_some (shown views path) (shown_node views))
 
--- What is said of an inode when it is found under a name in a directory, of what the views of the directory show there.
+-- What is said of an inode when it is found under a name in a directory, of what the directory's views show there.
 pub record IsSaidByDirectory {A : Type 0} (views : List (View ℕ)) (tree : Tree ℕ) (views_of : ViewsOf)
     (of : List (List ℕ) → Shown ℕ → A) (said : ℕ → Option A) : Type 0 where
   pub root : said tree.root ≡ option_map (of []) (shown views [])
@@ -69,13 +70,15 @@ views_of_overlay world overlay = map view_of (map (open_layer nat_eq world) (sho
 abbrev pub OverlaysAreMergedByDirectory : Type 0
 OverlaysAreMergedByDirectory =
     (world : World ℕ) (overlay : Overlay ℕ) (tree : Tree ℕ) (views_of : ViewsOf) (path : List (List ℕ))
-    → IsWorld nat_eq world → AreLayers world overlay → IsMergedByDirectory (views_of_overlay world overlay) tree views_of
+    → IsWorld nat_eq world → AreLayers world overlay
+    → IsMergedByDirectory (views_of_overlay world overlay) tree views_of
     → SameObject (then_some (led tree tree.root path) tree.node) (node_shown nat_eq world overlay path)
 
 abbrev pub RealObjectsAreThoseShown : Type 0
 RealObjectsAreThoseShown =
     (world : World ℕ) (overlay : Overlay ℕ) (tree : Tree ℕ) (views_of : ViewsOf) (path : List (List ℕ)) (number : ℕ)
-    → IsWorld nat_eq world → AreLayers world overlay → IsMergedByDirectory (views_of_overlay world overlay) tree views_of
+    → IsWorld nat_eq world → AreLayers world overlay
+    → IsMergedByDirectory (views_of_overlay world overlay) tree views_of
     → IsSaidByDirectory (views_of_overlay world overlay) tree views_of
     (λ path seen. real_object (is_some overlay.upper) seen.layer (record { path = path; seen = seen })) overlay.real
     → led tree tree.root path ≡ Some number → overlay.real number ≡ real_shown nat_eq world overlay path

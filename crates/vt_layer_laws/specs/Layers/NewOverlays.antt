@@ -1,5 +1,5 @@
--- A newly mounted overlay has what the invariants of a world ask of trees: path_resolution(7), and the kernel's overlayfs
--- document, "upper and lower".
+-- A newly mounted overlay has what the invariants of a world ask of trees and of overlays: path_resolution(7), and the
+-- kernel's overlayfs document, "upper and lower" and "sharing and copying layers".
 use Rattle.std.specs.List.{list_all, list_any}
 use Rattle.std.specs.Prelude.{Some, false, map, nat_eq, true, ℕ, ◌≡◌}
 use Rattle.vt_spec.specs.Errors.{Rules}
@@ -35,7 +35,7 @@ NewOverlayIsFit = OfNewOverlays (λ world filesystem. is_fit_filesystem filesyst
 abbrev pub NoneRefuses : Rules → Type 0
 NoneRefuses rules = list_any (λ row. row.0) rules ≡ false
 
--- what is said of a world with an overlay that the rules on layers let be mounted, under a number that no filesystem has
+-- what is said of a world with an overlay that the rules on layers let be mounted, under a number that no other has
 abbrev pub OfNewlyMounted : (World ℕ → Type 0) → Type 0
 OfNewlyMounted Said =
     (fresh : Fresh ℕ) (world : World ℕ) (overlay : Overlay ℕ) (places : LayerPlaces ℕ)
