@@ -7,6 +7,15 @@ pub mod CopyingParts
 pub mod CopyingReaches
 pub mod CopyingReady
 pub mod CopyingSound
+pub mod DirectoriesApart
+pub mod DirectoriesBelow
+pub mod DirectoriesFit
+pub mod DirectoriesLater
+pub mod DirectoriesMerged
+pub mod DirectoriesOrder
+pub mod DirectoriesStill
+pub mod DirectoriesTree
+pub mod DirectoriesUnder
 pub mod LowersCalls
 pub mod LowersEachCall
 pub mod LowersEveryCall

@@ -25,7 +25,7 @@ last_of (name ∷ other ∷ path) n =
     let rest = last_of (other ∷ path) (λ e. true≢false (ap (λ l. elim l as (λ _. Bool) [ [] ↦ false | a ∷ b ↦ true ]) e)) in
     (name ∷ rest.0, rest.1, ap (λ p. name ∷ p) rest.2)
 
-longer_is_not_empty : (path : List (List ℕ)) (name : List ℕ) → path ++ name ∷ [] ≢ []
+pub longer_is_not_empty : (path : List (List ℕ)) (name : List ℕ) → path ++ name ∷ [] ≢ []
 longer_is_not_empty [] name e = true≢false (ap (λ l. elim l as (λ _. Bool) [ [] ↦ false | a ∷ b ↦ true ]) e)
 longer_is_not_empty (first ∷ path) name e = true≢false (ap (λ l. elim l as (λ _. Bool) [ [] ↦ false | a ∷ b ↦ true ]) e)
 

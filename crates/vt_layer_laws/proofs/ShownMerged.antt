@@ -145,7 +145,7 @@ module _ (layers : List (OpenLayer ℕ)) (are_open : AreOpen layers) (longest : 
             ∙ ap (λ b. not b && same_path path (front_of (path ++ name ∷ []))) (root_of_longer path name)
             ∙ ap (same_path path) (front_of_longer path name) ∙ path_itself path
 
-    entry_is_here : (object : Merged ℕ) (found : List ℕ × ℕ) → entry object ≡ Some found → (object.path ≡ path ++ found.0 ∷ []) × (found.1 ≡ number object)
+    pub entry_is_here : (object : Merged ℕ) (found : List ℕ × ℕ) → entry object ≡ Some found → (object.path ≡ path ++ found.0 ∷ []) × (found.1 ≡ number object)
     entry_is_here object found e = by object.path refl (not (is_root_path object.path) && same_path path (front_of object.path)) refl e
       where
         parted : (p : List (List ℕ)) → (not (is_root_path p) && same_path path (front_of p)) ≡ true → p ≡ path ++ last_or [] p ∷ []

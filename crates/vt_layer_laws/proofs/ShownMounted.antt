@@ -48,18 +48,18 @@ all_pass_at test (first ∷ list) all (suc k) a e = all_pass_at test list (and_s
 
 -- Layers of a world
 module _ (world : World ℕ) (conditions : IsWorld nat_eq world) (overlay : Overlay ℕ) (are_layers : AreLayers world overlay) where
-  abbrev layers : List (OpenLayer ℕ)
+  abbrev pub layers : List (OpenLayer ℕ)
   layers = map (open_layer nat_eq world) (shown_layers overlay)
 
   -- a layer is a directory of a tree of the world
-  record IsOpen (layer : OpenLayer ℕ) : Type 0 where
-    filesystem : Filesystem ℕ
-    test : Filesystem ℕ → Bool
-    found : find test world.filesystems ≡ Some filesystem
-    is : layer.tree ≡ filesystem.files.tree
-    directory : IsDirectory layer.tree layer.directory
+  pub record IsOpen (layer : OpenLayer ℕ) : Type 0 where
+    pub filesystem : Filesystem ℕ
+    pub test : Filesystem ℕ → Bool
+    pub found : find test world.filesystems ≡ Some filesystem
+    pub is : layer.tree ≡ filesystem.files.tree
+    pub directory : IsDirectory layer.tree layer.directory
 
-  is_open : (depth : ℕ) (layer : OpenLayer ℕ) → slice_get layers depth ≡ Some layer → IsOpen layer
+  pub is_open : (depth : ℕ) (layer : OpenLayer ℕ) → slice_get layers depth ≡ Some layer → IsOpen layer
   is_open depth layer e = by (slice_get (shown_layers overlay) depth) refl (sym (slice_get-map (open_layer nat_eq world) (shown_layers overlay) depth) ∙ e)
     where
       there : (plain : Layer ℕ) → is_directory_node ((filesystem_numbered nat_eq world plain.filesystem).files.tree.node plain.directory) ≡ true → (o : Option (Filesystem ℕ)) → find (λ filesystem. nat_eq plain.filesystem filesystem.number) world.filesystems ≡ o → find (λ filesystem. nat_eq plain.filesystem filesystem.number) world.filesystems ≡ Some (filesystem_numbered nat_eq world plain.filesystem)
@@ -159,10 +159,10 @@ module _ (world : World ℕ) (conditions : IsWorld nat_eq world) (overlay : Over
       by (Below layer path) (Some top) = in_lower layer path
 
   module _ (fresh : Fresh ℕ) (distinct : (j k : ℕ) → fresh j ≡ fresh k → j ≡ k) where
-    odd_distinct : (j k : ℕ) → odds fresh j ≡ odds fresh k → j ≡ k
+    pub odd_distinct : (j k : ℕ) → odds fresh j ≡ odds fresh k → j ≡ k
     odd_distinct j k e = let same = distinct (2 * j + 1) (2 * k + 1) e in omega arith
 
-    abbrev made : Overlay ℕ
+    abbrev pub made : Overlay ℕ
     made = record overlay { real = real_of nat_eq (merged_inodes nat_eq (odds fresh) (is_some overlay.upper) layers (merged_objects layers (inode_count world))) }
 
     pub made_merged : IsMerged nat_eq world (overlay_filesystem nat_eq fresh world overlay) made

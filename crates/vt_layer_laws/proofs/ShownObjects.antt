@@ -29,12 +29,12 @@ module _ {B : Type 0} where
   from_cons_option (Some c) list b (inl e) = inl (ap Some e)
   from_cons_option (Some c) list b (inr a) = inr a
 
-  among_append_left : (list other : List B) (b : B) → Among list b → Among (list ++ other) b
+  pub among_append_left : (list other : List B) (b : B) → Among list b → Among (list ++ other) b
   among_append_left [] other b among = absurd among
   among_append_left (first ∷ list) other b (inl e) = inl e
   among_append_left (first ∷ list) other b (inr among) = inr (among_append_left list other b among)
 
-  among_append_right : (list other : List B) (b : B) → Among other b → Among (list ++ other) b
+  pub among_append_right : (list other : List B) (b : B) → Among other b → Among (list ++ other) b
   among_append_right [] other b among = among
   among_append_right (first ∷ list) other b among = inr (among_append_right list other b among)
 

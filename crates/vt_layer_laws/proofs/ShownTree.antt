@@ -20,7 +20,7 @@ use Rattle.vt_layer_laws.proofs.ShownWhole.{same_merged}
 
 module _ (layers : List (OpenLayer ℕ)) (are_open : AreOpen layers) (longest : ℕ) (bounded : (path : List (List ℕ)) (seen : Shown ℕ) → shown layers path ≡ Some seen → length path ≤ longest) (fresh : Fresh ℕ) (distinct : (j k : ℕ) → fresh j ≡ fresh k → j ≡ k) (has_upper : Bool)
     (top : Shown ℕ) (is_top : shown layers [] ≡ Some top) where
-  abbrev object_at : List (List ℕ) → Shown ℕ → Merged ℕ
+  abbrev pub object_at : List (List ℕ) → Shown ℕ → Merged ℕ
   object_at path seen = record { path = path; seen = seen }
 
   abbrev num : Merged ℕ → ℕ
@@ -43,19 +43,19 @@ module _ (layers : List (OpenLayer ℕ)) (are_open : AreOpen layers) (longest : 
   first_path zero = ([], refl)
   first_path (suc most) = (_, refl)
 
-  root_number : num (object_at [] top) ≡ fresh 0
+  pub root_number : num (object_at [] top) ≡ fresh 0
   root_number =
       let paths = first_path longest in
       ap (λ l. fresh (unwrap_or (place_from (is_one_inode nat_eq has_upper (object_at [] top)) 0 l) 0))
       (ap (filter_map (merged_at layers)) paths.1 ∙ ap (λ o. cons_option (option_map (λ seen. object_at [] seen) o) (filter_map (merged_at layers) paths.0)) is_top)
       ∙ ap (λ b. fresh (unwrap_or (cond b (Some 0) (place_from (is_one_inode nat_eq has_upper (object_at [] top)) (0 + 1) (filter_map (merged_at layers) paths.0))) 0)) (one_itself has_upper (object_at [] top))
 
-  inode_at : (path : List (List ℕ)) (seen : Shown ℕ) → shown layers path ≡ Some seen → HasInode layers are_open longest bounded fresh distinct has_upper (object_at path seen)
+  pub inode_at : (path : List (List ℕ)) (seen : Shown ℕ) → shown layers path ≡ Some seen → HasInode layers are_open longest bounded fresh distinct has_upper (object_at path seen)
   inode_at path seen s =
       has_inode layers are_open longest bounded fresh distinct has_upper (object_at path seen) (is_object layers are_open longest bounded path seen s)
 
   -- names lead to what is shown
-  abbrev Arrives : Option (Shown ℕ) → List (List ℕ) → Option ℕ → Type 0
+  abbrev pub Arrives : Option (Shown ℕ) → List (List ℕ) → Option ℕ → Type 0
   Arrives None path found = found ≡ None
   Arrives (Some seen) path found = found ≡ Some (num (object_at path seen))
 
@@ -67,7 +67,7 @@ module _ (layers : List (OpenLayer ℕ)) (are_open : AreOpen layers) (longest : 
       by (Some seen) s = absurd (not_shown seen s)
 
   -- what is shown under a name is shown in a directory
-  directory_above : (path : List (List ℕ)) (name : List ℕ) (seen : Shown ℕ) → shown layers path ≡ Some seen → (inode : HasInode layers are_open longest bounded fresh distinct has_upper (object_at path seen)) → (below : Shown ℕ) → shown layers (path ++ name ∷ []) ≡ Some below → is_directory (kind_of inode.node.content) ≡ true
+  pub directory_above : (path : List (List ℕ)) (name : List ℕ) (seen : Shown ℕ) → shown layers path ≡ Some seen → (inode : HasInode layers are_open longest bounded fresh distinct has_upper (object_at path seen)) → (below : Shown ℕ) → shown layers (path ++ name ∷ []) ≡ Some below → is_directory (kind_of inode.node.content) ≡ true
   directory_above path name seen s inode below t =
       let shows = shown_in_directory layers are_open 0 path name below t in
       let same = some_is_one seen (record { layer = 0 + shows.place; object = shows.object }) (sym s ∙ shows.is) in

@@ -20,7 +20,7 @@ use Rattle.vt_layer_laws.proofs.ShownMerged.{InLayer, in_layer, inodes, layer_no
 use Rattle.vt_layer_laws.proofs.ShownObjects.{Among, from_filter_map, object_is}
 
 -- what is found is in the list, and passes
-found_in_list : {A : Type 0} (test : A → Bool) (list : List A) (a : A) → find test list ≡ Some a → Among list a × (test a ≡ true)
+pub found_in_list : {A : Type 0} (test : A → Bool) (list : List A) (a : A) → find test list ≡ Some a → Among list a × (test a ≡ true)
 found_in_list test [] a e = none_is_some a e
 found_in_list test (first ∷ list) a e = by (test first) refl e (found_in_list test list a)
   where
@@ -57,7 +57,7 @@ module _ (layers : List (OpenLayer ℕ)) (are_open : AreOpen layers) (longest : 
     pub node : inode.node ≡ record { attr = layer.node.attr; content = merged_content nat_eq fresh has_upper all object.path layer.node.content }
     pub real : inode.real ≡ real_object has_upper object.seen.layer object
 
-  is_of_object : (n : ℕ) (inode : MergedInode ℕ) → inode_of made n nat_eq ≡ Some inode → IsOfObject n inode
+  pub is_of_object : (n : ℕ) (inode : MergedInode ℕ) → inode_of made n nat_eq ≡ Some inode → IsOfObject n inode
   is_of_object n inode e =
       let found = found_in_list (λ i. nat_eq n i.number) made inode e in
       let from = from_filter_map (merged_inode nat_eq fresh has_upper layers all) all inode found.0 in
@@ -165,8 +165,7 @@ module _ (layers : List (OpenLayer ℕ)) (are_open : AreOpen layers) (longest : 
       by (Some inode) e =
           let is = is_of_object n inode e in
           subst (SameObject (Some inode.node))
-          (sym (ap (behind layers has_upper) is.real ∙ behind_object is.object is.layer has_upper is.object.seen.layer refl))
-          (
+          (sym (ap (behind layers has_upper) is.real ∙ behind_object is.object is.layer has_upper is.object.seen.layer refl)) (
             ap (λ node. node.attr) is.node,
             ap (λ node. same_content node.content is.layer.node.content) is.node
                 ∙ same_merged is.object.path is.layer.node.content (not_white is.object is.among is.layer),

@@ -6,3 +6,6 @@ pub mod ChangesUpper
 pub mod Mounted
 pub mod Views
 pub mod ShownAfter
+pub mod Directories
+pub mod DirectoryTrees
+pub mod NewOverlays

@@ -3,5 +3,6 @@
 //! Each public function is a theorem of the written policy, and does nothing.
 #![tactic(auto)]
 
+pub mod directories;
 pub mod layers;
 pub mod views;
