@@ -37,6 +37,7 @@ pub mod MovingLeaves
 pub mod MovingPlaces
 pub mod MovingRoots
 pub mod MovingStands
+pub mod PropagationListing
 pub mod Receivers
 pub mod Standing
 pub mod Topmost
