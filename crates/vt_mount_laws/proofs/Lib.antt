@@ -37,7 +37,11 @@ pub mod MovingLeaves
 pub mod MovingPlaces
 pub mod MovingRoots
 pub mod MovingStands
+pub mod PropagationAttaching
+pub mod PropagationCopies
 pub mod PropagationListing
+pub mod PropagationPremises
+pub mod PropagationTypes
 pub mod Receivers
 pub mod Standing
 pub mod Topmost

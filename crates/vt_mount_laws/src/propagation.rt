@@ -1,5 +1,29 @@
 //! Propagation: what copies of mounts are, who hears of their events, and how lists of mounts read.
-ghost use Rattle.vt_mount_laws.specs.Mounts.Propagation.{UnshareListsOthersTheSame, UnshareListsTheSame};
+ghost use Rattle.vt_mount_laws.specs.Mounts.Propagation.{BindsCan, CopiesAreNew, CopiesAtLowerGroupsFollow, CopiesAtPeersArePeers, CopiesAtSlavesAreSlaves, EachIsCopied, FirstStandsOnItsPart, MovesCan, NewMountsCan, OthersStandOnCopies, PrivateOnShared, SharedOnShared, SlaveOnShared, TypeOnNotShared, UnshareListsOthersTheSame, UnshareListsTheSame};
+
+/// A bind, a new mount and a move give each part, the destination and each receiver that takes part, a copy of each mount of
+/// the tree, with a number of its own: what it shows, and where it stands. At the destination of a move it is the mount itself.
+pub fn copies_take_their_place()
+    ensures binds { BindsCan }
+    ensures new_mounts { NewMountsCan }
+    ensures moves { MovesCan }
+    ensures copied { EachIsCopied }
+    ensures new { CopiesAreNew }
+    ensures first { FirstStandsOnItsPart }
+    ensures others { OthersStandOnCopies }
+{}
+
+/// At the destination a mount of the tree has its type by the table of sharedsubtree, at a receiver by the type of that: copies
+/// at peers are peers, copies at slaves are slaves, and copies at members of slave groups are in a new group below.
+pub fn copies_take_their_type()
+    ensures not_shared { TypeOnNotShared }
+    ensures shared { SharedOnShared }
+    ensures private { PrivateOnShared }
+    ensures slave { SlaveOnShared }
+    ensures peers { CopiesAtPeersArePeers }
+    ensures slaves { CopiesAtSlavesAreSlaves }
+    ensures lower_groups { CopiesAtLowerGroupsFollow }
+{}
 
 /// After an unshare the list of the caller's mounts reads as it did, the same text: order, places, filesystems, roots, flags
 /// and types; and so does the list of each other namespace.
