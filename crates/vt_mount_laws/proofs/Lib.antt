@@ -39,9 +39,12 @@ pub mod MovingRoots
 pub mod MovingStands
 pub mod PropagationAttaching
 pub mod PropagationCopies
+pub mod PropagationHeard
+pub mod PropagationHearing
 pub mod PropagationListing
 pub mod PropagationPremises
 pub mod PropagationTypes
+pub mod PropagationUp
 pub mod Receivers
 pub mod Standing
 pub mod Topmost

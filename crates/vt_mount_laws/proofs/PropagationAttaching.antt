@@ -195,7 +195,7 @@ shared_group Private e = absurd (true≢false (sym e))
 shared_group Unbindable e = absurd (true≢false (sym e))
 
 module _ (it : Attachment) (can : CanAttach it) (origin : Mount ℕ) (d : IsOfTree it origin) where
-  kind_at_destination : (copy_of it (destination_of it) origin).propagation
+  pub kind_at_destination : (copy_of it (destination_of it) origin).propagation
       ≡ type_at (supply it can) (group_of (destination_of it).propagation) origin
   kind_at_destination =
       copy_kind it can (destination_of it) origin (destination_part it can) d

@@ -1,5 +1,5 @@
 //! Propagation: what copies of mounts are, who hears of their events, and how lists of mounts read.
-ghost use Rattle.vt_mount_laws.specs.Mounts.Propagation.{BindsCan, CopiesAreNew, CopiesAtLowerGroupsFollow, CopiesAtPeersArePeers, CopiesAtSlavesAreSlaves, EachIsCopied, FirstStandsOnItsPart, MovesCan, NewMountsCan, OthersStandOnCopies, PrivateOnShared, SharedOnShared, SlaveOnShared, TypeOnNotShared, UnshareListsOthersTheSame, UnshareListsTheSame};
+ghost use Rattle.vt_mount_laws.specs.Mounts.Propagation.{BindsCan, CopiesAreNew, CopiesAtLowerGroupsFollow, CopiesAtPeersArePeers, CopiesAtSlavesAreSlaves, CopiesHearAsTheirOrigins, CopiesHearOneAnother, EachIsCopied, FirstStandsOnItsPart, MovesCan, NewMountsCan, OthersStandOnCopies, PrivateOnShared, SharedOnShared, SlaveOnShared, TypeOnNotShared, UnshareListsOthersTheSame, UnshareListsTheSame};
 
 /// A bind, a new mount and a move give each part, the destination and each receiver that takes part, a copy of each mount of
 /// the tree, with a number of its own: what it shows, and where it stands. At the destination of a move it is the mount itself.
@@ -23,6 +23,13 @@ pub fn copies_take_their_type()
     ensures peers { CopiesAtPeersArePeers }
     ensures slaves { CopiesAtSlavesAreSlaves }
     ensures lower_groups { CopiesAtLowerGroupsFollow }
+{}
+
+/// The copies of a mount hear one another just as the destination and its receivers do, and of groups that there were just what
+/// the mount that they are made from heard.
+pub fn copies_hear_as_receivers_do()
+    ensures one_another { CopiesHearOneAnother }
+    ensures origins { CopiesHearAsTheirOrigins }
 {}
 
 /// After an unshare the list of the caller's mounts reads as it did, the same text: order, places, filesystems, roots, flags

@@ -7,7 +7,7 @@ use Rattle.vt_spec.specs.Machine.Mounts.{Location, Mount, MountFlags, Propagatio
 use Rattle.vt_spec.specs.Machine.Mounts.Propagation.{Private, Shared, Slave}
 use Rattle.vt_spec.specs.Machine.Namespaces.{unshared}
 use Rattle.vt_spec.specs.Machine.Outcome.Mounting.{moved_tree, new_mount, with_new_filesystem}
-use Rattle.vt_spec.specs.Machine.Receives.{groups_up, has_members, is_member_of}
+use Rattle.vt_spec.specs.Machine.Receives.{groups_up, has_members, is_member_of, receives}
 use Rattle.vt_spec.specs.Machine.Run.{Serves}
 use Rattle.vt_spec.specs.Machine.World.{Filesystem, Task, World, mount_at, mount_numbered, mounts_of}
 use Rattle.vt_spec.specs.Machine.WorldLaws.{MountInvariants}
@@ -234,6 +234,25 @@ CopiesAtLowerGroupsFollow =
     → nearest_part_group it master ≡ Some group → other.propagation ≡ Shared group
     → (above : ℕ) × ((copy_of it other origin).propagation ≡ Shared above)
     × IsOfNewGroup it (copy_of it one origin).propagation (Some above)
+
+-- Hearing: sharedsubtree, "Propagation"
+
+-- The copies of a mount hear one another just as the parts do: the copy at one part receives from the group of the copy at
+-- another where the one part received from the other's group. So the copies are a propagation tree like that of the parts.
+abbrev pub CopiesHearOneAnother : Type 0
+CopiesHearOneAnother =
+    (it : Attachment) (one other origin : Mount ℕ) (group : ℕ) → CanAttach it → IsPart it one → IsPart it other
+    → IsOfTree it origin → other.propagation ≡ Shared group
+    → (image : ℕ) × ((copy_of it other origin).propagation ≡ Shared image)
+    × (receives nat_eq (world_after it) image (copy_of it one origin) ≡ receives nat_eq it.world group one)
+
+-- Of a group that had members before, a copy hears just where the mount that it is made from did: not at all where that was
+-- private, as its peers where it was shared, and from its master where it was a slave.
+abbrev pub CopiesHearAsTheirOrigins : Type 0
+CopiesHearAsTheirOrigins =
+    (it : Attachment) (part origin : Mount ℕ) (group : ℕ) → CanAttach it → IsPart it part → IsOfTree it origin
+    → has_members nat_eq it.world.mounts group ≡ true
+    → receives nat_eq (world_after it) group (copy_of it part origin) ≡ receives nat_eq it.world group origin
 
 -- Unsharing
 
