@@ -54,7 +54,7 @@ module _ (world : World ℕ) (new : Copies ℕ) (place : Location ℕ) (moves : 
   abbrev pub made : Mount ℕ → Mount ℕ → Mount ℕ
   made part origin = copy_at nat_eq world new tree parts part (twig origin)
 
-  abbrev copies : Mount ℕ → List (Mount ℕ)
+  abbrev pub copies : Mount ℕ → List (Mount ℕ)
   copies = copies_at nat_eq world new tree parts
 
   abbrev pub push : Mount ℕ → Mount ℕ

@@ -36,7 +36,7 @@ keeps_groups world new place true mounts serve own one live sourced moving =
     (copies_arrive world new place mounts own one (moving refl)) (old_or_copies world new place true mounts)
 
 module _ (it : Attachment) (can : CanAttach it) where
-  sourced : (origin : Mount ℕ) → Among origin it.mounts → (source : ℕ) → source_of origin.propagation ≡ Some source
+  pub sourced : (origin : Mount ℕ) → Among origin it.mounts → (source : ℕ) → source_of origin.propagation ≡ Some source
       → LivesIn it.world source
   sourced origin m source e =
       ⊎_elim
@@ -46,7 +46,7 @@ module _ (it : Attachment) (can : CanAttach it) where
       (ap source_of (sym old.2) ∙ e))
       (can.types origin (contains_from_among it.mounts origin m))
 
-  groups_after : GroupsLive (world_after it)
+  pub groups_after : GroupsLive (world_after it)
   groups_after =
       keeps_groups it.world (supply it can) it.place it.moves it.mounts (serve_images it can) can.each_once
       can.one_number can.groups sourced (moving_there it can)
@@ -57,7 +57,7 @@ module _ (it : Attachment) (can : CanAttach it) where
       among_from_contains (world_after it).mounts (copy_of it part origin) (each_is_copied it part origin can c d).there
 
   -- where the destination is in no group, it is all that takes part
-  alone : group_of (destination_of it).propagation ≡ None → (part : Mount ℕ) → IsPart it part → part ≡ destination_of it
+  pub alone : group_of (destination_of it).propagation ≡ None → (part : Mount ℕ) → IsPart it part → part ≡ destination_of it
   alone e part c =
       ⊎_elim (λ same. same)
       (λ rest. absurd

@@ -79,7 +79,7 @@ module _ (world : World ℕ) (new : Copies ℕ) (place : Location ℕ) (moves : 
   there_shared : there.propagation ≡ Shared group
   there_shared = shared_kind_of there.propagation group shared
 
-  part_there : (part : Mount ℕ) → Among part parts → Among part world.mounts
+  pub part_there : (part : Mount ℕ) → Among part parts → Among part world.mounts
   part_there part m =
       ⊎_elim
       (λ same.
@@ -91,7 +91,7 @@ module _ (world : World ℕ) (new : Copies ℕ) (place : Location ℕ) (moves : 
       (λ rest. taker_there world place part rest)
       m
 
-  hears_there : (part : Mount ℕ) → Among part parts → receives nat_eq world group part ≡ true
+  pub hears_there : (part : Mount ℕ) → Among part parts → receives nat_eq world group part ≡ true
   hears_there part m =
       ⊎_elim
       (λ same.
