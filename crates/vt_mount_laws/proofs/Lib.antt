@@ -44,6 +44,7 @@ pub mod PropagationHearing
 pub mod PropagationListing
 pub mod PropagationPremises
 pub mod PropagationTypes
+pub mod PropagationUndo
 pub mod PropagationUndone
 pub mod PropagationUp
 pub mod Receivers

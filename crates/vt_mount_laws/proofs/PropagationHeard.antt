@@ -57,8 +57,8 @@ module _ (it : Attachment) (can : CanAttach it) where
       among_from_contains (world_after it).mounts (copy_of it part origin) (each_is_copied it part origin can c d).there
 
   -- where the destination is in no group, it is all that takes part
-  pub alone : group_of (destination_of it).propagation ≡ None → (part : Mount ℕ) → IsPart it part → part ≡ destination_of it
-  alone e part c =
+  pub only_part : group_of (destination_of it).propagation ≡ None → (part : Mount ℕ) → IsPart it part → part ≡ destination_of it
+  only_part e part c =
       ⊎_elim (λ same. same)
       (λ rest. absurd
       (subst (λ o. Among part (unwrap_or (option_map (receivers nat_eq it.world) o) [])) e
@@ -74,7 +74,7 @@ module _ (it : Attachment) (can : CanAttach it) where
           → (own : ℕ) × (group_of (destination_of it).propagation ≡ Some own)
       by None f =
           absurd (true≢false (sym (ap (λ k. is_some (group_of k)) e)
-          ∙ ap (λ (x : Mount ℕ). is_some (group_of x.propagation)) (alone f part c) ∙ ap is_some f))
+          ∙ ap (λ (x : Mount ℕ). is_some (group_of x.propagation)) (only_part f part c) ∙ ap is_some f))
       by (Some own) f = (own, f)
 
 pub copies_hear_one_another : CopiesHearOneAnother
@@ -104,7 +104,7 @@ copies_hear_as_their_origins it part origin group can c d lived = by (group_of (
       where
         same_kind : (copy_of it part origin).propagation ≡ origin.propagation
         same_kind =
-            ap (λ x. (copy_of it x origin).propagation) (alone it can f part c)
+            ap (λ x. (copy_of it x origin).propagation) (only_part it can f part c)
             ∙ kind_at_destination it can origin d
             ∙ ap (λ o. type_at (supply it can) o origin) f
 

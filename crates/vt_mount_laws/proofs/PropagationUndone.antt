@@ -3,7 +3,7 @@ use Rattle.std.proofs.Common.{◌≡◌, refl, sym, ap, subst, ◌∙◌, true, 
 use Rattle.std.specs.Prelude.{Contains}
 use Rattle.std.proofs.lemmas.Bool.{false_from_ne_true}
 use Rattle.std.proofs.lemmas.Option.{same_Some}
-use Rattle.vt_spec.proofs.Lists.{Among, among-append, among-append_left, among-from_filter, among-from_flat_map, among-from_map, among_from_contains, among_numbers, any_among, any_from_among, contains_from_among, is_among_numbers, none_from_among}
+use Rattle.vt_spec.proofs.Lists.{Among, among-append, among-append_left, among-from_filter, among-from_flat_map, among-from_map, among_from_contains, among_numbers, any_among, any_from_among, contains_from_among, filter_none, is_among_numbers, none_from_among}
 use Rattle.vt_spec.specs.Machine.Attach.{Copies, copies_from, graft_of, parts_of, receivers_of, takes_part}
 use Rattle.vt_spec.specs.Machine.Detach.{is_going, may_go, only_cover, unmounted}
 use Rattle.vt_spec.specs.Machine.Lists.{Fresh, holds_of, is_among, rest_of}
@@ -24,14 +24,22 @@ use Rattle.vt_mount_laws.proofs.MountsFound.{found_in, found_there, number_found
 use Rattle.vt_mount_laws.proofs.MountsNumbered.{attach_keeps_numbers, is_one_of}
 use Rattle.vt_mount_laws.proofs.MountsPlaces.{found_at_its_place, stands_there}
 use Rattle.vt_mount_laws.proofs.MountsReplaced.{found_itself}
-use Rattle.vt_mount_laws.proofs.PropagationAttaching.{copies_are_new, first_stands_on_its_part, is_copy, serve_images, supply}
+use Rattle.vt_mount_laws.proofs.PropagationAttaching.{copies_are_new, each_is_copied, first_stands_on_its_part, is_copy, serve_images, supply}
 use Rattle.vt_mount_laws.proofs.PropagationCopies.{copies, push}
-use Rattle.vt_mount_laws.proofs.PropagationHeard.{groups_after}
+use Rattle.vt_mount_laws.proofs.PropagationHeard.{groups_after, only_part}
 use Rattle.vt_mount_laws.proofs.PropagationHearing.{hears_there, old_up, old_up_after, part_there}
-use Rattle.vt_mount_laws.proofs.PropagationUp.{heard, hears}
+use Rattle.vt_mount_laws.proofs.PropagationUp.{heard, hears, lives_up}
 use Rattle.vt_mount_laws.proofs.Receivers.{receives_completely, receives_soundly}
 use Rattle.vt_mount_laws.proofs.Unmounting.{root_mounts_stay, unmount_keeps_the_order, what_goes_is_detached, what_stays_keeps, what_stays_keeps_its_place, what_stays_keeps_its_type}
 use Rattle.vt_mount_laws.proofs.UnmountingGoes.{what_goes_is_named}
+use Rattle.std.specs.List.{list_any}
+use Rattle.vt_mount_laws.proofs.Receivers.{receives_from_source}
+use Rattle.vt_spec.specs.Machine.Receives.{heir, lost_a_group, regrouped_by}
+use Rattle.vt_spec.specs.Machine.Detach.{going}
+use Rattle.vt_mount_laws.proofs.Unmounting.{groups_keep_their_masters, middle}
+use Rattle.vt_mount_laws.proofs.Attaching.{taker_there}
+use Rattle.vt_mount_laws.proofs.AttachedMasters.{old_master}
+use Rattle.vt_mount_laws.proofs.GroupsUp.Up.{above, here}
 
 -- the attachment of one mount, of which no copy goes onto another mount
 abbrev pub one_of : World ℕ → Fresh ℕ → Location ℕ → Mount ℕ → Attachment
@@ -318,3 +326,134 @@ module _ (world : World ℕ) (fresh : Fresh ℕ) (place : Location ℕ) (first :
         flags = (k.flags ∙ ap (λ (x : Mount ℕ). x.flags) same) i;
         propagation = type_stays number is (master_there number is) i;
       }
+
+  -- All copies go
+  later_number : (one : ℕ) → is_mount world one ≡ true → is_mount after one ≡ true
+  later_number one old =
+      let t = new_mounts_follow world fresh place false (first ∷ []) in
+      ap (is_among nat_eq one) t.1
+      ∙ is_among_numbers (numbers_of world.mounts ++ t.0) one
+      (among-append_left (numbers_of world.mounts) t.0 one (among_numbers (numbers_of world.mounts) one old))
+
+  part_old : (part : Mount ℕ) → IsPart it part → Among part world.mounts
+  part_old part c =
+      ⊎_elim
+      (λ same. subst (λ x. Among x world.mounts) (sym same) destination_among)
+      (λ rest. taker_there world place part rest)
+      (among_from_contains parts part c)
+
+  part_later : (part : Mount ℕ) → IsPart it part → Among part after.mounts
+  part_later part c =
+      subst (λ x. Among x after.mounts) (kept_itself part (part_old part c))
+      (found_there after.mounts part.number
+      (later_number part.number (is_one_of world.mounts part (part_old part c))))
+
+  hears_group : (part : Mount ℕ) → IsPart it part → (group : ℕ) → destination.propagation ≡ Shared group
+      → receives nat_eq world group part ≡ true
+  hears_group part c group e =
+      ⊎_elim
+      (λ same.
+      subst (λ x. receives nat_eq world group x ≡ true) (sym same)
+      (receives_from_source world group destination (ap source_of e)))
+      (λ rest.
+      let t =
+      receives_there part
+      (among-from_filter (takes_part nat_eq world place) (receivers_of nat_eq world destination) part rest).0 in
+      subst (λ g. receives nat_eq world g part ≡ true)
+      (same_Some t.0 group (ap group_of (sym t.1 ∙ e))) t.3)
+      (among_from_contains parts part c)
+
+  hears_later : (part : Mount ℕ) → IsPart it part → (group : ℕ) → destination.propagation ≡ Shared group
+      → receives nat_eq after group part ≡ true
+  hears_later part c group e =
+      let t = heard world part group (hears_group part c group e) in
+      hears after groups_later part (part_later part c) t.0 group t.1
+      (old_up_after world (supply it can) place false (first ∷ []) (serve_images it can) can.each_once t.0 group
+      (lives_in world can.groups part (part_old part c) t.0 t.1) t.2)
+
+  -- nothing stands on a copy
+  off_copy : (part : Mount ℕ) → IsPart it part → (mount : Mount ℕ) → Among mount after.mounts → (at : Location ℕ)
+      → mount.place ≡ Some at → nat_eq (copy part).number at.mount ≡ false
+  off_copy part c mount m at e = false_from_ne_true (nat_eq (copy part).number at.mount) (λ same.
+      let number : at.mount ≡ new part = sym (eqb-true (copy part).number at.mount same) ∙ copy_number part in
+      let no_mount_there : is_mount world at.mount ≡ false = ap (is_mount world) number ∙ copy_new part c in
+      ⊎_elim
+      (λ old. true≢false (sym (on_old mount old at e) ∙ no_mount_there))
+      (λ copied.
+      let on : record { mount = copied.0.number; node = place.node } ≡ at =
+      same_Some (record { mount = copied.0.number; node = place.node }) at
+      (sym (copy_stands copied.0 copied.1) ∙ ap (λ (x : Mount ℕ). x.place) (sym copied.2) ∙ e) in
+      true≢false
+      (sym (is_one_of world.mounts copied.0 (part_old copied.0 copied.1))
+      ∙ ap (λ (l : Location ℕ). is_mount world l.mount) on ∙ no_mount_there))
+      (old_or_new mount m))
+
+  may_leave : (part : Mount ℕ) → IsPart it part → may_go nat_eq after (copy part) ≡ true
+  may_leave part c =
+      ap (only_cover nat_eq (copy part))
+      (filter_none (stands_on nat_eq (copy part).number) after.mounts
+      (none_from_among (stands_on nat_eq (copy part).number) after.mounts (λ mount m. by mount m mount.place refl)))
+    where
+      by : (mount : Mount ℕ) → Among mount after.mounts → (found : Option (Location ℕ)) → mount.place ≡ found
+          → stands_on nat_eq (copy part).number mount ≡ false
+      by mount m None e = ap (holds_of (λ (l : Location ℕ). nat_eq (copy part).number l.mount)) e
+      by mount m (Some at) e =
+          ap (holds_of (λ (l : Location ℕ). nat_eq (copy part).number l.mount)) e ∙ off_copy part c mount m at e
+
+  copy_goes : OneMountAPlace after.mounts → (part : Mount ℕ) → IsPart it part → Goes after (copy destination) (copy part).number
+  copy_goes one_place part c = by destination.propagation refl
+    where
+      only : is_shared destination.propagation ≡ false → group_of destination.propagation ≡ None
+          → Goes after (copy destination) (copy part).number
+      only e f =
+          subst (λ x. Goes after (copy destination) (copy x).number) (sym (only_part it can f part c))
+          (alone (record { mount = destination.number; node = place.node }) (copy_stands destination destination_part)
+          (ap (λ (x : Mount ℕ). is_shared x.propagation) destination_later ∙ e))
+
+      by : (kind : Propagation ℕ) → destination.propagation ≡ kind → Goes after (copy destination) (copy part).number
+      by (Shared group) e =
+          at_receiver (record { mount = destination.number; node = place.node }) group part (copy part)
+          (copy_stands destination destination_part)
+          (ap (λ (x : Mount ℕ). x.propagation) destination_later ∙ e)
+          (contains_from_among after.mounts part (part_later part c))
+          (receives_soundly after group part (hears_later part c group e))
+          (found_at_its_place after.mounts one_place (copy part)
+          (among_from_contains after.mounts (copy part) (each_is_copied it part first can c of_first).there)
+          (record { mount = part.number; node = place.node }) (copy_stands part c))
+          (may_leave part c)
+      by (Slave master) e = only (ap is_shared e) (ap group_of e)
+      by Private e = only (ap is_shared e) (ap group_of e)
+      by Unbindable e = only (ap is_shared e) (ap group_of e)
+
+  pub copy_is_gone : OneMountAPlace after.mounts → (part : Mount ℕ) → IsPart it part
+      → mount_left after gone (new part) ≡ detached (copy part)
+  copy_is_gone one_place part c =
+      what_goes_is_detached after gone (new part)
+      ((what_goes_is_named after gone (new part) groups_later).1
+      (subst (Goes after (copy destination)) (copy_number part) (copy_goes one_place part c)))
+
+  -- Masters
+  none_inherits : (b : Bool) (any : World ℕ) (group : ℕ) → any.master group ≡ None
+      → (regrouped_by nat_eq b any).master group ≡ None
+  none_inherits true any group e = ap (heir nat_eq any) e
+  none_inherits false any group e = e
+
+  pub masters_back : (group : ℕ) → has_members nat_eq world.mounts group ≡ true → undone.master group ≡ world.master group
+  masters_back group has = by (world.master group) refl
+    where
+      by : (found : Option ℕ) → world.master group ≡ found → undone.master group ≡ world.master group
+      by None e =
+          none_inherits (list_any (lost_a_group nat_eq (middle after (going nat_eq after (mount_numbered nat_eq after gone))))
+          (middle after (going nat_eq after (mount_numbered nat_eq after gone))).mounts)
+          (middle after (going nat_eq after (mount_numbered nat_eq after gone))) group
+          (old_master world (supply it can) place false (first ∷ []) (serve_images it can) can.each_once group has ∙ e)
+          ∙ sym e
+      by (Some master) e =
+          let one = any_among (is_member_of nat_eq group) world.mounts has in
+          let life = lives_in world can.groups one.0 one.1 group (ap source_of (member_shared group one.0 one.2)) in
+          groups_keep_their_masters after gone group master
+          (old_master world (supply it can) place false (first ∷ []) (serve_images it can) can.each_once group has ∙ e)
+          (still_members master
+          (live_members world.master (has_members nat_eq world.mounts) master
+          (lives_up world.master (has_members nat_eq world.mounts) group master life (above group master master e (here master)))))
+          ∙ sym e

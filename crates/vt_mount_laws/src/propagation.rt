@@ -1,5 +1,5 @@
 //! Propagation: what copies of mounts are, who hears of their events, and how lists of mounts read.
-ghost use Rattle.vt_mount_laws.specs.Mounts.Propagation.{BindsCan, CopiesAreNew, CopiesAtLowerGroupsFollow, CopiesAtPeersArePeers, CopiesAtSlavesAreSlaves, CopiesHearAsTheirOrigins, CopiesHearOneAnother, EachIsCopied, FirstStandsOnItsPart, MovesCan, NewMountsCan, OthersStandOnCopies, PrivateOnShared, SharedOnShared, SlaveOnShared, TypeOnNotShared, UnshareListsOthersTheSame, UnshareListsTheSame};
+ghost use Rattle.vt_mount_laws.specs.Mounts.Propagation.{BindsCan, CopiesAreNew, CopiesAtLowerGroupsFollow, CopiesAtPeersArePeers, CopiesAtSlavesAreSlaves, CopiesHearAsTheirOrigins, CopiesHearOneAnother, EachIsCopied, FirstStandsOnItsPart, MovesCan, NewMountsCan, OthersStandOnCopies, PrivateOnShared, SharedOnShared, SlaveOnShared, TypeOnNotShared, UnmountUndoesBind, UnmountUndoesNewMount, UnshareListsOthersTheSame, UnshareListsTheSame};
 
 /// A bind, a new mount and a move give each part, the destination and each receiver that takes part, a copy of each mount of
 /// the tree, with a number of its own: what it shows, and where it stands. At the destination of a move it is the mount itself.
@@ -30,6 +30,13 @@ pub fn copies_take_their_type()
 pub fn copies_hear_as_receivers_do()
     ensures one_another { CopiesHearOneAnother }
     ensures origins { CopiesHearAsTheirOrigins }
+{}
+
+/// The unmount of a new mount, or of a bind of one mount, undoes it where no mount stands at the place of a receiver: each mount
+/// that was there has its record back, all copies are detached, and groups have the masters that they had.
+pub fn an_unmount_undoes_a_mount()
+    ensures new_mount { UnmountUndoesNewMount }
+    ensures bind { UnmountUndoesBind }
 {}
 
 /// After an unshare the list of the caller's mounts reads as it did, the same text: order, places, filesystems, roots, flags

@@ -1,9 +1,10 @@
 -- Laws of propagation: the kernel's document sharedsubtree, and mount_namespaces(7).
 use Rattle.std.specs.Prelude.{Bool, Contains, List, None, Option, Some, [], false, find, if◌then◌else◌, true, ℕ, nat_eq, ◌&&◌, ◌∷◌, ◌≡◌, ◌⊎◌}
-use Rattle.vt_spec.specs.Machine.Attach.{attach, bind_tree, copies_from, parts_of}
+use Rattle.vt_spec.specs.Machine.Attach.{attach, bind_tree, bound, copies_from, parts_of}
+use Rattle.vt_spec.specs.Machine.Detach.{unmounted}
 use Rattle.vt_spec.specs.Machine.Lists.{Fresh, evens}
 use Rattle.vt_spec.specs.Machine.Listing.{mount_lines}
-use Rattle.vt_spec.specs.Machine.Mounts.{Location, Mount, MountFlags, Propagation, is_shared}
+use Rattle.vt_spec.specs.Machine.Mounts.{Location, Mount, MountFlags, Propagation, child_at, detached, is_shared, stands_at}
 use Rattle.vt_spec.specs.Machine.Mounts.Propagation.{Private, Shared, Slave}
 use Rattle.vt_spec.specs.Machine.Namespaces.{unshared}
 use Rattle.vt_spec.specs.Machine.Outcome.Mounting.{moved_tree, new_mount, with_new_filesystem}
@@ -14,6 +15,7 @@ use Rattle.vt_spec.specs.Machine.WorldLaws.{MountInvariants}
 use Rattle.vt_mount_laws.specs.Mounts.Attaching.{OneNumberAMount, is_mount, stands_at_a_receiver}
 use Rattle.vt_mount_laws.specs.Mounts.Conditions.{OneNumberEach}
 use Rattle.vt_mount_laws.specs.Mounts.Receivers.{GroupsLive}
+use Rattle.vt_mount_laws.specs.Mounts.Unmounting.{mount_left}
 
 -- Attaching
 
@@ -253,6 +255,42 @@ CopiesHearAsTheirOrigins =
     (it : Attachment) (part origin : Mount ℕ) (group : ℕ) → CanAttach it → IsPart it part → IsOfTree it origin
     → has_members nat_eq it.world.mounts group ≡ true
     → receives nat_eq (world_after it) group (copy_of it part origin) ≡ receives nat_eq it.world group origin
+
+-- Unmounting: sharedsubtree, "Unmount semantics"
+
+-- no mount stands at the node of the place on a mount that receives from the destination's group
+abbrev pub NothingAtReceivers : World ℕ → Location ℕ → Type 0
+NothingAtReceivers world place =
+    (group : ℕ) (receiver mount : Mount ℕ) → (mount_at nat_eq world place).propagation ≡ Shared group
+    → Contains world.mounts receiver → receives nat_eq world group receiver ≡ true → Contains world.mounts mount
+    → stands_at nat_eq (record { mount = receiver.number; node = place.node }) mount ≡ false
+
+-- the unmount of what was attached at the destination undoes it: each mount that was there has its record back, all copies
+-- are detached, and groups that have members have the masters that they had
+pub record IsUndone (it : Attachment) (one : Mount ℕ) : Type 0 where
+  pub back : (number : ℕ) → is_mount it.world number ≡ true
+      → mount_left (world_after it) (number_at it (destination_of it) one) number ≡ mount_numbered nat_eq it.world number
+  pub gone : (part : Mount ℕ) → IsPart it part
+      → mount_left (world_after it) (number_at it (destination_of it) one) (number_at it part one)
+      ≡ detached (copy_of it part one)
+  pub masters : (group : ℕ) → has_members nat_eq it.world.mounts group ≡ true
+      → (unmounted nat_eq (world_after it) (number_at it (destination_of it) one)).master group ≡ it.world.master group
+
+-- An unmount undoes a new mount at a free place, where no mount stands at the place of a receiver,
+abbrev pub UnmountUndoesNewMount : Type 0
+UnmountUndoesNewMount =
+    (world : World ℕ) (fresh : Fresh ℕ) (place : Location ℕ) (filesystem : Filesystem ℕ) (flags : MountFlags)
+    → Serves nat_eq (with_new_filesystem world filesystem) fresh → MountInvariants nat_eq world
+    → is_mount world place.mount ≡ true → child_at nat_eq world.mounts place ≡ None → NothingAtReceivers world place
+    → IsUndone (new_mount_of fresh world place filesystem flags)
+    (new_mount filesystem.number filesystem.files.tree.root flags)
+
+-- and a bind of one mount.
+abbrev pub UnmountUndoesBind : Type 0
+UnmountUndoesBind =
+    (world : World ℕ) (fresh : Fresh ℕ) (source place : Location ℕ) → Serves nat_eq world fresh
+    → MountInvariants nat_eq world → is_mount world place.mount ≡ true → child_at nat_eq world.mounts place ≡ None
+    → NothingAtReceivers world place → IsUndone (bind_of fresh world source place false) (bound nat_eq world source)
 
 -- Unsharing
 
