@@ -10,10 +10,10 @@ use Rattle.vt_spec.specs.Machine.Mounts.{Location, Mount, Propagation, group_of,
 use Rattle.vt_spec.specs.Machine.Mounts.Propagation.{Private, Shared, Slave, Unbindable}
 use Rattle.vt_spec.specs.Machine.Receives.{is_member_of}
 use Rattle.vt_spec.specs.Machine.Run.{numbers_in_use}
-use Rattle.vt_mount_laws.proofs.GroupsKept.{shared_member}
 use Rattle.vt_mount_laws.specs.Mounts.Attaching.{KeepsAllButPlace, is_mount, numbers_of, stands_at_a_receiver}
 use Rattle.vt_mount_laws.specs.Mounts.Copies.{ServeAsCopies, ServeAsImages}
 use Rattle.vt_mount_laws.specs.Mounts.Propagation.{Attachment, CanAttach, CopiesAreNew, CopiesAtLowerGroupsFollow, CopiesAtPeersArePeers, CopiesAtSlavesAreSlaves, EachIsCopied, FirstStandsOnItsPart, IsOfTree, IsPart, OthersStandOnCopies, PrivateOnShared, SharedOnShared, SlaveOnShared, TypeOnNotShared, copy_of, destination_of, moves_to, number_at, world_after}
+use Rattle.vt_mount_laws.proofs.GroupsKept.{shared_member}
 use Rattle.vt_mount_laws.proofs.MountsAttached.{is_pushed_by}
 use Rattle.vt_mount_laws.proofs.MountsFound.{found_or_none, number_found}
 use Rattle.vt_mount_laws.proofs.MountsNumbered.{is_one_of, number_in_use, supplies_serve_as_copies, supplies_serve_as_images}

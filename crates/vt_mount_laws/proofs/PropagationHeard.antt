@@ -9,8 +9,8 @@ use Rattle.vt_spec.specs.Machine.Receives.{groups_up, is_member_of, receivers, r
 use Rattle.vt_spec.specs.Machine.World.{World}
 use Rattle.vt_mount_laws.specs.Mounts.Attaching.{OneNumberAMount}
 use Rattle.vt_mount_laws.specs.Mounts.Copies.{ServeAsImages}
-use Rattle.vt_mount_laws.specs.Mounts.Receivers.{GroupsLive}
 use Rattle.vt_mount_laws.specs.Mounts.Propagation.{Attachment, CanAttach, CopiesHearAsTheirOrigins, CopiesHearOneAnother, IsOfTree, IsPart, copy_of, destination_of, world_after}
+use Rattle.vt_mount_laws.specs.Mounts.Receivers.{GroupsLive}
 use Rattle.vt_mount_laws.proofs.AttachedGroups.{groups_live_after}
 use Rattle.vt_mount_laws.proofs.AttachedTypes.{copies_arrive, copies_there, members_move, members_stay, old_or_copies}
 use Rattle.vt_mount_laws.proofs.GroupsKept.{shared_member}

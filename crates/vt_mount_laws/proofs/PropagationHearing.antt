@@ -15,6 +15,7 @@ use Rattle.vt_mount_laws.proofs.AttachedMasters.{image_elsewhere, master_there, 
 use Rattle.vt_mount_laws.proofs.Attaching.{taker_there}
 use Rattle.vt_mount_laws.proofs.GroupsKept.{member_shared, shared_member}
 use Rattle.vt_mount_laws.proofs.GroupsUp.{LivesIn, Up, live_members, lives_in}
+use Rattle.vt_mount_laws.proofs.GroupsUp.Lives.{below, top}
 use Rattle.vt_mount_laws.proofs.GroupsUp.Up.{above, here}
 use Rattle.vt_mount_laws.proofs.MountsFound.{found_or_none}
 use Rattle.vt_mount_laws.proofs.MountsNumbered.{is_one_of}
@@ -22,7 +23,6 @@ use Rattle.vt_mount_laws.proofs.PropagationCopies.{not_there}
 use Rattle.vt_mount_laws.proofs.PropagationTypes.{image_in, image_new, image_of, kind, lower_master, shared_kind, slave_kind, slave_there, there_new}
 use Rattle.vt_mount_laws.proofs.PropagationUp.{Nearest, finds_some, found_nearest, heard, hears, lives_up, nearest_passes, nearest_up, no_loop, same_truth, up_among, up_further}
 use Rattle.vt_mount_laws.proofs.PropagationUp.Nearest.{further, itself}
-use Rattle.vt_mount_laws.proofs.GroupsUp.Lives.{below, top}
 use Rattle.vt_mount_laws.proofs.Receivers.{receives_from_source}
 
 shared_kind_of : (kind : Propagation ℕ) (group : ℕ) → group_of kind ≡ Some group → kind ≡ Shared group

@@ -1,6 +1,7 @@
 -- The list of mounts after an unshare.
 use Rattle.std.proofs.Common.{◌≡◌, refl, sym, ap, ◌∙◌, Bool, List, [], None, eq-eqb, eqb-true, true≢false, Option, Some, cond, false, flat_map, map, nat_eq, option_map, true, unwrap_or, ℕ, ◌+◌, ◌∷◌, inl, inr}
 use Rattle.std.proofs.lemmas.List.Folds.{flat_map-map}
+use Rattle.std.proofs.lemmas.Bool.{false_from_ne_true}
 use Rattle.vt_spec.proofs.Lists.{Among, among-append_left, among-append_right, among-filter, among-from_filter, among-map}
 use Rattle.vt_spec.specs.Machine.FileTree.{path_down}
 use Rattle.vt_spec.specs.Machine.Listing.{groups_shown, mount_line, number_among, place_spot, root_spot, spot_of, type_line}
@@ -18,7 +19,6 @@ use Rattle.vt_mount_laws.proofs.MountsNumbered.{is_one_of, odds_apart, one_index
 use Rattle.vt_mount_laws.proofs.MountsReplaced.{found_itself}
 use Rattle.vt_mount_laws.proofs.Unsharing.{itself, parent_of}
 use Rattle.vt_mount_laws.proofs.UnsharingNamespaces.{unshare_copies_mounts, unshare_leaves_namespaces}
-use Rattle.std.proofs.lemmas.Bool.{false_from_ne_true}
 
 pub map_alike : {A B C : Type 0} (f : A → C) (g : B → C) (h : A → B) (xs : List A)
     → ((x : A) → Among x xs → g (h x) ≡ f x) → map g (map h xs) ≡ map f xs

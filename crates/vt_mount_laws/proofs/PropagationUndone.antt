@@ -1,24 +1,28 @@
 -- An unmount of a mount that was attached: the others are as they were before.
-use Rattle.std.proofs.Common.{◌≡◌, refl, sym, ap, subst, ◌∙◌, true, false, nat_eq, ℕ, Bool, List, None, Option, Some, [], filter, flat_map, inl, inr, is_some, map, option_map, true≢false, unwrap_or, ⊎_elim, ◌++◌, ◌∷◌, ◌⊎◌, eq-eqb, eqb-true}
+use Rattle.std.proofs.Common.{◌≡◌, refl, sym, ap, subst, ◌∙◌, true, false, nat_eq, ℕ, Bool, List, None, Option, Some, [], filter, flat_map, inl, inr, is_some, map, option_map, true≢false, unwrap_or, ⊎_elim, ◌++◌, ◌∷◌, ◌⊎◌, eqb-true}
 use Rattle.std.specs.Prelude.{Contains}
 use Rattle.std.proofs.lemmas.Bool.{false_from_ne_true}
 use Rattle.std.proofs.lemmas.Option.{same_Some}
+use Rattle.std.specs.List.{list_any}
 use Rattle.vt_spec.proofs.Lists.{Among, among-append, among-append_left, among-from_filter, among-from_flat_map, among-from_map, among_from_contains, among_numbers, any_among, any_from_among, contains_from_among, filter_none, is_among_numbers, none_from_among}
 use Rattle.vt_spec.specs.Machine.Attach.{Copies, copies_from, graft_of, parts_of, receivers_of, takes_part}
-use Rattle.vt_spec.specs.Machine.Detach.{is_going, may_go, only_cover, unmounted}
+use Rattle.vt_spec.specs.Machine.Detach.{may_go, only_cover, unmounted, going}
 use Rattle.vt_spec.specs.Machine.Lists.{Fresh, holds_of, is_among, rest_of}
-use Rattle.vt_spec.specs.Machine.Mounts.{Location, Mount, Propagation, child_at, children, detached, group_of, is_shared, mount_in, source_of, stands_at, stands_on}
+use Rattle.vt_spec.specs.Machine.Mounts.{Location, Mount, Propagation, detached, group_of, is_shared, source_of, stands_at, stands_on}
 use Rattle.vt_spec.specs.Machine.Mounts.Propagation.{Private, Shared, Slave, Unbindable}
-use Rattle.vt_spec.specs.Machine.Receives.{Receives, has_members, is_member_of, receivers, receives}
+use Rattle.vt_spec.specs.Machine.Receives.{has_members, is_member_of, receivers, receives, heir, lost_a_group, regrouped_by}
 use Rattle.vt_spec.specs.Machine.World.{World, mount_at, mount_numbered}
-use Rattle.vt_mount_laws.specs.Mounts.Attaching.{OneNumberAMount, is_mount, numbers_of, stands_at_a_receiver}
+use Rattle.vt_mount_laws.specs.Mounts.Attaching.{OneNumberAMount, is_mount, numbers_of}
 use Rattle.vt_mount_laws.specs.Mounts.Places.{OneMountAPlace}
-use Rattle.vt_mount_laws.specs.Mounts.Propagation.{Attachment, CanAttach, IsPart, copy_of, destination_of, number_at, world_after}
+use Rattle.vt_mount_laws.specs.Mounts.Propagation.{Attachment, CanAttach, IsPart, copy_of, number_at, world_after}
 use Rattle.vt_mount_laws.specs.Mounts.Receivers.{GroupsLive}
 use Rattle.vt_mount_laws.specs.Mounts.Unmounting.{Goes, goes_with, has_its_master, mount_left}
 use Rattle.vt_mount_laws.specs.Mounts.Unmounting.Goes.{alone, at_receiver, from_nowhere}
+use Rattle.vt_mount_laws.proofs.AttachedMasters.{old_master}
+use Rattle.vt_mount_laws.proofs.Attaching.{taker_there}
 use Rattle.vt_mount_laws.proofs.GroupsKept.{member_shared, shared_member}
 use Rattle.vt_mount_laws.proofs.GroupsUp.{live_members, lives_in}
+use Rattle.vt_mount_laws.proofs.GroupsUp.Up.{above, here}
 use Rattle.vt_mount_laws.proofs.MountsAttached.{attach_leaves_mounts, new_mounts_follow, push_keeps}
 use Rattle.vt_mount_laws.proofs.MountsFound.{found_in, found_there, number_found}
 use Rattle.vt_mount_laws.proofs.MountsNumbered.{attach_keeps_numbers, is_one_of}
@@ -27,19 +31,11 @@ use Rattle.vt_mount_laws.proofs.MountsReplaced.{found_itself}
 use Rattle.vt_mount_laws.proofs.PropagationAttaching.{copies_are_new, each_is_copied, first_stands_on_its_part, is_copy, serve_images, supply}
 use Rattle.vt_mount_laws.proofs.PropagationCopies.{copies, push}
 use Rattle.vt_mount_laws.proofs.PropagationHeard.{groups_after, only_part}
-use Rattle.vt_mount_laws.proofs.PropagationHearing.{hears_there, old_up, old_up_after, part_there}
+use Rattle.vt_mount_laws.proofs.PropagationHearing.{old_up, old_up_after}
 use Rattle.vt_mount_laws.proofs.PropagationUp.{heard, hears, lives_up}
-use Rattle.vt_mount_laws.proofs.Receivers.{receives_completely, receives_soundly}
-use Rattle.vt_mount_laws.proofs.Unmounting.{root_mounts_stay, unmount_keeps_the_order, what_goes_is_detached, what_stays_keeps, what_stays_keeps_its_place, what_stays_keeps_its_type}
+use Rattle.vt_mount_laws.proofs.Receivers.{receives_completely, receives_soundly, receives_from_source}
+use Rattle.vt_mount_laws.proofs.Unmounting.{root_mounts_stay, unmount_keeps_the_order, what_goes_is_detached, what_stays_keeps, what_stays_keeps_its_place, what_stays_keeps_its_type, groups_keep_their_masters, middle}
 use Rattle.vt_mount_laws.proofs.UnmountingGoes.{what_goes_is_named}
-use Rattle.std.specs.List.{list_any}
-use Rattle.vt_mount_laws.proofs.Receivers.{receives_from_source}
-use Rattle.vt_spec.specs.Machine.Receives.{heir, lost_a_group, regrouped_by}
-use Rattle.vt_spec.specs.Machine.Detach.{going}
-use Rattle.vt_mount_laws.proofs.Unmounting.{groups_keep_their_masters, middle}
-use Rattle.vt_mount_laws.proofs.Attaching.{taker_there}
-use Rattle.vt_mount_laws.proofs.AttachedMasters.{old_master}
-use Rattle.vt_mount_laws.proofs.GroupsUp.Up.{above, here}
 
 -- the attachment of one mount, of which no copy goes onto another mount
 abbrev pub one_of : World ℕ → Fresh ℕ → Location ℕ → Mount ℕ → Attachment
