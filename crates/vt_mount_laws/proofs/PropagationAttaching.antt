@@ -145,7 +145,8 @@ module _ (it : Attachment) (can : CanAttach it) where
       by true g =
           let same : (made_at part origin).place ≡ origin.place =
           place
-          ∙ ap (λ b. Some (record { mount = if b then below.number else supply.copy part.number below.number; node = at.node })) g
+          ∙ ap (λ b. Some (record { mount = if b then below.number else supply.copy part.number below.number; node = at.node }))
+          g
           ∙ ap (λ n. Some (record { mount = n; node = at.node })) (sym on) ∙ sym stood in
           ap
           (λ p. list_any

@@ -57,7 +57,8 @@ module _ (it : Attachment) (can : CanAttach it) where
       among_from_contains (world_after it).mounts (copy_of it part origin) (each_is_copied it part origin can c d).there
 
   -- where the destination is in no group, it is all that takes part
-  pub only_part : group_of (destination_of it).propagation ≡ None → (part : Mount ℕ) → IsPart it part → part ≡ destination_of it
+  pub only_part : group_of (destination_of it).propagation ≡ None → (part : Mount ℕ) → IsPart it part
+      → part ≡ destination_of it
   only_part e part c =
       ⊎_elim (λ same. same)
       (λ rest. absurd
@@ -98,7 +99,8 @@ copies_hear_as_their_origins it part origin group can c d lived = by (group_of (
     by (Some own) f =
         hears_old it.world (supply it can) it.place it.moves it.mounts (serve_images it can) can.each_once can.groups
         origin (tree_among it can origin d) (sourced it can origin (tree_among it can origin d)) own f
-        (groups_after it can) part (part_among it can part c) (copy_of it part origin) (copy_among it can part origin c d)
+        (groups_after it can) part (part_among it can part c) (copy_of it part origin)
+        (copy_among it can part origin c d)
         (copy_kind it can part origin c d) group lived
     by None f = same_truth _ _ back forth
       where
@@ -123,7 +125,8 @@ copies_hear_as_their_origins it part origin group can c d lived = by (group_of (
             → receives nat_eq (world_after it) group (copy_of it part origin) ≡ true
         forth r =
             let t = heard it.world origin group r in
-            hears (world_after it) (groups_after it can) (copy_of it part origin) (copy_among it can part origin c d) t.0
+            hears (world_after it) (groups_after it can) (copy_of it part origin)
+            (copy_among it can part origin c d) t.0
             group (ap source_of same_kind ∙ t.1)
             (old_up_after it.world (supply it can) it.place it.moves it.mounts (serve_images it can) can.each_once t.0
             group (sourced it can origin (tree_among it can origin d) t.0 t.1) t.2)

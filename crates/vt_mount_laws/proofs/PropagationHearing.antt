@@ -136,7 +136,8 @@ module _ (world : World ℕ) (new : Copies ℕ) (place : Location ℕ) (moves : 
   next_image one h lacks next e way =
       let t = member_part one h in
       let life =
-      lives_up world.master (has_members nat_eq world.mounts) one next (group_lives one h) (above one next next e (here next)) in
+      lives_up world.master (has_members nat_eq world.mounts) one next (group_lives one h)
+      (above one next next e (here next)) in
       let found = finds_some has (groups_up world next) group (up_among world live next group life way) group_has in (
         found.0,
         found_nearest world.master has (length world.mounts) next found.0 found.1,
@@ -172,7 +173,8 @@ module _ (world : World ℕ) (new : Copies ℕ) (place : Location ℕ) (moves : 
       (subst (λ x. Up world.master x end) (same_Some after next (sym f ∙ e)) way) h_other)
   forward source (below it next m e later) near other (further one after end misses f rest) (here two) h_other =
       absurd (true≢false (sym h_other ∙ misses))
-  forward source (below it next m e later) near other (further one after end misses f rest) (above two above_it last g way)
+  forward source (below it next m e later) near other (further one after end misses f rest)
+      (above two above_it last g way)
       h_other =
       forward next later end last
       (subst (λ x. Nearest world.master has x end) (same_Some after next (sym f ∙ e)) rest)
@@ -210,7 +212,8 @@ module _ (world : World ℕ) (new : Copies ℕ) (place : Location ℕ) (moves : 
           inr (
             old,
             ap source_of e,
-            old_up world new place moves mounts serve own old one (sourced old (ap source_of e)) (subst (λ x. Up up x one) (image_by (Shared old) e) way),
+            old_up world new place moves mounts serve own old one (sourced old (ap source_of e))
+                (subst (λ x. Up up x one) (image_by (Shared old) e) way),
           )
       by (Slave master) e =
           ⊎_elim (λ same. inl (same ∙ sym (image_by (Slave master) e)))
@@ -340,7 +343,8 @@ module _ (world : World ℕ) (new : Copies ℕ) (place : Location ℕ) (moves : 
     where
       made : image group ≡ fresh_group
           → ((image group ≡ fresh_group) × (has_members nat_eq world.mounts (image group) ≡ false))
-          ⊎ ((has_members nat_eq world.mounts (image group) ≡ true) × (source_of origin.propagation ≡ Some (image group)))
+          ⊎ ((has_members nat_eq world.mounts (image group) ≡ true) ×
+          (source_of origin.propagation ≡ Some (image group)))
       made e =
           inl (
             e,
@@ -350,7 +354,8 @@ module _ (world : World ℕ) (new : Copies ℕ) (place : Location ℕ) (moves : 
 
       by : (kind : Propagation ℕ) → origin.propagation ≡ kind
           → ((image group ≡ fresh_group) × (has_members nat_eq world.mounts (image group) ≡ false))
-          ⊎ ((has_members nat_eq world.mounts (image group) ≡ true) × (source_of origin.propagation ≡ Some (image group)))
+          ⊎ ((has_members nat_eq world.mounts (image group) ≡ true) ×
+          (source_of origin.propagation ≡ Some (image group)))
       by (Shared old) e =
           inr (
             ap (has_members nat_eq world.mounts) (image_by (Shared old) e)
@@ -392,7 +397,8 @@ module _ (world : World ℕ) (new : Copies ℕ) (place : Location ℕ) (moves : 
       ∙ up_among world live source one (sourced source e) way
 
   module _ (groups_after : GroupsLive (attached_by nat_eq world new place moves mounts)) (part : Mount ℕ)
-      (m : Among part parts) (copy : Mount ℕ) (copied : Among copy (attached_by nat_eq world new place moves mounts).mounts)
+      (m : Among part parts) (copy : Mount ℕ)
+      (copied : Among copy (attached_by nat_eq world new place moves mounts).mounts)
       (is_kind : copy.propagation ≡ kind world new place moves mounts serve own part origin) where
     abbrev later_world : World ℕ
     later_world = attached_by nat_eq world new place moves mounts

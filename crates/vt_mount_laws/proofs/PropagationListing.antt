@@ -43,7 +43,8 @@ new_place new copy numbers number k (mount ∷ rest) same =
     ap (λ n. cond (nat_eq (new number) n) (Some k)
     (place_from (nat_eq (new number)) (k + 1) (map (λ (x : Mount ℕ). x.number) (map copy rest)))) (numbers mount)
     ∙ ap (λ b. cond b (Some k)
-    (place_from (nat_eq (new number)) (k + 1) (map (λ (x : Mount ℕ). x.number) (map copy rest)))) (same mount (inl refl))
+    (place_from (nat_eq (new number)) (k + 1) (map (λ (x : Mount ℕ). x.number) (map copy rest)))) (same mount
+    (inl refl))
     ∙ ap (cond (nat_eq number mount.number) (Some k))
     (new_place new copy numbers number (k + 1) rest (λ other m. same other (inr m)))
 
@@ -115,9 +116,11 @@ module _ (world : World ℕ) (fresh : Fresh ℕ) (task : Task ℕ) (serves : Ser
       → parent.number ≡ place.mount
       → place_cell after (map copy copied) (location_on_copy new_number place) ≡ place_cell world copied place
   copied_cell parent m there place same =
-      let number : number_among nat_eq (map (λ (other : Mount ℕ). other.number) (map copy copied)) (new_number place.mount)
+      let number : number_among nat_eq (map (λ (other : Mount ℕ). other.number) (map copy copied))
+      (new_number place.mount)
       ≡ number_among nat_eq (map (λ (other : Mount ℕ). other.number) copied) place.mount =
-      ap (λ n. number_among nat_eq (map (λ (other : Mount ℕ). other.number) (map copy copied)) (new_number n)) (sym same)
+      ap (λ n. number_among nat_eq (map (λ (other : Mount ℕ). other.number) (map copy copied)) (new_number n))
+      (sym same)
       ∙ ap (λ k. unwrap_or k 0)
       (new_place new_number copy (λ mount. refl) parent.number 1 copied (λ other n. new_apart parent other m n))
       ∙ ap (number_among nat_eq (map (λ (other : Mount ℕ). other.number) copied)) same in
@@ -173,7 +176,8 @@ module _ (world : World ℕ) (fresh : Fresh ℕ) (task : Task ℕ) (serves : Ser
       by (Some place) e =
           let parent = parent_inside namespace mount m place e in
           ap (λ (x : Mount ℕ). Some (
-            number_among nat_eq (map (λ (other : Mount ℕ). other.number) (mounts_of nat_eq world namespace)) place.mount,
+            number_among nat_eq (map (λ (other : Mount ℕ). other.number)
+                (mounts_of nat_eq world namespace)) place.mount,
             spot x place,
           ))
           (ap (mount_numbered nat_eq after) (sym parent.2) ∙ old_found parent.0 parent.3
@@ -192,7 +196,8 @@ unshare_lists_the_same world fresh task serves mounts empty =
     let those = mounts_of nat_eq world task.namespace in
     ap (λ (l : List (Mount ℕ)). map (mount_line nat_eq now l) l) (unshare_copies_mounts world fresh task empty)
     ∙ map_alike (mount_line nat_eq world those)
-    (mount_line nat_eq now (map (copy world fresh task serves mounts) those)) (copy world fresh task serves mounts) those
+    (mount_line nat_eq now (map (copy world fresh task serves mounts) those))
+    (copy world fresh task serves mounts) those
     (copied_line world fresh task serves mounts)
 
 pub unshare_lists_others_the_same : UnshareListsOthersTheSame

@@ -20,7 +20,8 @@ on_mounts world mounts mount m at e =
     let parent = parent_of world mounts mount m at e in
     subst (λ n. is_mount world n ≡ true) parent.number (is_one_of world.mounts parent.parent parent.there)
 
-none_at_receivers : (world : World ℕ) (place : Location ℕ) → NothingAtReceivers world place → NoneAtReceivers world place
+none_at_receivers : (world : World ℕ) (place : Location ℕ) → NothingAtReceivers world place
+    → NoneAtReceivers world place
 none_at_receivers world place nothing group receiver mount e m r n =
     nothing group receiver mount e (contains_from_among world.mounts receiver m) r
     (contains_from_among world.mounts mount n)
@@ -49,7 +50,8 @@ unmount_undoes_bind world fresh source place serves mounts there free_place noth
     record {
       back = has_its_record_back world fresh place mount can there on_old free;
       gone = copy_is_gone world fresh place mount can there on_old free
-          (binds_keep_places world fresh source place false serves mounts.one_number mounts.nowhere mounts.standing there
+          (binds_keep_places world fresh source place false serves mounts.one_number mounts.nowhere mounts.standing
+          there
           free_place mounts.one_child);
       masters = masters_back world fresh place mount can there on_old free;
     }

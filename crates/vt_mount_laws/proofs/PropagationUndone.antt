@@ -107,7 +107,8 @@ module _ (world : World ℕ) (fresh : Fresh ℕ) (place : Location ℕ) (first :
       by Unbindable e = none (ap (λ k. unwrap_or (option_map (receivers nat_eq world) (group_of k)) []) e)
 
   -- the mounts that were there are as they were
-  kept : (number : ℕ) → is_mount world number ≡ true → mount_numbered nat_eq after number ≡ mount_numbered nat_eq world number
+  kept : (number : ℕ) → is_mount world number ≡ true
+      → mount_numbered nat_eq after number ≡ mount_numbered nat_eq world number
   kept number is =
       attach_leaves_mounts world fresh place (first ∷ []) number is
       (none_from_among
@@ -136,7 +137,8 @@ module _ (world : World ℕ) (fresh : Fresh ℕ) (place : Location ℕ) (first :
       (λ pushed.
       let from = among-from_map push_it world.mounts mount pushed in
       let number : mount.number ≡ from.0.number =
-      ap (λ (x : Mount ℕ). x.number) from.2 ∙ (push_keeps world supplied (graft_of nat_eq world supplied place false (first ∷ [])) parts from.0).number in
+      ap (λ (x : Mount ℕ). x.number) from.2 ∙ (push_keeps world supplied
+      (graft_of nat_eq world supplied place false (first ∷ [])) parts from.0).number in
       let same : mount ≡ from.0 =
       sym (found_itself after.mounts one_after mount m) ∙ ap (mount_numbered nat_eq after) number
       ∙ kept_itself from.0 from.1 in
@@ -152,10 +154,12 @@ module _ (world : World ℕ) (fresh : Fresh ℕ) (place : Location ℕ) (first :
       supplied = copies_from nat_eq fresh (parts_of nat_eq world place) (first ∷ [])
 
       push_it : Mount ℕ → Mount ℕ
-      push_it = push world (copies_from nat_eq fresh (parts_of nat_eq world place) (first ∷ [])) place false (first ∷ [])
+      push_it = push world (copies_from nat_eq fresh (parts_of nat_eq world place) (first ∷ [])) place false
+          (first ∷ [])
 
       copies_of : Mount ℕ → List (Mount ℕ)
-      copies_of = copies world (copies_from nat_eq fresh (parts_of nat_eq world place) (first ∷ [])) place false (first ∷ [])
+      copies_of = copies world (copies_from nat_eq fresh (parts_of nat_eq world place) (first ∷ [])) place false
+          (first ∷ [])
 
       of_copies : (part : Mount ℕ)
           → Among mount (copies world (copies_from nat_eq fresh (parts_of nat_eq world place) (first ∷ [])) place false
@@ -200,7 +204,8 @@ module _ (world : World ℕ) (fresh : Fresh ℕ) (place : Location ℕ) (first :
       let at_is : record { mount = destination.number; node = place.node } ≡ at =
       same_Some (record { mount = destination.number; node = place.node }) at
       (sym (copy_stands destination destination_part) ∙ e) in
-      let t = found_in (stands_at nat_eq (record { mount = receiver.number; node = at.node })) after.mounts child found in
+      let t = found_in (stands_at nat_eq
+      (record { mount = receiver.number; node = at.node })) after.mounts child found in
       let stood : stands_at nat_eq (record { mount = receiver.number; node = place.node }) child ≡ true =
       ap (λ (l : Location ℕ). stands_at nat_eq (record { mount = receiver.number; node = l.node }) child) at_is ∙ t.1 in
       let shared : destination.propagation ≡ Shared group =
@@ -213,7 +218,8 @@ module _ (world : World ℕ) (fresh : Fresh ℕ) (place : Location ℕ) (first :
       true≢false
       (sym stood
       ∙ free group receiver child shared old
-      (still_hears group receiver old (receives_completely after groups_later group receiver (among_from_contains after.mounts receiver contained) hears_it))
+      (still_hears group receiver old (receives_completely after groups_later group receiver
+      (among_from_contains after.mounts receiver contained) hears_it))
       old_child))
       (λ copied.
       true≢false
@@ -265,7 +271,8 @@ module _ (world : World ℕ) (fresh : Fresh ℕ) (place : Location ℕ) (first :
       ∙ ap (λ (x : Mount ℕ). x.propagation) (kept number is)
 
   -- groups keep members
-  still_members : (group : ℕ) → has_members nat_eq world.mounts group ≡ true → has_members nat_eq undone.mounts group ≡ true
+  still_members : (group : ℕ) → has_members nat_eq world.mounts group ≡ true
+      → has_members nat_eq undone.mounts group ≡ true
   still_members group has =
       let member = any_among (is_member_of nat_eq group) world.mounts has in
       let is = is_one_of world.mounts member.0 member.1 in
@@ -396,7 +403,8 @@ module _ (world : World ℕ) (fresh : Fresh ℕ) (place : Location ℕ) (first :
       by mount m (Some at) e =
           ap (holds_of (λ (l : Location ℕ). nat_eq (copy part).number l.mount)) e ∙ off_copy part c mount m at e
 
-  copy_goes : OneMountAPlace after.mounts → (part : Mount ℕ) → IsPart it part → Goes after (copy destination) (copy part).number
+  copy_goes : OneMountAPlace after.mounts → (part : Mount ℕ) → IsPart it part
+      → Goes after (copy destination) (copy part).number
   copy_goes one_place part c = by destination.propagation refl
     where
       only : is_shared destination.propagation ≡ false → group_of destination.propagation ≡ None
@@ -434,12 +442,14 @@ module _ (world : World ℕ) (fresh : Fresh ℕ) (place : Location ℕ) (first :
   none_inherits true any group e = ap (heir nat_eq any) e
   none_inherits false any group e = e
 
-  pub masters_back : (group : ℕ) → has_members nat_eq world.mounts group ≡ true → undone.master group ≡ world.master group
+  pub masters_back : (group : ℕ) → has_members nat_eq world.mounts group ≡ true
+      → undone.master group ≡ world.master group
   masters_back group has = by (world.master group) refl
     where
       by : (found : Option ℕ) → world.master group ≡ found → undone.master group ≡ world.master group
       by None e =
-          none_inherits (list_any (lost_a_group nat_eq (middle after (going nat_eq after (mount_numbered nat_eq after gone))))
+          none_inherits (list_any (lost_a_group nat_eq (middle after (going nat_eq after
+          (mount_numbered nat_eq after gone))))
           (middle after (going nat_eq after (mount_numbered nat_eq after gone))).mounts)
           (middle after (going nat_eq after (mount_numbered nat_eq after gone))) group
           (old_master world (supply it can) place false (first ∷ []) (serve_images it can) can.each_once group has ∙ e)
@@ -451,5 +461,6 @@ module _ (world : World ℕ) (fresh : Fresh ℕ) (place : Location ℕ) (first :
           (old_master world (supply it can) place false (first ∷ []) (serve_images it can) can.each_once group has ∙ e)
           (still_members master
           (live_members world.master (has_members nat_eq world.mounts) master
-          (lives_up world.master (has_members nat_eq world.mounts) group master life (above group master master e (here master)))))
+          (lives_up world.master (has_members nat_eq world.mounts) group master life (above group master master e
+          (here master)))))
           ∙ sym e

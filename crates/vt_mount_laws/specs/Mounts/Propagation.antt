@@ -19,8 +19,8 @@ use Rattle.vt_mount_laws.specs.Mounts.Unmounting.{mount_left}
 
 -- Attaching
 
--- What is attached: a tree of mounts at a place. The mounts move there, or copies of them are put there; at the receivers
--- copies are. New numbers come out of a supply.
+-- What is attached: a tree of mounts at a place. The mounts move there, or copies of them are put there; at the
+-- receivers copies are. New numbers come out of a supply.
 pub record Attachment : Type 0 where
   pub world : World ℕ
   pub fresh : Fresh ℕ
@@ -84,8 +84,8 @@ number_at it part origin =
 abbrev pub copy_of : Attachment → Mount ℕ → Mount ℕ → Mount ℕ
 copy_of it part origin = mount_numbered nat_eq (world_after it) (number_at it part origin)
 
--- What the laws ask for: the numbers that are handed in are not in use, mounts have numbers of their own, groups live, and
--- the types of the tree's mounts are private or those of mounts that there are.
+-- What the laws ask for: the numbers that are handed in are not in use, mounts have numbers of their own, groups
+-- live, and the types of the tree's mounts are private or those of mounts that there are.
 pub record CanAttach (it : Attachment) : Type 0 where
   pub serves : Serves nat_eq it.world it.fresh
   pub one_number : OneNumberEach it.world
@@ -144,10 +144,11 @@ CopiesAreNew =
 abbrev pub FirstStandsOnItsPart : Type 0
 FirstStandsOnItsPart =
     (it : Attachment) (part first : Mount ℕ) (rest : List (Mount ℕ)) → CanAttach it → IsPart it part
-    → it.mounts ≡ first ∷ rest → (copy_of it part first).place ≡ Some (record { mount = part.number; node = it.place.node })
+    → it.mounts ≡ first ∷ rest
+    → (copy_of it part first).place ≡ Some (record { mount = part.number; node = it.place.node })
 
--- Each other stands on the copy of the one on which it stood, at the same node; where mounts move, unless it stood at the
--- place of a receiver.
+-- Each other stands on the copy of the one on which it stood, at the same node; where mounts move, unless it stood at
+-- the place of a receiver.
 abbrev pub OthersStandOnCopies : Type 0
 OthersStandOnCopies =
     (it : Attachment) (part first origin below : Mount ℕ) (rest : List (Mount ℕ)) (at : Location ℕ) → CanAttach it
@@ -226,8 +227,8 @@ CopiesAtSlavesAreSlaves =
     → nearest_part_group it master ≡ Some group → other.propagation ≡ Shared group
     → IsSlaveOf (copy_of it one origin) (copy_of it other origin)
 
--- The copy at a member of another group than the destination's is in a new group, whose master is the group of the copy at
--- a member of that group's master, or of the nearest group up.
+-- The copy at a member of another group than the destination's is in a new group, whose master is the group of the
+-- copy at a member of that group's master, or of the nearest group up.
 abbrev pub CopiesAtLowerGroupsFollow : Type 0
 CopiesAtLowerGroupsFollow =
     (it : Attachment) (one other origin : Mount ℕ) (own master group : ℕ) → CanAttach it → IsPart it one
@@ -239,8 +240,9 @@ CopiesAtLowerGroupsFollow =
 
 -- Hearing: sharedsubtree, "Propagation"
 
--- The copies of a mount hear one another just as the parts do: the copy at one part receives from the group of the copy at
--- another where the one part received from the other's group. So the copies are a propagation tree like that of the parts.
+-- The copies of a mount hear one another just as the parts do: the copy at one part receives from the group of the
+-- copy at another where the one part received from the other's group. So the copies are a propagation tree like that
+-- of the parts.
 abbrev pub CopiesHearOneAnother : Type 0
 CopiesHearOneAnother =
     (it : Attachment) (one other origin : Mount ℕ) (group : ℕ) → CanAttach it → IsPart it one → IsPart it other
@@ -248,8 +250,8 @@ CopiesHearOneAnother =
     → (image : ℕ) × ((copy_of it other origin).propagation ≡ Shared image)
     × (receives nat_eq (world_after it) image (copy_of it one origin) ≡ receives nat_eq it.world group one)
 
--- Of a group that had members before, a copy hears just where the mount that it is made from did: not at all where that was
--- private, as its peers where it was shared, and from its master where it was a slave.
+-- Of a group that had members before, a copy hears just where the mount that it is made from did: not at all where
+-- that was private, as its peers where it was shared, and from its master where it was a slave.
 abbrev pub CopiesHearAsTheirOrigins : Type 0
 CopiesHearAsTheirOrigins =
     (it : Attachment) (part origin : Mount ℕ) (group : ℕ) → CanAttach it → IsPart it part → IsOfTree it origin
@@ -265,11 +267,12 @@ NothingAtReceivers world place =
     → Contains world.mounts receiver → receives nat_eq world group receiver ≡ true → Contains world.mounts mount
     → stands_at nat_eq (record { mount = receiver.number; node = place.node }) mount ≡ false
 
--- the unmount of what was attached at the destination undoes it: each mount that was there has its record back, all copies
--- are detached, and groups that have members have the masters that they had
+-- the unmount of what was attached at the destination undoes it: each mount that was there has its record back, all
+-- copies are detached, and groups that have members have the masters that they had
 pub record IsUndone (it : Attachment) (one : Mount ℕ) : Type 0 where
   pub back : (number : ℕ) → is_mount it.world number ≡ true
-      → mount_left (world_after it) (number_at it (destination_of it) one) number ≡ mount_numbered nat_eq it.world number
+      → mount_left (world_after it) (number_at it (destination_of it) one) number
+      ≡ mount_numbered nat_eq it.world number
   pub gone : (part : Mount ℕ) → IsPart it part
       → mount_left (world_after it) (number_at it (destination_of it) one) (number_at it part one)
       ≡ detached (copy_of it part one)
