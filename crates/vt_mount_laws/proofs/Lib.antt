@@ -38,6 +38,16 @@ pub mod MovingLeaves
 pub mod MovingPlaces
 pub mod MovingRoots
 pub mod MovingStands
+pub mod PropagationAttaching
+pub mod PropagationCopies
+pub mod PropagationHeard
+pub mod PropagationHearing
+pub mod PropagationListing
+pub mod PropagationPremises
+pub mod PropagationTypes
+pub mod PropagationUndo
+pub mod PropagationUndone
+pub mod PropagationUp
 pub mod Receivers
 pub mod Standing
 pub mod Topmost

@@ -10,6 +10,7 @@ pub mod Granted
 pub mod Namespaces
 pub mod Moving
 pub mod Places
+pub mod Propagation
 pub mod Receivers
 pub mod Standing
 pub mod Unmounting

@@ -3,8 +3,9 @@
 //! Each public function is a theorem of the written policy, and does nothing.
 #![tactic(auto)]
 
-pub mod ends;
 pub mod attached;
+pub mod ends;
 pub mod mounts;
-pub mod namespaces;
 pub mod moves;
+pub mod namespaces;
+pub mod propagation;
