@@ -51,8 +51,9 @@ pub fn views_say_what_is_shown()
     ensures at_a_path { ShownByFronts }
 {}
 
-/// A change of the upper layer leaves what is shown at all paths but those through its names, and those through a directory
-/// whose mark it sets. At a new name the new object is shown; at one that was removed or left, what was below.
+/// A change of the upper layer leaves which inode of which layer is shown at all paths but those through its names, and
+/// those through a directory whose mark it sets. At a name that was made or linked the new object is shown; at one that was
+/// removed or left, what lower layers show there.
 pub fn changes_of_the_upper_layer_show_there_alone()
     ensures elsewhere { ShownElsewhereStays }
     ensures made { NewNameIsShown }

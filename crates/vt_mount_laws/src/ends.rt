@@ -1,8 +1,8 @@
 //! What takes mounts away: the invariants of mounts that it keeps, and what namespaces have left.
 ghost use Rattle.vt_mount_laws.specs.Mounts.Ending.{UnmountKeepsMounts, LazyUnmountKeepsMounts, TreesKeepMounts, PointsKeepMounts, ReplacedKeepsMounts, EndedNamespacesKeepMounts, ByUnmount, ByLazyUnmount, ByTrees, ByPoints, ByReplaced, ByEndedNamespaces, HasNoMoreMounts, TakesNoMountsIn, UnmountKeepsRootMounts, LazyUnmountKeepsRootMounts, TreesKeepRootMounts, PointsKeepRootMounts, ReplacedKeepsRootMounts, EndedNamespacesKeepRootMounts};
 
-/// An unmount, also a lazy one, and the end of trees of mounts and of namespaces keep the invariants of mounts: numbers,
-/// places, standing and groups.
+/// An unmount of a mount without children, any lazy unmount, and the end of trees of mounts and of namespaces keep the
+/// invariants of mounts.
 pub fn what_takes_mounts_away_keeps_their_invariants()
     ensures unmount { UnmountKeepsMounts }
     ensures lazy { LazyUnmountKeepsMounts }
@@ -12,7 +12,8 @@ pub fn what_takes_mounts_away_keeps_their_invariants()
     ensures ended { EndedNamespacesKeepMounts }
 {}
 
-/// Each namespace keeps its root mounts where what goes has a place, or is in namespaces that end.
+/// Each namespace keeps its number of root mounts, where each mount has a number of its own and what is detached has a
+/// mount point; at a namespace's end, each namespace that has a task.
 pub fn namespaces_keep_their_root_mounts()
     ensures unmount { UnmountKeepsRootMounts }
     ensures lazy { LazyUnmountKeepsRootMounts }

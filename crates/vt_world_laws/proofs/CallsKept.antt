@@ -33,7 +33,7 @@ use Rattle.vt_tree_laws.proofs.TreesLimits.{outcome_small}
 use Rattle.vt_tree_laws.proofs.TreesOfMounts.{worlds_are_standing}
 use Rattle.vt_tree_laws.proofs.TreesWalked.{no_some}
 use Rattle.vt_world_laws.specs.Worlds.Calls.{CallsKeepWorlds, PermitsFit}
-use Rattle.vt_world_laws.specs.Worlds.Kept.{IsPlain, IsUnsettled, KeptByPermits, MountsShow}
+use Rattle.vt_world_laws.specs.Worlds.Kept.{IsPlain, IsWorldButForUse, KeptByPermits, MountsShow}
 use Rattle.vt_world_laws.specs.Worlds.Filesystems.{OneFilesystemANumber}
 use Rattle.vt_world_laws.specs.Worlds.Permits.{IsFitPermit}
 use Rattle.vt_world_laws.specs.Worlds.Tasks.{LocationsAreThere, OneTaskAName, OpenFilesAreRegular, TasksStandOnDirectories}
@@ -135,7 +135,7 @@ module _ (world : World ℕ) (fresh : Fresh ℕ) (task : Task ℕ) (call : Call)
   sizes : IsFitWorld after_call
   sizes = outcome_fits fresh world task (record { plain = plain; fit = is.files.fit_filesystems }) call other
 
-  unsettled : IsUnsettled after_call
+  unsettled : IsWorldButForUse after_call
   unsettled = record {
     plain = trees.plain;
     files = record {

@@ -15,7 +15,7 @@ use Rattle.vt_spec.specs.declared.attributes.Kind.TheVariants.{File}
 use Rattle.vt_spec.specs.TreeLaws.{HasOwnParents, IsTree}
 use Rattle.vt_spec.proofs.Lists.{all-map, among-from_map, among_from_contains, contains_from_among, pair-map}
 use Rattle.vt_letting_go.proofs.Lists.{any-map, flat_map-map, map_twice}
-use Rattle.vt_world_laws.specs.Worlds.Kept.{IsPlain, IsUnsettled, MountsShow}
+use Rattle.vt_world_laws.specs.Worlds.Kept.{IsPlain, IsWorldButForUse, MountsShow}
 
 -- where mounts stand is seen on the mounts alone
 pub stands_alike : (before later : World ℕ)
@@ -185,7 +185,7 @@ module _ (of_filesystem : Filesystem ℕ → ℕ) (of_namespace : Namespace ℕ 
   roots_counted : MountsShow world → MountsShow counted
   roots_counted is = ap (λ files. list_all (has_root_by files) world.mounts) same_files ∙ is
 
-  pub unsettled_counted : IsUnsettled world → IsUnsettled counted
+  pub unsettled_counted : IsWorldButForUse world → IsWorldButForUse counted
   unsettled_counted is = record {
     plain = plain_counted is.plain;
     files = trees_counted is.files;

@@ -15,12 +15,12 @@ use Rattle.vt_letting_go.specs.InUse.{AllInUse, is_inode_used}
 use Rattle.vt_letting_go.proofs.InUse.{nothing_goes, what_is_left_is_in_use}
 use Rattle.vt_letting_go.proofs.Lists.{any-map, flat_map-map}
 use Rattle.vt_letting_go.proofs.OfWorlds.{uppers_of_worlds_are_plain, worlds_have_trees}
-use Rattle.vt_world_laws.specs.Worlds.Kept.{IsPlain, IsUnsettled}
+use Rattle.vt_world_laws.specs.Worlds.Kept.{IsPlain, IsWorldButForUse}
 use Rattle.vt_world_laws.proofs.Plain.{plain_overlays}
 use Rattle.vt_world_laws.proofs.Raised.{counted, unsettled_counted}
 
 -- the invariants of a world are those while a call is under way, and that nothing goes
-pub unsettled_of : (world : World ℕ) → IsWorld nat_eq world → IsPlain world → IsUnsettled world
+pub unsettled_of : (world : World ℕ) → IsWorld nat_eq world → IsPlain world → IsWorldButForUse world
 unsettled_of world is plain = record {
   plain = plain;
   files = is.files;
@@ -30,7 +30,7 @@ unsettled_of world is plain = record {
   roots = is.roots;
 }
 
-pub world_of : (world : World ℕ) → IsUnsettled world → settled nat_eq world ≡ world → IsWorld nat_eq world
+pub world_of : (world : World ℕ) → IsWorldButForUse world → settled nat_eq world ≡ world → IsWorld nat_eq world
 world_of world is nothing = record {
   files = is.files;
   overlays = plain_overlays world is.plain;
@@ -106,7 +106,7 @@ module _ (of_filesystem : Filesystem ℕ → ℕ) (of_namespace : Namespace ℕ 
 
   pub world_counted : IsWorld nat_eq world → IsPlain world → IsWorld nat_eq later × IsPlain later
   world_counted is plain =
-      let rest : IsUnsettled later =
+      let rest : IsWorldButForUse later =
       unsettled_counted of_filesystem of_namespace of_task change world (unsettled_of world is plain) in
       (world_of later rest (nothing_goes later (in_use_later (worlds_are_in_use world is))), rest.plain)
 
@@ -137,9 +137,9 @@ module _ (changed : List ℕ) (world : World ℕ) where
     tasks = unchanged world.tasks i;
   }
 
-  pub raising_filesystems_keeps : IsUnsettled world → IsUnsettled (filesystems_raised nat_eq changed world)
+  pub raising_filesystems_keeps : IsWorldButForUse world → IsWorldButForUse (filesystems_raised nat_eq changed world)
   raising_filesystems_keeps is =
-      subst IsUnsettled (sym filesystems_raised_are)
+      subst IsWorldButForUse (sym filesystems_raised_are)
       (unsettled_counted number_if (λ namespace. namespace.change) (λ task. task.change) world.change world is)
 
   pub raising_filesystems_keeps_world : IsWorld nat_eq world → IsPlain world
@@ -182,9 +182,9 @@ module _ (before : World ℕ) (name : TaskName) (changed : List ℕ) (world : Wo
     change = raised world.change;
   }
 
-  pub raising_numbers_keeps : IsUnsettled world → IsUnsettled (numbers_raised nat_eq before name changed world)
+  pub raising_numbers_keeps : IsWorldButForUse world → IsWorldButForUse (numbers_raised nat_eq before name changed world)
   raising_numbers_keeps is =
-      subst IsUnsettled (sym numbers_raised_are)
+      subst IsWorldButForUse (sym numbers_raised_are)
       (unsettled_counted (number_if changed world) namespace_if task_if (raised world.change) world is)
 
   pub raising_numbers_keeps_world : IsWorld nat_eq world → IsPlain world

@@ -50,4 +50,4 @@ lines_keep grammar world (line ∷ lines) (false ∷ refused) left kept plain le
 
 pub scripts_lead_to_worlds : ScriptsLeadToWorlds
 scripts_lead_to_worlds grammar lines refused fresh left apart plain leads =
-    (lines_keep grammar (opening nat_eq fresh) lines refused left (opening_is_a_world fresh apart) plain leads).0
+    lines_keep grammar (opening nat_eq fresh) lines refused left (opening_is_a_world fresh apart) plain leads

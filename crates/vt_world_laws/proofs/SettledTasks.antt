@@ -24,7 +24,7 @@ use Rattle.vt_tree_laws.proofs.TreesForgotten.{settling_keeps_trees}
 use Rattle.std.proofs.lemmas.Option.{same_Some}
 use Rattle.vt_spec.specs.TreeLaws.{HasOwnParents, IsTree}
 use Rattle.vt_spec.specs.Machine.WorldLaws.Stands.{at_root, on_parent}
-use Rattle.vt_world_laws.specs.Worlds.Kept.{IsPlain, IsUnsettled, MountsShow, SettlingLeavesAWorld}
+use Rattle.vt_world_laws.specs.Worlds.Kept.{IsPlain, IsWorldButForUse, MountsShow, SettlingLeavesAWorld}
 use Rattle.vt_world_laws.proofs.Plain.{uppers_plain}
 use Rattle.vt_world_laws.proofs.RaisedInUse.{world_of}
 use Rattle.vt_world_laws.proofs.SettledMounts.{settled_mounts, settled_namespaces}
@@ -45,7 +45,7 @@ found_listed (first ∷ rest) number h = by (nat_eq number first.number) h (foun
     by true f later = inl refl
     by false f later = inr (later f)
 
-module _ (world : World ℕ) (unsettled : IsUnsettled world) where
+module _ (world : World ℕ) (unsettled : IsWorldButForUse world) where
   abbrev after : World ℕ
   after = settled nat_eq world
 
@@ -259,7 +259,7 @@ module _ (world : World ℕ) (unsettled : IsUnsettled world) where
           ∙ ap (nat_eq a.number) (used_number w (chosen b) b) ∙ e)
           apart
 
-  settled_is : IsUnsettled after
+  settled_is : IsWorldButForUse after
   settled_is = record {
     plain = settled_plain;
     files = settled_trees;

@@ -3,7 +3,8 @@ ghost use Rattle.std.specs.Prelude.{nat_eq};
 ghost use Rattle.vt_spec.specs.Machine.WorldLaws.{MountInvariants, NamespaceInvariants};
 ghost use Rattle.vt_world_laws.specs.Worlds.Kept.{KeptByPermits};
 
-/// Each permit that fits keeps the invariants of mounts and those of namespaces.
+/// In a world with all invariants and without overlays, a permit that fits, of a task that exists, applied with unused
+/// numbers, keeps the invariants of mounts and those of namespaces, before what is not in use is gone.
 pub fn permits_keep_mounts_and_namespaces()
     ensures mounts { KeptByPermits (MountInvariants nat_eq) }
     ensures namespaces { KeptByPermits (NamespaceInvariants nat_eq) }

@@ -20,7 +20,7 @@ KeepsRootMounts before later =
     → length (filter (is_root_mount nat_eq) (mounts_of nat_eq later namespace))
     ≡ length (filter (is_root_mount nat_eq) (mounts_of nat_eq before namespace))
 
--- each mount is in a namespace in which some mount was, or in none
+-- no mount comes to a namespace in which there was none
 abbrev pub StaysInNamespaces : World ℕ → World ℕ → Type 0
 StaysInNamespaces before later =
     All (λ mount. (namespace : ℕ) → mount.namespace ≡ Some namespace

@@ -14,7 +14,7 @@ use Rattle.vt_spec.specs.Machine.World.{Task, World, mount_at, mount_numbered, m
 use Rattle.vt_spec.specs.Machine.WorldLaws.{MountInvariants, is_listed, is_root_mount}
 use Rattle.vt_mount_laws.specs.Mounts.Conditions.{OneNumberEach}
 
--- No mount stands over the topmost one over a place.
+-- Where mounts have their invariants, no mount stands over the topmost one over a place.
 abbrev pub TopmostIsFree : Type 0
 TopmostIsFree =
     (world : World ℕ) (place : Location ℕ) → MountInvariants nat_eq world
@@ -92,8 +92,9 @@ SetFlagsKeepCounts =
 abbrev pub IsIn : World ℕ → ℕ → ℕ → Type 0
 IsIn world namespace mount = (mount_numbered nat_eq world mount).namespace ≡ Some namespace
 
--- What pivot_root(2) asks for: the old root mount, the new one and the place for the old one are in one namespace; the
--- new one stands over the old one, and the place lies over the new one, with no mount at it.
+-- What of pivot_root(2)'s conditions keeps the invariants: the old root mount, the new one and the mount of `put` are in one
+-- namespace; the new root mount is a descendant of the old one, `put` is at or under the new root, and no mount is attached
+-- there.
 pub record CanPivot (world : World ℕ) (namespace : ℕ) (root new : Mount ℕ) (put : Location ℕ) : Type 0 where
   pub root_there : mount_numbered nat_eq world root.number ≡ root
   pub new_there : mount_numbered nat_eq world new.number ≡ new

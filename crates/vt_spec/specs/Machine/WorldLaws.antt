@@ -97,7 +97,8 @@ module _ {N : Type 0} where
   abbrev pub number_at_path : FileTree N → List (List ℕ) → Option N
   number_at_path files path = led files.tree files.tree.root path
 
--- A mount stands: it has no place, or its place is on a mount that stands, in the same namespace. Mounts go by their numbers.
+-- A mount stands: it has no mount point, or its parent is in the same namespace and stands. Mounts are given by numbers; a
+-- number that no mount has stands too, and `nowhere` excludes it as a parent.
 pub data Stands {N : Type 0} (eq : N → N → Bool) (world : World N) : N → Type 0 where
   at_root : (number : N) → (mount_numbered eq world number).place ≡ None → Stands eq world number
   on_parent : (number : N) (place : Location N) → (mount_numbered eq world number).place ≡ Some place

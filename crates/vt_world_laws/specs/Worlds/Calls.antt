@@ -59,4 +59,4 @@ abbrev pub ScriptsLeadToWorlds : Type 0
 ScriptsLeadToWorlds =
     (grammar : Grammar) (lines : List (List ℕ)) (refused : List Bool) (fresh : Fresh ℕ) (left : World ℕ)
     → ((j k : ℕ) → fresh j ≡ fresh k → j ≡ k) → HasNoOverlays grammar lines
-    → LeadsTo grammar (opening nat_eq fresh) lines refused left → IsWorld nat_eq left
+    → LeadsTo grammar (opening nat_eq fresh) lines refused left → IsWorld nat_eq left × IsPlain left

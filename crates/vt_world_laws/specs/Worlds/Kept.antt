@@ -19,7 +19,7 @@ abbrev pub MountsShow : World ℕ → Type 0
 MountsShow world = list_all (has_its_root nat_eq world) world.mounts ≡ true
 
 -- a world of plain filesystems in which something may be left that nothing uses
-pub record IsUnsettled (world : World ℕ) : Type 0 where
+pub record IsWorldButForUse (world : World ℕ) : Type 0 where
   pub plain : IsPlain world
   pub files : TreeInvariants nat_eq world
   pub mounts : MountInvariants nat_eq world
@@ -36,4 +36,4 @@ KeptByPermits Invariant =
 
 -- Where all hold they do when what nothing uses is gone.
 abbrev pub SettlingLeavesAWorld : Type 0
-SettlingLeavesAWorld = (world : World ℕ) → IsUnsettled world → IsWorld nat_eq (settled nat_eq world) × IsPlain (settled nat_eq world)
+SettlingLeavesAWorld = (world : World ℕ) → IsWorldButForUse world → IsWorld nat_eq (settled nat_eq world) × IsPlain (settled nat_eq world)

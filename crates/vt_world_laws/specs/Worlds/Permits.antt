@@ -1,5 +1,5 @@
--- What the judgement of a call sees to, in a world without overlays: what its permit names is there, and is where the call
--- may act.
+-- What the judgement of a call sees to, in a world without overlays: the places at which a permitted call changes something,
+-- and the mounts and namespaces that it names, exist. Of a permit that only looks nothing is said.
 use Rattle.std.specs.Prelude.{None, Some, false, is_some, nat_eq, option_to_list, true, ℕ, ⊤, ◌&&◌, ◌≡◌}
 use Rattle.std.specs.List.{list_all, list_any}
 use Rattle.vt_spec.specs.declared.attributes.Kind.TheVariants.{File}
@@ -66,7 +66,7 @@ pub record MayMoveTo (world : World ℕ) (task : Task ℕ) (mount : ℕ) (place 
   pub not_inside : list_any (λ (other : Mount ℕ). nat_eq other.number place.mount)
       (mount_tree nat_eq world.mounts (mount_numbered nat_eq world mount)) ≡ false
 
--- pivot_root(2): EINVAL and EBUSY
+-- what pivot_root(2) checks that the invariants need: EINVAL and EBUSY
 pub record MayPivot (world : World ℕ) (task : Task ℕ) (new : ℕ) (put : Location ℕ) : Type 0 where
   pub destination : IsDestination world task put
   pub own : IsOwn world task new
