@@ -15,7 +15,7 @@ use Rattle.vt_mount_laws.proofs.AttachedMasters.{image_elsewhere, master_there, 
 use Rattle.vt_mount_laws.proofs.Attaching.{taker_there}
 use Rattle.vt_mount_laws.proofs.GroupsKept.{member_shared, shared_member}
 use Rattle.vt_mount_laws.proofs.GroupsUp.{LivesIn, Up, live_members, lives_in}
-use Rattle.vt_mount_laws.proofs.GroupsUp.Lives.{below, top}
+use Rattle.vt_spec.specs.Machine.WorldLaws.Lives.{has_master, has_no_master}
 use Rattle.vt_mount_laws.proofs.GroupsUp.Up.{above, here}
 use Rattle.vt_mount_laws.proofs.MountsFound.{found_or_none}
 use Rattle.vt_mount_laws.proofs.MountsNumbered.{is_one_of}
@@ -161,19 +161,19 @@ module _ (world : World ℕ) (new : Copies ℕ) (place : Location ℕ) (moves : 
 
   forward : (source : ℕ) → LivesIn world source → (near other : ℕ) → Nearest world.master has source near
       → Up world.master source other → has other ≡ true → Up up (image near) (image other)
-  forward source (top it m e) near other (itself one h) (here two) h_other = here (image one)
-  forward source (top it m e) near other (itself one h) (above two next end f way) h_other =
+  forward source (has_no_master it m e) near other (itself one h) (here two) h_other = here (image one)
+  forward source (has_no_master it m e) near other (itself one h) (above two next end f way) h_other =
       absurd (true≢false (sym (ap is_some f) ∙ ap is_some e))
-  forward source (top it m e) near other (further one next end misses f rest) way h_other =
+  forward source (has_no_master it m e) near other (further one next end misses f rest) way h_other =
       absurd (true≢false (sym (ap is_some f) ∙ ap is_some e))
-  forward source (below it next m e later) near other (itself one h) (here two) h_other = here (image one)
-  forward source (below it next m e later) near other (itself one h) (above two after end f way) h_other =
+  forward source (has_master it next m e later) near other (itself one h) (here two) h_other = here (image one)
+  forward source (has_master it next m e later) near other (itself one h) (above two after end f way) h_other =
       step one next end h e (subst (λ x. Up world.master x end) (same_Some after next (sym f ∙ e)) way) h_other
       (λ close n. forward next later close end n
       (subst (λ x. Up world.master x end) (same_Some after next (sym f ∙ e)) way) h_other)
-  forward source (below it next m e later) near other (further one after end misses f rest) (here two) h_other =
+  forward source (has_master it next m e later) near other (further one after end misses f rest) (here two) h_other =
       absurd (true≢false (sym h_other ∙ misses))
-  forward source (below it next m e later) near other (further one after end misses f rest)
+  forward source (has_master it next m e later) near other (further one after end misses f rest)
       (above two above_it last g way)
       h_other =
       forward next later end last

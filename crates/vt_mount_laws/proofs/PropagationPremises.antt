@@ -7,6 +7,7 @@ use Rattle.vt_spec.specs.Machine.Mounts.{Mount}
 use Rattle.vt_spec.specs.Machine.Outcome.Mounting.{moved_tree, new_mount}
 use Rattle.vt_spec.specs.Machine.World.{mount_at}
 use Rattle.vt_mount_laws.specs.Mounts.Propagation.{BindsCan, MovesCan, NewMountsCan}
+use Rattle.vt_mount_laws.proofs.GroupsLiving.{tested_live}
 use Rattle.vt_mount_laws.proofs.BindsStand.{bind_there_or_source}
 use Rattle.vt_mount_laws.proofs.MountsFound.{found_or_none, found_there}
 use Rattle.vt_mount_laws.proofs.MountsReplaced.{tree_among}
@@ -16,7 +17,7 @@ pub binds_can : BindsCan
 binds_can world fresh source place recursive serves mounts = record {
   serves = serves;
   one_number = mounts.one_number;
-  groups = mounts.groups;
+  groups = tested_live world mounts.groups;
   each_once = binds_take_each_once world source recursive mounts.one_number mounts.standing;
   moving = λ e. absurd (true≢false (sym e));
   types = λ origin c.
@@ -41,7 +42,7 @@ pub new_mounts_can : NewMountsCan
 new_mounts_can world fresh place filesystem flags serves mounts = record {
   serves = serves;
   one_number = mounts.one_number;
-  groups = mounts.groups;
+  groups = tested_live world mounts.groups;
   each_once = refl;
   moving = λ e. absurd (true≢false (sym e));
   types = λ origin c.
@@ -65,7 +66,7 @@ moves_can world fresh source place serves mounts there =
     record {
       serves = serves;
       one_number = mounts.one_number;
-      groups = mounts.groups;
+      groups = tested_live world mounts.groups;
       each_once = trees_have_each_once world source.mount mounts.one_number mounts.standing;
       moving = λ e. inside;
       types = λ origin c. inr (origin, inside origin c, refl);

@@ -11,8 +11,9 @@ use Rattle.vt_spec.specs.Machine.Receives.Receives.{further_down, member, slave}
 use Rattle.vt_spec.specs.Machine.World.{World}
 use Rattle.vt_mount_laws.specs.Mounts.Receivers.{GroupsLive}
 use Rattle.vt_mount_laws.proofs.GroupsKept.{member_shared}
-use Rattle.vt_mount_laws.proofs.GroupsUp.{Lives, LivesIn, Up, live_members, way_up}
-use Rattle.vt_mount_laws.proofs.GroupsUp.Lives.{below, top}
+use Rattle.vt_mount_laws.proofs.GroupsUp.{LivesIn, Up, live_members, way_up}
+use Rattle.vt_spec.specs.Machine.WorldLaws.{Lives}
+use Rattle.vt_spec.specs.Machine.WorldLaws.Lives.{has_master, has_no_master}
 use Rattle.vt_mount_laws.proofs.GroupsUp.Up.{above, here}
 use Rattle.vt_mount_laws.proofs.Receivers.{receives_completely}
 
@@ -30,8 +31,8 @@ module _ (master : ℕ → Option ℕ) where
   -- masters that come to an end do not come back
   pub no_loop : (members : ℕ → Bool) (group : ℕ) → Lives members master group → (next : ℕ) → master group ≡ Some next
       → Up master next group → ⊥
-  no_loop members group (top it has f) next e way = true≢false (sym (ap is_some e) ∙ ap is_some f)
-  no_loop members group (below it step has f later) next e way =
+  no_loop members group (has_no_master it has f) next e way = true≢false (sym (ap is_some e) ∙ ap is_some f)
+  no_loop members group (has_master it step has f later) next e way =
       by step it (subst (λ n. Up master n it) (same_Some next step (sym e ∙ f)) way) refl refl
       (no_loop members step later)
     where
@@ -45,9 +46,9 @@ module _ (master : ℕ → Option ℕ) where
   pub lives_up : (members : ℕ → Bool) (group other : ℕ) → Lives members master group → Up master group other
       → Lives members master other
   lives_up members group other life (here it) = life
-  lives_up members group other (top it has f) (above same next end e way) =
+  lives_up members group other (has_no_master it has f) (above same next end e way) =
       absurd (true≢false (sym (ap is_some e) ∙ ap is_some f))
-  lives_up members group other (below it step has f later) (above same next end e way) =
+  lives_up members group other (has_master it step has f later) (above same next end e way) =
       lives_up members next end (subst (Lives members master) (same_Some step next (sym f ∙ e)) later) way
 
   -- the nearest group up the masters that passes a test
