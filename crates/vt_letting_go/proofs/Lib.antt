@@ -3,6 +3,7 @@ pub mod Trees
 pub mod InUse
 pub mod OneByOne
 pub mod Inodes
+pub mod Merged
 pub mod PlacesLeft
 pub mod TreesChanged
 pub mod LeftOneByOne

@@ -1,6 +1,7 @@
 pub mod InUse
 pub mod Counts
 pub mod OneByOne
+pub mod Overlays
 pub mod Leaving
 pub mod Worlds
 pub mod TreeChanges
