@@ -4,6 +4,7 @@ pub mod InUse
 pub mod OneByOne
 pub mod Inodes
 pub mod Merged
+pub mod MergedSteps
 pub mod PlacesLeft
 pub mod TreesChanged
 pub mod LeftOneByOne
