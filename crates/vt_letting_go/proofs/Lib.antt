@@ -5,6 +5,7 @@ pub mod OneByOne
 pub mod Inodes
 pub mod Merged
 pub mod MergedSteps
+pub mod WithOverlays
 pub mod PlacesLeft
 pub mod TreesChanged
 pub mod LeftOneByOne

@@ -53,12 +53,12 @@ layers_without gone filesystem = by filesystem.overlay
 -- a kind of filesystem, which inodes that go do not change
 module _ (chosen : Filesystem ℕ → Bool) (keeps : (gone : ℕ → Bool) (f : Filesystem ℕ) → chosen (without_all gone f) ≡ chosen f) where
   -- no filesystem of the kind has an object of one of the kind in it, before or after inodes went
-  pub Apart : World ℕ → Type 0
+  unfoldable pub Apart : World ℕ → Type 0
   Apart world = (f g : Filesystem ℕ) → Among f world.filesystems → chosen f ≡ true → Among g world.filesystems → chosen g ≡ true
       → (gone : ℕ → Bool) → objects_of_overlay nat_eq f.number (without_all gone g) ≡ objects_of_overlay nat_eq f.number g
 
   -- each inode that is used no more has no entries
-  pub ChosenAreEmpty : World ℕ → Type 0
+  unfoldable pub ChosenAreEmpty : World ℕ → Type 0
   ChosenAreEmpty world = (f : Filesystem ℕ) → Among f world.filesystems → chosen f ≡ true → UnusedAreEmpty (used_in nat_eq world f) f
 
   abbrev goes_in : Bool → List ℕ → List Inode → Filesystem ℕ → ℕ → Bool
