@@ -6,6 +6,7 @@ pub mod Inodes
 pub mod Merged
 pub mod MergedSteps
 pub mod WithOverlays
+pub mod UpperUses
 pub mod PlacesLeft
 pub mod TreesChanged
 pub mod LeftOneByOne

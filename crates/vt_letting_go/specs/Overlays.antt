@@ -4,12 +4,12 @@ use Rattle.std.specs.Prelude.{All, Bool, List, None, Option, Some, [], flat_map,
 use Rattle.std.specs.List.{list_all}
 use Rattle.vt_spec.specs.Machine.Lists.{folded}
 use Rattle.vt_spec.specs.Machine.Locked.{of_overlay}
-use Rattle.vt_spec.specs.Machine.Settled.{settled, without_dead_in, without_dead_inodes}
-use Rattle.vt_spec.specs.Machine.World.{Filesystem, Layer, Overlay, Real, World, is_overlay, upper_object}
+use Rattle.vt_spec.specs.Machine.Settled.{settled, without_dead_filesystems, without_dead_in, without_dead_inodes}
+use Rattle.vt_spec.specs.Machine.World.{Filesystem, Layer, Overlay, Real, World, is_overlay, layers_of, upper_object}
 use Rattle.vt_spec.specs.Machine.World.Real.{Upper}
 use Rattle.vt_letting_go.specs.Counts.{inode_uses, times}
 use Rattle.vt_letting_go.specs.InUse.{HasTrees, UppersArePlain, is_inode_used}
-use Rattle.vt_letting_go.specs.OneByOne.{AllInUseBut, Inode, InodesInUseBut, Losers, is_used_or_among, let_go_filesystems, let_go_groups, let_go_mounts, without_inode}
+use Rattle.vt_letting_go.specs.OneByOne.{AllInUseBut, FilesystemsInUseBut, Inode, InodesInUseBut, Losers, is_used_or_among, let_go_filesystems, let_go_groups, let_go_mounts, without_inode}
 
 abbrev pub is_plain : Filesystem ℕ → Bool
 is_plain filesystem = not (is_overlay filesystem)
@@ -99,3 +99,37 @@ abbrev pub WithOverlaysAllGoes : Type 0
 WithOverlaysAllGoes =
     (world : World ℕ) (losers : Losers) → HasTrees world → UppersArePlain world → RealsAreThere world
     → AllInUseBut losers world → settled nat_eq world ≡ let_go_all world losers
+
+-- Where an inode of an overlay goes whose real object is an upper inode, that upper inode has one use less, and no
+-- other inode has.
+abbrev pub OneUpperUseLess : Type 0
+OneUpperUseLess =
+    (world : World ℕ) (front back : List (Filesystem ℕ)) (merged : Filesystem ℕ) (overlay : Overlay ℕ) (layer : Layer ℕ)
+    (inode object : ℕ)
+    → world.filesystems ≡ front ++ (merged ∷ back) → merged.overlay ≡ Some overlay → overlay.upper ≡ Some layer
+    → overlay.real inode ≡ Some (Upper object) → times (nat_eq inode) merged.files.numbers ≡ 1
+    → (filesystem : Filesystem ℕ) (number : ℕ)
+    → inode_uses world filesystem number
+    ≡ inode_uses (record world { filesystems = front ++ (without_inode_of inode merged ∷ back) }) filesystem number
+    + (if nat_eq filesystem.number layer.filesystem && nat_eq number object then 1 else 0)
+
+-- what an overlay uses: the directories of its layers, and its upper objects
+abbrev pub used_by_filesystem : Filesystem ℕ → List Inode
+used_by_filesystem filesystem =
+    map (λ layer. (layer.filesystem, layer.directory)) (of_overlay [] layers_of filesystem)
+    ++ flat_map (λ number. of_overlay [] (uppers_in number) filesystem) filesystem.files.numbers
+
+abbrev pub used_by_numbered : World ℕ → ℕ → List Inode
+used_by_numbered world number =
+    flat_map (λ filesystem. if nat_eq filesystem.number number then used_by_filesystem filesystem else [])
+    world.filesystems
+
+abbrev pub used_by_filesystems : World ℕ → List ℕ → List Inode
+used_by_filesystems world numbers = flat_map (used_by_numbered world) numbers
+
+-- Where filesystems go, all inodes are used but those that were not before, and what overlays among these used.
+abbrev pub FilesystemsTakeTheirUses : Type 0
+FilesystemsTakeTheirUses =
+    (world : World ℕ) (filesystems : List ℕ) (inodes : List Inode)
+    → FilesystemsInUseBut filesystems world → InodesInUseBut inodes world
+    → InodesInUseBut (inodes ++ used_by_filesystems world filesystems) (without_dead_filesystems nat_eq world)
