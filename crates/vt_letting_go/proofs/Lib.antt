@@ -7,6 +7,7 @@ pub mod Merged
 pub mod MergedSteps
 pub mod WithOverlays
 pub mod UpperUses
+pub mod OverlaysGone
 pub mod PlacesLeft
 pub mod TreesChanged
 pub mod LeftOneByOne
