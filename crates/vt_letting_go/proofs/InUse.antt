@@ -292,7 +292,7 @@ module _ (world : World ℕ) where
       let was = among-from_filter (filesystem_lives nat_eq mounted) world.filesystems one.0 one.1 in
       (one.0, was.0, was.1, second.2 ∙ ap after_second one.2)
 
-  layers_on : (number : ℕ) (filesystem : Filesystem ℕ)
+  pub layers_on : (number : ℕ) (filesystem : Filesystem ℕ)
       → has_layer_on nat_eq number filesystem ≡ list_any (λ layer. nat_eq number layer.filesystem) (of_overlay [] layers_of filesystem)
   layers_on number filesystem = by filesystem.overlay
     where

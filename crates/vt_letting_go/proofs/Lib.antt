@@ -8,6 +8,7 @@ pub mod MergedSteps
 pub mod WithOverlays
 pub mod UpperUses
 pub mod OverlaysGone
+pub mod LeftWithOverlays
 pub mod PlacesLeft
 pub mod TreesChanged
 pub mod LeftOneByOne
