@@ -1,22 +1,14 @@
 -- Inodes of one kind of filesystem go one by one, overlays among them.
-use Rattle.std.proofs.Common.{◌≡◌, refl, sym, ap, subst, ◌∙◌, ◌⊎◌, inl, inr, ⊎_elim, ℕ, nat_eq, eqb-true, Bool, true, false, cond, not, ◌||◌, ◌&&◌, List, [], ◌∷◌, filter, map, true≢false, flat_map, ◌++◌, Option, Some, None, is_some, option_map}
-use Rattle.std.specs.Prelude.{All, filter_map}
+use Rattle.std.proofs.Common.{◌≡◌, refl, sym, ap, ◌∙◌, ◌⊎◌, inl, inr, ℕ, nat_eq, Bool, true, false, cond, not, ◌||◌, ◌&&◌, List, filter, true≢false, Option, Some, None, is_some, option_map}
 use Rattle.std.specs.List.{list_all}
-use Rattle.std.proofs.lemmas.Bool.{and_parts, not-true}
 use Rattle.vt_spec.specs.Tree.{Node}
-use Rattle.vt_spec.specs.Machine.FileTree.{targets_in}
-use Rattle.vt_spec.specs.Machine.Lists.{holds_of, is_among}
-use Rattle.vt_spec.specs.Machine.Locked.{of_overlay, overlay_or}
-use Rattle.vt_spec.specs.Machine.Settled.{layers_in, located_in, named_in, objects_of_overlay, only_used, only_used_by, only_used_of, real_among, used_in, without_dead_in}
-use Rattle.vt_spec.specs.Machine.World.{Filesystem, Overlay, Real, World, is_overlay, layers_of, upper_object}
+use Rattle.vt_spec.specs.Machine.Lists.{is_among}
+use Rattle.vt_spec.specs.Machine.Locked.{overlay_or}
+use Rattle.vt_spec.specs.Machine.Settled.{only_used_by, only_used_of, real_among}
+use Rattle.vt_spec.specs.Machine.World.{Filesystem, Overlay}
 use Rattle.vt_spec.specs.Machine.WorldLaws.{ListsNumbers}
-use Rattle.vt_letting_go.specs.InUse.{is_inode_used}
-use Rattle.vt_letting_go.specs.OneByOne.{Inode, is_inode_among, is_used_or_among}
-use Rattle.vt_letting_go.specs.Overlays.{let_go_in, let_go_in_of, real_in, without_inode_of, without_real}
-use Rattle.vt_letting_go.proofs.InUse.{UnusedAreEmpty}
-use Rattle.vt_letting_go.proofs.Inodes.{goes_of, goes_on}
-use Rattle.vt_letting_go.proofs.Lists.{Among, among-from_map, decided, filter_alike, filter_all, filter_twice, flat_map-filter, flat_map_alike, among_numbers, is_among_numbers, map_alike, map_same, map_twice, passes}
-use Rattle.vt_spec.specs.Machine.Lists.{folded}
+use Rattle.vt_letting_go.specs.Overlays.{real_in}
+use Rattle.vt_letting_go.proofs.Lists.{Among, decided, filter_alike, filter_all, filter_twice, among_numbers, is_among_numbers, passes}
 
 -- without the real objects of the inodes that a test names
 abbrev pub reals_without : (ℕ → Bool) → Overlay ℕ → Overlay ℕ
