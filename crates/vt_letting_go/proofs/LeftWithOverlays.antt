@@ -41,8 +41,12 @@ module _ (world : World ℕ) (tasks : List (Task ℕ)) (left : List (Location �
       (λ lives. inl (any_passes (λ mount. nat_eq number mount.filesystem) swept.mounts t.0
       (among-filter (mount_lives nat_eq now) world.mounts t.0 t.1 lives) t.2))
       (λ dead. let gone = dead_was_left world tasks left in_use stand only t.0 t.1 dead in
-      inr (gone.0, gone.1, eqb-true number t.0.filesystem t.2
-      ∙ ap (λ x. x.filesystem) (sym (filesystem_left world tasks left in_use stand only t.0 t.1 gone.0 gone.1 gone.2))))
+      inr (
+        gone.0,
+        gone.1,
+        eqb-true number t.0.filesystem t.2
+            ∙ ap (λ x. x.filesystem) (sym (filesystem_left world tasks left in_use stand only t.0 t.1 gone.0 gone.1 gone.2)),
+      ))
       (decided (mount_lives nat_eq now t.0))
 
   all_filesystems_but : FilesystemsInUseBut losing swept

@@ -42,7 +42,7 @@ overlays_apart : (world : World ℕ) → UppersArePlain world → Apart is_overl
 unfolding Apart
 overlays_apart world plain f g m is n are gone =
     let none = among_from_all (λ other. has_upper_in f.number other ≡ false) world.filesystems
-        (among_from_all (λ x. is_overlay x ≡ true → All (λ other. has_upper_in x.number other ≡ false) world.filesystems) world.filesystems plain f m is) g n in
+    (among_from_all (λ x. is_overlay x ≡ true → All (λ other. has_upper_in x.number other ≡ false) world.filesystems) world.filesystems plain f m is) g n in
     no_upper_objects world f.number (without_all gone g) (upper_without f.number gone g ∙ none)
     ∙ sym (no_upper_objects world f.number g none)
 
@@ -60,9 +60,11 @@ overlays_empty world trees f m is = unused_are_empty world f (among_from_all (λ
 pub merged_go_one_by_one : MergedGoOneByOne
 merged_go_one_by_one world losers trees plain reals others =
     chosen_go_one_by_one is_overlay overlay_without world losers (overlays_apart world plain) (overlays_empty world trees)
-    (λ f m is. (among_from_all (λ x. IsListedTree x.files) world.filesystems trees f m,
-    among_from_all HasReals world.filesystems reals f m,
-    among_from_all (λ x. is_overlay x ≡ true → list_all (is_used_or_among losers world x) x.files.numbers ≡ true) world.filesystems others f m is))
+    (λ f m is. (
+      among_from_all (λ x. IsListedTree x.files) world.filesystems trees f m,
+      among_from_all HasReals world.filesystems reals f m,
+      among_from_all (λ x. is_overlay x ≡ true → list_all (is_used_or_among losers world x) x.files.numbers ≡ true) world.filesystems others f m is,
+    ))
 
 -- An upper object is that of an inode of an overlay with its upper layer there
 pub object_parts : (number object : ℕ) (g : Filesystem ℕ) → Among object (objects_of_overlay nat_eq number g)
@@ -241,13 +243,14 @@ module _ (world : World ℕ) (losers : List Inode) (trees : HasTrees world) (rea
   plain_go : without_dead_inodes nat_eq world ≡ let_go_plain after (losers ++ uppers_of world losers)
   plain_go =
       chosen_go_one_by_one is_plain plain_without after (losers ++ uppers_of world losers) (plain_apart after) plain_empty
-      (λ f m is. let was = plain_was f m is in
-      (among_from_all (λ x. IsListedTree x.files) world.filesystems trees f was,
-      among_from_all HasReals world.filesystems reals f was,
-      all_pass (is_used_or_among (losers ++ uppers_of world losers) after f) f.files.numbers
-      (λ number n. still_used f number
-      (passes (is_used_or_among losers world f) f.files.numbers
-      (among_from_all (λ x. list_all (is_used_or_among losers world x) x.files.numbers ≡ true) world.filesystems others f was) number n))))
+      (λ f m is. let was = plain_was f m is in (
+        among_from_all (λ x. IsListedTree x.files) world.filesystems trees f was,
+        among_from_all HasReals world.filesystems reals f was,
+        all_pass (is_used_or_among (losers ++ uppers_of world losers) after f) f.files.numbers
+            (λ number n. still_used f number
+            (passes (is_used_or_among losers world f) f.files.numbers
+            (among_from_all (λ x. list_all (is_used_or_among losers world x) x.files.numbers ≡ true) world.filesystems others f was) number n)),
+      ))
 
 pub all_inodes_go_one_by_one : AllInodesGoOneByOne
 all_inodes_go_one_by_one world losers trees plain reals others =
