@@ -292,7 +292,7 @@ module _ (world : World ℕ) where
       let was = among-from_filter (filesystem_lives nat_eq mounted) world.filesystems one.0 one.1 in
       (one.0, was.0, was.1, second.2 ∙ ap after_second one.2)
 
-  layers_on : (number : ℕ) (filesystem : Filesystem ℕ)
+  pub layers_on : (number : ℕ) (filesystem : Filesystem ℕ)
       → has_layer_on nat_eq number filesystem ≡ list_any (λ layer. nat_eq number layer.filesystem) (of_overlay [] layers_of filesystem)
   layers_on number filesystem = by filesystem.overlay
     where
@@ -328,7 +328,7 @@ module _ (world : World ℕ) where
           ∙ ap (is_mounted nat_eq mounted) (number-second (after_first t.0) ∙ number-first t.0) ∙ parts.1)
 
   -- an overlay that has no upper layer there has no objects there
-  no_upper_objects : (number : ℕ) (merged : Filesystem ℕ) → has_upper_in number merged ≡ false → objects_of_overlay nat_eq number merged ≡ []
+  pub no_upper_objects : (number : ℕ) (merged : Filesystem ℕ) → has_upper_in number merged ≡ false → objects_of_overlay nat_eq number merged ≡ []
   no_upper_objects number merged e = by merged.overlay e
     where
       by : (o : Option (Overlay ℕ)) → overlay_or false (λ overlay. holds_of (λ layer. nat_eq number layer.filesystem) overlay.upper) o ≡ false

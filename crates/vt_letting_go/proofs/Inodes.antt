@@ -46,11 +46,11 @@ one_step world inode filesystem = by (nat_eq filesystem.number inode.0 && not (i
     by true = refl
     by false = sym (without_none filesystem)
 
-abbrev goes_of : List ℕ → List Inode → Filesystem ℕ → ℕ → Bool
+abbrev pub goes_of : List ℕ → List Inode → Filesystem ℕ → ℕ → Bool
 goes_of used losers filesystem number = is_inode_among filesystem.number number losers && not (is_among nat_eq number used)
 
 -- it goes here, or later
-goes_on : (used : List ℕ) (inode : Inode) (rest : List Inode) (filesystem : Filesystem ℕ) (number : ℕ)
+pub goes_on : (used : List ℕ) (inode : Inode) (rest : List Inode) (filesystem : Filesystem ℕ) (number : ℕ)
     → goes_of used (inode ∷ rest) filesystem number
     ≡ (((nat_eq filesystem.number inode.0 && not (is_among nat_eq inode.1 used)) && nat_eq number inode.1) || goes_of used rest filesystem number)
 goes_on used inode rest filesystem number =

@@ -3,6 +3,12 @@ pub mod Trees
 pub mod InUse
 pub mod OneByOne
 pub mod Inodes
+pub mod Merged
+pub mod MergedSteps
+pub mod WithOverlays
+pub mod UpperUses
+pub mod OverlaysGone
+pub mod LeftWithOverlays
 pub mod PlacesLeft
 pub mod TreesChanged
 pub mod LeftOneByOne

@@ -11,8 +11,8 @@ use Rattle.vt_spec.specs.Machine.WorldLaws.{is_nowhere_or_attached, is_private}
 use Rattle.vt_spec.specs.Machine.Locked.{of_overlay, overlay_or}
 use Rattle.vt_spec.specs.Machine.Settled.{filesystem_lives, has_layer_on, is_located, is_mounted, layers_in, located_in, mount_lives, named_in, objects_of_overlay, without_dead_filesystems, without_dead_mounts}
 use Rattle.vt_spec.specs.Machine.World.{Filesystem, Overlay, Task, World, all_locations, is_overlay, layers_of, mount_at}
-use Rattle.vt_letting_go.specs.InUse.{is_inode_used}
-use Rattle.vt_letting_go.specs.Leaving.{IsSettledPlain, LeavingLetsGo, StayingKeepsAll, inodes_of_location, is_location_among, only_these_are_left, stands_on_attached, used_by_locations, with_tasks}
+use Rattle.vt_letting_go.specs.InUse.{AllInUse, is_inode_used}
+use Rattle.vt_letting_go.specs.Leaving.{LeavingLetsGo, MountsStand, StayingKeepsAll, inodes_of_location, is_location_among, only_these_are_left, stands_on_attached, used_by_locations, with_tasks}
 use Rattle.vt_letting_go.specs.OneByOne.{FilesystemsInUseBut, GroupsInUseBut, InodesInUseBut, IsPlain, Losers, MountsInUseBut, is_inode_among, is_used_or_among}
 use Rattle.vt_letting_go.proofs.InUse.{no_objects}
 use Rattle.vt_letting_go.proofs.Inodes.{all_goes_one_by_one}
@@ -155,18 +155,18 @@ plain_uses world plain filesystem number is_used =
     (flat_map (objects_of_overlay nat_eq filesystem.number) world.filesystems) number (among_numbers number _ rest))))
     (or_cases (nat_eq number filesystem.files.tree.root) _ is_used)
 
-module _ (world : World ℕ) (tasks : List (Task ℕ)) (left : List (Location ℕ)) (settles : IsSettledPlain world)
+module _ (world : World ℕ) (tasks : List (Task ℕ)) (left : List (Location ℕ)) (in_use : AllInUse world) (stand : MountsStand world)
     (only : only_these_are_left world tasks left ≡ true) where
-  abbrev after : World ℕ
+  abbrev pub after : World ℕ
   after = with_tasks world tasks
 
-  abbrev mounted : World ℕ
+  abbrev pub mounted : World ℕ
   mounted = without_dead_mounts nat_eq after
 
-  abbrev living : World ℕ
+  abbrev pub living : World ℕ
   living = without_dead_filesystems nat_eq mounted
 
-  abbrev losers : Losers
+  abbrev pub losers : Losers
   losers = used_by_locations world left
 
   -- a location stays, or was left
@@ -187,11 +187,11 @@ module _ (world : World ℕ) (tasks : List (Task ℕ)) (left : List (Location �
   attached_lives mount e = or_first (is_some mount.namespace) (is_located nat_eq after mount.number) e
 
   -- a mount that is used no more was left
-  dead_was_left : (mount : Mount ℕ) → Among mount world.mounts → mount_lives nat_eq after mount ≡ false
+  pub dead_was_left : (mount : Mount ℕ) → Among mount world.mounts → mount_lives nat_eq after mount ≡ false
       → (location : Location ℕ) × Among location left × (mount.number ≡ location.mount)
   dead_was_left mount m dead =
       let parts = or_parts (is_some mount.namespace) (is_located nat_eq after mount.number) dead in
-      let lived = passes (mount_lives nat_eq world) world.mounts settles.in_use.mounts mount m in
+      let lived = passes (mount_lives nat_eq world) world.mounts in_use.mounts mount m in
       let t = one_passes (λ l. nat_eq mount.number l.mount) (all_locations world)
       (sym (ap (λ b. b || is_located nat_eq world mount.number) parts.0) ∙ lived) in
       let same : mount.number ≡ t.0.mount = eqb-true mount.number t.0.mount t.2 in
@@ -201,7 +201,7 @@ module _ (world : World ℕ) (tasks : List (Task ℕ)) (left : List (Location �
       (stays_or_left t.0 t.1)
 
   found_mount : (mount : Mount ℕ) → Among mount world.mounts → mount_in nat_eq world.mounts mount.number ≡ mount
-  found_mount mount m = found_itself world.mounts settles.mounts.one_number mount m
+  found_mount mount m = found_itself world.mounts stand.one_number mount m
 
   -- where a mount stays, it is found as before
   found_still : (number : ℕ) → ((mount : Mount ℕ) → Among mount world.mounts → mount.number ≡ number → mount_lives nat_eq after mount ≡ true)
@@ -214,11 +214,11 @@ module _ (world : World ℕ) (tasks : List (Task ℕ)) (left : List (Location �
       ap (mount_lives nat_eq after) (sym (found_mount other n) ∙ ap (mount_in nat_eq world.mounts) e ∙ found_mount mount m) ∙ lives
 
   -- the filesystem of a mount that went was left
-  filesystem_left : (mount : Mount ℕ) → Among mount world.mounts → (location : Location ℕ) → Among location left → mount.number ≡ location.mount
+  pub filesystem_left : (mount : Mount ℕ) → Among mount world.mounts → (location : Location ℕ) → Among location left → mount.number ≡ location.mount
       → (mount_at nat_eq world location) ≡ mount
   filesystem_left mount m location n e = ap (mount_in nat_eq world.mounts) (sym e) ∙ found_mount mount m
 
-  mounts_but : MountsInUseBut losers.mounts after
+  pub mounts_but : MountsInUseBut losers.mounts after
   mounts_but =
       all_pass (λ mount. is_among nat_eq mount.number losers.mounts || mount_lives nat_eq after mount) world.mounts
       (λ mount m. ⊎_elim (λ lives. or_second (is_among nat_eq mount.number losers.mounts) (mount_lives nat_eq after mount) lives)
@@ -228,12 +228,12 @@ module _ (world : World ℕ) (tasks : List (Task ℕ)) (left : List (Location �
       ∙ is_among_numbers gone.0.mount losers.mounts (among-map (λ l. l.mount) left gone.0 gone.1)))
       (decided (mount_lives nat_eq after mount)))
 
-  filesystems_but : FilesystemsInUseBut losers.filesystems mounted
-  filesystems_but =
+  filesystems_but : IsPlain world → FilesystemsInUseBut losers.filesystems mounted
+  filesystems_but plain =
       all_pass (λ filesystem. is_among nat_eq filesystem.number losers.filesystems || filesystem_lives nat_eq mounted filesystem) world.filesystems
       (λ filesystem m.
-      let lived = passes (filesystem_lives nat_eq world) world.filesystems settles.in_use.filesystems filesystem m in
-      let was = ⊎_elim (λ e. e) (λ layered. absurd (true≢false (sym layered ∙ no_layers filesystem.number world world.filesystems settles.plain)))
+      let lived = passes (filesystem_lives nat_eq world) world.filesystems in_use.filesystems filesystem m in
+      let was = ⊎_elim (λ e. e) (λ layered. absurd (true≢false (sym layered ∙ no_layers filesystem.number world world.filesystems plain)))
       (or_cases (is_mounted nat_eq world filesystem.number) _ lived) in
       let t = one_passes (λ mount. nat_eq filesystem.number mount.filesystem) world.mounts was in
       ⊎_elim
@@ -248,28 +248,31 @@ module _ (world : World ℕ) (tasks : List (Task ℕ)) (left : List (Location �
       ∙ is_among_numbers (mount_at nat_eq world gone.0).filesystem losers.filesystems (among-map (λ l. (mount_at nat_eq world l).filesystem) left gone.0 gone.1)))
       (decided (mount_lives nat_eq after t.0)))
 
-  groups_but : GroupsInUseBut losers.groups mounted
+  pub groups_but : GroupsInUseBut losers.groups mounted
   groups_but group among none =
-      settles.in_use.groups group
+      in_use.groups group
       (sym (any-filter (is_member_of nat_eq group) (mount_lives nat_eq after) world.mounts
       (λ mount m dead. private_is_no_member group mount
-      (nowhere_parts mount (passes is_nowhere_or_attached world.mounts settles.mounts.nowhere mount m)
+      (nowhere_parts mount (passes is_nowhere_or_attached world.mounts stand.nowhere mount m)
       (or_parts (is_some mount.namespace) (is_located nat_eq after mount.number) dead).0).1))
       ∙ none)
 
-  -- Inodes
-  module _ (filesystem : Filesystem ℕ) where
+  -- Inodes, where some filesystems have gone
+  module _ (rest : List (Filesystem ℕ)) (filesystem : Filesystem ℕ) where
+    abbrev pub swept : World ℕ
+    swept = record mounted { filesystems = rest }
+
     -- what is at a place that is used still
     used_still : (location : Location ℕ)
         → Among location (all_locations after ++ map root_of mounted.mounts ++ filter_map (λ mount. mount.place) mounted.mounts)
-        → filesystem.number ≡ (mount_at nat_eq mounted location).filesystem → is_inode_used living filesystem location.node ≡ true
+        → filesystem.number ≡ (mount_at nat_eq mounted location).filesystem → is_inode_used swept filesystem location.node ≡ true
     used_still location m e =
         or_second (nat_eq location.node filesystem.files.tree.root) _
-        (is_among_left location.node (named_in filesystem.files ++ located_in nat_eq living filesystem.number ++ layers_in nat_eq living filesystem.number)
-        (flat_map (objects_of_overlay nat_eq filesystem.number) living.filesystems)
-        (is_among_left location.node (named_in filesystem.files ++ located_in nat_eq living filesystem.number) (layers_in nat_eq living filesystem.number)
-        (is_among_right location.node (named_in filesystem.files) (located_in nat_eq living filesystem.number)
-        (is_among_numbers location.node (located_in nat_eq living filesystem.number)
+        (is_among_left location.node (named_in filesystem.files ++ located_in nat_eq swept filesystem.number ++ layers_in nat_eq swept filesystem.number)
+        (flat_map (objects_of_overlay nat_eq filesystem.number) swept.filesystems)
+        (is_among_left location.node (named_in filesystem.files ++ located_in nat_eq swept filesystem.number) (layers_in nat_eq swept filesystem.number)
+        (is_among_right location.node (named_in filesystem.files) (located_in nat_eq swept filesystem.number)
+        (is_among_numbers location.node (located_in nat_eq swept filesystem.number)
         (among-map (λ l. l.node) (filter (λ l. nat_eq filesystem.number (mount_at nat_eq mounted l).filesystem)
         (all_locations after ++ map root_of mounted.mounts ++ filter_map (λ mount. mount.place) mounted.mounts)) location
         (among-filter (λ l. nat_eq filesystem.number (mount_at nat_eq mounted l).filesystem)
@@ -279,9 +282,9 @@ module _ (world : World ℕ) (tasks : List (Task ℕ)) (left : List (Location �
     -- what was left may go
     may_go : (location : Location ℕ) → Among location left → filesystem.number ≡ (mount_at nat_eq world location).filesystem
         → (number : ℕ) → (number ≡ location.node) ⊎ (number ≡ (mount_at nat_eq world location).root)
-        → is_used_or_among losers.inodes living filesystem number ≡ true
+        → is_used_or_among losers.inodes swept filesystem number ≡ true
     may_go location m e number at =
-        or_first (is_inode_among filesystem.number number losers.inodes) (is_inode_used living filesystem number)
+        or_first (is_inode_among filesystem.number number losers.inodes) (is_inode_used swept filesystem number)
         (⊎_elim
         (λ node. any_passes (λ inode. nat_eq filesystem.number inode.0 && nat_eq number inode.1) losers.inodes
         ((mount_at nat_eq world location).filesystem, location.node)
@@ -298,7 +301,7 @@ module _ (world : World ℕ) (tasks : List (Task ℕ)) (left : List (Location �
 
     -- each location, root of a mount and place
     by_location : (location : Location ℕ) → Among location (all_locations world) → filesystem.number ≡ (mount_at nat_eq world location).filesystem
-        → is_used_or_among losers.inodes living filesystem location.node ≡ true
+        → is_used_or_among losers.inodes swept filesystem location.node ≡ true
     by_location location m e =
         ⊎_elim
         (λ stays. or_second (is_inode_among filesystem.number location.node losers.inodes) _
@@ -309,7 +312,7 @@ module _ (world : World ℕ) (tasks : List (Task ℕ)) (left : List (Location �
         (stays_or_left location m)
 
     by_root : (mount : Mount ℕ) → Among mount world.mounts → filesystem.number ≡ (mount_at nat_eq world (root_of mount)).filesystem
-        → is_used_or_among losers.inodes living filesystem mount.root ≡ true
+        → is_used_or_among losers.inodes swept filesystem mount.root ≡ true
     by_root mount m e =
         ⊎_elim
         (λ lives. or_second (is_inode_among filesystem.number mount.root losers.inodes) _
@@ -324,7 +327,7 @@ module _ (world : World ℕ) (tasks : List (Task ℕ)) (left : List (Location �
         (decided (mount_lives nat_eq after mount))
 
     by_place : (mount : Mount ℕ) → Among mount world.mounts → (place : Location ℕ) → mount.place ≡ Some place
-        → filesystem.number ≡ (mount_at nat_eq world place).filesystem → is_used_or_among losers.inodes living filesystem place.node ≡ true
+        → filesystem.number ≡ (mount_at nat_eq world place).filesystem → is_used_or_among losers.inodes swept filesystem place.node ≡ true
     by_place mount m place p e =
         or_second (is_inode_among filesystem.number place.node losers.inodes) _
         (used_still place
@@ -340,68 +343,69 @@ module _ (world : World ℕ) (tasks : List (Task ℕ)) (left : List (Location �
         is_attached : (b : Bool) → is_some mount.namespace ≡ b → is_some mount.namespace ≡ true
         is_attached true f = f
         is_attached false f =
-            absurd (true≢false (sym (ap is_some p) ∙ (nowhere_parts mount (passes is_nowhere_or_attached world.mounts settles.mounts.nowhere mount m) f).0))
+            absurd (true≢false (sym (ap is_some p) ∙ (nowhere_parts mount (passes is_nowhere_or_attached world.mounts stand.nowhere mount m) f).0))
 
         on_attached : is_some (mount_at nat_eq world place).namespace ≡ true
         on_attached =
             (and_parts (is_some (mount_at nat_eq world place).namespace) true
             (sym (ap (λ o. list_all (λ l. is_some (mount_at nat_eq world l).namespace) (option_to_list o)) p)
-            ∙ passes (stands_on_attached world) world.mounts settles.mounts.on_attached mount m)).0
+            ∙ passes (stands_on_attached world) world.mounts stand.on_attached mount m)).0
 
         there : Among (mount_at nat_eq world place) world.mounts
         there = found_is_there world.mounts place.mount on_attached
 
+    -- what the world had places at
+    pub by_located : (number : ℕ) → Among number (located_in nat_eq world filesystem.number) → is_used_or_among losers.inodes swept filesystem number ≡ true
+    by_located number m =
+        let from = among-from_map (λ l. l.node) (filter (λ l. nat_eq filesystem.number (mount_at nat_eq world l).filesystem)
+        (all_locations world ++ map root_of world.mounts ++ filter_map (λ mount. mount.place) world.mounts)) number m in
+        let here = among-from_filter (λ l. nat_eq filesystem.number (mount_at nat_eq world l).filesystem)
+        (all_locations world ++ map root_of world.mounts ++ filter_map (λ mount. mount.place) world.mounts) from.0 from.1 in
+        let e : filesystem.number ≡ (mount_at nat_eq world from.0).filesystem = eqb-true filesystem.number (mount_at nat_eq world from.0).filesystem here.1 in
+        ap (is_used_or_among losers.inodes swept filesystem) from.2
+        ∙ ⊎_elim
+        (λ other. ⊎_elim
+        (λ at. by_location from.0 at e)
+        (λ root. let mount = among-from_map root_of world.mounts from.0 root in
+        ap (λ l. is_used_or_among losers.inodes swept filesystem l.node) mount.2
+        ∙ by_root mount.0 mount.1 (e ∙ ap (λ l. (mount_at nat_eq world l).filesystem) mount.2))
+        (among-append (all_locations world) (map root_of world.mounts) from.0 other))
+        (λ place. let mount = among-from_filter_map (λ x. x.place) world.mounts from.0 place in
+        by_place mount.0 mount.1 from.0 mount.2 e)
+        (among-append (all_locations world ++ map root_of world.mounts) (filter_map (λ mount. mount.place) world.mounts) from.0 here.0)
+
     -- what the world used is used still, or may go
-    by_use : (number : ℕ) → is_inode_used world filesystem number ≡ true → is_used_or_among losers.inodes living filesystem number ≡ true
-    by_use number is_used =
+    by_use : IsPlain world → (number : ℕ) → is_inode_used world filesystem number ≡ true → is_used_or_among losers.inodes swept filesystem number ≡ true
+    by_use plain number is_used =
         ⊎_elim
         (λ root. or_second (is_inode_among filesystem.number number losers.inodes) _
         (or_first (nat_eq number filesystem.files.tree.root) _ (eq-eqb number filesystem.files.tree.root root)))
         (λ rest. ⊎_elim
         (λ named. or_second (is_inode_among filesystem.number number losers.inodes) _
         (or_second (nat_eq number filesystem.files.tree.root) _
-        (is_among_left number (named_in filesystem.files ++ located_in nat_eq living filesystem.number ++ layers_in nat_eq living filesystem.number)
-        (flat_map (objects_of_overlay nat_eq filesystem.number) living.filesystems)
-        (is_among_left number (named_in filesystem.files ++ located_in nat_eq living filesystem.number) (layers_in nat_eq living filesystem.number)
-        (is_among_left number (named_in filesystem.files) (located_in nat_eq living filesystem.number) named)))))
-        located rest)
-        (plain_uses world settles.plain filesystem number is_used)
-      where
-        located : Among number (located_in nat_eq world filesystem.number) → is_used_or_among losers.inodes living filesystem number ≡ true
-        located m =
-            let from = among-from_map (λ l. l.node) (filter (λ l. nat_eq filesystem.number (mount_at nat_eq world l).filesystem)
-            (all_locations world ++ map root_of world.mounts ++ filter_map (λ mount. mount.place) world.mounts)) number m in
-            let here = among-from_filter (λ l. nat_eq filesystem.number (mount_at nat_eq world l).filesystem)
-            (all_locations world ++ map root_of world.mounts ++ filter_map (λ mount. mount.place) world.mounts) from.0 from.1 in
-            let e : filesystem.number ≡ (mount_at nat_eq world from.0).filesystem = eqb-true filesystem.number (mount_at nat_eq world from.0).filesystem here.1 in
-            ap (is_used_or_among losers.inodes living filesystem) from.2
-            ∙ ⊎_elim
-            (λ other. ⊎_elim
-            (λ at. by_location from.0 at e)
-            (λ root. let mount = among-from_map root_of world.mounts from.0 root in
-            ap (λ l. is_used_or_among losers.inodes living filesystem l.node) mount.2
-            ∙ by_root mount.0 mount.1 (e ∙ ap (λ l. (mount_at nat_eq world l).filesystem) mount.2))
-            (among-append (all_locations world) (map root_of world.mounts) from.0 other))
-            (λ place. let mount = among-from_filter_map (λ x. x.place) world.mounts from.0 place in
-            by_place mount.0 mount.1 from.0 mount.2 e)
-            (among-append (all_locations world ++ map root_of world.mounts) (filter_map (λ mount. mount.place) world.mounts) from.0 here.0)
+        (is_among_left number (named_in filesystem.files ++ located_in nat_eq swept filesystem.number ++ layers_in nat_eq swept filesystem.number)
+        (flat_map (objects_of_overlay nat_eq filesystem.number) swept.filesystems)
+        (is_among_left number (named_in filesystem.files ++ located_in nat_eq swept filesystem.number) (layers_in nat_eq swept filesystem.number)
+        (is_among_left number (named_in filesystem.files) (located_in nat_eq swept filesystem.number) named)))))
+        (by_located number) rest)
+        (plain_uses world plain filesystem number is_used)
 
-  inodes_but : InodesInUseBut losers.inodes living
-  inodes_but =
+  inodes_but : IsPlain world → InodesInUseBut losers.inodes living
+  inodes_but plain =
       all_from_among (λ f. list_all (is_used_or_among losers.inodes living f) f.files.numbers ≡ true) living.filesystems
       (λ filesystem m. let was = among-from_filter (filesystem_lives nat_eq mounted) world.filesystems filesystem m in
       all_pass (is_used_or_among losers.inodes living filesystem) filesystem.files.numbers
-      (λ number n. by_use filesystem number
+      (λ number n. by_use living.filesystems filesystem plain number
       (passes (is_inode_used world filesystem) filesystem.files.numbers
-      (among_from_all (λ f. list_all (is_inode_used world f) f.files.numbers ≡ true) world.filesystems settles.in_use.inodes filesystem was.0) number n)))
+      (among_from_all (λ f. list_all (is_inode_used world f) f.files.numbers ≡ true) world.filesystems in_use.inodes filesystem was.0) number n)))
 
 pub leaving_lets_go : LeavingLetsGo
 leaving_lets_go world tasks left settles only =
     all_goes_one_by_one (with_tasks world tasks) (used_by_locations world left) settles.plain settles.trees (record {
-      mounts = mounts_but world tasks left settles only;
-      filesystems = filesystems_but world tasks left settles only;
-      inodes = inodes_but world tasks left settles only;
-      groups = groups_but world tasks left settles only;
+      mounts = mounts_but world tasks left settles.in_use settles.mounts only;
+      filesystems = filesystems_but world tasks left settles.in_use settles.mounts only settles.plain;
+      inodes = inodes_but world tasks left settles.in_use settles.mounts only settles.plain;
+      groups = groups_but world tasks left settles.in_use settles.mounts only;
     })
 
 pub staying_keeps_all : StayingKeepsAll

@@ -1,7 +1,9 @@
 pub mod InUse
 pub mod Counts
 pub mod OneByOne
+pub mod Overlays
 pub mod Leaving
+pub mod LeavingOverlays
 pub mod Worlds
 pub mod TreeChanges
 pub mod Detaching

@@ -2,6 +2,7 @@
 ghost use Rattle.vt_letting_go.specs.Detaching.{DetachingLetsGo, UnmountIsOfOne};
 ghost use Rattle.vt_letting_go.specs.Keeping.{FlagsAreOfOne, FlagsKeepAll, NewMountsKeepAll, TypesKeepAll};
 ghost use Rattle.vt_letting_go.specs.Leaving.{LeavingLetsGo, OneSweepForSeveral, StayingKeepsAll};
+ghost use Rattle.vt_letting_go.specs.LeavingOverlays.{LeavingOverlaysLetsGo, StayingKeepsOverlays};
 ghost use Rattle.vt_letting_go.specs.TreeChanges.{NamedStay, UnnamedGo};
 
 /// Where tasks left places, what nothing uses any more goes of what they used there, and nothing else.
@@ -11,6 +12,12 @@ pub fn what_tasks_leave_goes()
     ensures left { LeavingLetsGo }
     ensures stayed { StayingKeepsAll }
     ensures several { OneSweepForSeveral }
+{}
+
+/// So it is in worlds with overlays: what an overlay used goes with the overlay's last use.
+pub fn what_tasks_leave_goes_with_overlays()
+    ensures left { LeavingOverlaysLetsGo }
+    ensures stayed { StayingKeepsOverlays }
 {}
 
 /// Where a plain tree changed, the inodes go that lost their last name and where nothing is, and nothing else.

@@ -2,6 +2,7 @@
 ghost use Rattle.vt_letting_go.specs.Counts.{LocatedWhileCounted, MountedWhileCounted, OneMountLess, OneUseLess, UsedWhileCounted};
 ghost use Rattle.vt_letting_go.specs.InUse.{NothingGoes, WhatIsLeftIsInUse, OneSweepIsEnough};
 ghost use Rattle.vt_letting_go.specs.OneByOne.{AllGoesOneByOne, FilesystemIsLookedUp, FilesystemsGoOneByOne, GroupsGoOneByOne, InodesGoOneByOne, MountIsLookedUp, MountsGoOneByOne};
+ghost use Rattle.vt_letting_go.specs.Overlays.{AllInodesGoOneByOne, FilesystemsTakeTheirUses, MergedGoOneByOne, OneUpperUseLess, WithOverlaysAllGoes};
 ghost use Rattle.vt_letting_go.specs.Worlds.{MountsOfWorldsStand, UppersOfWorldsArePlain, WorldsHaveTrees};
 
 /// Where all is in use nothing goes, and what is left is in use: one sweep is enough.
@@ -21,6 +22,18 @@ pub fn things_go_one_by_one()
     ensures inodes { InodesGoOneByOne }
     ensures groups { GroupsGoOneByOne }
     ensures all { AllGoesOneByOne }
+{}
+
+/// In worlds with overlays, too, the sweep is to look at the losers one by one.
+///
+/// Inodes of overlays go first, each with its real object. Then the losers in plain trees are looked at, and with them
+/// the upper inodes of what went. An inode that is not there has no real object, and no upper layer is in an overlay.
+pub fn things_of_overlays_go_one_by_one()
+    ensures merged { MergedGoOneByOne }
+    ensures upper { OneUpperUseLess }
+    ensures inodes { AllInodesGoOneByOne }
+    ensures filesystems { FilesystemsTakeTheirUses }
+    ensures all { WithOverlaysAllGoes }
 {}
 
 /// A thing is in use just while the count of its uses is not zero, and what goes takes one from the counts of what it

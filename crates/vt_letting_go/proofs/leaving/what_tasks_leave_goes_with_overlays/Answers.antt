@@ -1,0 +1,8 @@
+use Rattle.vt_letting_go.proofs.LeftWithOverlays.{leaving_overlays_lets_go, staying_keeps_overlays}
+use Rattle.vt_letting_go.proofs.leaving.what_tasks_leave_goes_with_overlays.Goals as goal
+
+pub returns-clause-left : goal.returns-clause-left
+returns-clause-left c = leaving_overlays_lets_go
+
+pub returns-clause-stayed : goal.returns-clause-stayed
+returns-clause-stayed c = staying_keeps_overlays
