@@ -1,0 +1,3 @@
+pub mod Granted
+pub mod Stays
+pub mod Through
