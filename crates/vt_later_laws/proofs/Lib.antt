@@ -1,3 +1,4 @@
 pub mod Granted
 pub mod Stays
 pub mod Through
+pub mod Opened
