@@ -1,11 +1,10 @@
 -- The descriptor that a granted open gives is on the file that the path led to.
-use Rattle.std.proofs.Common.{◌≡◌, ◌≤◌, ◌<◌, ◌≢◌, refl, sym, ap, subst, ◌∙◌, inl, inr, ℕ, ◌+◌, nat_eq, eqb-true, eq-eqb, Bool, true, false, cond, ◌&&◌, List, [], ◌∷◌, length, take, drop, Option, Some, None, Ok, Err, Result, find, true≢false, map, arith, nat_lt}
+use Rattle.std.proofs.Common.{◌≡◌, ◌≤◌, ◌<◌, refl, sym, ap, subst, ◌∙◌, ℕ, ◌+◌, nat_eq, eqb-true, eq-eqb, Bool, true, false, cond, ◌&&◌, List, [], ◌∷◌, take, drop, Some, None, Ok, Err, Result, find, map, arith, nat_lt}
 use Rattle.std.proofs.lemmas.Bool.{and_parts}
 use Rattle.std.proofs.lemmas.Option.{same_Some}
 use Rattle.std.proofs.lemmas.Slice.Eq.{bytes_eq-Decides}
 use Rattle.std.specs.Prelude.{nat_le}
 use Rattle.vt_spec.specs.declared.errors.Deny.{Deny}
-use Rattle.vt_spec.specs.Errors.{unless}
 use Rattle.vt_spec.specs.Machine.Apply.{apply}
 use Rattle.vt_spec.specs.Machine.Calls.{Access, Call}
 use Rattle.vt_spec.specs.Machine.Calls.Call.{OpenFile}
@@ -15,19 +14,19 @@ use Rattle.vt_spec.specs.Machine.Lists.{Fresh}
 use Rattle.vt_spec.specs.Machine.Locked.{overlay_or}
 use Rattle.vt_spec.specs.Machine.Looks.{Looks, looks_of}
 use Rattle.vt_spec.specs.Machine.Mounts.{Location}
-use Rattle.vt_spec.specs.Machine.Outcome.Descriptors.{free_from, free_number, inserted, is_copied_up, opened, with_copy, with_descriptor}
+use Rattle.vt_spec.specs.Machine.Outcome.Descriptors.{free_from, free_number, inserted, opened, with_copy, with_descriptor}
 use Rattle.vt_spec.specs.Machine.Outcomes.{Answer, Outcome}
 use Rattle.vt_spec.specs.Machine.Outcomes.Answer.{Bytes, Opened}
 use Rattle.vt_spec.specs.Machine.Permits.{Permit}
 use Rattle.vt_spec.specs.Machine.Permits.Permit.{ToOpen}
 use Rattle.vt_spec.specs.Machine.Policy.{policy, raised_task}
-use Rattle.vt_spec.specs.Machine.Rules.Descriptors.{most_descriptors, descriptor_numbered, descriptor_rules, open_rules}
+use Rattle.vt_spec.specs.Machine.Rules.Descriptors.{descriptor_numbered, descriptor_rules, open_rules}
 use Rattle.vt_spec.specs.Machine.Filesystems.{lies_below}
 use Rattle.vt_spec.specs.Machine.Walking.{Here, Stop, object_walk, walk_end}
-use Rattle.vt_spec.specs.Machine.World.{Descriptor, Task, TaskName, World, filesystem_at, mount_at, node_at, replaced_if_called, same_name, task_called, with_task}
-use Rattle.vt_spec.specs.Machine.WorldLaws.{IsWorld, are_ascending_from, is_within_limits}
+use Rattle.vt_spec.specs.Machine.World.{Descriptor, Task, TaskName, World, mount_at, node_at, replaced_if_called, same_name, task_called, with_task}
+use Rattle.vt_spec.specs.Machine.WorldLaws.{are_ascending_from, is_within_limits}
 use Rattle.vt_spec.specs.Tree.{bytes_in}
-use Rattle.vt_letting_go.proofs.Lists.{Among, passes}
+use Rattle.vt_letting_go.proofs.Lists.{passes}
 use Rattle.vt_one_tree_laws.proofs.OneTreeLater.{both_gave, passing, same_ok}
 use Rattle.vt_world_laws.specs.Worlds.Kept.{IsPlain}
 use Rattle.vt_world_laws.proofs.CallsKept.{name_found}

@@ -1,5 +1,5 @@
 -- What tasks are on stays where what nothing uses goes.
-use Rattle.std.proofs.Common.{◌≡◌, refl, sym, ap, subst, ◌∙◌, ℕ, nat_eq, Bool, true, false, List, Option, Some, Ok, find}
+use Rattle.std.proofs.Common.{◌≡◌, sym, ap, subst, ◌∙◌, ℕ, nat_eq, true, false, List, Some}
 use Rattle.vt_spec.specs.Machine.Apply.{apply, filesystems_changed}
 use Rattle.vt_spec.specs.Machine.Calls.{Call}
 use Rattle.vt_spec.specs.Machine.Filesystems.{raised}

@@ -1,8 +1,7 @@
 -- Bytes that were written by a descriptor are read by one.
-use Rattle.std.proofs.Common.{◌≡◌, refl, sym, ap, subst, ◌∙◌, ⊎_elim, ℕ, nat_eq, eq-eqb, Bool, true, false, cond, List, [], ◌∷◌, length, take, drop, Option, Some, None, Ok, Err, Result, ok_or, option_to_list, find, true≢false, map, inr}
+use Rattle.std.proofs.Common.{◌≡◌, refl, sym, ap, ◌∙◌, ⊎_elim, ℕ, nat_eq, eq-eqb, Bool, true, false, cond, List, [], ◌∷◌, length, take, drop, Option, Some, None, Ok, ok_or, option_to_list, find, true≢false, inr}
 use Rattle.std.proofs.lemmas.Option.{same_Some}
 use Rattle.vt_spec.specs.declared.attributes.Kind.TheVariants.{File}
-use Rattle.vt_spec.specs.declared.errors.Deny.{Deny}
 use Rattle.vt_spec.specs.declared.errors.Rule.TheVariants.{S2, S4}
 use Rattle.vt_spec.specs.Errors.{denial}
 use Rattle.vt_spec.specs.Machine.Apply.{apply}
@@ -16,15 +15,15 @@ use Rattle.vt_spec.specs.Machine.Lists.{Fresh}
 use Rattle.vt_spec.specs.Machine.Looks.{Looks, looks_of}
 use Rattle.vt_spec.specs.Machine.Mounts.{Location}
 use Rattle.vt_spec.specs.Machine.Outcome.Descriptors.{overwritten, pread_outcome, pwritten}
-use Rattle.vt_spec.specs.Machine.Outcomes.{Outcome, after, granted}
+use Rattle.vt_spec.specs.Machine.Outcomes.{after, granted}
 use Rattle.vt_spec.specs.Machine.Outcomes.Answer.{Bytes, Done}
 use Rattle.vt_spec.specs.Machine.Permits.{Permit}
 use Rattle.vt_spec.specs.Machine.Permits.Permit.{ToWritePart}
 use Rattle.vt_spec.specs.Machine.Policy.{call_outcome, filesystems_changed_by, finished, policy, raised_task}
 use Rattle.vt_spec.specs.Machine.Rules.Descriptors.{descriptor_numbered, pwrite_rules}
-use Rattle.vt_spec.specs.Machine.World.{Descriptor, Filesystem, Task, TaskName, World, locations_of, mount_at, no_filesystem, node_at, same_name, task_called, with_filesystem}
+use Rattle.vt_spec.specs.Machine.World.{Descriptor, Filesystem, Task, TaskName, World, locations_of, mount_at, node_at, same_name, task_called, with_filesystem}
 use Rattle.vt_spec.specs.Machine.WorldLaws.{IsWorld, has_regular_files_open}
-use Rattle.vt_spec.specs.Tree.{Content, Node, bytes_in, kind_of, node_with_bytes}
+use Rattle.vt_spec.specs.Tree.{Content, Node, bytes_in, node_with_bytes}
 use Rattle.vt_spec.specs.Tree.Content.{Directory, Regular, Symlink, Whiteout}
 use Rattle.vt_letting_go.proofs.Lists.{Among, among-map, passes}
 use Rattle.vt_one_tree_laws.proofs.OneTreeLater.{both_gave, passing, same_ok}

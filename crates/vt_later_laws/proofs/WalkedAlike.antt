@@ -1,14 +1,13 @@
 -- Two worlds that show the same to walks are walked alike, whatever the bytes of files are.
-use Rattle.std.proofs.Common.{◌≡◌, refl, sym, ap, ◌∙◌, ℕ, suc, zero, nat_eq, Bool, true, false, cond, not, ◌&&◌, ◌||◌, ◌+◌, List, [], ◌∷◌, ◌++◌, Option, Some, None, Ok, Err, Result, is_some, map, ok_or}
+use Rattle.std.proofs.Common.{◌≡◌, refl, ℕ, suc, zero, nat_eq, Bool, true, false, cond, not, ◌+◌, List, [], ◌∷◌, ◌++◌, Option, Ok, ok_or}
 use Rattle.std.specs.Prelude.{flat_map, option_map, option_to_list, reverse}
-use Rattle.vt_spec.specs.declared.errors.Deny.{Deny}
 use Rattle.vt_spec.specs.declared.errors.Rule.TheVariants.{W3, W4, W5, W6, W8}
-use Rattle.vt_spec.specs.Errors.{Rules, and_then, denial, unless}
+use Rattle.vt_spec.specs.Errors.{and_then, denial, unless}
 use Rattle.vt_spec.specs.Machine.FileTree.{link_text}
 use Rattle.vt_spec.specs.Machine.Lists.{last_or}
 use Rattle.vt_spec.specs.Machine.Looks.{Looks, is_directory_at, may, mounter_may, topmost}
 use Rattle.vt_spec.specs.Machine.Mounts.{Location}
-use Rattle.vt_spec.specs.Machine.Walking.{Follow, Here, LastWord, Stop, directory_walk, filesystems_of, final_word, follow_rules, followed, front_walked, hops, if_link, is_lost, is_top, last_walked, last_word, link_start, link_walk, link_walk_by, link_walked, met_by, most_links, object_walk, path_text, path_walked, search_rules, slash_rules, stepped, stopped_by, then_walk, walk_start, walk_unless, word_walked, words_walked}
+use Rattle.vt_spec.specs.Machine.Walking.{Follow, Here, LastWord, directory_walk, filesystems_of, final_word, follow_rules, followed, front_walked, hops, if_link, is_lost, is_top, last_walked, last_word, link_start, link_walk, link_walk_by, link_walked, met_by, most_links, object_walk, path_text, path_walked, search_rules, slash_rules, stepped, stopped_by, then_walk, walk_start, walk_unless, word_walked, words_walked}
 use Rattle.vt_spec.specs.Machine.Walking.LastWord.{Dot, DotDot, Named, NoWord}
 use Rattle.vt_spec.specs.Machine.World.{Task}
 use Rattle.vt_spec.specs.PathText.{ends_in_slash, words}
