@@ -144,10 +144,12 @@ open_parts : (looks : Looks ℕ) (task : Task ℕ) (path : List ℕ) (access : A
 unfolding open_permit
 open_parts looks task path access permit e =
     let steps = both_gave (walk_end (object_walk nat_eq looks task path)) _ permit
-    (passing (descriptor_rules task) _ permit e).1 in
-    (steps.0, walk_ended (object_walk nat_eq looks task path) steps.0 steps.1,
-    sym (same_ok (ToOpen steps.0.location access) permit
-    (passing (open_rules looks task steps.0.location access) _ permit steps.2).1))
+    (passing (descriptor_rules task) _ permit e).1 in (
+      steps.0,
+      walk_ended (object_walk nat_eq looks task path) steps.0 steps.1,
+      sym (same_ok (ToOpen steps.0.location access) permit
+          (passing (open_rules looks task steps.0.location access) _ permit steps.2).1),
+    )
 
 -- without overlays nothing is copied when a file is opened
 open_spent : (fresh : Fresh ℕ) (world : World ℕ) (plain : IsPlain world) (task : Task ℕ) (file : Location ℕ)
@@ -173,15 +175,19 @@ descriptors_in_order task h =
     (and_parts _ _ (and_parts _ _ (and_parts _ _ (and_parts _ _ (and_parts _ _ (and_parts _ _ h).0).0).0).0).0).1
 
 pub open_then_pread : OpenThenPread
-open_then_pread world fresh name task path access number is plain serves called reads granted =
-    (is_free, here, walked, λ offset size later_fresh.
-    pread_of later later_fresh name (raised_task name new_task) new_descriptor number offset size
-    (still_called world fresh name call (Opened number) is plain serves refl refl did name new_task there)
-    (ap (find (λ (d : Descriptor ℕ). nat_eq number d.number)) (raised_descriptors name new_task) ∙ found) reads
-    ∙ ap (λ o. Ok (Bytes (take size (drop offset (bytes_in o)))))
-    (still_seen world fresh name call (Opened number) is plain serves refl refl did name new_task there here.location
-    (descriptor_located new_task number new_descriptor found)
-    ∙ ap (λ w. node_at nat_eq w here.location) spent))
+open_then_pread world fresh name task path access number is plain serves called reads granted = (
+  is_free,
+  here,
+  walked,
+  λ offset size later_fresh.
+      pread_of later later_fresh name (raised_task name new_task) new_descriptor number offset size
+      (still_called world fresh name call (Opened number) is plain serves refl refl did name new_task there)
+      (ap (find (λ (d : Descriptor ℕ). nat_eq number d.number)) (raised_descriptors name new_task) ∙ found) reads
+      ∙ ap (λ o. Ok (Bytes (take size (drop offset (bytes_in o)))))
+      (still_seen world fresh name call (Opened number) is plain serves refl refl did name new_task there here.location
+      (descriptor_located new_task number new_descriptor found)
+      ∙ ap (λ w. node_at nat_eq w here.location) spent),
+)
   where
     call : Call
     call = OpenFile path access NoCreation
