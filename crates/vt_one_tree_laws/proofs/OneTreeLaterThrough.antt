@@ -30,7 +30,7 @@ padded_long : (offset : ℕ) (old : List ℕ) → length (padded offset old) ≡
 padded_long offset old = length-append old (replicate {A = ℕ} (offset - length old) 0) ∙ ap (λ n. length old + n) (length-replicate {A = ℕ} (offset - length old) 0)
 
 -- what was written over is at its offset
-written_over : (offset : ℕ) (new old : List ℕ) → take (length new) (drop offset (overwritten offset new old)) ≡ new
+pub written_over : (offset : ℕ) (new old : List ℕ) → take (length new) (drop offset (overwritten offset new old)) ≡ new
 written_over offset new old =
     let long : length (padded offset old) ≡ length old + (offset - length old) = padded_long offset old in
     let front : length (take offset (padded offset old)) ≡ offset = length-take-le offset (padded offset old) (omega arith) in

@@ -105,10 +105,10 @@ module _ (world : World ℕ) (fresh : Fresh ℕ) (task : Task ℕ) (call : Call)
     (serves : Serves nat_eq world fresh)
     (found : task_called world task.name ≡ Some task) (other : mounts_overlay call ≡ false)
     (few : names_few_groups call ≡ true) (granted : judge_in nat_eq fresh world task call ≡ Ok permit) where
-  abbrev after_call : World ℕ
+  abbrev pub after_call : World ℕ
   after_call = (call_outcome nat_eq fresh world task call).world
 
-  applied : call_outcome nat_eq fresh world task call ≡ apply nat_eq fresh world task permit
+  pub applied : call_outcome nat_eq fresh world task call ≡ apply nat_eq fresh world task permit
   applied = call_is_judged_then_applied fresh world task call
       ∙ ap (λ j. after world j (apply nat_eq fresh world task)) granted
 
@@ -135,7 +135,7 @@ module _ (world : World ℕ) (fresh : Fresh ℕ) (task : Task ℕ) (call : Call)
   sizes : IsFitWorld after_call
   sizes = outcome_fits fresh world task (record { plain = plain; fit = is.files.fit_filesystems }) call other
 
-  unsettled : IsWorldButForUse after_call
+  pub unsettled : IsWorldButForUse after_call
   unsettled = record {
     plain = trees.plain;
     files = record {

@@ -71,7 +71,7 @@ module _ (of_filesystem : Filesystem ℕ → ℕ) (of_namespace : Namespace ℕ 
       by true later = refl
       by false later = later
 
-  same_files : files_by counted ≡ files_by world
+  pub same_files : files_by counted ≡ files_by world
   same_files = λ i number. files_in number world.filesystems i
 
   same_listed : map (λ (namespace : Namespace ℕ). namespace.number) counted.namespaces

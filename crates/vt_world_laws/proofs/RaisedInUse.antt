@@ -116,7 +116,7 @@ unchanged [] = refl
 unchanged (a ∷ list) = ap (λ rest. a ∷ rest) (unchanged list)
 
 module _ (changed : List ℕ) (world : World ℕ) where
-  abbrev number_if : Filesystem ℕ → ℕ
+  abbrev pub number_if : Filesystem ℕ → ℕ
   number_if filesystem = cond (list_any (λ number. nat_eq number filesystem.number) changed)
       (raised filesystem.change) filesystem.change
 
@@ -149,11 +149,11 @@ module _ (changed : List ℕ) (world : World ℕ) where
       (world_counted number_if (λ namespace. namespace.change) (λ task. task.change) world.change world is plain)
 
 module _ (before : World ℕ) (name : TaskName) (changed : List ℕ) (world : World ℕ) where
-  abbrev namespace_if : Namespace ℕ → ℕ
+  abbrev pub namespace_if : Namespace ℕ → ℕ
   namespace_if namespace = cond (same_mounts_in nat_eq before world namespace.number) namespace.change
       (raised namespace.change)
 
-  abbrev task_if : Task ℕ → ℕ
+  abbrev pub task_if : Task ℕ → ℕ
   task_if task = cond (same_name name task.name) (raised task.change) task.change
 
   raised_namespace_is : (namespace : Namespace ℕ) → raised_namespace nat_eq before world namespace
@@ -173,7 +173,7 @@ module _ (before : World ℕ) (name : TaskName) (changed : List ℕ) (world : Wo
       by true = refl
       by false = refl
 
-  numbers_raised_are : numbers_raised nat_eq before name changed world
+  pub numbers_raised_are : numbers_raised nat_eq before name changed world
       ≡ counted (number_if changed world) namespace_if task_if (raised world.change) world
   numbers_raised_are = λ i. record world {
     filesystems = map (λ filesystem. raised_filesystem_is changed world filesystem i) world.filesystems;

@@ -66,7 +66,7 @@ module _ (world : World ℕ) (unsettled : IsWorldButForUse world) where
       located_lives world unsettled location m (mount_at nat_eq world location)
       (number_found world.mounts location.mount)
 
-  same_node : (location : Location ℕ) → Among location (all_locations world) → node_at nat_eq after location
+  pub same_node : (location : Location ℕ) → Among location (all_locations world) → node_at nat_eq after location
       ≡ node_at nat_eq world location
   same_node location m =
       seen_stays world unsettled location
@@ -94,7 +94,7 @@ module _ (world : World ℕ) (unsettled : IsWorldButForUse world) where
       ∙ (and_parts (is_among nat_eq location.mount (map (λ (mount : Mount ℕ). mount.number) world.mounts)) _
       (passes (is_located_well nat_eq world) (all_locations world) unsettled.tasks.locations_live location m)).1)
 
-  of_task : (task : Task ℕ) → Among task world.tasks → (location : Location ℕ) → Among location (locations_of task)
+  pub of_task : (task : Task ℕ) → Among task world.tasks → (location : Location ℕ) → Among location (locations_of task)
       → Among location (all_locations world)
   of_task task m location l = among-flat_map locations_of world.tasks task location m l
 

@@ -1,0 +1,5 @@
+pub mod Granted
+pub mod Stays
+pub mod Through
+pub mod Opened
+pub mod WalkedAlike

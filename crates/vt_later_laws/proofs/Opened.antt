@@ -1,0 +1,247 @@
+-- The descriptor that a granted open gives is on the file that the path led to.
+use Rattle.std.proofs.Common.{◌≡◌, ◌≤◌, ◌<◌, refl, sym, ap, subst, ◌∙◌, ℕ, ◌+◌, nat_eq, eqb-true, eq-eqb, Bool, true, false, cond, ◌&&◌, List, [], ◌∷◌, take, drop, Some, None, Ok, Err, Result, find, map, arith, nat_lt}
+use Rattle.std.proofs.lemmas.Bool.{and_parts}
+use Rattle.std.proofs.lemmas.Option.{same_Some}
+use Rattle.std.proofs.lemmas.Slice.Eq.{bytes_eq-Decides}
+use Rattle.std.specs.Prelude.{nat_le}
+use Rattle.vt_spec.specs.declared.errors.Deny.{Deny}
+use Rattle.vt_spec.specs.Machine.Apply.{apply}
+use Rattle.vt_spec.specs.Machine.Calls.{Access, Call}
+use Rattle.vt_spec.specs.Machine.Calls.Call.{OpenFile}
+use Rattle.vt_spec.specs.Machine.Calls.Creation.{NoCreation}
+use Rattle.vt_spec.specs.Machine.Judge.{open_permit}
+use Rattle.vt_spec.specs.Machine.Lists.{Fresh}
+use Rattle.vt_spec.specs.Machine.Locked.{overlay_or}
+use Rattle.vt_spec.specs.Machine.Looks.{Looks, looks_of}
+use Rattle.vt_spec.specs.Machine.Mounts.{Location}
+use Rattle.vt_spec.specs.Machine.Outcome.Descriptors.{free_from, free_number, inserted, opened, with_copy, with_descriptor}
+use Rattle.vt_spec.specs.Machine.Outcomes.{Answer, Outcome}
+use Rattle.vt_spec.specs.Machine.Outcomes.Answer.{Bytes, Opened}
+use Rattle.vt_spec.specs.Machine.Permits.{Permit}
+use Rattle.vt_spec.specs.Machine.Permits.Permit.{ToOpen}
+use Rattle.vt_spec.specs.Machine.Policy.{policy, raised_task}
+use Rattle.vt_spec.specs.Machine.Rules.Descriptors.{descriptor_numbered, descriptor_rules, open_rules}
+use Rattle.vt_spec.specs.Machine.Filesystems.{lies_below}
+use Rattle.vt_spec.specs.Machine.Walking.{Here, Stop, object_walk, walk_end}
+use Rattle.vt_spec.specs.Machine.World.{Descriptor, Task, TaskName, World, mount_at, node_at, replaced_if_called, same_name, task_called, with_task}
+use Rattle.vt_spec.specs.Machine.WorldLaws.{are_ascending_from, is_within_limits}
+use Rattle.vt_spec.specs.Tree.{bytes_in}
+use Rattle.vt_letting_go.proofs.Lists.{passes}
+use Rattle.vt_one_tree_laws.proofs.OneTreeLater.{both_gave, passing, same_ok}
+use Rattle.vt_world_laws.specs.Worlds.Kept.{IsPlain}
+use Rattle.vt_world_laws.proofs.CallsKept.{name_found}
+use Rattle.vt_world_laws.proofs.PermitsPlaced.{found_among}
+use Rattle.vt_world_laws.proofs.Plain.{plain_numbered}
+use Rattle.vt_later_laws.specs.Later.{OpenThenPread}
+use Rattle.vt_later_laws.proofs.Granted.{IsPermitted, permitted}
+use Rattle.vt_later_laws.proofs.Stays.{still_called, still_seen}
+use Rattle.vt_later_laws.proofs.Through.{descriptor_located, pread_of, raised_descriptors}
+
+-- The least free number is that of no descriptor, so the new one is found by it
+free_above : (number : ℕ) (descriptors : List (Descriptor ℕ)) → number ≤ free_from number descriptors
+free_above number [] = omega arith
+free_above number (descriptor ∷ rest) = by (nat_eq descriptor.number number) (free_above (number + 1) rest)
+  where
+    by : (b : Bool) → number + 1 ≤ free_from (number + 1) rest → number ≤ cond b (free_from (number + 1) rest) number
+    by true h = omega arith
+    by false h = omega arith
+
+inserted_found : (number : ℕ) (descriptors : List (Descriptor ℕ)) (new : Descriptor ℕ)
+    → are_ascending_from number descriptors ≡ true → new.number ≡ free_from number descriptors
+    → find (λ (d : Descriptor ℕ). nat_eq new.number d.number) (inserted new descriptors) ≡ Some new
+inserted_found number [] new order free =
+    ap (λ b. cond b (Some new) None) (eq-eqb new.number new.number refl)
+inserted_found number (descriptor ∷ rest) new order free =
+    by (nat_eq descriptor.number number) refl (inserted_found (number + 1) rest new)
+  where
+    parts : (nat_le number descriptor.number ≡ true) × (are_ascending_from (descriptor.number + 1) rest ≡ true)
+    parts = and_parts (nat_le number descriptor.number) (are_ascending_from (descriptor.number + 1) rest) order
+
+    is_free : (c : Bool) → nat_eq descriptor.number number ≡ c
+        → new.number ≡ cond c (free_from (number + 1) rest) number
+    is_free c e = free ∙ ap (λ b. cond b (free_from (number + 1) rest) number) e
+
+    below_false : (a b : ℕ) → b ≤ a → nat_lt a b ≡ false
+    below_false a b h = grind arith
+
+    below_true : (a b : ℕ) → a < b → nat_lt a b ≡ true
+    below_true a b h = grind arith
+
+    less : (a b : ℕ) → nat_le a b ≡ true → nat_eq b a ≡ false → a < b
+    less a b h e = grind arith
+
+    other : (a b : ℕ) → b < a → nat_eq a b ≡ false
+    other a b h = grind arith
+
+    by : (c : Bool) → nat_eq descriptor.number number ≡ c
+        → (are_ascending_from (number + 1) rest ≡ true → new.number ≡ free_from (number + 1) rest
+        → find (λ (d : Descriptor ℕ). nat_eq new.number d.number) (inserted new rest) ≡ Some new)
+        → find (λ (d : Descriptor ℕ). nat_eq new.number d.number)
+        (cond (nat_lt new.number descriptor.number) (new ∷ descriptor ∷ rest) (descriptor ∷ inserted new rest))
+        ≡ Some new
+    by true e later =
+        let same : descriptor.number ≡ number = eqb-true descriptor.number number e in
+        let is : new.number ≡ free_from (number + 1) rest = is_free true e in
+        let above : number + 1 ≤ free_from (number + 1) rest = free_above (number + 1) rest in
+        let under : descriptor.number < new.number = omega arith in
+        let next : descriptor.number + 1 ≡ number + 1 = omega arith in
+        ap (λ b. find (λ (d : Descriptor ℕ). nat_eq new.number d.number)
+        (cond b (new ∷ descriptor ∷ rest) (descriptor ∷ inserted new rest)))
+        (below_false new.number descriptor.number (omega arith))
+        ∙ ap (λ b. cond b (Some descriptor) (find (λ (d : Descriptor ℕ). nat_eq new.number d.number) (inserted new rest)))
+        (other new.number descriptor.number under)
+        ∙ later (subst (λ n. are_ascending_from n rest ≡ true) next parts.1) is
+    by false e later =
+        let is : new.number ≡ number = is_free false e in
+        let above : number < descriptor.number = less number descriptor.number parts.0 e in
+        ap (λ b. find (λ (d : Descriptor ℕ). nat_eq new.number d.number)
+        (cond b (new ∷ descriptor ∷ rest) (descriptor ∷ inserted new rest)))
+        (below_true new.number descriptor.number (omega arith))
+        ∙ ap (λ b. cond b (Some new) (find (λ (d : Descriptor ℕ). nat_eq new.number d.number) (descriptor ∷ rest)))
+        (eq-eqb new.number new.number refl)
+
+-- a task in the place of the one with its name is found
+pub called_replaced : (world : World ℕ) (name : TaskName) (task new : Task ℕ) → task_called world name ≡ Some task
+    → new.name ≡ name → task_called (with_task world new) name ≡ Some new
+called_replaced world name task new called own = go world.tasks called
+  where
+    itself : same_name name new.name ≡ true
+    itself = (bytes_eq-Decides name new.name).1 (sym own)
+
+    go : (list : List (Task ℕ)) → find (λ (t : Task ℕ). same_name name t.name) list ≡ Some task
+        → find (λ (t : Task ℕ). same_name name t.name) (map (replaced_if_called new) list) ≡ Some new
+    go [] e = cc
+    go (t ∷ list) e = by (same_name name t.name) refl (go list)
+      where
+        test : same_name new.name t.name ≡ same_name name t.name
+        test = ap (λ n. same_name n t.name) own
+
+        by : (b : Bool) → same_name name t.name ≡ b
+            → (find (λ (t : Task ℕ). same_name name t.name) list ≡ Some task
+            → find (λ (t : Task ℕ). same_name name t.name) (map (replaced_if_called new) list) ≡ Some new)
+            → find (λ (t : Task ℕ). same_name name t.name) (map (replaced_if_called new) (t ∷ list)) ≡ Some new
+        by true f later =
+            ap (λ b. find (λ (t : Task ℕ). same_name name t.name) (cond b new t ∷ map (replaced_if_called new) list))
+            (test ∙ f)
+            ∙ ap (λ b. cond b (Some new)
+            (find (λ (t : Task ℕ). same_name name t.name) (map (replaced_if_called new) list))) itself
+        by false f later =
+            ap (λ b. find (λ (t : Task ℕ). same_name name t.name) (cond b new t ∷ map (replaced_if_called new) list))
+            (test ∙ f)
+            ∙ ap (λ b. cond b (Some t)
+            (find (λ (t : Task ℕ). same_name name t.name) (map (replaced_if_called new) list))) f
+            ∙ later (sym (ap (λ b. cond b (Some t) (find (λ (t : Task ℕ). same_name name t.name) list)) f) ∙ e)
+
+-- where a walk ended
+pub walk_ended : {A : Type 0} (walk : Result A (Stop ℕ)) (a : A) → walk_end walk ≡ Ok a → walk ≡ Ok a
+walk_ended (Ok b) a e = ap Ok (same_ok b a e)
+walk_ended (Err stop) a e = cc
+
+-- what a granted open was permitted
+open_parts : (looks : Looks ℕ) (task : Task ℕ) (path : List ℕ) (access : Access) (permit : Permit ℕ)
+    → open_permit nat_eq looks task path access NoCreation ≡ Ok permit
+    → (here : Here ℕ) × (object_walk nat_eq looks task path ≡ Ok here) × (permit ≡ ToOpen here.location access)
+unfolding open_permit
+open_parts looks task path access permit e =
+    let steps = both_gave (walk_end (object_walk nat_eq looks task path)) _ permit
+    (passing (descriptor_rules task) _ permit e).1 in (
+      steps.0,
+      walk_ended (object_walk nat_eq looks task path) steps.0 steps.1,
+      sym (same_ok (ToOpen steps.0.location access) permit
+          (passing (open_rules looks task steps.0.location access) _ permit steps.2).1),
+    )
+
+-- without overlays nothing is copied when a file is opened
+open_spent : (fresh : Fresh ℕ) (world : World ℕ) (plain : IsPlain world) (task : Task ℕ) (file : Location ℕ)
+    (access : Access) → apply nat_eq fresh world task (ToOpen file access) ≡ opened world task file access
+open_spent fresh world plain task file access =
+    ap (λ b. opened (with_copy nat_eq b fresh world file) task file access)
+    (ap (λ o. access.writes && overlay_or false (λ overlay. lies_below overlay file.node) o)
+    (plain_numbered world plain (mount_at nat_eq world file).filesystem) ∙ nothing access.writes)
+  where
+    nothing : (b : Bool) → (b && false) ≡ false
+    nothing true = refl
+    nothing false = refl
+
+opened_number : (a b : ℕ) → Path (Result Answer Deny) (Ok (Opened a)) (Ok (Opened b)) → b ≡ a
+opened_number a b e = sym (ap of_answer e)
+  where
+    of_answer : Result Answer Deny → ℕ
+    of_answer (Ok (Opened number)) = number
+    of_answer answer = 0
+
+descriptors_in_order : (task : Task ℕ) → is_within_limits task ≡ true → are_ascending_from 0 task.descriptors ≡ true
+descriptors_in_order task h =
+    (and_parts _ _ (and_parts _ _ (and_parts _ _ (and_parts _ _ (and_parts _ _ (and_parts _ _ h).0).0).0).0).0).1
+
+pub open_then_pread : OpenThenPread
+open_then_pread world fresh name task path access number is plain serves called reads granted = (
+  is_free,
+  here,
+  walked,
+  λ offset size later_fresh.
+      pread_of later later_fresh name (raised_task name new_task) new_descriptor number offset size
+      (still_called world fresh name call (Opened number) is plain serves refl refl did name new_task there)
+      (ap (find (λ (d : Descriptor ℕ). nat_eq number d.number)) (raised_descriptors name new_task) ∙ found) reads
+      ∙ ap (λ o. Ok (Bytes (take size (drop offset (bytes_in o)))))
+      (still_seen world fresh name call (Opened number) is plain serves refl refl did name new_task there here.location
+      (descriptor_located new_task number new_descriptor found)
+      ∙ ap (λ w. node_at nat_eq w here.location) spent),
+)
+  where
+    call : Call
+    call = OpenFile path access NoCreation
+
+    later : World ℕ
+    later = (policy nat_eq fresh world name (OpenFile path access NoCreation)).world
+
+    did : IsPermitted world fresh name (OpenFile path access NoCreation) (Opened number)
+    did = permitted world fresh name (OpenFile path access NoCreation) (Opened number) refl granted
+
+    task_is : did.task ≡ task
+    task_is = same_Some did.task task (sym did.called ∙ called)
+
+    parts : (here : Here ℕ) × (object_walk nat_eq (looks_of nat_eq world) did.task path ≡ Ok here)
+        × (did.permit ≡ ToOpen here.location access)
+    parts = open_parts (looks_of nat_eq world) did.task path access did.permit did.judged
+
+    here : Here ℕ
+    here = parts.0
+
+    walked : object_walk nat_eq (looks_of nat_eq world) task path ≡ Ok here
+    walked = ap (λ t. object_walk nat_eq (looks_of nat_eq world) t path) (sym task_is) ∙ parts.1
+
+    outcome : apply nat_eq fresh world did.task did.permit ≡ opened world task here.location access
+    outcome =
+        ap (apply nat_eq fresh world did.task) parts.2
+        ∙ open_spent fresh world plain did.task here.location access
+        ∙ ap (λ t. opened world t here.location access) task_is
+
+    is_free : number ≡ free_number task
+    is_free =
+        opened_number (free_number task) number (sym (ap (λ (o : Outcome ℕ). o.answer) outcome) ∙ did.answered)
+
+    new_task : Task ℕ
+    new_task = with_descriptor task here.location access
+
+    new_descriptor : Descriptor ℕ
+    new_descriptor =
+        record { number = free_number task; location = here.location; reads = access.reads; writes = access.writes }
+
+    spent : (apply nat_eq fresh world did.task did.permit).world ≡ with_task world new_task
+    spent = ap (λ (o : Outcome ℕ). o.world) outcome
+
+    there : task_called (apply nat_eq fresh world did.task did.permit).world name ≡ Some new_task
+    there =
+        ap (λ w. task_called w name) spent
+        ∙ called_replaced world name task new_task called (sym (name_found world name task called))
+
+    in_order : are_ascending_from 0 task.descriptors ≡ true
+    in_order =
+        descriptors_in_order task (passes is_within_limits world.tasks is.tasks.small_tasks task
+        (found_among (λ (t : Task ℕ). same_name name t.name) world.tasks task called))
+
+    found : descriptor_numbered new_task number ≡ Some new_descriptor
+    found =
+        ap (λ n. find (λ (d : Descriptor ℕ). nat_eq n d.number) new_task.descriptors) is_free
+        ∙ inserted_found 0 task.descriptors new_descriptor in_order refl

@@ -1,0 +1,6 @@
+//! What later calls see of earlier ones, in a world without overlays.
+//!
+//! Each public function is a theorem of the written policy, and does nothing.
+#![tactic(auto)]
+
+pub mod later;
