@@ -7,6 +7,8 @@ pub mod CopyingParts
 pub mod CopyingReaches
 pub mod CopyingReady
 pub mod CopyingSound
+pub mod LockedApart
+pub mod LockedChange
 pub mod LowersCalls
 pub mod LowersEachCall
 pub mod LowersEveryCall
