@@ -9,6 +9,7 @@ pub mod CopyingReady
 pub mod CopyingSound
 pub mod LockedApart
 pub mod LockedChange
+pub mod LockedEachCall
 pub mod LowersCalls
 pub mod LowersEachCall
 pub mod LowersEveryCall
