@@ -10,6 +10,8 @@ pub mod CopyingSound
 pub mod LockedApart
 pub mod LockedChange
 pub mod LockedEachCall
+pub mod LockedSteps
+pub mod LockedWalks
 pub mod LowersCalls
 pub mod LowersEachCall
 pub mod LowersEveryCall
