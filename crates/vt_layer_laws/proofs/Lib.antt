@@ -10,6 +10,7 @@ pub mod CopyingSound
 pub mod LockedApart
 pub mod LockedChange
 pub mod LockedEachCall
+pub mod LockedEveryCall
 pub mod LockedSteps
 pub mod LockedWalks
 pub mod LowersCalls

@@ -4,3 +4,4 @@
 #![tactic(auto)]
 
 pub mod layers;
+pub mod locked;
