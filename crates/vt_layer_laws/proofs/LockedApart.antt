@@ -1,22 +1,21 @@
 -- Objects of an upper layer lie under no other layer of a live overlay.
 use Rattle.std.proofs.Common.{◌≡◌, ◌≢◌, refl, sym, ap, subst, ◌∙◌, true≢false, ℕ, nat_eq, eq-eqb, eqb-true, Bool, true, false, cond, not, ◌&&◌, ◌||◌, List, [], ◌∷◌, ◌++◌, Option, Some, None, is_some, unwrap_or, inl, inr, ◌⊎◌, ⊎_elim}
 use Rattle.std.specs.List.{find, list_any, list_all}
-use Rattle.std.specs.Prelude.{filter, flat_map, option_to_list}
+use Rattle.std.specs.Prelude.{flat_map, option_to_list}
 use Rattle.vt_spec.specs.Machine.FileTree.{FileTree, is_under, named_parent}
 use Rattle.vt_spec.specs.Machine.Lists.{any_pair, chain, holds_of, is_among, then_some}
 use Rattle.vt_spec.specs.Machine.Locked.{counts_in_layer, is_locked, is_object_of, is_real_upper, lies_in_layer, lies_or_counts_under, live_layers, live_upper_and_work, of_overlay, overlaps_one_of, overlay_or, overlays, upper_and_work}
-use Rattle.vt_spec.specs.Machine.World.{Filesystem, Layer, Overlay, Real, World, filesystem_numbered, is_overlay, layers_of, no_filesystem, upper_object}
-use Rattle.vt_spec.specs.Machine.World.Real.{Below, Upper}
+use Rattle.vt_spec.specs.Machine.World.{Filesystem, Layer, Overlay, World, filesystem_numbered, is_overlay, layers_of, no_filesystem, upper_object}
 use Rattle.vt_spec.specs.Machine.WorldLaws.{IsWorld, ListsNumbers, SameObject, is_plain_layer, is_there, live_lowers, overlap, real_node}
 use Rattle.vt_spec.specs.Tree.{Node, is_directory_node}
-use Rattle.vt_spec.proofs.Lists.{Among, among-append_right, among-filter, among-flat_map, among-from_filter, among-from_flat_map, among_from_all, among_from_list_all, among_numbers, any_among, any_from_among, none_among}
+use Rattle.vt_spec.proofs.Lists.{Among, among-append_right, among-filter, among-flat_map, among_from_list_all, among_numbers, any_among, any_from_among, none_among}
 use Rattle.vt_layer_laws.proofs.LowersKept.{first_fails, second_fails}
 use Rattle.vt_layer_laws.proofs.LowersWorld.{number_of_filesystem}
 use Rattle.vt_layer_laws.specs.Layers.Untouched.{inode_in}
 use Rattle.vt_layer_laws.specs.Layers.Upper.{IsUpperObject}
 use Rattle.vt_layer_laws.proofs.ShownAtPath.{none_is_some, some_is_one}
 use Rattle.vt_layer_laws.proofs.UpperLine.{and_first, and_second}
-use Rattle.vt_layer_laws.proofs.UpperWorld.{all_found, overlay_found, overlay_merges, overlay_numbers}
+use Rattle.vt_layer_laws.proofs.UpperWorld.{all_found, overlay_found, overlay_merges}
 
 or_cases : (a b : Bool) → (a || b) ≡ true → (a ≡ true) ⊎ (b ≡ true)
 or_cases true b e = inl refl

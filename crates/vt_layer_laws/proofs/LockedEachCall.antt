@@ -15,18 +15,17 @@ use Rattle.vt_spec.specs.Machine.Outcome.Making.{file_mode, file_word_rules, lar
 use Rattle.vt_spec.specs.Machine.Outcome.Removing.{is_one_object, moving, object_there, old_word_rules, rename_new_walk, rename_outcome, rename_rules, renamed_by, removing, rmdir_outcome, rmdir_rules, rmdir_word_rules, same_object_rules, unlink_outcome, unlink_rules, without_replaced}
 use Rattle.vt_spec.specs.Machine.Rightful.{node_allows}
 use Rattle.vt_spec.specs.Machine.Rows.{lacks, making}
-use Rattle.vt_spec.specs.Machine.Walk.{Here, Place, Stop, directory_walk, entry_location, file_walk, is_directory_there, is_special, link_walk, name_of, new_leaf_walk, new_walk, object_walk, old_leaf_walk, old_walk, walk_end}
-use Rattle.vt_spec.specs.Machine.World.{Descriptor, Overlay, Task, World, filesystem_at, filesystem_numbered, mount_at, node_at}
+use Rattle.vt_spec.specs.Machine.Walk.{Place, directory_walk, file_walk, is_directory_there, is_special, link_walk, name_of, new_leaf_walk, new_walk, object_walk, old_leaf_walk, old_walk, walk_end}
+use Rattle.vt_spec.specs.Machine.World.{Descriptor, Overlay, Task, World, filesystem_at, mount_at, node_at}
 use Rattle.vt_spec.specs.Rights.{Credentials, cap_sys_admin}
 use Rattle.vt_spec.specs.Tree.{Node, entries_in, entry_named}
 use Rattle.vt_spec.specs.TreeLaws.{entry_at}
 use Rattle.vt_tree_laws.proofs.TreesWalked.{Ends, IsOldPlace, after_ends, after_holds, ends_old_leaf_walk, place_named}
-use Rattle.vt_layer_laws.specs.Layers.Upper.{IsThere, SpeaksOfWhatIsThere}
+use Rattle.vt_layer_laws.specs.Layers.Upper.{SpeaksOfWhatIsThere}
 use Rattle.vt_layer_laws.proofs.LockedChange.{IsNew, Leaves, leaves_change}
 use Rattle.vt_layer_laws.proofs.LowersCalls.{after_leads, both_fail, judged_leads, unlocked_differs}
 use Rattle.vt_layer_laws.proofs.LowersKept.{first_fails, second_fails}
 use Rattle.vt_layer_laws.proofs.LowersMounts.{same_filesystems_without, same_mounted_without}
-use Rattle.vt_layer_laws.proofs.ShownAtPath.{none_is_some, some_is_one}
 
 not_true : (b : Bool) → not b ≡ false → b ≡ true
 not_true true e = refl

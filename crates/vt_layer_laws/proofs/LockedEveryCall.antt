@@ -1,5 +1,5 @@
 -- What lies in a lower layer stays in every call on files, and so do upper layers but for that of one overlay.
-use Rattle.std.proofs.Common.{◌≡◌, ◌≢◌, refl, sym, ap, subst, ◌∙◌, true≢false, ℕ, nat_eq, true, List, [], ◌∷◌, Option, Some, None, inl, inr, ⊎_elim}
+use Rattle.std.proofs.Common.{◌≡◌, ◌≢◌, refl, sym, subst, ◌∙◌, true≢false, ℕ, nat_eq, true, List, [], ◌∷◌, Option, Some, None, inl, ⊎_elim}
 use Rattle.vt_spec.specs.declared.errors.Rule.TheVariants.{K1}
 use Rattle.vt_spec.specs.Machine.Calls.{Call, CapabilityWord, ForkWords}
 use Rattle.vt_spec.specs.Machine.Calls.Call.{Bind, Chdir, Chmod, Chown, Chroot, Close, Drop, Exec, Exit, Fork, Lazy, LinkTo, ListMounts, Ls, Lstat, MakeWhiteout, Mkdir, MountOverlay, MountPlain, MoveMount, Opaque, OpenFile, PivotRoot, Pread, Pwrite, Read, Readlink, Remount, Rename, Rmdir, SetType, Setns, Stat, SymlinkAt, Umask, Umount, Unlink, Unshare, Write}
@@ -12,11 +12,11 @@ use Rattle.vt_spec.specs.Machine.Outcome.Tasks.{chdir_outcome, child_credentials
 use Rattle.vt_spec.specs.Machine.Policy.{call_outcome}
 use Rattle.vt_spec.specs.Machine.Rows.{lacks}
 use Rattle.vt_spec.specs.Machine.Walk.{directory_walk, link_walk, object_walk, walk_end}
-use Rattle.vt_spec.specs.Machine.World.{Filesystem, Layer, Overlay, Task, World, filesystem_numbered, layers_of, task_called}
+use Rattle.vt_spec.specs.Machine.World.{Layer, Overlay, Task, World, filesystem_numbered, layers_of, task_called}
 use Rattle.vt_spec.specs.Rights.{cap_sys_chroot}
-use Rattle.std.specs.Prelude.{Contains, option_to_list}
+use Rattle.std.specs.Prelude.{Contains}
 use Rattle.vt_spec.specs.Machine.WorldLaws.{IsWorld}
-use Rattle.vt_spec.proofs.Lists.{Among, among-append, among-append_left, among-append_right, among_from_contains, any_from_among}
+use Rattle.vt_spec.proofs.Lists.{Among, among-append_left, among-append_right, among_from_contains, any_from_among}
 use Rattle.vt_layer_laws.specs.Layers.Locked.{GoesThrough}
 use Rattle.vt_layer_laws.specs.Layers.Untouched.{IsKept, changes_no_mount, inode_in}
 use Rattle.vt_layer_laws.specs.Layers.Upper.{IsUpperObject}

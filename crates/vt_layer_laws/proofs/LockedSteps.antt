@@ -1,5 +1,5 @@
 -- A step of a walk leads to what is there, in worlds with overlays too.
-use Rattle.std.proofs.Common.{◌≡◌, ◌≢◌, refl, sym, ap, subst, ◌∙◌, true≢false, ℕ, zero, suc, nat_eq, Bool, true, false, not, cond, List, [], ◌∷◌, length, ⊎_elim, Option, Some, None, is_some, option_map, ok_or, Result, Ok, Err}
+use Rattle.std.proofs.Common.{◌≡◌, refl, sym, ap, subst, ◌∙◌, true≢false, ℕ, nat_eq, Bool, true, false, cond, List, [], ◌∷◌, length, ⊎_elim, Option, Some, None, is_some, option_map, ok_or, Result, Ok, Err}
 use Rattle.std.specs.Prelude.{unwrap_or}
 use Rattle.std.specs.List.{find}
 use Rattle.vt_spec.specs.declared.errors.Deny.{Deny}

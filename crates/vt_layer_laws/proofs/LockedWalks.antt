@@ -11,7 +11,7 @@ use Rattle.vt_spec.specs.Machine.Mounts.{Location}
 use Rattle.vt_spec.specs.Machine.Outcome.Descriptors.{descriptor_at, descriptor_numbered}
 use Rattle.vt_spec.specs.Machine.Walk.{Follow, Here, LastWord, Stop, final_word, follow_rules, followed, front_walked, if_link, last_walked, last_word, link_walk_by, link_start, link_walk, link_walked, most_links, object_walk, path_text, path_walked, slash_rules, start_of, walk_start, walk_unless, word_walked, words_walked}
 use Rattle.vt_spec.specs.Machine.Walk.LastWord.{Dot, DotDot, Named, NoWord}
-use Rattle.vt_spec.specs.Machine.World.{Descriptor, Task, World, all_locations, files_at, is_directory_at, locations_of, mount_at, node_at, same_name, task_called}
+use Rattle.vt_spec.specs.Machine.World.{Descriptor, Task, World, all_locations, files_at, is_directory_at, locations_of, node_at, same_name, task_called}
 use Rattle.vt_spec.specs.Machine.WorldLaws.{IsWorld, is_located_well, stands_on_directories}
 use Rattle.vt_spec.proofs.Lists.{Among, among-flat_map, among-map, among_from_list_all}
 use Rattle.vt_spec.proofs.Nodes.{directory_used}
