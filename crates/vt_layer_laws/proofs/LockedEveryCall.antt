@@ -193,25 +193,31 @@ pub calls_go_through_one : (fresh : Fresh ℕ) (world : World ℕ) (task : Task 
     → (through : ℕ) × GoesThrough fresh world (call_outcome nat_eq fresh world task call).world through
 calls_go_through_one fresh world task call conditions called c =
     ⊎_elim
-    (λ e. (0, record {
-      elsewhere = λ number differ upper. same_filesystem world later number e;
-      others = λ number overlay layer inode differ is m lies new.
-          same_stays fresh world task conditions called call c number overlay is layer
-          (in_all_layers overlay layer (among_from_contains (upper_and_work overlay) layer m)) inode lies new e;
-    }))
-    (λ change. (change.mounted, record {
-      elsewhere = λ number differ upper.
-          same_filesystem (changed_in change.supply world change.mounted change.change) later number change.so
-          ∙ changed_elsewhere change.supply world (filesystem_numbered nat_eq world change.mounted) change.change number
-          (λ e. differ (e ∙ number_of_filesystem world change.mounted)) upper;
-      others = λ number overlay layer inode differ is m lies new.
-          layer_stays fresh world task conditions called call c number overlay is layer
-          (in_all_layers overlay layer (among_from_contains (upper_and_work overlay) layer m)) inode lies new change
-          (λ other upper i has at object.
-          no_other world conditions change.mounted other i upper has inode object number differ overlay is layer
-          (among_from_contains (upper_and_work overlay) layer m)
-          (subst (λ n. lies_or_counts_under nat_eq world n inode layer ≡ true) at lies));
-    }))
+    (λ e. (
+      0,
+      record {
+        elsewhere = λ number differ upper. same_filesystem world later number e;
+        others = λ number overlay layer inode differ is m lies new.
+            same_stays fresh world task conditions called call c number overlay is layer
+            (in_all_layers overlay layer (among_from_contains (upper_and_work overlay) layer m)) inode lies new e;
+      },
+    ))
+    (λ change. (
+      change.mounted,
+      record {
+        elsewhere = λ number differ upper.
+            same_filesystem (changed_in change.supply world change.mounted change.change) later number change.so
+            ∙ changed_elsewhere change.supply world (filesystem_numbered nat_eq world change.mounted) change.change number
+            (λ e. differ (e ∙ number_of_filesystem world change.mounted)) upper;
+        others = λ number overlay layer inode differ is m lies new.
+            layer_stays fresh world task conditions called call c number overlay is layer
+            (in_all_layers overlay layer (among_from_contains (upper_and_work overlay) layer m)) inode lies new change
+            (λ other upper i has at object.
+            no_other world conditions change.mounted other i upper has inode object number differ overlay is layer
+            (among_from_contains (upper_and_work overlay) layer m)
+            (subst (λ n. lies_or_counts_under nat_eq world n inode layer ≡ true) at lies));
+      },
+    ))
     (left_by_call fresh world task conditions called call c)
   where
     later : World ℕ
