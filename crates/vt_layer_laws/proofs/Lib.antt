@@ -16,6 +16,12 @@ pub mod DirectoriesOrder
 pub mod DirectoriesStill
 pub mod DirectoriesTree
 pub mod DirectoriesUnder
+pub mod LockedApart
+pub mod LockedChange
+pub mod LockedEachCall
+pub mod LockedEveryCall
+pub mod LockedSteps
+pub mod LockedWalks
 pub mod LowersCalls
 pub mod LowersEachCall
 pub mod LowersEveryCall

@@ -1,4 +1,5 @@
 -- Laws of overlays: what their layers show, and what a change leaves as it was.
+pub mod Locked
 pub mod Shown
 pub mod Untouched
 pub mod Upper

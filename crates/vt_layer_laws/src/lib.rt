@@ -6,3 +6,4 @@
 pub mod directories;
 pub mod layers;
 pub mod views;
+pub mod locked;

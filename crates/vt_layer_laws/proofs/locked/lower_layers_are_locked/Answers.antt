@@ -1,0 +1,11 @@
+use Rattle.vt_layer_laws.proofs.LockedEveryCall.{calls_go_through_one, lower_layers_stay_locked, upper_objects_count}
+use Rattle.vt_layer_laws.proofs.locked.lower_layers_are_locked.Goals as goal
+
+pub returns-clause-calls : goal.returns-clause-calls
+returns-clause-calls c = lower_layers_stay_locked
+
+pub returns-clause-others : goal.returns-clause-others
+returns-clause-others c = calls_go_through_one
+
+pub returns-clause-objects : goal.returns-clause-objects
+returns-clause-objects c = upper_objects_count
