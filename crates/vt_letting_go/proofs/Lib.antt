@@ -14,3 +14,4 @@ pub mod UsesCounted
 pub mod MountsAdded
 pub mod LookedUp
 pub mod OfWorlds
+pub mod MountingLosers

@@ -8,3 +8,4 @@ pub mod Detaching
 pub mod Keeping
 pub mod Groups
 pub mod Ends
+pub mod Mounting
