@@ -15,3 +15,4 @@ pub mod MountsAdded
 pub mod LookedUp
 pub mod OfWorlds
 pub mod MountingLosers
+pub mod MountingTaken

@@ -4,6 +4,7 @@ use Rattle.std.specs.Prelude.{Bool, List, filter, filter_map, map, nat_eq, ℕ, 
 use Rattle.vt_spec.specs.Machine.Detach.{is_going, taken_away}
 use Rattle.vt_spec.specs.Machine.Lists.{holds_of}
 use Rattle.vt_spec.specs.Machine.Mounts.{Location, Mount}
+use Rattle.vt_spec.specs.Machine.Namespaces.{is_in_ended, namespaces_ended}
 use Rattle.vt_spec.specs.Machine.Settled.{settled}
 use Rattle.vt_spec.specs.Machine.World.{World, mount_at, mount_numbered}
 use Rattle.vt_letting_go.specs.Leaving.{IsSettledPlain}
@@ -41,3 +42,16 @@ TakingAwayLetsGo =
     → GroupsInUseBut groups (taken_away nat_eq world gone)
     → settled nat_eq (taken_away nat_eq world gone)
     ≡ let_go (taken_away nat_eq world gone) (used_by_mounts world gone (places_lost world gone) groups)
+
+-- the mounts of namespaces without tasks
+abbrev pub ended_mounts : World ℕ → List ℕ
+ended_mounts world = map (λ mount. mount.number) (filter (is_in_ended nat_eq world) world.mounts)
+
+-- So where namespaces end.
+abbrev pub EndingLetsGo : Type 0
+EndingLetsGo =
+    (world : World ℕ) (groups : List ℕ) → IsSettledPlain world
+    → GroupsInUseBut groups (namespaces_ended nat_eq world)
+    → settled nat_eq (namespaces_ended nat_eq world)
+    ≡ let_go (namespaces_ended nat_eq world)
+    (used_by_mounts world (ended_mounts world) (places_lost world (ended_mounts world)) groups)
