@@ -1,5 +1,5 @@
 -- What goes when mounts are taken away.
-use Rattle.std.proofs.Common.{◌≡◌, refl, sym, ap, subst, ◌∙◌, ◌⊎◌, inl, inr, ⊎_elim, ℕ, zero, suc, nat_eq, Bool, true, false, cond, not, ◌||◌, ◌&&◌, List, [], ◌∷◌, filter, length, map, Option, Some, None, is_some, option_map, true≢false}
+use Rattle.std.proofs.Common.{◌≡◌, refl, sym, ap, subst, ◌∙◌, inl, inr, ⊎_elim, ℕ, zero, suc, nat_eq, Bool, true, false, cond, not, ◌||◌, ◌&&◌, List, [], ◌∷◌, filter, length, map, Option, Some, None, is_some, option_map, true≢false}
 use Rattle.std.specs.List.{list_any}
 use Rattle.std.proofs.lemmas.Bool.{or_parts}
 use Rattle.vt_spec.specs.Machine.Detach.{after_going, is_going, place_below, place_left, taken_away}
@@ -15,7 +15,7 @@ use Rattle.vt_letting_go.specs.Leaving.{IsSettledPlain}
 use Rattle.vt_letting_go.specs.Mounting.{EndingLetsGo, TakingAwayLetsGo, ended_mounts, loses_its_place, places_lost, used_by_mounts}
 use Rattle.vt_letting_go.specs.OneByOne.{GroupsInUseBut, let_go}
 use Rattle.vt_letting_go.proofs.Detached.{found-map, not_found-map}
-use Rattle.vt_letting_go.proofs.Lists.{Among, all_pass, among-filter, among-filter_map, among-from_map, among-map, decided, map_twice, passes}
+use Rattle.vt_letting_go.proofs.Lists.{all_pass, among-filter, among-filter_map, among-from_map, among-map, decided, map_twice, passes}
 use Rattle.vt_letting_go.proofs.MountingLosers.{Loses, changed, losers_go}
 use Rattle.vt_letting_go.proofs.PlacesLeft.{nowhere_parts}
 
