@@ -16,3 +16,4 @@ pub mod LookedUp
 pub mod OfWorlds
 pub mod MountingLosers
 pub mod MountingTaken
+pub mod MountingMoved

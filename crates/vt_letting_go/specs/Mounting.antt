@@ -1,12 +1,15 @@
 -- What goes after a change of mounts: umount(2), also with MNT_DETACH, unlink(2) of a mount point, mount_namespaces(7),
 -- pivot_root(2), mount(2) with MS_MOVE.
-use Rattle.std.specs.Prelude.{Bool, List, filter, filter_map, map, nat_eq, ℕ, ◌++◌, ◌||◌, ◌≡◌}
+use Rattle.std.specs.List.{list_all}
+use Rattle.std.specs.Prelude.{Bool, List, Option, [], false, filter, filter_map, map, nat_eq, true, ℕ, ◌++◌, ◌||◌, ◌≡◌}
 use Rattle.vt_spec.specs.Machine.Detach.{is_going, taken_away}
-use Rattle.vt_spec.specs.Machine.Lists.{holds_of}
+use Rattle.vt_spec.specs.Machine.Lists.{holds_of, is_among}
 use Rattle.vt_spec.specs.Machine.Mounts.{Location, Mount}
 use Rattle.vt_spec.specs.Machine.Namespaces.{is_in_ended, namespaces_ended}
 use Rattle.vt_spec.specs.Machine.Settled.{settled}
 use Rattle.vt_spec.specs.Machine.World.{World, mount_at, mount_numbered}
+use Rattle.vt_spec.specs.Machine.WorldLaws.{is_nowhere_or_attached}
+use Rattle.vt_letting_go.specs.Detaching.{with_changed}
 use Rattle.vt_letting_go.specs.Leaving.{IsSettledPlain}
 use Rattle.vt_letting_go.specs.OneByOne.{GroupsInUseBut, Inode, Losers, let_go}
 
@@ -55,3 +58,25 @@ EndingLetsGo =
     → settled nat_eq (namespaces_ended nat_eq world)
     ≡ let_go (namespaces_ended nat_eq world)
     (used_by_mounts world (ended_mounts world) (places_lost world (ended_mounts world)) groups)
+
+-- a change by which some mounts get other places, in their namespaces, and show what they showed
+pub record MovesSome (moved : List ℕ) (change : Mount ℕ → Mount ℕ) : Type 0 where
+  pub number : (mount : Mount ℕ) → (change mount).number ≡ mount.number
+  pub filesystem : (mount : Mount ℕ) → (change mount).filesystem ≡ mount.filesystem
+  pub root : (mount : Mount ℕ) → (change mount).root ≡ mount.root
+  pub namespace : (mount : Mount ℕ) → (change mount).namespace ≡ mount.namespace
+  pub place : (mount : Mount ℕ) → is_among nat_eq mount.number moved ≡ false → (change mount).place ≡ mount.place
+
+abbrev pub places_moved : World ℕ → List ℕ → List (Location ℕ)
+places_moved world moved =
+    filter_map (λ mount. mount.place) (filter (λ mount. is_among nat_eq mount.number moved) world.mounts)
+
+-- Then at the most the inodes of their old places go.
+abbrev pub MovingLetsGo : Type 0
+MovingLetsGo =
+    (world : World ℕ) (moved groups : List ℕ) (change : Mount ℕ → Mount ℕ) (master : ℕ → Option ℕ)
+    → IsSettledPlain world → MovesSome moved change
+    → list_all is_nowhere_or_attached (with_changed world change master).mounts ≡ true
+    → GroupsInUseBut groups (with_changed world change master)
+    → settled nat_eq (with_changed world change master)
+    ≡ let_go (with_changed world change master) (used_by_mounts world [] (places_moved world moved) groups)
