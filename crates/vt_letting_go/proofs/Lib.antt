@@ -20,3 +20,6 @@ pub mod UsesCounted
 pub mod MountsAdded
 pub mod LookedUp
 pub mod OfWorlds
+pub mod MountingLosers
+pub mod MountingTaken
+pub mod MountingMoved

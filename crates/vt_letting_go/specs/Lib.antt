@@ -10,3 +10,4 @@ pub mod Detaching
 pub mod Keeping
 pub mod Groups
 pub mod Ends
+pub mod Mounting

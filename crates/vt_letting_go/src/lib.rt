@@ -4,4 +4,5 @@
 
 pub mod ends;
 pub mod leaving;
+pub mod mounting;
 pub mod sweeps;

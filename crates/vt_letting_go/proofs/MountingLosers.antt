@@ -1,0 +1,254 @@
+-- Which things may have lost a use after a change of mounts and tasks.
+use Rattle.std.proofs.Common.{◌≡◌, refl, sym, ap, subst, ◌∙◌, ◌⊎◌, ⊎_elim, ℕ, nat_eq, eqb-true, eq-eqb, Bool, true, false, ◌||◌, ◌&&◌, List, filter, map, true≢false, flat_map, ◌++◌, Option, Some, is_some}
+use Rattle.std.specs.Prelude.{filter_map}
+use Rattle.std.specs.List.{list_all}
+use Rattle.std.proofs.lemmas.Bool.{or_cases, or_parts}
+use Rattle.vt_spec.specs.Machine.Lists.{is_among}
+use Rattle.vt_spec.specs.Machine.Mounts.{Location, Mount, mount_in, root_of}
+use Rattle.vt_spec.specs.Machine.Receives.{is_member_of}
+use Rattle.vt_spec.specs.Machine.Settled.{filesystem_lives, is_located, is_mounted, layers_in, located_in, mount_lives, named_in, objects_of_overlay, settled, without_dead_filesystems, without_dead_mounts}
+use Rattle.vt_spec.specs.Machine.World.{Filesystem, Namespace, Task, World, all_locations, mount_at, mount_numbered}
+use Rattle.vt_spec.specs.Machine.WorldLaws.{is_nowhere_or_attached}
+use Rattle.vt_letting_go.specs.InUse.{is_inode_used}
+use Rattle.vt_letting_go.specs.Leaving.{IsSettledPlain}
+use Rattle.vt_letting_go.specs.Mounting.{inode_at, root_inode, used_by_mounts}
+use Rattle.vt_letting_go.specs.OneByOne.{FilesystemsInUseBut, GroupsInUseBut, Inode, InodesInUseBut, Losers, MountsInUseBut, is_inode_among, is_used_or_among, let_go}
+use Rattle.vt_letting_go.proofs.Inodes.{all_goes_one_by_one}
+use Rattle.vt_letting_go.proofs.Lists.{Among, all_from_among, all_pass, among-append, among-append_left, among-append_right, among-filter, among-filter_map, among-from_filter, among-from_filter_map, among-from_map, among-map, among_from_all, among_numbers, any-filter, any_passes, decided, is_among_left, is_among_numbers, is_among_right, one_passes, or_first, or_second, passes}
+use Rattle.vt_letting_go.proofs.PlacesLeft.{found_in_filter, found_itself, no_layers, nowhere_parts, plain_uses, private_is_no_member}
+
+-- the roots, working directories and descriptors, the roots of mounts and the places of a world
+abbrev pub places_of : World ℕ → List (Location ℕ)
+places_of world = all_locations world ++ map root_of world.mounts ++ filter_map (λ mount. mount.place) world.mounts
+
+-- what a mount is afterwards: another record of its number, with what it shows
+abbrev pub Image : List (Mount ℕ) → Mount ℕ → Type 0
+Image mounts mount = (image : Mount ℕ) × (Among image mounts × ((root_of image ≡ root_of mount) × (image.filesystem ≡ mount.filesystem)))
+
+-- a place that a mount in use has still, on a mount that is none of those that may go
+abbrev pub StillAPlace : List (Mount ℕ) → List ℕ → Location ℕ → Type 0
+StillAPlace mounts gone place = (mount : Mount ℕ) × (Among mount mounts × ((mount.place ≡ Some place) × (is_among nat_eq place.mount gone ≡ false)))
+
+abbrev pub changed : World ℕ → List (Mount ℕ) → (ℕ → Option ℕ) → List (Namespace ℕ) → List (Task ℕ) → World ℕ
+changed world mounts master namespaces tasks = record world { mounts = mounts; master = master; namespaces = namespaces; tasks = tasks }
+
+pub record Loses (world after : World ℕ) (gone : List ℕ) (left : List (Location ℕ)) : Type 0 where
+  pub images : (mount : Mount ℕ) → Among mount world.mounts → Image after.mounts mount
+  pub shown : (location : Location ℕ) → Among location (places_of world) → (mount_at nat_eq after location).filesystem ≡ (mount_at nat_eq world location).filesystem
+  pub live : (mount : Mount ℕ) → Among mount after.mounts → is_among nat_eq mount.number gone ≡ false → mount_lives nat_eq after mount ≡ true
+  pub locations : (location : Location ℕ) → Among location (all_locations world) → Among location (all_locations after) ⊎ Among location left
+  pub places : (mount : Mount ℕ) → Among mount world.mounts → (place : Location ℕ) → mount.place ≡ Some place → StillAPlace after.mounts gone place ⊎ Among place left
+  pub nowhere : list_all is_nowhere_or_attached after.mounts ≡ true
+
+module _ (world : World ℕ) (mounts : List (Mount ℕ)) (master : ℕ → Option ℕ) (namespaces : List (Namespace ℕ)) (tasks : List (Task ℕ))
+    (gone : List ℕ) (left : List (Location ℕ)) (groups : List ℕ)
+    (settles : IsSettledPlain world) (loses : Loses world (changed world mounts master namespaces tasks) gone left)
+    (hears : GroupsInUseBut groups (changed world mounts master namespaces tasks)) where
+  abbrev after : World ℕ
+  after = changed world mounts master namespaces tasks
+
+  abbrev mounted : World ℕ
+  mounted = without_dead_mounts nat_eq after
+
+  abbrev living : World ℕ
+  living = without_dead_filesystems nat_eq mounted
+
+  abbrev losers : Losers
+  losers = used_by_mounts world gone left groups
+
+  found_mount : (mount : Mount ℕ) → Among mount world.mounts → mount_in nat_eq world.mounts mount.number ≡ mount
+  found_mount mount m = found_itself world.mounts settles.mounts.one_number mount m
+
+  mounts_but : MountsInUseBut losers.mounts after
+  mounts_but =
+      all_pass (λ mount. is_among nat_eq mount.number gone || mount_lives nat_eq after mount) mounts
+      (λ mount m. ⊎_elim (λ is. or_first (is_among nat_eq mount.number gone) (mount_lives nat_eq after mount) is)
+      (λ isnt. or_second (is_among nat_eq mount.number gone) (mount_lives nat_eq after mount) (loses.live mount m isnt))
+      (decided (is_among nat_eq mount.number gone)))
+
+  -- a mount that is none of those that may go has an image that lives
+  image_lives : (mount : Mount ℕ) → is_among nat_eq mount.number gone ≡ false → (image : Image mounts mount) → mount_lives nat_eq after image.0 ≡ true
+  image_lives mount isnt image =
+      loses.live image.0 image.1.0 (ap (λ l. is_among nat_eq l.mount gone) image.1.1.0 ∙ isnt)
+
+  filesystems_but : FilesystemsInUseBut losers.filesystems mounted
+  filesystems_but =
+      all_pass (λ filesystem. is_among nat_eq filesystem.number losers.filesystems || filesystem_lives nat_eq mounted filesystem) world.filesystems
+      (λ filesystem m.
+      let lived = passes (filesystem_lives nat_eq world) world.filesystems settles.in_use.filesystems filesystem m in
+      let was = ⊎_elim (λ e. e) (λ layered. absurd (true≢false (sym layered ∙ no_layers filesystem.number world world.filesystems settles.plain)))
+      (or_cases (is_mounted nat_eq world filesystem.number) _ lived) in
+      let t = one_passes (λ mount. nat_eq filesystem.number mount.filesystem) world.mounts was in
+      ⊎_elim
+      (λ is. or_first (is_among nat_eq filesystem.number losers.filesystems) (filesystem_lives nat_eq mounted filesystem)
+      (ap (λ n. is_among nat_eq n losers.filesystems)
+      (eqb-true filesystem.number t.0.filesystem t.2 ∙ ap (λ x. x.filesystem) (sym (found_mount t.0 t.1)))
+      ∙ is_among_numbers (mount_numbered nat_eq world t.0.number).filesystem losers.filesystems
+      (among-map (λ n. (mount_numbered nat_eq world n).filesystem) gone t.0.number (among_numbers t.0.number gone is))))
+      (λ isnt. let image = loses.images t.0 t.1 in
+      or_second (is_among nat_eq filesystem.number losers.filesystems) (filesystem_lives nat_eq mounted filesystem)
+      (or_first (is_mounted nat_eq mounted filesystem.number) _
+      (any_passes (λ mount. nat_eq filesystem.number mount.filesystem) mounted.mounts image.0
+      (among-filter (mount_lives nat_eq after) mounts image.0 image.1.0 (image_lives t.0 isnt image))
+      (ap (nat_eq filesystem.number) image.1.1.1 ∙ t.2))))
+      (decided (is_among nat_eq t.0.number gone)))
+
+  groups_but : GroupsInUseBut losers.groups mounted
+  groups_but group among none =
+      hears group among
+      (sym (any-filter (is_member_of nat_eq group) (mount_lives nat_eq after) mounts
+      (λ mount m dead. private_is_no_member group mount
+      (nowhere_parts mount (passes is_nowhere_or_attached mounts loses.nowhere mount m)
+      (or_parts (is_some mount.namespace) (is_located nat_eq after mount.number) dead).0).1))
+      ∙ none)
+
+  -- where all of a number live, it is found as before
+  found_still : (location : Location ℕ) → Among location (places_of world)
+      → ((mount : Mount ℕ) → Among mount mounts → mount.number ≡ location.mount → mount_lives nat_eq after mount ≡ true)
+      → (mount_at nat_eq mounted location).filesystem ≡ (mount_at nat_eq world location).filesystem
+  found_still location m stays =
+      ap (λ x. x.filesystem) (found_in_filter (mount_lives nat_eq after) mounts location.mount stays) ∙ loses.shown location m
+
+  stays_there : (number : ℕ) → is_among nat_eq number gone ≡ false → (mount : Mount ℕ) → Among mount mounts → mount.number ≡ number
+      → mount_lives nat_eq after mount ≡ true
+  stays_there number isnt mount m e = loses.live mount m (ap (λ n. is_among nat_eq n gone) e ∙ isnt)
+
+  module _ (filesystem : Filesystem ℕ) where
+    -- what is at a place that is used still
+    used_still : (location : Location ℕ) → Among location (places_of mounted)
+        → filesystem.number ≡ (mount_at nat_eq mounted location).filesystem → is_inode_used living filesystem location.node ≡ true
+    used_still location m e =
+        or_second (nat_eq location.node filesystem.files.tree.root) _
+        (is_among_left location.node (named_in filesystem.files ++ located_in nat_eq living filesystem.number ++ layers_in nat_eq living filesystem.number)
+        (flat_map (objects_of_overlay nat_eq filesystem.number) living.filesystems)
+        (is_among_left location.node (named_in filesystem.files ++ located_in nat_eq living filesystem.number) (layers_in nat_eq living filesystem.number)
+        (is_among_right location.node (named_in filesystem.files) (located_in nat_eq living filesystem.number)
+        (is_among_numbers location.node (located_in nat_eq living filesystem.number)
+        (among-map (λ l. l.node) (filter (λ l. nat_eq filesystem.number (mount_at nat_eq mounted l).filesystem) (places_of mounted)) location
+        (among-filter (λ l. nat_eq filesystem.number (mount_at nat_eq mounted l).filesystem) (places_of mounted) location m
+        (eq-eqb filesystem.number (mount_at nat_eq mounted location).filesystem e)))))))
+
+    -- an inode among the losers may go
+    may_go : (inode : Inode) → Among inode losers.inodes → filesystem.number ≡ inode.0 → (number : ℕ) → number ≡ inode.1
+        → is_used_or_among losers.inodes living filesystem number ≡ true
+    may_go inode m e number same =
+        or_first (is_inode_among filesystem.number number losers.inodes) (is_inode_used living filesystem number)
+        (any_passes (λ i. nat_eq filesystem.number i.0 && nat_eq number i.1) losers.inodes inode m
+        (ap (λ t. t && nat_eq number inode.1) (eq-eqb filesystem.number inode.0 e) ∙ eq-eqb number inode.1 same))
+
+    left_may_go : (location : Location ℕ) → Among location left → filesystem.number ≡ (mount_at nat_eq world location).filesystem
+        → is_used_or_among losers.inodes living filesystem location.node ≡ true
+    left_may_go location m e =
+        may_go (inode_at world location)
+        (among-append_right (map (root_inode world) gone) (map (inode_at world) left) (inode_at world location) (among-map (inode_at world) left location m))
+        e location.node refl
+
+    by_location : (location : Location ℕ) → Among location (all_locations world) → filesystem.number ≡ (mount_at nat_eq world location).filesystem
+        → is_used_or_among losers.inodes living filesystem location.node ≡ true
+    by_location location m e =
+        ⊎_elim
+        (λ stays. or_second (is_inode_among filesystem.number location.node losers.inodes) _
+        (used_still location (among-append_left (all_locations after ++ map root_of mounted.mounts) (filter_map (λ mount. mount.place) mounted.mounts) location
+        (among-append_left (all_locations after) (map root_of mounted.mounts) location stays))
+        (e ∙ sym (found_still location
+        (among-append_left (all_locations world ++ map root_of world.mounts) (filter_map (λ mount. mount.place) world.mounts) location
+        (among-append_left (all_locations world) (map root_of world.mounts) location m))
+        (λ mount n same. or_second (is_some mount.namespace) (is_located nat_eq after mount.number)
+        (any_passes (λ l. nat_eq mount.number l.mount) (all_locations after) location stays (eq-eqb mount.number location.mount same)))))))
+        (λ gone_from. left_may_go location gone_from e)
+        (loses.locations location m)
+
+    by_root : (mount : Mount ℕ) → Among mount world.mounts → filesystem.number ≡ (mount_at nat_eq world (root_of mount)).filesystem
+        → is_used_or_among losers.inodes living filesystem mount.root ≡ true
+    by_root mount m e =
+        ⊎_elim
+        (λ is. may_go (root_inode world mount.number)
+        (among-append_left (map (root_inode world) gone) (map (inode_at world) left) (root_inode world mount.number)
+        (among-map (root_inode world) gone mount.number (among_numbers mount.number gone is)))
+        e mount.root (ap (λ x. x.root) (sym (found_mount mount m))))
+        (λ isnt. let image = loses.images mount m in
+        or_second (is_inode_among filesystem.number mount.root losers.inodes) _
+        (used_still (root_of mount)
+        (among-append_left (all_locations after ++ map root_of mounted.mounts) (filter_map (λ x. x.place) mounted.mounts) (root_of mount)
+        (among-append_right (all_locations after) (map root_of mounted.mounts) (root_of mount)
+        (subst (λ l. Among l (map root_of mounted.mounts)) image.1.1.0
+        (among-map root_of mounted.mounts image.0 (among-filter (mount_lives nat_eq after) mounts image.0 image.1.0 (image_lives mount isnt image))))))
+        (e ∙ sym (found_still (root_of mount)
+        (among-append_left (all_locations world ++ map root_of world.mounts) (filter_map (λ x. x.place) world.mounts) (root_of mount)
+        (among-append_right (all_locations world) (map root_of world.mounts) (root_of mount) (among-map root_of world.mounts mount m)))
+        (stays_there mount.number isnt)))))
+        (decided (is_among nat_eq mount.number gone))
+
+    by_place : (mount : Mount ℕ) → Among mount world.mounts → (place : Location ℕ) → mount.place ≡ Some place
+        → filesystem.number ≡ (mount_at nat_eq world place).filesystem → is_used_or_among losers.inodes living filesystem place.node ≡ true
+    by_place mount m place p e =
+        ⊎_elim
+        (λ still. or_second (is_inode_among filesystem.number place.node losers.inodes) _
+        (used_still place
+        (among-append_right (all_locations after ++ map root_of mounted.mounts) (filter_map (λ x. x.place) mounted.mounts) place
+        (among-filter_map (λ x. x.place) mounted.mounts still.0 place
+        (among-filter (mount_lives nat_eq after) mounts still.0 still.1.0
+        (or_first (is_some still.0.namespace) (is_located nat_eq after still.0.number)
+        (is_attached still.0 still.1.0 still.1.1.0 (is_some still.0.namespace) refl)))
+        still.1.1.0))
+        (e ∙ sym (found_still place
+        (among-append_right (all_locations world ++ map root_of world.mounts) (filter_map (λ x. x.place) world.mounts) place
+        (among-filter_map (λ x. x.place) world.mounts mount place m p))
+        (stays_there place.mount still.1.1.1)))))
+        (λ gone_from. left_may_go place gone_from e)
+        (loses.places mount m place p)
+      where
+        is_attached : (on : Mount ℕ) → Among on mounts → on.place ≡ Some place → (b : Bool) → is_some on.namespace ≡ b → is_some on.namespace ≡ true
+        is_attached on n q true f = f
+        is_attached on n q false f =
+            absurd (true≢false (sym (ap is_some q) ∙ (nowhere_parts on (passes is_nowhere_or_attached mounts loses.nowhere on n) f).0))
+
+    by_a_use : (inode : ℕ) → is_inode_used world filesystem inode ≡ true → is_used_or_among losers.inodes living filesystem inode ≡ true
+    by_a_use inode is =
+        ⊎_elim
+        (λ root. or_second (is_inode_among filesystem.number inode losers.inodes) _
+        (or_first (nat_eq inode filesystem.files.tree.root) _ (eq-eqb inode filesystem.files.tree.root root)))
+        (λ rest. ⊎_elim
+        (λ named. or_second (is_inode_among filesystem.number inode losers.inodes) _
+        (or_second (nat_eq inode filesystem.files.tree.root) _
+        (is_among_left inode (named_in filesystem.files ++ located_in nat_eq living filesystem.number ++ layers_in nat_eq living filesystem.number)
+        (flat_map (objects_of_overlay nat_eq filesystem.number) living.filesystems)
+        (is_among_left inode (named_in filesystem.files ++ located_in nat_eq living filesystem.number) (layers_in nat_eq living filesystem.number)
+        (is_among_left inode (named_in filesystem.files) (located_in nat_eq living filesystem.number) named)))))
+        located rest)
+        (plain_uses world settles.plain filesystem inode is)
+      where
+        located : Among inode (located_in nat_eq world filesystem.number) → is_used_or_among losers.inodes living filesystem inode ≡ true
+        located m =
+            let from = among-from_map (λ l. l.node) (filter (λ l. nat_eq filesystem.number (mount_at nat_eq world l).filesystem) (places_of world)) inode m in
+            let here = among-from_filter (λ l. nat_eq filesystem.number (mount_at nat_eq world l).filesystem) (places_of world) from.0 from.1 in
+            let e : filesystem.number ≡ (mount_at nat_eq world from.0).filesystem = eqb-true filesystem.number (mount_at nat_eq world from.0).filesystem here.1 in
+            ap (is_used_or_among losers.inodes living filesystem) from.2
+            ∙ ⊎_elim
+            (λ other. ⊎_elim
+            (λ at. by_location from.0 at e)
+            (λ root. let mount = among-from_map root_of world.mounts from.0 root in
+            ap (λ l. is_used_or_among losers.inodes living filesystem l.node) mount.2
+            ∙ by_root mount.0 mount.1 (e ∙ ap (λ l. (mount_at nat_eq world l).filesystem) mount.2))
+            (among-append (all_locations world) (map root_of world.mounts) from.0 other))
+            (λ place. let mount = among-from_filter_map (λ x. x.place) world.mounts from.0 place in
+            by_place mount.0 mount.1 from.0 mount.2 e)
+            (among-append (all_locations world ++ map root_of world.mounts) (filter_map (λ mount. mount.place) world.mounts) from.0 here.0)
+
+  inodes_but : InodesInUseBut losers.inodes living
+  inodes_but =
+      all_from_among (λ f. list_all (is_used_or_among losers.inodes living f) f.files.numbers ≡ true) living.filesystems
+      (λ filesystem m. let was = among-from_filter (filesystem_lives nat_eq mounted) world.filesystems filesystem m in
+      all_pass (is_used_or_among losers.inodes living filesystem) filesystem.files.numbers
+      (λ inode n. by_a_use filesystem inode
+      (passes (is_inode_used world filesystem) filesystem.files.numbers
+      (among_from_all (λ f. list_all (is_inode_used world f) f.files.numbers ≡ true) world.filesystems settles.in_use.inodes filesystem was.0) inode n)))
+
+  -- what lost a use goes, if nothing uses it, and nothing else
+  pub losers_go : settled nat_eq after ≡ let_go after losers
+  losers_go = all_goes_one_by_one after losers settles.plain settles.trees (record {
+    mounts = mounts_but;
+    filesystems = filesystems_but;
+    inodes = inodes_but;
+    groups = groups_but;
+  })
