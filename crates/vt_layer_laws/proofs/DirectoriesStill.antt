@@ -88,6 +88,7 @@ module _ (world : World ℕ) (conditions : IsWorld nat_eq world) (overlay : Over
           ∙ ap (λ layers. option_map (λ object. real_object (is_some some_overlay.upper) object.seen.layer object) (merged_at layers path)) (sym same_layers);
       real_objects = λ number.
           subst (SameObject (filesystem.files.tree.node number)) (sym (by_real (some_overlay.real number))) (is.real_objects number);
+      real_there = is.real_there;
       no_whiteout = is.no_whiteout;
       no_mark = is.no_mark;
       upper_there = λ number object e. by_upper object some_overlay.upper old_upper ∙ is.upper_there number object e;

@@ -24,7 +24,7 @@ use Rattle.vt_layer_laws.proofs.ShownDirectories.{AreOpen, last_of, no_white_dir
 use Rattle.vt_layer_laws.proofs.ShownNames.{last_name}
 use Rattle.vt_layer_laws.proofs.ShownPaths.{depth_of_led, length_longer, not_empty}
 use Rattle.vt_layer_laws.proofs.ShownTree.{real_shown_there, shows_layers}
-use Rattle.vt_layer_laws.proofs.ShownWhole.{behind, merged_is_real, merged_no_mark, merged_no_whiteout, merged_one_to_one, merged_upper}
+use Rattle.vt_layer_laws.proofs.ShownWhole.{behind, merged_is_real, merged_no_mark, merged_no_whiteout, merged_one_to_one, merged_real_there, merged_upper}
 use Rattle.vt_layer_laws.proofs.UpperChain.{depth_below}
 use Rattle.vt_layer_laws.proofs.UpperLine.{and_first, and_second, has_entries, is_reached_in}
 use Rattle.vt_layer_laws.proofs.UpperWorld.{all_found, overlay_layers}
@@ -173,6 +173,7 @@ module _ (world : World ℕ) (conditions : IsWorld nat_eq world) (overlay : Over
           subst (SameObject ((overlay_filesystem nat_eq fresh world overlay).files.tree.node number))
           (behind_is_real (made.real number))
           (merged_is_real layers are_open (inode_count world) bounded (odds fresh) odd_distinct (is_some overlay.upper) number);
+      real_there = λ number none. merged_real_there layers are_open (inode_count world) bounded (odds fresh) odd_distinct (is_some overlay.upper) number none;
       no_whiteout = merged_no_whiteout layers are_open (inode_count world) bounded (odds fresh) odd_distinct (is_some overlay.upper);
       no_mark = merged_no_mark layers are_open (inode_count world) bounded (odds fresh) odd_distinct (is_some overlay.upper);
       upper_there = λ number object e.

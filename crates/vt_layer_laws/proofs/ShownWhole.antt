@@ -171,6 +171,13 @@ module _ (layers : List (OpenLayer ℕ)) (are_open : AreOpen layers) (longest : 
                 ∙ same_merged is.object.path is.layer.node.content (not_white is.object is.among is.layer),
           )
 
+  pub merged_real_there : (n : ℕ) → nodes n ≡ None → real_of nat_eq made n ≡ None
+  merged_real_there n = by (inode_of made n nat_eq)
+    where
+      by : (o : Option (MergedInode ℕ)) → option_map (λ inode. inode.node) o ≡ None → option_map (λ inode. inode.real) o ≡ None
+      by None e = refl
+      by (Some inode) e = absurd (true≢false (ap is_some e))
+
   -- two inodes have two real objects
   pub merged_one_to_one : (a b : ℕ) → is_some (real_of nat_eq made a) ≡ true → real_of nat_eq made a ≡ real_of nat_eq made b → a ≡ b
   merged_one_to_one a b h e = by (real_of nat_eq made a) refl h

@@ -11,7 +11,8 @@ use Rattle.vt_spec.specs.Machine.WorldLaws.{IsWorld, ListsNumbers, Stands, is_no
 use Rattle.vt_spec.specs.TreeLaws.{IsTree}
 use Rattle.vt_letting_go.specs.InUse.{IsListedTree, has_upper_in}
 use Rattle.vt_letting_go.specs.Leaving.{stands_on_attached}
-use Rattle.vt_letting_go.specs.Worlds.{MountsOfWorldsStand, UppersOfWorldsArePlain, WorldsHaveTrees}
+use Rattle.vt_letting_go.specs.Overlays.{real_in}
+use Rattle.vt_letting_go.specs.Worlds.{MountsOfWorldsStand, RealsOfWorldsAreThere, UppersOfWorldsArePlain, WorldsHaveTrees}
 use Rattle.vt_letting_go.proofs.Lists.{Among, all_from_among, all_pass, among-append_left, among_from_all, fails, passes}
 use Rattle.vt_letting_go.proofs.PlacesLeft.{found_itself, nowhere_parts}
 use Rattle.std.proofs.lemmas.Option.{same_Some}
@@ -127,3 +128,17 @@ uppers_of_worlds_are_plain world is =
                 ∙ ap is_overlay (sym (found_filesystem world.filesystems is.files.one_filesystem f m))
                 ∙ ap (λ n. is_overlay (filesystem_numbered nat_eq world n)) (eqb-true f.number layer.filesystem g)
                 ∙ plain_layer layer e))
+
+-- An inode of an overlay that is not there has no real object.
+pub reals_of_worlds_are_there : RealsOfWorldsAreThere
+reals_of_worlds_are_there world is =
+    all_from_among (λ f. (number : ℕ) → f.files.tree.node number ≡ None → real_in f number ≡ None) world.filesystems (λ f m.
+    by f f.overlay refl (found_filesystem world.filesystems is.files.one_filesystem f m))
+  where
+    by : (f : Filesystem ℕ) (o : Option (Overlay ℕ)) → f.overlay ≡ o → filesystem_numbered nat_eq world f.number ≡ f
+        → (number : ℕ) → f.files.tree.node number ≡ None → overlay_or None (λ overlay. overlay.real number) f.overlay ≡ None
+    by f None e found number none = ap (overlay_or None (λ overlay. overlay.real number)) e
+    by f (Some overlay) e found number none =
+        ap (overlay_or None (λ overlay. overlay.real number)) e
+        ∙ (is.overlays.overlays_merge f.number overlay (ap (λ (x : Filesystem ℕ). x.overlay) found ∙ e)).real_there number
+        (ap (λ (x : Filesystem ℕ). x.files.tree.node number) found ∙ none)

@@ -4,6 +4,7 @@ use Rattle.vt_spec.specs.Machine.World.{World}
 use Rattle.vt_spec.specs.Machine.WorldLaws.{IsWorld}
 use Rattle.vt_letting_go.specs.InUse.{HasTrees, UppersArePlain}
 use Rattle.vt_letting_go.specs.Leaving.{MountsStand}
+use Rattle.vt_letting_go.specs.Overlays.{RealsAreThere}
 
 -- The conditions of a world have what the laws of the sweep ask of its trees, its mounts and its overlays.
 abbrev pub WorldsHaveTrees : Type 0
@@ -11,6 +12,9 @@ WorldsHaveTrees = (world : World ℕ) → IsWorld nat_eq world → HasTrees worl
 
 abbrev pub MountsOfWorldsStand : Type 0
 MountsOfWorldsStand = (world : World ℕ) → IsWorld nat_eq world → MountsStand world
+
+abbrev pub RealsOfWorldsAreThere : Type 0
+RealsOfWorldsAreThere = (world : World ℕ) → IsWorld nat_eq world → RealsAreThere world
 
 abbrev pub UppersOfWorldsArePlain : Type 0
 UppersOfWorldsArePlain = (world : World ℕ) → IsWorld nat_eq world → UppersArePlain world

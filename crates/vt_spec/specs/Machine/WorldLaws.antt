@@ -198,6 +198,8 @@ module _ {N : Type 0} (eq : N → N → Bool) where
     pub names : (path : List (List ℕ)) (number : N) → number_at_path filesystem.files path ≡ Some number → overlay.real number ≡ real_shown world overlay path
     -- each inode, with a name or without one, has a real object of its kind, owner, mode and content
     pub real_objects : (number : N) → SameObject (filesystem.files.tree.node number) (then_some (overlay.real number) (real_node world overlay))
+    -- and nothing else has one
+    pub real_there : (number : N) → filesystem.files.tree.node number ≡ None → overlay.real number ≡ None
     pub no_whiteout : (number : N) → is_kind_in White (filesystem.files.tree.node number) ≡ false
     pub no_mark : (number : N) → is_opaque_in (filesystem.files.tree.node number) ≡ false
     pub upper_there : (number object : N) → overlay.real number ≡ Some (Upper object) → holds_of (λ layer. is_there world layer.filesystem object) overlay.upper ≡ true
