@@ -5,15 +5,15 @@ use Rattle.vt_spec.specs.declared.errors.Deny.{Deny}
 use Rattle.vt_spec.specs.declared.errors.Rule.TheVariants.{E1, E2, E6, K1, O2, S2}
 use Rattle.vt_spec.specs.Errors.{Rules, and_then, denial, unless}
 use Rattle.vt_spec.specs.Machine.Apply.{overfills}
-use Rattle.vt_spec.specs.Machine.Calls.{Access, Call, Creation, OverlayWords}
-use Rattle.vt_spec.specs.Machine.Calls.Call.{Bind, Chdir, Chmod, Chown, Chroot, Close, Drop, Exec, Exit, Fork, Lazy, LinkTo, ListMounts, Ls, Lstat, MakeWhiteout, Mkdir, MountOverlay, MountPlain, MoveMount, Opaque, OpenFile, PivotRoot, Pread, Pwrite, Read, Readlink, Remount, Rename, Rmdir, SetType, Setns, Stat, SymlinkAt, Umask, Umount, Unlink, Unshare, Write}
-use Rattle.vt_spec.specs.Machine.Calls.Creation.{Exclusive, NoCreation, OrCreate}
-use Rattle.vt_spec.specs.Machine.Judge.{Judgement, make_permit, open_new_permit, bind_permit, chdir_permit, chmod_permit, chown_permit, chroot_permit, close_permit, exec_permit, fork_permit, judge, judge_in, lazy_permit, link_permit, list_permit, lstat_permit, made_permit, mkdir_permit, mount_overlay_permit, mount_plain_permit, move_permit, opaque_permit, open_by_permit, open_permit, opened_or_created_permit, overlay_permit_by, pivot_permit, pread_permit, pwrite_permit, read_permit, readlink_permit, remount_permit, rename_permit, renamed_permit, rmdir_permit, setns_permit, stat_permit, symlink_permit, type_permit, umount_permit, unlink_permit, unnumbered, unshare_permit, whiteout_permit, write_permit, written_permit}
+use Rattle.vt_spec.specs.Language.Calls.{Access, Call, Creation, MountFlags, OverlayWords}
+use Rattle.vt_spec.specs.Language.Calls.Call.{Bind, Chdir, Chmod, Chown, Chroot, Close, Drop, Exec, Exit, Fork, Lazy, LinkTo, ListMounts, Ls, Lstat, MakeWhiteout, Mkdir, MountOverlay, MountPlain, MoveMount, Opaque, OpenFile, PivotRoot, Pread, Pwrite, Read, Readlink, Remount, Rename, Rmdir, SetType, Setns, Stat, SymlinkAt, Umask, Umount, Unlink, Unshare, Write}
+use Rattle.vt_spec.specs.Language.Calls.Creation.{Exclusive, NoCreation, OrCreate}
+use Rattle.vt_spec.specs.Machine.Judge.{Judgement, make_permit, open_new_permit, bind_permit, chdir_permit, chmod_permit, chown_permit, chroot_permit, close_permit, exec_permit, fork_permit, judge, judge_in, lazy_permit, hard_link_permit, list_permit, lstat_permit, made_permit, mkdir_permit, mount_overlay_permit, mount_plain_permit, move_permit, opaque_permit, open_by_permit, open_permit, opened_or_created_permit, overlay_permit_by, pivot_permit, pread_permit, pwrite_permit, read_permit, readlink_permit, remount_permit, rename_permit, renamed_permit, rmdir_permit, setns_permit, stat_permit, symlink_permit, type_permit, umount_permit, unlink_permit, unnumbered, unshare_permit, whiteout_permit, write_permit, written_permit}
 use Rattle.vt_spec.specs.Machine.Looks.{Looks, looks_of}
-use Rattle.vt_spec.specs.Machine.Mounts.{Location, MountFlags}
+use Rattle.vt_spec.specs.Machine.Mounts.{Location}
 use Rattle.vt_spec.specs.Machine.Permits.{Permit}
 use Rattle.vt_spec.specs.Machine.Permits.Permit.{Allowed, ToBind, ToChange, ToClose, ToEnterNamespace, ToExit, ToFork, ToList, ToListMounts, ToMake, ToMountOverlay, ToMountPlain, ToMove, ToOpen, ToPivot, ToRead, ToReadPart, ToRemoveDirectory, ToRename, ToSetCredentials, ToSetDirectory, ToSetFlags, ToSetRoot, ToSetType, ToSetUmask, ToStat, ToUnmount, ToUnmountLazily, ToUnshare, ToWritePart}
-use Rattle.vt_spec.specs.Machine.Changes.Change.{SetAttr, SetBytes, SetMark}
+use Rattle.vt_spec.specs.Language.Changes.Change.{SetAttr, SetBytes, SetMark}
 use Rattle.vt_spec.specs.Machine.World.{Task}
 use Rattle.vt_spec.specs.Tree.{Node}
 use Rattle.vt_spec.specs.Tree.Content.{Whiteout}
@@ -25,11 +25,12 @@ use Rattle.vt_spec.specs.Machine.Rules.Attributes.{attr_at, attr_rules, opaque_r
 use Rattle.vt_spec.specs.Machine.Rules.Conditions.{lacks}
 use Rattle.vt_spec.specs.Machine.Rules.Descriptors.{descriptor_at, descriptor_rules, exclusive_word_rules, open_rules, pwrite_rules}
 use Rattle.vt_spec.specs.Machine.Rules.Looking.{exec_rules, list_rules, read_rules, readlink_rules}
-use Rattle.vt_spec.specs.Machine.Rules.Making.{file_word_rules, largest_file, link_rules, link_text_rules, make_rules, new_word_rules, rewrite_rules, whiteout_rules}
+use Rattle.vt_spec.specs.Machine.Rules.Making.{file_word_rules, hard_link_rules, link_text_rules, make_rules, new_word_rules, rewrite_rules, whiteout_rules}
+use Rattle.vt_spec.specs.Language.Limits.{largest_file}
 use Rattle.vt_spec.specs.Machine.Rules.Mounting.{admin_rules, bind_rules, destination_walk, layer_rules, layers_walked, lazy_rules, move_rules, new_mount_rules, overlay_at, pivot_rules, remount_rules, source_walk, type_rules, umount_rules}
 use Rattle.vt_spec.specs.Machine.Rules.Removing.{is_one_object, object_there, old_word_rules, removing, rename_new_walk, rename_rules, rmdir_rules, rmdir_word_rules, same_object_rules, unlink_rules}
 use Rattle.vt_spec.specs.Machine.Rules.Tasks.{enter_rules, fork_rules}
-use Rattle.vt_spec.specs.Machine.Walking.{Place, directory_walk, file_walk, is_directory_there, is_special, link_walk, name_of, new_leaf_walk, new_walk, object_walk, old_leaf_walk, old_walk, walk_end}
+use Rattle.vt_spec.specs.Machine.Walking.{Place, directory_walk, file_walk, is_directory_there, is_special, symlink_walk, name_of, new_leaf_walk, new_walk, object_walk, old_leaf_walk, old_walk, walk_end}
 use Rattle.vt_spec.specs.Rights.{cap_sys_admin, cap_sys_chroot, owns}
 
 module _ (looks : Looks ℕ) (too_many : Permit ℕ → Bool) (task : Task ℕ) (R : Judgement ℕ → Type 0)
@@ -113,7 +114,7 @@ module _ (looks : Looks ℕ) (too_many : Permit ℕ → Bool) (task : Task ℕ) 
   -- a call of one path: its walk, its table, its permit
   judged_leads : (call : Call) → HoldsFor call → R (judge nat_eq looks too_many task call)
   unfolding list_permit stat_permit lstat_permit readlink_permit read_permit exec_permit mkdir_permit symlink_permit
-      whiteout_permit link_permit write_permit unlink_permit rmdir_permit rename_permit chmod_permit chown_permit
+      whiteout_permit hard_link_permit write_permit unlink_permit rmdir_permit rename_permit chmod_permit chown_permit
       opaque_permit open_permit pread_permit pwrite_permit close_permit chdir_permit chroot_permit fork_permit
       unshare_permit setns_permit mount_plain_permit mount_overlay_permit bind_permit move_permit umount_permit
       lazy_permit remount_permit type_permit pivot_permit
@@ -123,9 +124,9 @@ module _ (looks : Looks ℕ) (too_many : Permit ℕ → Bool) (task : Task ℕ) 
   judged_leads (Stat path) h =
       then_next (walk_end (object_walk nat_eq looks task path)) _ (λ here. h (ToStat here.location) (inl (path, refl)))
   judged_leads (Lstat path) h =
-      then_next (walk_end (link_walk nat_eq looks task path)) _ (λ here. h (ToStat here.location) (inr (path, refl)))
+      then_next (walk_end (symlink_walk nat_eq looks task path)) _ (λ here. h (ToStat here.location) (inr (path, refl)))
   judged_leads (Readlink path) h =
-      then_next (walk_end (link_walk nat_eq looks task path)) _ (λ here.
+      then_next (walk_end (symlink_walk nat_eq looks task path)) _ (λ here.
       ruled (readlink_rules looks here.location) _ (λ pass. h (ToRead here.location) (inr (path, refl))))
   judged_leads (Read path) h =
       then_next (walk_end (object_walk nat_eq looks task path)) _ (λ here.
@@ -148,10 +149,10 @@ module _ (looks : Looks ℕ) (too_many : Permit ℕ → Bool) (task : Task ℕ) 
       ruled (whiteout_rules looks task place) _ (λ pass.
       h (make_permit place (record { attr = exact_attr task 0; content = Whiteout })) refl))
   judged_leads (LinkTo old new) h =
-      then_next (walk_end (link_walk nat_eq looks task old)) _ (λ from.
+      then_next (walk_end (symlink_walk nat_eq looks task old)) _ (λ from.
       then_next (walk_end (new_leaf_walk nat_eq looks task new)) _ (λ place.
       ruled ((is_special place.last, E1) ∷ []) _ (λ word.
-      ruled (link_rules nat_eq looks task from.location place (linking from.location place)) _ (λ pass.
+      ruled (hard_link_rules nat_eq looks task from.location place (linking from.location place)) _ (λ pass.
       h (ToChange place.parent (linking from.location place)) (old, new, refl, refl)))))
   judged_leads (Unlink path) h =
       then_next (walk_end (old_leaf_walk nat_eq looks task path)) _ (λ place.

@@ -11,12 +11,12 @@ use Rattle.vt_call_laws.proofs.InodesSettled.{inode_after_call}
 use Rattle.vt_call_laws.specs.Given.{IsFor}
 use Rattle.vt_call_laws.specs.Inodes.{HasNoOverlays, IsNotHanded, OtherEntriesStay, change_of, entries_named_by, inode_in, is_own_entry, mounts_overlay, same_entry}
 use Rattle.vt_spec.specs.declared.attributes.Attr.{Attr}
-use Rattle.vt_spec.specs.Machine.Calls.{Call}
-use Rattle.vt_spec.specs.Machine.Changes.{Change, changed, content_with_mark, content_with_parent, node_with_attr, node_with_mark, node_without_entry, with_name, without_entry, without_name}
-use Rattle.vt_spec.specs.Machine.Changes.Change.{AddName, CopyUp, Make, Move, Remove, SetAttr, SetBytes, SetMark}
-use Rattle.vt_spec.specs.Machine.FileTree.{FileTree}
+use Rattle.vt_spec.specs.Language.Calls.{Call}
+use Rattle.vt_spec.specs.Language.Changes.{Change, changed, content_with_mark, content_with_parent, node_with_attr, node_with_mark, node_without_entry, with_name, without_entry, without_name}
+use Rattle.vt_spec.specs.Language.Changes.Change.{AddName, CopyUp, Make, Move, Remove, SetAttr, SetBytes, SetMark}
+use Rattle.vt_spec.specs.FileTree.{FileTree}
 use Rattle.vt_spec.specs.Machine.Judge.{judge_in}
-use Rattle.vt_spec.specs.Machine.Lists.{Fresh, evens, holds_of, is_among}
+use Rattle.vt_spec.specs.Lists.{Fresh, evens, holds_of, is_among}
 use Rattle.vt_spec.specs.Machine.Looks.{looks_of}
 use Rattle.vt_spec.specs.Machine.Mounts.{Location}
 use Rattle.vt_spec.specs.Machine.Permits.{Permit}

@@ -3,12 +3,12 @@ use Rattle.std.proofs.Common.{◌≡◌, refl, sym, ap, subst, ◌∙◌, true�
 use Rattle.std.specs.List.{All}
 use Rattle.vt_call_laws.specs.Inodes.{HasNoOverlays, change_of}
 use Rattle.vt_spec.specs.Machine.Apply.{apply}
-use Rattle.vt_spec.specs.Machine.Calls.{TypeWord}
-use Rattle.vt_spec.specs.Machine.Changes.{Change, changed}
-use Rattle.vt_spec.specs.Machine.Changes.Change.{CopyUp}
+use Rattle.vt_spec.specs.Language.Calls.{TypeWord}
+use Rattle.vt_spec.specs.Language.Changes.{Change, changed}
+use Rattle.vt_spec.specs.Language.Changes.Change.{CopyUp}
 use Rattle.vt_spec.specs.Machine.Detach.{deepest_first, unmounted, unmounted_if_there}
 use Rattle.vt_spec.specs.Machine.Filesystems.{filesystem_changed, with_change, with_files}
-use Rattle.vt_spec.specs.Machine.Lists.{Fresh, evens, folded, odds}
+use Rattle.vt_spec.specs.Lists.{Fresh, evens, folded, odds}
 use Rattle.vt_spec.specs.Machine.Mounts.{Location, Mount, mount_tree, numbers_by}
 use Rattle.vt_spec.specs.Machine.Namespaces.{namespace_entered, unshared}
 use Rattle.vt_spec.specs.Machine.Outcome.Descriptors.{is_copied_up, pwritten, with_copy}

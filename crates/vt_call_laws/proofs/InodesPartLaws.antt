@@ -4,9 +4,9 @@ use Rattle.vt_call_laws.proofs.InodesParts.{KeptByBytes, KeptByMark, KeptByMode,
 use Rattle.vt_call_laws.specs.Inodes.{KindsStay, LinkTextsStay, OnlyChmodChangesModes, OnlyChownChangesOwners, OnlyNamingChangesEntries, OnlyOpaqueChangesMarks, OnlyTheseChange, OnlyWritesChangeBytes, owner_of}
 use Rattle.vt_spec.specs.declared.attributes.Attr.{Attr}
 use Rattle.vt_spec.specs.declared.attributes.Kind.TheVariants.{Link}
-use Rattle.vt_spec.specs.Machine.Changes.{content_with_mark, content_with_parent, node_with_parent, node_without_entry}
-use Rattle.vt_spec.specs.Machine.FileTree.{is_kind, opaque_of}
-use Rattle.vt_spec.specs.Machine.Lists.{when}
+use Rattle.vt_spec.specs.Language.Changes.{content_with_mark, content_with_parent, node_with_parent, node_without_entry}
+use Rattle.vt_spec.specs.FileTree.{is_kind, opaque_of}
+use Rattle.vt_spec.specs.Lists.{when}
 use Rattle.vt_spec.specs.Tree.{Content, Entries, Node, bytes_of, entries_of, kind_of, node_with_entry, with_bytes, with_entries}
 use Rattle.vt_spec.specs.Tree.Content.{Directory, Regular, Symlink, Whiteout}
 

@@ -6,19 +6,19 @@ use Rattle.vt_call_laws.proofs.InodesSettled.{inode_after_call}
 use Rattle.vt_call_laws.specs.Given.{IsFor, IsForAttr, makes_a_name}
 use Rattle.vt_call_laws.specs.Inodes.{HasNoOverlays, IsNotHanded, StaysIfThere, change_of, changes_names, inode_in, mounts_overlay, sets_mark, sets_mode, sets_owner, writes_bytes}
 use Rattle.vt_spec.specs.declared.attributes.Attr.{Attr}
-use Rattle.vt_spec.specs.Machine.Calls.{Call}
-use Rattle.vt_spec.specs.Machine.Calls.Call.{MakeWhiteout, Mkdir, SymlinkAt, Write}
-use Rattle.vt_spec.specs.Machine.Changes.{Change, changed, changed_node, node_with_attr, node_with_mark, node_with_parent, node_without_entry, with_inode, with_name, without_name, without_parent}
-use Rattle.vt_spec.specs.Machine.Changes.Change.{AddName, CopyUp, Make, Move, Remove, SetAttr, SetBytes, SetMark}
-use Rattle.vt_spec.specs.Machine.FileTree.{FileTree, attr_in}
-use Rattle.vt_spec.specs.Machine.Lists.{Fresh, evens}
+use Rattle.vt_spec.specs.Language.Calls.{Call, TaskName}
+use Rattle.vt_spec.specs.Language.Calls.Call.{MakeWhiteout, Mkdir, SymlinkAt, Write}
+use Rattle.vt_spec.specs.Language.Changes.{Change, changed, changed_node, node_with_attr, node_with_mark, node_with_parent, node_without_entry, with_inode, with_name, without_name, without_parent}
+use Rattle.vt_spec.specs.Language.Changes.Change.{AddName, CopyUp, Make, Move, Remove, SetAttr, SetBytes, SetMark}
+use Rattle.vt_spec.specs.FileTree.{FileTree, attr_in}
+use Rattle.vt_spec.specs.Lists.{Fresh, evens}
 use Rattle.vt_spec.specs.Machine.Looks.{looks_of}
 use Rattle.vt_spec.specs.Machine.Mounts.{Location}
 use Rattle.vt_spec.specs.Machine.Outcome.Attributes.{attr_with_mode, attr_with_owner}
 use Rattle.vt_spec.specs.Machine.Permits.{Permit}
 use Rattle.vt_spec.specs.Machine.Permits.Permit.{ToChange, ToMake, ToMountOverlay, ToMountPlain, ToOpenNew, ToRemoveDirectory, ToRename, ToWritePart}
 use Rattle.vt_spec.specs.Machine.Policy.{policy}
-use Rattle.vt_spec.specs.Machine.World.{Task, TaskName, World, files_at}
+use Rattle.vt_spec.specs.Machine.World.{Task, World, files_at}
 use Rattle.vt_spec.specs.Tree.{Node, entries_in, entry_named, node_with_bytes, node_with_entry}
 
 -- what makes a name changes entries

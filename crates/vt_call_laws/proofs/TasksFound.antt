@@ -5,7 +5,8 @@ use Rattle.vt_spec.specs.Machine.Filesystems.{raised}
 use Rattle.vt_spec.specs.Machine.Mounts.{Mount}
 use Rattle.vt_spec.specs.Machine.Namespaces.{pivoted_location, pivoted_task}
 use Rattle.vt_spec.specs.Machine.Policy.{raised_task}
-use Rattle.vt_spec.specs.Machine.World.{Task, TaskName, replaced_if_called, same_name}
+use Rattle.vt_spec.specs.Machine.World.{Task, replaced_if_called}
+use Rattle.vt_spec.specs.Language.Calls.{TaskName, same_name}
 use Rattle.std.proofs.Common.{nat_eq}
 
 pub same_is : (a b : TaskName) → same_name a b ≡ true → a ≡ b

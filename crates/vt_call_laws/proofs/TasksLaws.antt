@@ -3,11 +3,11 @@ use Rattle.std.proofs.Common.{◌≡◌, refl, sym, ap, subst, ◌∙◌, inl, i
 use Rattle.vt_call_laws.proofs.TasksFound.{Found}
 use Rattle.vt_call_laws.proofs.TasksOwn.{Becomes, BecomesTask, IsRaised, becomes, stays_or_changed}
 use Rattle.vt_call_laws.specs.Tasks.{IsForked, IsNoMore, NewTasksAreChildren, OnlyDropTakesRights, OnlyExitLeaves, OnlyOpenGivesDescriptors, OnlyTheseMoveDirectories, OnlyTheseMoveNamespaces, OnlyTheseMoveRoots, OnlyUmaskSetsUmask, Opens, OtherTasksStay, Pivots, RightsOnlyShrink, StaysOrIsPivoted, moves_directory, moves_namespace, moves_root, task_after}
-use Rattle.vt_spec.specs.Machine.Calls.{Call, CapabilityWord}
-use Rattle.vt_spec.specs.Machine.Calls.Call.{Drop, Exit, Umask}
-use Rattle.vt_spec.specs.Machine.Lists.{Fresh}
+use Rattle.vt_spec.specs.Language.Calls.{Call, CapabilityWord, TaskName}
+use Rattle.vt_spec.specs.Language.Calls.Call.{Drop, Exit, Umask}
+use Rattle.vt_spec.specs.Lists.{Fresh}
 use Rattle.vt_spec.specs.Machine.Mounts.{Location}
-use Rattle.vt_spec.specs.Machine.World.{Descriptor, Task, TaskName, World, task_called}
+use Rattle.vt_spec.specs.Machine.World.{Descriptor, Task, World, task_called}
 use Rattle.vt_spec.specs.Rights.{Credentials}
 use Rattle.vt_spec.proofs.Lists.{among_from_contains, contains_from_among}
 

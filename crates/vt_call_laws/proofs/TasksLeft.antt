@@ -4,12 +4,12 @@ use Rattle.vt_laws.proofs.CallsJudged.{policy_judges_then_applies}
 use Rattle.vt_spec.specs.declared.errors.Rule.TheVariants.{S2}
 use Rattle.vt_spec.specs.Errors.{denial}
 use Rattle.vt_spec.specs.Machine.Apply.{apply}
-use Rattle.vt_spec.specs.Machine.Calls.{Call, TypeWord}
-use Rattle.vt_spec.specs.Machine.Changes.{Change}
+use Rattle.vt_spec.specs.Language.Calls.{Call, TaskName, TypeWord, same_name}
+use Rattle.vt_spec.specs.Language.Changes.{Change}
 use Rattle.vt_spec.specs.Machine.Detach.{after_going, deepest_first, taken_away, unmounted, unmounted_if_there, without_mounts_on}
 use Rattle.vt_spec.specs.Machine.Filesystems.{filesystem_changed, overlay_changed, with_change}
 use Rattle.vt_spec.specs.Machine.Judge.{Judgement, judge_in}
-use Rattle.vt_spec.specs.Machine.Lists.{Fresh, evens, folded, odds}
+use Rattle.vt_spec.specs.Lists.{Fresh, evens, folded, odds}
 use Rattle.vt_spec.specs.Machine.Mounts.{Location, Mount, mount_tree, numbers_by}
 use Rattle.vt_spec.specs.Machine.Namespaces.{entered_at, namespace_entered, namespace_root, pivoted_task, unshared, unshared_task}
 use Rattle.vt_spec.specs.Machine.Outcome.Descriptors.{is_copied_up, pwritten, with_copy, with_descriptor, without_descriptor}
@@ -21,7 +21,7 @@ use Rattle.vt_spec.specs.Machine.Permits.Permit.{ToChange, ToClose, ToEnterNames
 use Rattle.vt_spec.specs.Machine.Policy.{filesystems_changed_by, finished, finished_by, only_looks, policy, raised_task}
 use Rattle.vt_spec.specs.Machine.Receives.{regrouped, regrouped_by}
 use Rattle.vt_spec.specs.Machine.Types.{named_mounts, retyped_mount, with_new_groups, with_type}
-use Rattle.vt_spec.specs.Machine.World.{Overlay, Layer, Task, TaskName, World, filesystem_at, mount_at, mount_numbered, mounts_of, replaced_if_called, same_name, task_called, with_mounts, without_task}
+use Rattle.vt_spec.specs.Machine.World.{Overlay, Layer, Task, World, filesystem_at, mount_at, mount_numbered, mounts_of, replaced_if_called, task_called, with_mounts, without_task}
 
 -- the worlds on the way keep the tasks
 changed_tasks : (fresh : Fresh ℕ) (world : World ℕ) (location : Location ℕ) (change : Change ℕ)

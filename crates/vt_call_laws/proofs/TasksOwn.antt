@@ -8,11 +8,11 @@ use Rattle.vt_call_laws.proofs.TasksFound.{Found, called, find_appended, find_ma
 use Rattle.vt_call_laws.proofs.TasksLeft.{alone, entered, left_tasks, tasks_after_call, with_new}
 use Rattle.vt_call_laws.specs.Given.{IsFor, NoneFails}
 use Rattle.vt_call_laws.specs.Tasks.{IsForked, IsNoMore, MayGive, Opens, Pivots, moves_directory, moves_namespace, moves_root, task_after}
-use Rattle.vt_spec.specs.Machine.Calls.{Access, Call, CapabilityWord, Creation, ForkWords}
-use Rattle.vt_spec.specs.Machine.Calls.Call.{Drop, Exit, Fork, OpenFile, PivotRoot, Umask}
+use Rattle.vt_spec.specs.Language.Calls.{Access, Call, CapabilityWord, Creation, ForkWords, TaskName, same_name}
+use Rattle.vt_spec.specs.Language.Calls.Call.{Drop, Exit, Fork, OpenFile, PivotRoot, Umask}
 use Rattle.vt_spec.specs.Machine.Filesystems.{raised}
 use Rattle.vt_spec.specs.Machine.Judge.{judge_in}
-use Rattle.vt_spec.specs.Machine.Lists.{Fresh, evens}
+use Rattle.vt_spec.specs.Lists.{Fresh, evens}
 use Rattle.vt_spec.specs.Machine.Looks.{looks_of}
 use Rattle.vt_spec.specs.Machine.Mounts.{Location, Mount}
 use Rattle.vt_spec.specs.Machine.Namespaces.{pivoted_location, pivoted_task}
@@ -22,7 +22,7 @@ use Rattle.vt_spec.specs.Machine.Permits.{Permit}
 use Rattle.vt_spec.specs.Machine.Permits.Permit.{ToClose, ToEnterNamespace, ToExit, ToFork, ToOpen, ToOpenNew, ToPivot, ToSetCredentials, ToSetDirectory, ToSetRoot, ToSetUmask, ToUnshare}
 use Rattle.vt_spec.specs.Machine.Policy.{policy, raised_task}
 use Rattle.vt_spec.specs.Machine.Rules.Tasks.{fork_rules}
-use Rattle.vt_spec.specs.Machine.World.{Descriptor, Task, TaskName, World, mount_at, mount_numbered, replaced_if_called, same_name, task_called}
+use Rattle.vt_spec.specs.Machine.World.{Descriptor, Task, World, mount_at, mount_numbered, replaced_if_called, task_called}
 use Rattle.vt_spec.specs.Rights.{Credentials, cap_setgid, cap_setuid, has_all, without}
 use Rattle.vt_spec.proofs.Lists.{Among, among-from_filter}
 

@@ -2,12 +2,12 @@
 use Rattle.std.specs.Prelude.{Bool, List, Ok, Option, [], false, nat_eq, true, ℕ, ⊤, ◌∷◌, ◌≡◌, ◌⊎◌}
 use Rattle.vt_spec.specs.declared.attributes.Attr.{Attr}
 use Rattle.vt_spec.specs.Errors.{Rules}
-use Rattle.vt_spec.specs.Machine.Calls.{Call, CapabilityWord, Creation, ForkWords, OverlayWords}
-use Rattle.vt_spec.specs.Machine.Calls.Call.{Bind, Chdir, Chmod, Chown, Chroot, Close, Drop, Exec, Exit, Fork, Lazy, LinkTo, ListMounts, Ls, Lstat, MakeWhiteout, Mkdir, MountOverlay, MountPlain, MoveMount, Opaque, OpenFile, PivotRoot, Pread, Pwrite, Read, Readlink, Remount, Rename, Rmdir, SetType, Setns, Stat, SymlinkAt, Umask, Umount, Unlink, Unshare, Write}
-use Rattle.vt_spec.specs.Machine.Calls.Creation.{Exclusive, NoCreation, OrCreate}
-use Rattle.vt_spec.specs.Machine.Changes.Change.{AddName, CopyUp, Make, Move, Remove, SetAttr, SetBytes, SetMark}
+use Rattle.vt_spec.specs.Language.Calls.{Call, CapabilityWord, Creation, ForkWords, OverlayWords, TaskName}
+use Rattle.vt_spec.specs.Language.Calls.Call.{Bind, Chdir, Chmod, Chown, Chroot, Close, Drop, Exec, Exit, Fork, Lazy, LinkTo, ListMounts, Ls, Lstat, MakeWhiteout, Mkdir, MountOverlay, MountPlain, MoveMount, Opaque, OpenFile, PivotRoot, Pread, Pwrite, Read, Readlink, Remount, Rename, Rmdir, SetType, Setns, Stat, SymlinkAt, Umask, Umount, Unlink, Unshare, Write}
+use Rattle.vt_spec.specs.Language.Calls.Creation.{Exclusive, NoCreation, OrCreate}
+use Rattle.vt_spec.specs.Language.Changes.Change.{AddName, CopyUp, Make, Move, Remove, SetAttr, SetBytes, SetMark}
 use Rattle.vt_spec.specs.Machine.Judge.{judge_in}
-use Rattle.vt_spec.specs.Machine.Lists.{Fresh}
+use Rattle.vt_spec.specs.Lists.{Fresh}
 use Rattle.vt_spec.specs.Machine.Looks.{Looks, looks_of}
 use Rattle.vt_spec.specs.Machine.Mounts.{Location}
 use Rattle.vt_spec.specs.Machine.Outcome.Attributes.{attr_with_mode, attr_with_owner}
@@ -16,7 +16,7 @@ use Rattle.vt_spec.specs.Machine.Permits.{Permit}
 use Rattle.vt_spec.specs.Machine.Permits.Permit.{Allowed, ToBind, ToChange, ToClose, ToEnterNamespace, ToExit, ToFork, ToList, ToListMounts, ToMake, ToMountOverlay, ToMountPlain, ToMove, ToOpen, ToOpenNew, ToPivot, ToRead, ToReadPart, ToRemoveDirectory, ToRename, ToSetCredentials, ToSetDirectory, ToSetFlags, ToSetRoot, ToSetType, ToSetUmask, ToStat, ToUnmount, ToUnmountLazily, ToUnshare, ToWritePart}
 use Rattle.vt_spec.specs.Machine.Rules.Attributes.{attr_at}
 use Rattle.vt_spec.specs.Machine.Rules.Tasks.{fork_rules}
-use Rattle.vt_spec.specs.Machine.World.{Task, TaskName, World}
+use Rattle.vt_spec.specs.Machine.World.{Task, World}
 
 -- no rule of a table fails
 abbrev pub NoneFails : Rules → Type 0

@@ -4,19 +4,19 @@ use Rattle.std.specs.List.{All}
 use Rattle.std.specs.Str.{bytes_eq}
 use Rattle.vt_call_laws.specs.Given.{may_create}
 use Rattle.vt_spec.specs.Machine.Apply.{apply}
-use Rattle.vt_spec.specs.Machine.Calls.{Call}
-use Rattle.vt_spec.specs.Machine.Calls.Call.{Chmod, Chown, LinkTo, MakeWhiteout, Mkdir, MountOverlay, Opaque, OpenFile, Pwrite, Rename, Rmdir, SymlinkAt, Unlink, Write}
-use Rattle.vt_spec.specs.Machine.Changes.{Change}
-use Rattle.vt_spec.specs.Machine.Changes.Change.{AddName, CopyUp, Make, Move, Remove, SetAttr, SetBytes, SetMark}
-use Rattle.vt_spec.specs.Machine.FileTree.{FileTree, link_text, opaque_of}
+use Rattle.vt_spec.specs.Language.Calls.{Call, TaskName}
+use Rattle.vt_spec.specs.Language.Calls.Call.{Chmod, Chown, LinkTo, MakeWhiteout, Mkdir, MountOverlay, Opaque, OpenFile, Pwrite, Rename, Rmdir, SymlinkAt, Unlink, Write}
+use Rattle.vt_spec.specs.Language.Changes.{Change}
+use Rattle.vt_spec.specs.Language.Changes.Change.{AddName, CopyUp, Make, Move, Remove, SetAttr, SetBytes, SetMark}
+use Rattle.vt_spec.specs.FileTree.{FileTree, symlink_text, opaque_of}
 use Rattle.vt_spec.specs.Machine.Judge.{judge_in}
-use Rattle.vt_spec.specs.Machine.Lists.{Fresh, evens, holds_of, is_among}
+use Rattle.vt_spec.specs.Lists.{Fresh, evens, holds_of, is_among}
 use Rattle.vt_spec.specs.Machine.Mounts.{Location}
 use Rattle.vt_spec.specs.Machine.Outcome.Descriptors.{overwritten}
 use Rattle.vt_spec.specs.Machine.Permits.{Permit}
 use Rattle.vt_spec.specs.Machine.Permits.Permit.{ToChange, ToMake, ToMountPlain, ToOpenNew, ToRemoveDirectory, ToRename, ToWritePart}
 use Rattle.vt_spec.specs.Machine.Policy.{policy}
-use Rattle.vt_spec.specs.Machine.World.{Task, TaskName, World, files_at, filesystem_numbered, is_overlay, mount_at, node_at, task_called}
+use Rattle.vt_spec.specs.Machine.World.{Task, World, files_at, filesystem_numbered, is_overlay, mount_at, node_at, task_called}
 use Rattle.vt_spec.specs.Tree.{Node, bytes_in, bytes_of, entries_in, entries_of, entry_named, kind_of}
 
 -- the inode of a filesystem in a world
@@ -179,7 +179,7 @@ abbrev pub KindsStay : Type 0
 KindsStay = OnlyTheseChange (λ call. false) (λ node. kind_of node.content)
 
 abbrev pub LinkTextsStay : Type 0
-LinkTextsStay = OnlyTheseChange (λ call. false) (λ node. link_text (Some node))
+LinkTextsStay = OnlyTheseChange (λ call. false) (λ node. symlink_text (Some node))
 
 -- Entries
 

@@ -1,15 +1,15 @@
 -- Laws of tasks: what they are after a call.
 use Rattle.std.specs.Prelude.{Bool, Contains, List, None, Ok, Option, Some, false, nat_eq, true, ℕ, ◌≡◌, ◌≢◌, ◌⊎◌}
-use Rattle.vt_spec.specs.Machine.Calls.{Access, Call, CapabilityWord, Creation, ForkWords}
-use Rattle.vt_spec.specs.Machine.Calls.Call.{Chdir, Chroot, Drop, Exit, Fork, OpenFile, PivotRoot, Setns, Umask, Unshare}
+use Rattle.vt_spec.specs.Language.Calls.{Access, Call, CapabilityWord, Creation, ForkWords, TaskName}
+use Rattle.vt_spec.specs.Language.Calls.Call.{Chdir, Chroot, Drop, Exit, Fork, OpenFile, PivotRoot, Setns, Umask, Unshare}
 use Rattle.vt_spec.specs.Machine.Judge.{judge_in}
-use Rattle.vt_spec.specs.Machine.Lists.{Fresh}
+use Rattle.vt_spec.specs.Lists.{Fresh}
 use Rattle.vt_spec.specs.Machine.Mounts.{Location}
 use Rattle.vt_spec.specs.Machine.Namespaces.{pivoted_location}
 use Rattle.vt_spec.specs.Machine.Outcome.Tasks.{child_credentials, child_name, child_of}
 use Rattle.vt_spec.specs.Machine.Permits.Permit.{ToPivot}
 use Rattle.vt_spec.specs.Machine.Policy.{policy}
-use Rattle.vt_spec.specs.Machine.World.{Descriptor, Task, TaskName, World, mount_at, mount_numbered, task_called}
+use Rattle.vt_spec.specs.Machine.World.{Descriptor, Task, World, mount_at, mount_numbered, task_called}
 use Rattle.vt_spec.specs.Rights.{Credentials, cap_setgid, cap_setuid, has_all}
 
 -- Rights

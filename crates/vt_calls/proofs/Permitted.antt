@@ -6,23 +6,22 @@ use Rattle.vt_spec.specs.declared.errors.Deny.{Deny}
 use Rattle.vt_spec.specs.declared.errors.Rule.{Rule}
 use Rattle.std.specs.Str.{bytes_eq}
 use Rattle.vt_spec.specs.Errors.{Rules, and_then, unless}
-use Rattle.vt_spec.specs.Machine.Calls.{Access, Call, Creation, ForkWords}
-use Rattle.vt_spec.specs.Machine.Calls.Call.{Chmod, Chown, Close, Drop, Exec, Exit, Fork, LinkTo, Ls, Lstat, Mkdir, OpenFile, Pread, Pwrite, Read, Readlink, Rename, Rmdir, Stat, SymlinkAt, Umask, Unlink, Write}
-use Rattle.vt_spec.specs.Machine.Calls.Creation.{Exclusive, NoCreation, OrCreate}
-use Rattle.vt_spec.specs.Machine.Outcome.Descriptors.{most_descriptors}
-use Rattle.vt_spec.specs.Machine.Outcome.Tasks.{child_credentials, deepest_name, most_forks}
-use Rattle.vt_spec.specs.Machine.World.{TaskName}
+use Rattle.vt_spec.specs.Language.Calls.{Access, Call, Creation, ForkWords, TaskName}
+use Rattle.vt_spec.specs.Language.Calls.Call.{Chmod, Chown, Close, Drop, Exec, Exit, Fork, LinkTo, Ls, Lstat, Mkdir, OpenFile, Pread, Pwrite, Read, Readlink, Rename, Rmdir, Stat, SymlinkAt, Umask, Unlink, Write}
+use Rattle.vt_spec.specs.Language.Calls.Creation.{Exclusive, NoCreation, OrCreate}
+use Rattle.vt_spec.specs.Language.Limits.{deepest_name, most_descriptors, most_forks}
+use Rattle.vt_spec.specs.Machine.Outcome.Tasks.{child_credentials}
 use Rattle.vt_spec.specs.OneTree.Inodes.{Inodes, tree_of}
 use Rattle.vt_spec.specs.OneTree.Permits.{Permit}
 use Rattle.vt_spec.specs.OneTree.Permits.Permit.{Allowed, ToChange, ToClose, ToFork, ToList, ToOpen, ToRead, ToReadPart, ToTell}
-use Rattle.vt_spec.specs.Machine.Changes.Change.{AddName, Move, Remove, SetAttr, SetBytes}
+use Rattle.vt_spec.specs.Language.Changes.Change.{AddName, Move, Remove, SetAttr, SetBytes}
 use Rattle.vt_spec.specs.Machine.Outcome.Attributes.{attr_with_mode, attr_with_owner, may_chown}
 use Rattle.vt_spec.specs.Machine.Outcome.Making.{directory_mode, file_mode, link_text_rules}
 use Rattle.vt_spec.specs.Machine.Walk.{is_special, name_of}
 use Rattle.vt_spec.specs.declared.errors.Rule.TheVariants.{C2, K1, P1, S3, S6}
-use Rattle.vt_spec.specs.OneTree.Policy.{link_attr, making, new_attr, new_file, object_there, open_file, opening_new, chmod_permit, chown_permit, close_permit, exec_permit, fork_permit, judge, link_permit, list_permit, lstat_permit, mkdir_permit, open_by, open_permit, opened_or_made, pread_permit, pwrite_permit, pwriting, read_permit, readlink_permit, rename_permit, renamed_by, rmdir_permit, stat_permit, symlink_permit, unlink_permit, write_permit, written}
-use Rattle.vt_spec.specs.OneTree.Rules.{attr_at, chmod_rules, descriptor_at, exclusive_rules, exec_rules, file_word_rules, is_one_object, lacks, link_rules, list_rules, new_rules, open_new_rules, open_rules, pwrite_rules, read_rules, readlink_rules, rename_rules, rewrite_rules, rmdir_rules, unlink_rules, write_new_rules}
-use Rattle.vt_spec.specs.OneTree.Walk.{Place, directory_walk, file_walk, is_directory_there, link_walk, new_leaf_walk, new_walk, object_walk, old_leaf_walk, old_walk, rename_new_walk}
+use Rattle.vt_spec.specs.OneTree.Policy.{link_attr, making, new_attr, new_file, object_there, open_file, opening_new, chmod_permit, chown_permit, close_permit, exec_permit, fork_permit, judge, hard_link_permit, list_permit, lstat_permit, mkdir_permit, open_by, open_permit, opened_or_made, pread_permit, pwrite_permit, pwriting, read_permit, readlink_permit, rename_permit, renamed_by, rmdir_permit, stat_permit, symlink_permit, unlink_permit, write_permit, written}
+use Rattle.vt_spec.specs.OneTree.Rules.{attr_at, chmod_rules, descriptor_at, exclusive_rules, exec_rules, file_word_rules, is_one_object, lacks, hard_link_rules, list_rules, new_rules, open_new_rules, open_rules, pwrite_rules, read_rules, readlink_rules, rename_rules, rewrite_rules, rmdir_rules, unlink_rules, write_new_rules}
+use Rattle.vt_spec.specs.OneTree.Walk.{Place, directory_walk, file_walk, is_directory_there, symlink_walk, new_leaf_walk, new_walk, object_walk, old_leaf_walk, old_walk, rename_new_walk}
 use Rattle.vt_spec.specs.OneTree.World.{Descriptor, Task, descriptor_numbered}
 use Rattle.vt_spec.specs.Tree.{new_directory}
 use Rattle.vt_spec.specs.Tree.Content.{Symlink}
@@ -114,14 +113,14 @@ module _ (number : ℕ) (inodes : Inodes ℕ) (name : TaskName) (task : Task ℕ
   is-open descriptor held (Some other) is walked = cc
 
   pub permitted : (call : Call) → Permits (Suits call) (judge nat_eq number inodes name task call)
-  unfolding chmod_permit chown_permit close_permit exec_permit fork_permit link_permit list_permit lstat_permit mkdir_permit open_permit pread_permit pwrite_permit read_permit readlink_permit rename_permit rmdir_permit stat_permit symlink_permit unlink_permit write_permit
+  unfolding chmod_permit chown_permit close_permit exec_permit fork_permit hard_link_permit list_permit lstat_permit mkdir_permit open_permit pread_permit pwrite_permit read_permit readlink_permit rename_permit rmdir_permit stat_permit symlink_permit unlink_permit write_permit
   permitted (Ls path) =
       after-walk (Suits (Ls path)) (directory_walk (tree_of inodes) task.credentials path) _
       (λ here walked. after-rules (Suits (Ls path)) (list_rules (tree_of inodes) task.credentials here.node) (Ok (ToList here.node)) (tt, λ takes. tt))
   permitted (Stat path) = after-walk (Suits (Stat path)) (object_walk (tree_of inodes) task.credentials path) (λ here. Ok (ToTell here.node)) (λ here walked. (tt, λ takes. takes))
-  permitted (Lstat path) = after-walk (Suits (Lstat path)) (link_walk (tree_of inodes) task.credentials path) (λ here. Ok (ToTell here.node)) (λ here walked. (tt, λ takes. takes))
+  permitted (Lstat path) = after-walk (Suits (Lstat path)) (symlink_walk (tree_of inodes) task.credentials path) (λ here. Ok (ToTell here.node)) (λ here walked. (tt, λ takes. takes))
   permitted (Readlink path) =
-      after-walk (Suits (Readlink path)) (link_walk (tree_of inodes) task.credentials path) _
+      after-walk (Suits (Readlink path)) (symlink_walk (tree_of inodes) task.credentials path) _
       (λ here walked. after-rules (Suits (Readlink path)) (readlink_rules (tree_of inodes) here.node) (Ok (ToRead here.node)) (tt, λ takes. tt))
   permitted (Read path) =
       after-walk (Suits (Read path)) (object_walk (tree_of inodes) task.credentials path) _
@@ -144,9 +143,9 @@ module _ (number : ℕ) (inodes : Inodes ℕ) (name : TaskName) (task : Task ℕ
       (λ place walked. after-rules (Suits (SymlinkAt text path)) (new_rules (tree_of inodes) task.credentials place)
       (Ok (making place number (record { attr = link_attr task; content = Symlink text }))) (tt, λ takes. tt)))
   permitted (LinkTo old new) =
-      after-walk (Suits (LinkTo old new)) (link_walk (tree_of inodes) task.credentials old) _
+      after-walk (Suits (LinkTo old new)) (symlink_walk (tree_of inodes) task.credentials old) _
       (λ from walked. after-walk (Suits (LinkTo old new)) (new_leaf_walk (tree_of inodes) task.credentials new) _
-      (λ place walked. after-rules (Suits (LinkTo old new)) (link_rules (tree_of inodes) task.credentials from.node place)
+      (λ place walked. after-rules (Suits (LinkTo old new)) (hard_link_rules (tree_of inodes) task.credentials from.node place)
       (Ok (ToChange (AddName place.parent (name_of place.last) from.node))) (tt, λ takes. tt)))
   permitted (Unlink path) =
       after-walk (Suits (Unlink path)) (old_leaf_walk (tree_of inodes) task.credentials path) _

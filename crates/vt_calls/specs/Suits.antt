@@ -1,8 +1,7 @@
 -- What a permit needs of its task, and what the rules of its call have seen to.
 use Rattle.std.specs.Prelude.{IsSome, length, ℕ, ⊤, ◌<◌}
-use Rattle.vt_spec.specs.Machine.Outcome.Descriptors.{most_descriptors}
-use Rattle.vt_spec.specs.Machine.Outcome.Tasks.{deepest_name, most_forks}
-use Rattle.vt_spec.specs.Machine.World.{TaskName}
+use Rattle.vt_spec.specs.Language.Limits.{deepest_name, most_descriptors, most_forks}
+use Rattle.vt_spec.specs.Language.Calls.{TaskName}
 use Rattle.vt_spec.specs.OneTree.Permits.{Permit}
 use Rattle.vt_spec.specs.OneTree.Permits.Permit.{Allowed, ToChange, ToClose, ToExit, ToFork, ToList, ToOpen, ToOpenNew, ToRead, ToReadPart, ToSetCredentials, ToSetUmask, ToTell}
 use Rattle.vt_spec.specs.OneTree.World.{Task, descriptor_numbered}

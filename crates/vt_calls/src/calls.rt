@@ -1,6 +1,6 @@
 //! The calls of tasks: judged, and then done.
 ghost use Rattle.std.specs.Prelude.{◌≡◌, List, Result, nat_eq, ℕ};
-ghost use Rattle.vt_spec.specs.Machine.Calls as spec;
+ghost use Rattle.vt_spec.specs.Language.Calls as spec;
 ghost use Rattle.vt_spec.specs.OneTree.Policy.{policy};
 ghost use Rattle.vt_calls.specs.Meets.{Ends, Meets};
 ghost use Rattle.vt_ns.specs.WorldValue.{fresh_number, world_of};

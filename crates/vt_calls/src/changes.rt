@@ -3,9 +3,9 @@ ghost use Rattle.std.specs.Prelude.{◌≡◌, ◌≤◌, ◌+◌, length, nat_e
 ghost use Rattle.vt_spec.specs.declared.errors.Rule.TheVariants.{S5};
 ghost use Rattle.vt_spec.specs.Errors.{denial};
 ghost use Rattle.vt_spec.specs.Machine.Outcome.Looking.{stat_line};
-ghost use Rattle.vt_spec.specs.Machine.Changes.Change.{SetBytes};
+ghost use Rattle.vt_spec.specs.Language.Changes.Change.{SetBytes};
 ghost use Rattle.vt_spec.specs.Machine.Outcome.Descriptors.{overwritten};
-ghost use Rattle.vt_spec.specs.Machine.Outcome.Making.{largest_file};
+ghost use Rattle.vt_spec.specs.Language.Limits.{largest_file};
 ghost use Rattle.vt_spec.specs.Tree.{bytes_in};
 ghost use Rattle.vt_spec.specs.OneTree.Inodes.{changed};
 ghost use Rattle.vt_permit.specs.Memory.{ChangeTakesMemory};

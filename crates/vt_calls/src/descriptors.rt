@@ -4,7 +4,7 @@ ghost use Rattle.vt_spec.specs.OneTree.Fits.{Fits};
 ghost use Rattle.vt_spec.specs.OneTree.Permits.Permit.{ToClose, ToOpen, ToOpenNew};
 ghost use Rattle.vt_spec.specs.OneTree.Policy.{spent};
 ghost use Rattle.vt_spec.specs.OneTree.World.{descriptor_numbered};
-ghost use Rattle.vt_spec.specs.Machine.Changes.Change.{Make};
+ghost use Rattle.vt_spec.specs.Language.Changes.Change.{Make};
 ghost use Rattle.vt_calls.specs.Meets.{Meets};
 ghost use Rattle.vt_calls.specs.Suits.{HasFreeDescriptor};
 ghost use Rattle.vt_ns.specs.WorldValue.{ForTask, fresh_number, world_of};

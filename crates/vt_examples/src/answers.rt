@@ -1,10 +1,10 @@
 //! What calls answer: values as they are printed, files and directories that are there, and lines without memory.
 ghost use Rattle.std.specs.Prelude.{◌≡◌, ℕ, nat_eq, nat_lt, true, false, List, [], ◌∷◌, length, codes, Ok, Err};
-ghost use Rattle.vt_spec.specs.Machine.Calls.Call.{Write};
+ghost use Rattle.vt_spec.specs.Language.Calls.Call.{Write};
 ghost use Rattle.vt_spec.specs.Errors.{denial};
 ghost use Rattle.vt_spec.specs.OneTree.Policy.{policy};
 ghost use Rattle.vt_spec.specs.OneTree.Run.{script_text};
-ghost use Rattle.vt_spec.specs.Machine.Outcomes.Answer.{Done};
+ghost use Rattle.vt_spec.specs.Language.Answers.Answer.{Done};
 ghost use Rattle.vt_spec.specs.OneTree.World.{opening};
 ghost use Rattle.vt_spec.specs.declared.errors.Rule.TheVariants.{E6};
 

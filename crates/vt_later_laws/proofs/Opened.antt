@@ -6,24 +6,25 @@ use Rattle.std.proofs.lemmas.Slice.Eq.{bytes_eq-Decides}
 use Rattle.std.specs.Prelude.{nat_le}
 use Rattle.vt_spec.specs.declared.errors.Deny.{Deny}
 use Rattle.vt_spec.specs.Machine.Apply.{apply}
-use Rattle.vt_spec.specs.Machine.Calls.{Access, Call}
-use Rattle.vt_spec.specs.Machine.Calls.Call.{OpenFile}
-use Rattle.vt_spec.specs.Machine.Calls.Creation.{NoCreation}
+use Rattle.vt_spec.specs.Language.Calls.{Access, Call, TaskName, same_name}
+use Rattle.vt_spec.specs.Language.Calls.Call.{OpenFile}
+use Rattle.vt_spec.specs.Language.Calls.Creation.{NoCreation}
 use Rattle.vt_spec.specs.Machine.Judge.{open_permit}
-use Rattle.vt_spec.specs.Machine.Lists.{Fresh}
+use Rattle.vt_spec.specs.Lists.{Fresh}
 use Rattle.vt_spec.specs.Machine.Locked.{overlay_or}
 use Rattle.vt_spec.specs.Machine.Looks.{Looks, looks_of}
 use Rattle.vt_spec.specs.Machine.Mounts.{Location}
 use Rattle.vt_spec.specs.Machine.Outcome.Descriptors.{free_from, free_number, inserted, opened, with_copy, with_descriptor}
-use Rattle.vt_spec.specs.Machine.Outcomes.{Answer, Outcome}
-use Rattle.vt_spec.specs.Machine.Outcomes.Answer.{Bytes, Opened}
+use Rattle.vt_spec.specs.Language.Answers.{Answer}
+use Rattle.vt_spec.specs.Machine.Outcomes.{Outcome}
+use Rattle.vt_spec.specs.Language.Answers.Answer.{Bytes, Opened}
 use Rattle.vt_spec.specs.Machine.Permits.{Permit}
 use Rattle.vt_spec.specs.Machine.Permits.Permit.{ToOpen}
 use Rattle.vt_spec.specs.Machine.Policy.{policy, raised_task}
 use Rattle.vt_spec.specs.Machine.Rules.Descriptors.{descriptor_numbered, descriptor_rules, open_rules}
 use Rattle.vt_spec.specs.Machine.Filesystems.{lies_below}
 use Rattle.vt_spec.specs.Machine.Walking.{Here, Stop, object_walk, walk_end}
-use Rattle.vt_spec.specs.Machine.World.{Descriptor, Task, TaskName, World, mount_at, node_at, replaced_if_called, same_name, task_called, with_task}
+use Rattle.vt_spec.specs.Machine.World.{Descriptor, Task, World, mount_at, node_at, replaced_if_called, task_called, with_task}
 use Rattle.vt_spec.specs.Machine.WorldLaws.{are_ascending_from, is_within_limits}
 use Rattle.vt_spec.specs.Tree.{bytes_in}
 use Rattle.vt_letting_go.proofs.Lists.{passes}

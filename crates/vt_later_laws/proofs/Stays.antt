@@ -1,15 +1,16 @@
 -- What tasks are on stays where what nothing uses goes.
 use Rattle.std.proofs.Common.{◌≡◌, sym, ap, subst, ◌∙◌, ℕ, nat_eq, true, false, List, Some}
 use Rattle.vt_spec.specs.Machine.Apply.{apply, filesystems_changed}
-use Rattle.vt_spec.specs.Machine.Calls.{Call}
+use Rattle.vt_spec.specs.Language.Calls.{Call, TaskName, same_name}
 use Rattle.vt_spec.specs.Machine.Filesystems.{raised}
-use Rattle.vt_spec.specs.Machine.Lists.{Fresh}
+use Rattle.vt_spec.specs.Lists.{Fresh}
 use Rattle.vt_spec.specs.Machine.Mounts.{Location}
-use Rattle.vt_spec.specs.Machine.Outcomes.{Answer, Outcome}
+use Rattle.vt_spec.specs.Language.Answers.{Answer}
+use Rattle.vt_spec.specs.Machine.Outcomes.{Outcome}
 use Rattle.vt_spec.specs.Machine.Policy.{numbers_raised, policy, raised_task}
 use Rattle.vt_spec.specs.Machine.Run.{Serves}
 use Rattle.vt_spec.specs.Machine.Settled.{settled}
-use Rattle.vt_spec.specs.Machine.World.{Task, TaskName, World, locations_of, mount_at, node_at, same_name, task_called}
+use Rattle.vt_spec.specs.Machine.World.{Task, World, locations_of, mount_at, node_at, task_called}
 use Rattle.vt_spec.specs.Machine.WorldLaws.{IsWorld}
 use Rattle.vt_letting_go.proofs.Lists.{Among}
 use Rattle.vt_tree_laws.specs.Trees.Calls.{mounts_overlay}

@@ -5,23 +5,23 @@ use Rattle.vt_spec.specs.declared.attributes.Kind.TheVariants.{File}
 use Rattle.vt_spec.specs.declared.errors.Rule.TheVariants.{S2, S4}
 use Rattle.vt_spec.specs.Errors.{denial}
 use Rattle.vt_spec.specs.Machine.Apply.{apply}
-use Rattle.vt_spec.specs.Machine.Calls.{Call}
-use Rattle.vt_spec.specs.Machine.Calls.Call.{Pread, Pwrite}
-use Rattle.vt_spec.specs.Machine.Changes.Change.{SetBytes}
-use Rattle.vt_spec.specs.Machine.FileTree.{is_kind_in}
+use Rattle.vt_spec.specs.Language.Calls.{Call, TaskName, same_name}
+use Rattle.vt_spec.specs.Language.Calls.Call.{Pread, Pwrite}
+use Rattle.vt_spec.specs.Language.Changes.Change.{SetBytes}
+use Rattle.vt_spec.specs.FileTree.{is_kind_in}
 use Rattle.vt_spec.specs.Machine.Filesystems.{raised, with_change}
 use Rattle.vt_spec.specs.Machine.Judge.{judge_in, pwrite_permit}
-use Rattle.vt_spec.specs.Machine.Lists.{Fresh}
+use Rattle.vt_spec.specs.Lists.{Fresh}
 use Rattle.vt_spec.specs.Machine.Looks.{Looks, looks_of}
 use Rattle.vt_spec.specs.Machine.Mounts.{Location}
 use Rattle.vt_spec.specs.Machine.Outcome.Descriptors.{overwritten, pread_outcome, pwritten}
 use Rattle.vt_spec.specs.Machine.Outcomes.{after, granted}
-use Rattle.vt_spec.specs.Machine.Outcomes.Answer.{Bytes, Done}
+use Rattle.vt_spec.specs.Language.Answers.Answer.{Bytes, Done}
 use Rattle.vt_spec.specs.Machine.Permits.{Permit}
 use Rattle.vt_spec.specs.Machine.Permits.Permit.{ToWritePart}
 use Rattle.vt_spec.specs.Machine.Policy.{call_outcome, filesystems_changed_by, finished, policy, raised_task}
 use Rattle.vt_spec.specs.Machine.Rules.Descriptors.{descriptor_numbered, pwrite_rules}
-use Rattle.vt_spec.specs.Machine.World.{Descriptor, Filesystem, Task, TaskName, World, locations_of, mount_at, node_at, same_name, task_called, with_filesystem}
+use Rattle.vt_spec.specs.Machine.World.{Descriptor, Filesystem, Task, World, locations_of, mount_at, node_at, task_called, with_filesystem}
 use Rattle.vt_spec.specs.Machine.WorldLaws.{IsWorld, has_regular_files_open}
 use Rattle.vt_spec.specs.Tree.{Content, Node, bytes_in, node_with_bytes}
 use Rattle.vt_spec.specs.Tree.Content.{Directory, Regular, Symlink, Whiteout}

@@ -3,11 +3,12 @@ use Rattle.std.proofs.Common.{◌≡◌, refl, ℕ, suc, zero, nat_eq, Bool, tru
 use Rattle.std.specs.Prelude.{flat_map, option_map, option_to_list, reverse}
 use Rattle.vt_spec.specs.declared.errors.Rule.TheVariants.{W3, W4, W5, W6, W8}
 use Rattle.vt_spec.specs.Errors.{and_then, denial, unless}
-use Rattle.vt_spec.specs.Machine.FileTree.{link_text}
-use Rattle.vt_spec.specs.Machine.Lists.{last_or}
+use Rattle.vt_spec.specs.FileTree.{symlink_text}
+use Rattle.vt_spec.specs.Lists.{last_or}
 use Rattle.vt_spec.specs.Machine.Looks.{Looks, is_directory_at, may, mounter_may, topmost}
 use Rattle.vt_spec.specs.Machine.Mounts.{Location}
-use Rattle.vt_spec.specs.Machine.Walking.{Follow, Here, LastWord, directory_walk, filesystems_of, final_word, follow_rules, followed, front_walked, hops, if_link, is_lost, is_top, last_walked, last_word, link_start, link_walk, link_walk_by, link_walked, met_by, most_links, object_walk, path_text, path_walked, search_rules, slash_rules, stepped, stopped_by, then_walk, walk_start, walk_unless, word_walked, words_walked}
+use Rattle.vt_spec.specs.Machine.Walking.{Follow, Here, LastWord, directory_walk, filesystems_of, final_word, follow_rules, followed, front_walked, hops, if_link, is_lost, is_top, last_walked, last_word, symlink_start, symlink_walk, symlink_walk_by, symlink_walked, met_by, object_walk, path_text, path_walked, search_rules, slash_rules, stepped, stopped_by, then_walk, walk_start, walk_unless, word_walked, words_walked}
+use Rattle.vt_spec.specs.Language.Limits.{most_symlinks}
 use Rattle.vt_spec.specs.Machine.Walking.LastWord.{Dot, DotDot, Named, NoWord}
 use Rattle.vt_spec.specs.Machine.World.{Task}
 use Rattle.vt_spec.specs.PathText.{ends_in_slash, words}
@@ -27,7 +28,7 @@ pub record AreNodesAlike (later : Looks ℕ) (node : Location ℕ → Option (No
       → mounter_may (with_nodes later node) here execute_right ≡ mounter_may later here execute_right
   pub entries : (here : Location ℕ) → entries_in (node here) ≡ entries_in (later.node here)
   pub parent : (here : Location ℕ) → parent_in here.node (node here) ≡ parent_in here.node (later.node here)
-  pub link : (here : Location ℕ) → link_text (node here) ≡ link_text (later.node here)
+  pub link : (here : Location ℕ) → symlink_text (node here) ≡ symlink_text (later.node here)
 
 module _ (later : Looks ℕ) (node : Location ℕ → Option (Node ℕ)) (task : Task ℕ)
     (alike : AreNodesAlike later node task) where
@@ -91,19 +92,19 @@ module _ (later : Looks ℕ) (node : Location ℕ → Option (Node ℕ)) (task :
       if_link next (alike.link next.location i) (same i reached.location next)))
 
   same_link : (depth : ℕ) (directory : Location ℕ) (link : Here ℕ) (text : List ℕ)
-      → link_walked nat_eq depth one task directory link text ≡ link_walked nat_eq depth later task directory link text
+      → symlink_walked nat_eq depth one task directory link text ≡ symlink_walked nat_eq depth later task directory link text
   same_link zero directory link text = refl
   same_link (suc depth) directory link text = λ i.
       then_walk
-      (walk_unless link.steps (follow_rules nat_eq later link text) (link_start nat_eq later task directory link text))
+      (walk_unless link.steps (follow_rules nat_eq later link text) (symlink_start nat_eq later task directory link text))
       (λ start.
-      then_walk (same_words (λ inside next inner. link_walked nat_eq depth one task inside next inner)
-      (λ inside next inner. link_walked nat_eq depth later task inside next inner)
+      then_walk (same_words (λ inside next inner. symlink_walked nat_eq depth one task inside next inner)
+      (λ inside next inner. symlink_walked nat_eq depth later task inside next inner)
       (λ j inside next inner. same_link depth inside next inner j) start (reverse (words text)) i) (λ reached.
       walk_unless reached.steps (same_slash text reached.location i) reached))
 
   same_followed : followed nat_eq one task ≡ followed nat_eq later task
-  same_followed = λ i directory link text. same_link (most_links + 1) directory link text i
+  same_followed = λ i directory link text. same_link (most_symlinks + 1) directory link text i
 
   same_path : (path : List ℕ) → path_walked nat_eq one task path ≡ path_walked nat_eq later task path
   same_path path = λ i.
@@ -135,12 +136,12 @@ module _ (later : Looks ℕ) (node : Location ℕ → Option (Node ℕ)) (task :
   same_last here DotDot = same_word here DotDot
   same_last here (Named name) = same_word here (Named name)
 
-  links_by : (b : Bool) (path : List ℕ) → link_walk_by nat_eq b one task path ≡ link_walk_by nat_eq b later task path
+  links_by : (b : Bool) (path : List ℕ) → symlink_walk_by nat_eq b one task path ≡ symlink_walk_by nat_eq b later task path
   links_by true path = objects_alike path
   links_by false path = λ i.
       then_walk (path_text path) (λ text.
       then_walk (same_front (walk_start task text) (reverse (words text)) i) (λ here.
       same_last here (final_word (reverse (words text))) i))
 
-  pub links_alike : (path : List ℕ) → link_walk nat_eq one task path ≡ link_walk nat_eq later task path
+  pub links_alike : (path : List ℕ) → symlink_walk nat_eq one task path ≡ symlink_walk nat_eq later task path
   links_alike path = links_by (ends_in_slash path) path

@@ -1,17 +1,17 @@
 -- What later calls see of an earlier one, in a world that has the invariants, and no overlay.
 use Rattle.std.specs.Prelude.{List, Ok, Some, drop, length, nat_eq, take, true, ℕ, ◌≡◌}
-use Rattle.vt_spec.specs.Machine.Calls.{Access, Call}
-use Rattle.vt_spec.specs.Machine.Calls.Call.{OpenFile, Pread, Pwrite}
-use Rattle.vt_spec.specs.Machine.Calls.Creation.{NoCreation}
-use Rattle.vt_spec.specs.Machine.Lists.{Fresh}
+use Rattle.vt_spec.specs.Language.Calls.{Access, Call, TaskName}
+use Rattle.vt_spec.specs.Language.Calls.Call.{OpenFile, Pread, Pwrite}
+use Rattle.vt_spec.specs.Language.Calls.Creation.{NoCreation}
+use Rattle.vt_spec.specs.Lists.{Fresh}
 use Rattle.vt_spec.specs.Machine.Mounts.{Location}
 use Rattle.vt_spec.specs.Machine.Outcome.Descriptors.{descriptor_numbered, free_number}
-use Rattle.vt_spec.specs.Machine.Outcomes.{Answer}
-use Rattle.vt_spec.specs.Machine.Outcomes.Answer.{Bytes, Done, Opened}
+use Rattle.vt_spec.specs.Language.Answers.{Answer}
+use Rattle.vt_spec.specs.Language.Answers.Answer.{Bytes, Done, Opened}
 use Rattle.vt_spec.specs.Machine.Policy.{policy}
 use Rattle.vt_spec.specs.Machine.Run.{Serves}
 use Rattle.vt_spec.specs.Machine.Walk.{Here, object_walk}
-use Rattle.vt_spec.specs.Machine.World.{Descriptor, Task, TaskName, World, mount_at, node_at, task_called}
+use Rattle.vt_spec.specs.Machine.World.{Descriptor, Task, World, mount_at, node_at, task_called}
 use Rattle.vt_spec.specs.Machine.WorldLaws.{IsWorld}
 use Rattle.vt_spec.specs.Tree.{bytes_in}
 use Rattle.vt_world_laws.specs.Worlds.Kept.{IsPlain}

@@ -5,39 +5,31 @@ use Rattle.std.specs.Result.{result_err}
 use Rattle.vt_spec.specs.declared.errors.Deny.{Deny}
 use Rattle.vt_spec.specs.declared.errors.Rule.{Rule}
 use Rattle.vt_spec.specs.declared.errors.Rule.TheVariants.{E1, E2, E6, K1, S2, S4}
-use Rattle.vt_spec.specs.Errors.{Rules, and_then, unless}
-use Rattle.vt_spec.specs.Machine.Calls.{Access, Call, OverlayWords}
-use Rattle.vt_spec.specs.Machine.Calls.Call.{Bind, Chdir, Chmod, Chown, Chroot, Close, Drop, Exec, Exit, Fork, Lazy, LinkTo, ListMounts, Ls, Lstat, MakeWhiteout, Mkdir, MountOverlay, MountPlain, MoveMount, Opaque, OpenFile, PivotRoot, Pread, Pwrite, Read, Readlink, Remount, Rename, Rmdir, SetType, Setns, Stat, SymlinkAt, Umask, Umount, Unlink, Unshare, Write}
-use Rattle.vt_spec.specs.Machine.Calls.Creation.{Exclusive, NoCreation, OrCreate}
-use Rattle.vt_spec.specs.Machine.Lists.{Fresh, evens, odds}
-use Rattle.vt_spec.specs.Machine.Mounts.{Location, MountFlags}
-use Rattle.vt_spec.specs.Machine.Outcome.Attributes.{attr_at, attr_rules, attr_with_mode, attr_with_owner, may_chown, opaque_rules}
-use Rattle.vt_spec.specs.Machine.Outcome.Descriptors.{descriptor_rules, open_rules, pwrite_rules}
-use Rattle.vt_spec.specs.Machine.Outcome.Looking.{exec_rules, list_rules, read_rules, readlink_rules}
-use Rattle.vt_spec.specs.Machine.Outcome.Making.{directory_mode, file_mode, file_word_rules, largest_file, link_mode, link_rules, link_text_rules, linking, make_rules, new_file, new_rules, rewrite_rules, whiteout_rules}
-use Rattle.vt_spec.specs.Machine.Outcome.Mounting.{admin_rules, bind_rules, bound_at, destination_walk, layer_rules, layers_walked, lazy_rules, mounted, move_rules, moved_to, new_mount_rules, overlay_at, overlay_mounted, pivot_rules, plain_filesystem, remount_rules, source_walk, type_rules, umount_rules}
-use Rattle.vt_spec.specs.Machine.Outcome.Removing.{is_one_object, object_there, old_word_rules, rename_new_walk, rename_rules, rmdir_rules, rmdir_word_rules, same_object_rules, unlink_rules}
-use Rattle.vt_spec.specs.Machine.Outcome.Tasks.{child_credentials, enter_rules, fork_rules}
+use Rattle.vt_spec.specs.Errors.{Rules, and_then, denial, unless}
+use Rattle.vt_spec.specs.Language.Calls.{Access, Call, MountFlags, OverlayWords, TaskName}
+use Rattle.vt_spec.specs.Language.Calls.Call.{Bind, Chdir, Chmod, Chown, Chroot, Close, Drop, Exec, Exit, Fork, Lazy, LinkTo, ListMounts, Ls, Lstat, MakeWhiteout, Mkdir, MountOverlay, MountPlain, MoveMount, Opaque, OpenFile, PivotRoot, Pread, Pwrite, Read, Readlink, Remount, Rename, Rmdir, SetType, Setns, Stat, SymlinkAt, Umask, Umount, Unlink, Unshare, Write}
+use Rattle.vt_spec.specs.Language.Calls.Creation.{Exclusive, NoCreation, OrCreate}
+use Rattle.vt_spec.specs.Lists.{Fresh, evens, odds}
+use Rattle.vt_spec.specs.Machine.Mounts.{Location}
+use Rattle.vt_spec.specs.Machine.Outcome.Attributes.{attr_at, attr_rules, attr_with_mode, attr_with_owner, chmod_outcome, chown_outcome, may_chown, opaque_outcome, opaque_rules}
+use Rattle.vt_spec.specs.Machine.Outcome.Descriptors.{close_outcome, descriptor_rules, open_outcome, open_rules, opened_or_created, pread_outcome, pwrite_outcome, pwrite_rules}
+use Rattle.vt_spec.specs.Machine.Outcome.Looking.{exec_outcome, exec_rules, list_outcome, list_rules, lstat_outcome, read_outcome, read_rules, readlink_outcome, readlink_rules, stat_outcome}
+use Rattle.vt_spec.specs.Machine.Outcome.Making.{directory_mode, file_mode, file_word_rules, symlink_mode, hard_link_outcome, hard_link_rules, link_text_rules, linking, make_rules, mkdir_outcome, new_file, new_rules, rewrite_rules, symlink_outcome, whiteout_outcome, whiteout_rules, write_outcome, written}
+use Rattle.vt_spec.specs.Language.Limits.{largest_file}
+use Rattle.vt_spec.specs.Machine.Outcome.Mounting.{admin_rules, bind_outcome, bind_rules, bound_at, destination_walk, layer_rules, layers_walked, lazy_outcome, lazy_rules, mount_overlay_outcome, mount_plain_outcome, mounted, move_outcome, move_rules, moved_to, new_mount_rules, overlay_at, overlay_by, overlay_mounted, pivot_outcome, pivot_rules, plain_filesystem, remount_outcome, remount_rules, source_walk, type_outcome, type_rules, umount_outcome, umount_rules}
+use Rattle.vt_spec.specs.Machine.Outcome.Removing.{is_one_object, object_there, old_word_rules, rename_new_walk, rename_outcome, rename_rules, renamed_by, rmdir_outcome, rmdir_rules, rmdir_word_rules, same_object_rules, unlink_outcome, unlink_rules}
+use Rattle.vt_spec.specs.Machine.Outcome.Tasks.{chdir_outcome, child_credentials, chroot_outcome, drop_outcome, enter_rules, exit_outcome, fork_outcome, fork_rules, setns_outcome, umask_outcome, unshare_outcome}
 use Rattle.vt_spec.specs.Machine.Rows.{exact_attr, lacks, making, new_attr}
-use Rattle.vt_spec.specs.Machine.Walk.{Place, directory_walk, file_walk, is_directory_there, is_special, link_walk, new_leaf_walk, new_walk, object_walk, old_leaf_walk, old_walk, walk_end}
+use Rattle.vt_spec.specs.Machine.Walk.{Place, directory_walk, file_walk, is_directory_there, is_special, symlink_walk, new_leaf_walk, new_walk, object_walk, old_leaf_walk, old_walk, walk_end}
 use Rattle.vt_spec.specs.Machine.World.{Task, World, task_called}
 use Rattle.vt_spec.specs.Rights.{cap_sys_admin, cap_sys_chroot, owns}
 use Rattle.vt_spec.specs.Tree.{new_directory}
 use Rattle.vt_spec.specs.Tree.Content.{Symlink}
 use Rattle.vt_laws.specs.Asked.{asked_first, asked_last, asked_of_creation, asked_of_open, asked_of_overlay, asked_of_rename, asked_of_write}
-use Rattle.vt_spec.specs.Errors.{denial}
 use Rattle.vt_spec.specs.Machine.Judge.{judge_in}
 use Rattle.vt_spec.specs.Machine.Listing.{mounts_outcome}
-use Rattle.vt_spec.specs.Machine.Outcome.Attributes.{chmod_outcome, chown_outcome, opaque_outcome}
-use Rattle.vt_spec.specs.Machine.Outcome.Descriptors.{close_outcome, open_outcome, opened_or_created, pread_outcome, pwrite_outcome}
-use Rattle.vt_spec.specs.Machine.Outcome.Looking.{exec_outcome, list_outcome, lstat_outcome, read_outcome, readlink_outcome, stat_outcome}
-use Rattle.vt_spec.specs.Machine.Outcome.Making.{link_outcome, mkdir_outcome, symlink_outcome, whiteout_outcome, write_outcome, written}
-use Rattle.vt_spec.specs.Machine.Outcome.Mounting.{bind_outcome, lazy_outcome, mount_overlay_outcome, mount_plain_outcome, move_outcome, overlay_by, pivot_outcome, remount_outcome, type_outcome, umount_outcome}
-use Rattle.vt_spec.specs.Machine.Outcome.Removing.{rename_outcome, renamed_by, rmdir_outcome, unlink_outcome}
-use Rattle.vt_spec.specs.Machine.Outcome.Tasks.{chdir_outcome, chroot_outcome, drop_outcome, exit_outcome, fork_outcome, setns_outcome, umask_outcome, unshare_outcome}
 use Rattle.vt_spec.specs.Machine.Outcomes.{Outcome, after, judged}
 use Rattle.vt_spec.specs.Machine.Policy.{call_outcome, filesystems_changed_by, finished, finished_by, only_looks, policy}
-use Rattle.vt_spec.specs.Machine.World.{TaskName}
 
 -- what is left of a call once its walks are done
 abbrev pub decided : Result Rules Deny → Result Bool Deny
@@ -150,7 +142,7 @@ overlay_asked fresh world task place flags (Some words) =
 call_asked : (fresh : Fresh ℕ) (world : World ℕ) (task : Task ℕ) (call : Call)
     → IsAnsweredAs (call_outcome nat_eq fresh world task call) (asked fresh world task call)
 unfolding list_outcome stat_outcome lstat_outcome readlink_outcome read_outcome exec_outcome mkdir_outcome symlink_outcome
-    whiteout_outcome link_outcome write_outcome unlink_outcome rmdir_outcome rename_outcome chmod_outcome chown_outcome
+    whiteout_outcome hard_link_outcome write_outcome unlink_outcome rmdir_outcome rename_outcome chmod_outcome chown_outcome
     opaque_outcome open_outcome pread_outcome pwrite_outcome close_outcome fork_outcome umask_outcome drop_outcome
     chdir_outcome chroot_outcome exit_outcome unshare_outcome setns_outcome mount_plain_outcome mount_overlay_outcome
     bind_outcome move_outcome umount_outcome lazy_outcome remount_outcome type_outcome pivot_outcome mounts_outcome
@@ -161,10 +153,10 @@ call_asked fresh world task (Stat path) =
     walk_asked world (walk_end (object_walk nat_eq world task path)) _ _ (λ here.
     refl)
 call_asked fresh world task (Lstat path) =
-    walk_asked world (walk_end (link_walk nat_eq world task path)) _ _ (λ here.
+    walk_asked world (walk_end (symlink_walk nat_eq world task path)) _ _ (λ here.
     refl)
 call_asked fresh world task (Readlink path) =
-    walk_asked world (walk_end (link_walk nat_eq world task path)) _ _ (λ here.
+    walk_asked world (walk_end (symlink_walk nat_eq world task path)) _ _ (λ here.
     table_asked world (readlink_rules nat_eq world here.location) _ (Ok true) refl)
 call_asked fresh world task (Read path) =
     walk_asked world (walk_end (object_walk nat_eq world task path)) _ _ (λ here.
@@ -185,16 +177,16 @@ call_asked fresh world task (Mkdir path mode) =
 call_asked fresh world task (SymlinkAt text path) =
     words_asked world (link_text_rules text) _ _
     (walk_asked world (walk_end (new_leaf_walk nat_eq world task path)) _ _ (λ place.
-    table_asked world (new_rules nat_eq fresh world task place (record { attr = exact_attr task link_mode; content = Symlink text })) _
+    table_asked world (new_rules nat_eq fresh world task place (record { attr = exact_attr task symlink_mode; content = Symlink text })) _
     (Ok true) refl))
 call_asked fresh world task (MakeWhiteout path) =
     walk_asked world (walk_end (new_leaf_walk nat_eq world task path)) _ _ (λ place.
     table_asked world (whiteout_rules nat_eq world task place) _ (Ok true) refl)
 call_asked fresh world task (LinkTo old new) =
-    walk_asked world (walk_end (link_walk nat_eq world task old)) _ _ (λ from.
+    walk_asked world (walk_end (symlink_walk nat_eq world task old)) _ _ (λ from.
     walk_asked world (walk_end (new_leaf_walk nat_eq world task new)) _ _ (λ place.
-    tables_asked world ((is_special place.last, E1) ∷ []) (link_rules nat_eq world task from.location place (linking from.location place)) _
-    (table_asked world (link_rules nat_eq world task from.location place (linking from.location place)) _ (Ok true) refl)))
+    tables_asked world ((is_special place.last, E1) ∷ []) (hard_link_rules nat_eq world task from.location place (linking from.location place)) _
+    (table_asked world (hard_link_rules nat_eq world task from.location place (linking from.location place)) _ (Ok true) refl)))
 call_asked fresh world task (Unlink path) =
     walk_asked world (walk_end (old_leaf_walk nat_eq world task path)) _ _ (λ place.
     tables_asked world ((is_special place.last, E2) ∷ []) (unlink_rules nat_eq world task place (object_there place)) _

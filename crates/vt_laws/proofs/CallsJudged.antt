@@ -6,31 +6,32 @@ use Rattle.vt_spec.specs.declared.errors.Deny.{Deny}
 use Rattle.vt_spec.specs.declared.errors.Rule.TheVariants.{E1, E2, E6, K1, S2}
 use Rattle.vt_spec.specs.Errors.{Rules, and_then, denial, unless}
 use Rattle.vt_spec.specs.Machine.Apply.{apply, overfills}
-use Rattle.vt_spec.specs.Machine.Calls.{Access, Call, Creation, ForkWords, OverlayWords, TypeWord}
-use Rattle.vt_spec.specs.Machine.Calls.Call.{Bind, Chdir, Chmod, Chown, Chroot, Close, Drop, Exec, Exit, Fork, Lazy, LinkTo, ListMounts, Ls, Lstat, MakeWhiteout, Mkdir, MountOverlay, MountPlain, MoveMount, Opaque, OpenFile, PivotRoot, Pread, Pwrite, Read, Readlink, Remount, Rename, Rmdir, SetType, Setns, Stat, SymlinkAt, Umask, Umount, Unlink, Unshare, Write}
-use Rattle.vt_spec.specs.Machine.Calls.Creation.{Exclusive, NoCreation, OrCreate}
-use Rattle.vt_spec.specs.Machine.Judge.{Judgement, attr_permit, bind_permit, chdir_permit, chmod_permit, chown_permit, chroot_permit, close_permit, create_file_permit, exec_permit, fork_permit, judge_in, lazy_permit, link_permit, list_permit, lstat_permit, made_permit, mkdir_permit, mount_overlay_permit, mount_plain_permit, move_permit, opaque_permit, open_by_permit, open_file_permit, open_permit, opened_or_created_permit, overlay_permit_by, pivot_permit, pread_permit, pwrite_permit, read_permit, readlink_permit, remount_permit, rename_permit, renamed_permit, rmdir_permit, setns_permit, stat_permit, symlink_permit, type_permit, umount_permit, unlink_permit, unshare_permit, whiteout_permit, write_permit, written_permit}
+use Rattle.vt_spec.specs.Language.Calls.{Access, Call, Creation, ForkWords, MountFlags, OverlayWords, TaskName, TypeWord}
+use Rattle.vt_spec.specs.Language.Calls.Call.{Bind, Chdir, Chmod, Chown, Chroot, Close, Drop, Exec, Exit, Fork, Lazy, LinkTo, ListMounts, Ls, Lstat, MakeWhiteout, Mkdir, MountOverlay, MountPlain, MoveMount, Opaque, OpenFile, PivotRoot, Pread, Pwrite, Read, Readlink, Remount, Rename, Rmdir, SetType, Setns, Stat, SymlinkAt, Umask, Umount, Unlink, Unshare, Write}
+use Rattle.vt_spec.specs.Language.Calls.Creation.{Exclusive, NoCreation, OrCreate}
+use Rattle.vt_spec.specs.Machine.Judge.{Judgement, attr_permit, bind_permit, chdir_permit, chmod_permit, chown_permit, chroot_permit, close_permit, create_file_permit, exec_permit, fork_permit, judge_in, lazy_permit, hard_link_permit, list_permit, lstat_permit, made_permit, mkdir_permit, mount_overlay_permit, mount_plain_permit, move_permit, opaque_permit, open_by_permit, open_file_permit, open_permit, opened_or_created_permit, overlay_permit_by, pivot_permit, pread_permit, pwrite_permit, read_permit, readlink_permit, remount_permit, rename_permit, renamed_permit, rmdir_permit, setns_permit, stat_permit, symlink_permit, type_permit, umount_permit, unlink_permit, unshare_permit, whiteout_permit, write_permit, written_permit}
 use Rattle.vt_spec.specs.Tree.{Node}
 use Rattle.vt_spec.specs.Machine.Listing.{mounts_outcome}
-use Rattle.vt_spec.specs.Machine.Lists.{Fresh, evens, odds}
+use Rattle.vt_spec.specs.Lists.{Fresh, evens, odds}
 use Rattle.vt_spec.specs.Machine.Looks.{Looks, looks_of}
-use Rattle.vt_spec.specs.Machine.Mounts.{Location, MountFlags}
+use Rattle.vt_spec.specs.Machine.Mounts.{Location}
 use Rattle.vt_spec.specs.Machine.Namespaces.{namespace_entered, namespaces_ended}
 use Rattle.vt_spec.specs.Machine.Outcome.Attributes.{attr_rules, attr_set, chmod_outcome, chown_outcome, opaque_outcome, opaque_rules}
 use Rattle.vt_spec.specs.Machine.Outcome.Descriptors.{close_outcome, create_file, descriptor_at, descriptor_rules, exclusive_word_rules, open_by, open_file, open_outcome, open_rules, opened_or_created, pread_outcome, pwrite_outcome, pwrite_rules}
 use Rattle.vt_spec.specs.Machine.Outcome.Looking.{exec_outcome, exec_rules, list_outcome, list_rules, lstat_outcome, read_outcome, read_rules, readlink_outcome, readlink_rules, stat_outcome}
-use Rattle.vt_spec.specs.Machine.Outcome.Making.{file_mode, file_word_rules, largest_file, link_outcome, link_rules, link_text_rules, linking, made_at, make_rules, mkdir_outcome, new_file, new_rules, rewrite_rules, symlink_outcome, whiteout_outcome, whiteout_rules, write_outcome, written}
+use Rattle.vt_spec.specs.Machine.Outcome.Making.{file_mode, file_word_rules, hard_link_outcome, hard_link_rules, link_text_rules, linking, made_at, make_rules, mkdir_outcome, new_file, new_rules, rewrite_rules, symlink_outcome, whiteout_outcome, whiteout_rules, write_outcome, written}
+use Rattle.vt_spec.specs.Language.Limits.{largest_file}
 use Rattle.vt_spec.specs.Machine.Outcome.Mounting.{admin_rules, bind_outcome, bind_rules, bound_at, destination_walk, layer_rules, layers_walked, lazy_outcome, lazy_rules, mount_overlay_outcome, mount_plain_outcome, mounted, move_outcome, move_rules, moved_to, new_mount_rules, overlay_at, overlay_by, overlay_mounted, pivot_outcome, pivot_rules, plain_filesystem, remount_outcome, remount_rules, source_walk, type_outcome, type_rules, umount_outcome, umount_rules}
 use Rattle.vt_spec.specs.Machine.Outcome.Removing.{is_one_object, object_there, old_word_rules, rename_new_walk, rename_outcome, rename_rules, renamed_by, rmdir_outcome, rmdir_rules, rmdir_word_rules, same_object_rules, unlink_outcome, unlink_rules}
 use Rattle.vt_spec.specs.Machine.Outcome.Tasks.{chdir_outcome, child_credentials, chroot_outcome, drop_outcome, enter_rules, exit_outcome, fork_outcome, fork_rules, setns_outcome, umask_outcome, unshare_outcome}
 use Rattle.vt_spec.specs.Machine.Outcomes.{Outcome, after, granted, judged}
-use Rattle.vt_spec.specs.Machine.Outcomes.Answer.{Done}
+use Rattle.vt_spec.specs.Language.Answers.Answer.{Done}
 use Rattle.vt_spec.specs.Machine.Permits.{Permit}
 use Rattle.vt_spec.specs.Machine.Permits.Permit.{ToEnterNamespace}
 use Rattle.vt_spec.specs.Machine.Policy.{call_outcome, filesystems_changed_by, finished}
 use Rattle.vt_spec.specs.Machine.Rows.{lacks, making}
-use Rattle.vt_spec.specs.Machine.Walk.{Place, directory_walk, file_walk, is_directory_there, is_special, link_walk, new_leaf_walk, new_walk, object_walk, old_leaf_walk, old_walk, walk_end}
-use Rattle.vt_spec.specs.Machine.World.{Task, TaskName, World, task_called}
+use Rattle.vt_spec.specs.Machine.Walk.{Place, directory_walk, file_walk, is_directory_there, is_special, symlink_walk, new_leaf_walk, new_walk, object_walk, old_leaf_walk, old_walk, walk_end}
+use Rattle.vt_spec.specs.Machine.World.{Task, World, task_called}
 use Rattle.vt_spec.specs.Rights.{cap_sys_admin, cap_sys_chroot}
 
 module _ (fresh : Fresh ℕ) (world : World ℕ) (task : Task ℕ) where
@@ -69,13 +70,13 @@ module _ (fresh : Fresh ℕ) (world : World ℕ) (task : Task ℕ) where
   lstat_judged : (path : List ℕ)
       → IsApplied (lstat_outcome nat_eq world task path) (lstat_permit nat_eq looks task path)
   unfolding lstat_outcome lstat_permit
-  lstat_judged path = then_applied (walk_end (link_walk nat_eq world task path)) _ _ (λ here. refl)
+  lstat_judged path = then_applied (walk_end (symlink_walk nat_eq world task path)) _ _ (λ here. refl)
 
   readlink_judged : (path : List ℕ)
       → IsApplied (readlink_outcome nat_eq world task path) (readlink_permit nat_eq looks task path)
   unfolding readlink_outcome readlink_permit
   readlink_judged path =
-      then_applied (walk_end (link_walk nat_eq world task path)) _ _ (λ here.
+      then_applied (walk_end (symlink_walk nat_eq world task path)) _ _ (λ here.
       ruled (readlink_rules nat_eq world here.location) _ _ refl)
 
   read_judged : (path : List ℕ) → IsApplied (read_outcome nat_eq world task path) (read_permit nat_eq looks task path)
@@ -116,13 +117,13 @@ module _ (fresh : Fresh ℕ) (world : World ℕ) (task : Task ℕ) where
       ruled (whiteout_rules nat_eq world task place) _ _ refl)
 
   link_judged : (old new : List ℕ)
-      → IsApplied (link_outcome nat_eq fresh world task old new) (link_permit nat_eq looks task old new)
-  unfolding link_outcome link_permit
+      → IsApplied (hard_link_outcome nat_eq fresh world task old new) (hard_link_permit nat_eq looks task old new)
+  unfolding hard_link_outcome hard_link_permit
   link_judged old new =
-      then_applied (walk_end (link_walk nat_eq world task old)) _ _ (λ from.
+      then_applied (walk_end (symlink_walk nat_eq world task old)) _ _ (λ from.
       then_applied (walk_end (new_leaf_walk nat_eq world task new)) _ _ (λ place.
       ruled ((is_special place.last, E1) ∷ []) _ _
-      (ruled (link_rules nat_eq world task from.location place (linking from.location place)) _ _ refl)))
+      (ruled (hard_link_rules nat_eq world task from.location place (linking from.location place)) _ _ refl)))
 
   written_judged : (place : Place ℕ) (bytes : List ℕ) (file : Option (Location ℕ))
       → IsApplied (written nat_eq fresh world task place bytes file) (written_permit nat_eq looks task place bytes file)

@@ -10,7 +10,7 @@ use Rattle.vt_laws.specs.RuleRanks.{is_among, is_in_order_from, letters, place_o
 use Rattle.vt_spec.specs.declared.errors.Deny.{Deny}
 use Rattle.vt_spec.specs.declared.errors.Rule.{Rule}
 use Rattle.vt_spec.specs.Errors.{Rules, rule_name, unless}
-use Rattle.vt_spec.specs.Machine.Script.{value_from}
+use Rattle.vt_spec.specs.Language.Script.{value_from}
 
 both_first : (a b : Bool) → (a && b) ≡ true → a ≡ true
 both_first true b e = refl

@@ -4,7 +4,7 @@ use Rattle.vt_laws.specs.Judged.{AlikeAreJudgedAlike, AlikeAreWalkedAlike, LookA
 use Rattle.vt_spec.specs.Machine.Judge.{judge}
 use Rattle.vt_spec.specs.Machine.Looks.{Looks}
 use Rattle.vt_spec.specs.Machine.Rules.Mounting.{destination_walk, source_walk}
-use Rattle.vt_spec.specs.Machine.Walking.{directory_walk, file_walk, link_walk, new_leaf_walk, new_walk, object_walk, old_leaf_walk, old_walk}
+use Rattle.vt_spec.specs.Machine.Walking.{directory_walk, file_walk, symlink_walk, new_leaf_walk, new_walk, object_walk, old_leaf_walk, old_walk}
 
 same_looks : (one other : Looks ℕ) → LookAlike one other → one ≡ other
 same_looks one other alike = λ i. record {
@@ -31,7 +31,7 @@ pub alike_are_walked_alike : AlikeAreWalkedAlike
 alike_are_walked_alike one other alike task path = (
   ap (λ looks. object_walk nat_eq looks task path) (same_looks one other alike),
   ap (λ looks. directory_walk nat_eq looks task path) (same_looks one other alike),
-  ap (λ looks. link_walk nat_eq looks task path) (same_looks one other alike),
+  ap (λ looks. symlink_walk nat_eq looks task path) (same_looks one other alike),
   ap (λ looks. new_walk nat_eq looks task path) (same_looks one other alike),
   ap (λ looks. new_leaf_walk nat_eq looks task path) (same_looks one other alike),
   ap (λ looks. old_walk nat_eq looks task path) (same_looks one other alike),

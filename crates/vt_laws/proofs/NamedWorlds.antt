@@ -75,12 +75,12 @@ module _ (named : ℕ → Bool) (renaming : Renaming ℕ ℕ) (leaves : Leaves r
       let last = both _ (propagation_named named mount.propagation) e in
       let root = both _ (named mount.root) last.0 in
       let filesystem = both _ (named mount.filesystem) root.0 in
-      let place = both _ (none_or (location_named named) mount.place) filesystem.0 in
+      let place = both _ (none_or (location_named named) mount.mount_point) filesystem.0 in
       let first = both (named mount.number) (none_or named mount.namespace) place.0 in
       λ i. record {
         number = leaves mount.number first.0 i;
         namespace = option_left there named leaves mount.namespace first.1 i;
-        place = option_left (renamed_location there back) (location_named named) location_left mount.place place.1 i;
+        mount_point = option_left (renamed_location there back) (location_named named) location_left mount.mount_point place.1 i;
         filesystem = leaves mount.filesystem filesystem.1 i;
         root = leaves mount.root root.1 i;
         flags = mount.flags;

@@ -10,7 +10,8 @@ use Rattle.vt_spec.specs.Machine.Outcomes.{Outcome, after}
 use Rattle.vt_spec.specs.Machine.Policy.{call_outcome, filesystems_changed_by, finished, finished_by, numbers_raised, only_looks, raised_namespace, raised_task, same_mounts_in}
 use Rattle.vt_spec.specs.Machine.SameWorlds.{without_changes}
 use Rattle.vt_spec.specs.Machine.Settled.{settled}
-use Rattle.vt_spec.specs.Machine.World.{Filesystem, Namespace, Task, TaskName, World, same_name}
+use Rattle.vt_spec.specs.Machine.World.{Filesystem, Namespace, Task, World}
+use Rattle.vt_spec.specs.Language.Calls.{TaskName, same_name}
 
 abbrev MayRise : ℕ → ℕ → Type 0
 MayRise old new = (new ≡ old) ⊎ (new ≡ old + 1)

@@ -5,10 +5,12 @@ use Rattle.vt_laws.specs.RuleRanks.{is_among}
 use Rattle.vt_spec.specs.declared.errors.Deny.{Deny}
 use Rattle.vt_spec.specs.declared.errors.Rule.{Rule}
 use Rattle.vt_spec.specs.Errors.{Rules, and_then, denial, rule_name, unless}
-use Rattle.vt_spec.specs.Machine.Outcomes.{Answer, Outcome, after, judged}
+use Rattle.vt_spec.specs.Language.Answers.{Answer}
+use Rattle.vt_spec.specs.Machine.Outcomes.{Outcome, after, judged}
 use Rattle.vt_spec.specs.Machine.Policy.{finished_by}
 use Rattle.vt_spec.specs.Machine.Walk.{Stop, stopped_by, then_walk, walk_end, walk_unless}
-use Rattle.vt_spec.specs.Machine.World.{TaskName, World}
+use Rattle.vt_spec.specs.Language.Calls.{TaskName}
+use Rattle.vt_spec.specs.Machine.World.{World}
 
 -- what is told of the error of a result is told of it in every form
 pub error_is : {A : Type 0} (P : Deny → Type 0) (result : Result A Deny) (deny : Deny) → result ≡ Err deny → IfErr result P → P deny

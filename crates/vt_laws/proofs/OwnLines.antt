@@ -8,14 +8,15 @@ use Rattle.vt_spec.specs.declared.errors.Deny.{Deny}
 use Rattle.vt_spec.specs.declared.errors.Rule.{Rule}
 use Rattle.vt_spec.specs.declared.errors.Rule.TheVariants.{S1, S2, S5}
 use Rattle.vt_spec.specs.Errors.{denial}
-use Rattle.vt_spec.specs.Machine.Calls.{Directive}
-use Rattle.vt_spec.specs.Machine.Calls.Directive.{AskPeers, AskSealed}
-use Rattle.vt_spec.specs.Machine.Lists.{Fresh}
+use Rattle.vt_spec.specs.Language.Calls.{Directive}
+use Rattle.vt_spec.specs.Language.Calls.Directive.{AskPeers, AskSealed}
+use Rattle.vt_spec.specs.Lists.{Fresh}
 use Rattle.vt_spec.specs.Machine.Outcomes.{Outcome, judged}
 use Rattle.vt_spec.specs.Machine.Run.{Step, line_step_by, requested, spoken_step}
 use Rattle.vt_spec.specs.Machine.Run.Step.{Answered, Silent}
-use Rattle.vt_spec.specs.Machine.Script.{Grammar, Request, is_silent, longest_line, request_of}
-use Rattle.vt_spec.specs.Machine.Script.Request.{Asking, Calling}
+use Rattle.vt_spec.specs.Language.Script.{Grammar, Request, is_silent, request_of}
+use Rattle.vt_spec.specs.Language.Limits.{longest_line}
+use Rattle.vt_spec.specs.Language.Script.Request.{Asking, Calling}
 use Rattle.vt_spec.specs.Machine.Sealed.{directed, no_such_task}
 use Rattle.vt_spec.specs.Machine.World.{World}
 

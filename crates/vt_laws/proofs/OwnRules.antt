@@ -9,20 +9,21 @@ use Rattle.vt_spec.specs.declared.errors.Deny.{Deny}
 use Rattle.vt_spec.specs.declared.errors.Rule.{Rule}
 use Rattle.vt_spec.specs.declared.errors.Rule.TheVariants.{B1, B2, E1, E2, E6, K1, S2, S4}
 use Rattle.vt_spec.specs.Errors.{denial}
-use Rattle.vt_spec.specs.Machine.Calls.{Access, Call, Creation, OverlayWords}
-use Rattle.vt_spec.specs.Machine.Calls.Call.{Bind, Chdir, Chmod, Chown, Chroot, Close, Drop, Exec, Exit, Fork, Lazy, LinkTo, ListMounts, Ls, Lstat, MakeWhiteout, Mkdir, MountOverlay, MountPlain, MoveMount, Opaque, OpenFile, PivotRoot, Pread, Pwrite, Read, Readlink, Remount, Rename, Rmdir, SetType, Setns, Stat, SymlinkAt, Umask, Umount, Unlink, Unshare, Write}
-use Rattle.vt_spec.specs.Machine.Calls.Creation.{Exclusive, NoCreation, OrCreate}
-use Rattle.vt_spec.specs.Machine.Changes.{Change}
-use Rattle.vt_spec.specs.Machine.Changes.Change.{CopyUp, SetAttr, SetBytes}
+use Rattle.vt_spec.specs.Language.Calls.{Access, Call, Creation, MountFlags, OverlayWords, TaskName}
+use Rattle.vt_spec.specs.Language.Calls.Call.{Bind, Chdir, Chmod, Chown, Chroot, Close, Drop, Exec, Exit, Fork, Lazy, LinkTo, ListMounts, Ls, Lstat, MakeWhiteout, Mkdir, MountOverlay, MountPlain, MoveMount, Opaque, OpenFile, PivotRoot, Pread, Pwrite, Read, Readlink, Remount, Rename, Rmdir, SetType, Setns, Stat, SymlinkAt, Umask, Umount, Unlink, Unshare, Write}
+use Rattle.vt_spec.specs.Language.Calls.Creation.{Exclusive, NoCreation, OrCreate}
+use Rattle.vt_spec.specs.Language.Changes.{Change}
+use Rattle.vt_spec.specs.Language.Changes.Change.{CopyUp, SetAttr, SetBytes}
 use Rattle.vt_spec.specs.Machine.Filesystems.{mounter_rules, overlay_rules}
-use Rattle.vt_spec.specs.Machine.Lists.{Fresh, evens, odds}
+use Rattle.vt_spec.specs.Lists.{Fresh, evens, odds}
 use Rattle.vt_spec.specs.Machine.Listing.{mounts_outcome}
 use Rattle.vt_spec.specs.Machine.Locked.{overlay_or}
-use Rattle.vt_spec.specs.Machine.Mounts.{Location, MountFlags}
+use Rattle.vt_spec.specs.Machine.Mounts.{Location}
 use Rattle.vt_spec.specs.Machine.Outcome.Attributes.{attr_at, attr_rules, attr_with_mode, attr_with_owner, may_chown, chmod_outcome, chown_outcome, opaque_outcome, opaque_rules}
 use Rattle.vt_spec.specs.Machine.Outcome.Descriptors.{close_outcome, copy_rules, descriptor_at, descriptor_rules, exclusive_word_rules, is_copied_up, open_outcome, open_rules, opened_or_created, pread_outcome, pwrite_outcome, pwrite_rules}
 use Rattle.vt_spec.specs.Machine.Outcome.Looking.{exec_outcome, exec_rules, list_outcome, list_rules, lstat_outcome, read_outcome, read_rules, readlink_outcome, readlink_rules, stat_outcome}
-use Rattle.vt_spec.specs.Machine.Outcome.Making.{directory_mode, file_mode, file_word_rules, largest_file, link_mode, new_file, link_outcome, link_rules, link_text_rules, linking, make_rules, mkdir_outcome, new_rules, rewrite_rules, symlink_outcome, whiteout_outcome, whiteout_rules, write_outcome, written}
+use Rattle.vt_spec.specs.Machine.Outcome.Making.{directory_mode, file_mode, file_word_rules, symlink_mode, new_file, hard_link_outcome, hard_link_rules, link_text_rules, linking, make_rules, mkdir_outcome, new_rules, rewrite_rules, symlink_outcome, whiteout_outcome, whiteout_rules, write_outcome, written}
+use Rattle.vt_spec.specs.Language.Limits.{largest_file}
 use Rattle.vt_spec.specs.Machine.Outcome.Mounting.{bound_at, mounted, moved_to, overlay_at, overlay_mounted, plain_filesystem, admin_rules, bind_outcome, bind_rules, layer_rules, layers_walked, lazy_outcome, lazy_rules, mount_overlay_outcome, mount_plain_outcome, move_outcome, move_rules, new_mount_rules, overlay_by, pivot_outcome, pivot_rules, remount_outcome, remount_rules, source_walk, destination_walk, type_outcome, type_rules, umount_outcome, umount_rules}
 use Rattle.vt_spec.specs.Machine.Outcome.Removing.{is_one_object, moving, object_there, removing, old_word_rules, rename_new_walk, rename_outcome, rename_rules, renamed_by, rmdir_outcome, rmdir_rules, rmdir_word_rules, same_object_rules, unlink_outcome, unlink_rules}
 use Rattle.vt_spec.specs.Machine.Outcome.Tasks.{chdir_outcome, chroot_outcome, drop_outcome, enter_rules, exit_outcome, fork_outcome, fork_rules, child_credentials, setns_outcome, umask_outcome, unshare_outcome}
@@ -32,8 +33,8 @@ use Rattle.vt_spec.specs.Rights.{owns, cap_sys_admin, cap_sys_chroot}
 use Rattle.vt_spec.specs.Machine.Rows.{exact_attr, lacks, making, new_attr}
 use Rattle.vt_spec.specs.Tree.{new_directory}
 use Rattle.vt_spec.specs.Tree.Content.{Symlink}
-use Rattle.vt_spec.specs.Machine.Walk.{Place, Stop, directory_walk, file_walk, is_directory_there, is_special, link_walk, new_leaf_walk, new_walk, object_walk, old_leaf_walk, old_walk, walk_end}
-use Rattle.vt_spec.specs.Machine.World.{Overlay, Task, TaskName, World, filesystem_at, task_called}
+use Rattle.vt_spec.specs.Machine.Walk.{Place, Stop, directory_walk, file_walk, is_directory_there, is_special, symlink_walk, new_leaf_walk, new_walk, object_walk, old_leaf_walk, old_walk, walk_end}
+use Rattle.vt_spec.specs.Machine.World.{Overlay, Task, World, filesystem_at, task_called}
 
 -- A call's refusals, where its rules have those of walks among them
 module _ (rules : List Rule) where
@@ -167,7 +168,7 @@ module _ {N : Type 0} (eq : N → N → Bool) where
   call_own : (fresh : Fresh N) (world : World N) (task : Task N) (call : Call)
       → DeniesOwn (rules_of call) world (call_outcome eq fresh world task call)
   unfolding list_outcome stat_outcome lstat_outcome readlink_outcome read_outcome exec_outcome mkdir_outcome symlink_outcome
-      whiteout_outcome link_outcome write_outcome unlink_outcome rmdir_outcome rename_outcome chmod_outcome chown_outcome
+      whiteout_outcome hard_link_outcome write_outcome unlink_outcome rmdir_outcome rename_outcome chmod_outcome chown_outcome
       opaque_outcome pread_outcome pwrite_outcome close_outcome fork_outcome umask_outcome drop_outcome chdir_outcome
       chroot_outcome exit_outcome unshare_outcome setns_outcome mount_plain_outcome mount_overlay_outcome bind_outcome
       move_outcome umount_outcome lazy_outcome remount_outcome type_outcome pivot_outcome mounts_outcome
@@ -181,11 +182,11 @@ module _ {N : Type 0} (eq : N → N → Bool) where
       tt)
   call_own fresh world task (Lstat path) =
       let own = rules_of (Lstat path) in
-      walk_own own world (walks_of (Lstat path) refl) (link_walk eq world task path) _ (leaf_walks eq world task path) (λ here.
+      walk_own own world (walks_of (Lstat path) refl) (symlink_walk eq world task path) _ (leaf_walks eq world task path) (λ here.
       tt)
   call_own fresh world task (Readlink path) =
       let own = rules_of (Readlink path) in
-      walk_own own world (walks_of (Readlink path) refl) (link_walk eq world task path) _ (leaf_walks eq world task path) (λ here.
+      walk_own own world (walks_of (Readlink path) refl) (symlink_walk eq world task path) _ (leaf_walks eq world task path) (λ here.
       judged_own own world (readlink_rules eq world here.location) _ refl tt)
   call_own fresh world task (Read path) =
       let own = rules_of (Read path) in
@@ -214,9 +215,9 @@ module _ {N : Type 0} (eq : N → N → Bool) where
       judged_own own world (link_text_rules text) _ refl
       (walk_own own world (walks_of (SymlinkAt text path) refl) (new_leaf_walk eq world task path) _ (new_leaf_walks eq world task path)
       (λ place.
-      judged_own own world (new_rules eq fresh world task place (record { attr = exact_attr task link_mode; content = Symlink text })) _
+      judged_own own world (new_rules eq fresh world task place (record { attr = exact_attr task symlink_mode; content = Symlink text })) _
       (mounter_own own refl refl eq world place.parent
-      (making place (evens fresh 0) (record { attr = exact_attr task link_mode; content = Symlink text }))) tt))
+      (making place (evens fresh 0) (record { attr = exact_attr task symlink_mode; content = Symlink text }))) tt))
   call_own fresh world task (MakeWhiteout path) =
       let own = rules_of (MakeWhiteout path) in
       walk_own own world (walks_of (MakeWhiteout path) refl) (new_leaf_walk eq world task path) _ (new_leaf_walks eq world task path)
@@ -224,10 +225,10 @@ module _ {N : Type 0} (eq : N → N → Bool) where
       judged_own own world (whiteout_rules eq world task place) _ refl tt)
   call_own fresh world task (LinkTo old new) =
       let own = rules_of (LinkTo old new) in
-      walk_own own world (walks_of (LinkTo old new) refl) (link_walk eq world task old) _ (leaf_walks eq world task old) (λ from.
+      walk_own own world (walks_of (LinkTo old new) refl) (symlink_walk eq world task old) _ (leaf_walks eq world task old) (λ from.
       walk_own own world (walks_of (LinkTo old new) refl) (new_leaf_walk eq world task new) _ (new_leaf_walks eq world task new) (λ place.
       judged_own own world ((is_special place.last, E1) ∷ []) _ refl
-      (judged_own own world (link_rules eq world task from.location place (linking from.location place)) _
+      (judged_own own world (hard_link_rules eq world task from.location place (linking from.location place)) _
       (mounter_own own refl refl eq world place.parent (linking from.location place)) tt)))
   call_own fresh world task (Unlink path) =
       let own = rules_of (Unlink path) in

@@ -2,8 +2,8 @@
 use Rattle.vt_spec.specs.Machine.Policy.{policy}
 use Rattle.std.proofs.Common.{◌≡◌, refl, sym, ap, ◌∙◌, ℕ, nat_eq, List, Option}
 use Rattle.std.specs.Prelude.{map, option_map}
-use Rattle.vt_spec.specs.Machine.FileTree.{FileTree}
-use Rattle.vt_spec.specs.Machine.Lists.{Fresh}
+use Rattle.vt_spec.specs.FileTree.{FileTree}
+use Rattle.vt_spec.specs.Lists.{Fresh}
 use Rattle.vt_spec.specs.Machine.Mounts.{Mount, Propagation}
 use Rattle.vt_spec.specs.Machine.Mounts.Propagation.{Private, Shared, Slave, Unbindable}
 use Rattle.vt_spec.specs.Machine.Outcomes.{Outcome}
@@ -65,7 +65,7 @@ module _ {N : Type 0} where
   mount_itself mount = λ i. record {
     number = mount.number;
     namespace = option_itself (λ n. n) (λ n. refl) mount.namespace i;
-    place = option_itself (renamed_location (λ n. n) (λ n. n)) (λ location. refl) mount.place i;
+    mount_point = option_itself (renamed_location (λ n. n) (λ n. n)) (λ location. refl) mount.mount_point i;
     filesystem = mount.filesystem;
     root = mount.root;
     flags = mount.flags;

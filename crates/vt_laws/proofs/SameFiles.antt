@@ -3,9 +3,9 @@ use Rattle.std.proofs.Common.{◌≡◌, refl, sym, ap, subst, ◌∙◌, ℕ, n
 use Rattle.std.specs.List.{cons_option, list_any}
 use Rattle.std.specs.List.Sorted.{IsPermutation}
 use Rattle.std.proofs.lemmas.List.Sorted.{length_permutation, list_any-IsPermutation}
-use Rattle.vt_spec.specs.Machine.FileTree.{FileTree, ancestors, has_entry_to, is_directory_under, is_file_under, is_under, name_in, named_parent, own_name, path_down}
+use Rattle.vt_spec.specs.FileTree.{FileTree, ancestors, has_entry_to, is_directory_under, is_file_under, is_under, name_in, named_parent, own_name, path_down}
 use Rattle.vt_spec.specs.Machine.Filesystems.{directory_of_name}
-use Rattle.vt_spec.specs.Machine.Lists.{before_first, chain, first_of_list, is_among, when}
+use Rattle.vt_spec.specs.Lists.{before_first, chain, first_of_list, is_among, when}
 use Rattle.vt_spec.specs.Machine.SameWorlds.{SameFiles}
 use Rattle.vt_spec.specs.Tree.{Tree, entries_in, is_directory_node}
 

@@ -8,10 +8,11 @@ use Rattle.vt_laws.proofs.SameLooks.{others_look_alike}
 use Rattle.vt_laws.specs.Judged.{LookAlike}
 use Rattle.vt_laws.specs.Same.{PlainHasOneName, SameWorldsAreJudgedAlike, SameWorldsLookAlike}
 use Rattle.vt_spec.specs.Machine.Detach.{going, has_child}
-use Rattle.vt_spec.specs.Machine.Lists.{is_among}
+use Rattle.vt_spec.specs.Lists.{is_among}
 use Rattle.vt_spec.specs.Machine.Looks.{looks_of}
 use Rattle.vt_spec.specs.Machine.SameWorlds.{without_changes}
-use Rattle.vt_spec.specs.Machine.World.{Filesystem, Task, TaskName, World, is_overlay, locations_of, mount_numbered, no_filesystem, same_name}
+use Rattle.vt_spec.specs.Machine.World.{Filesystem, Task, World, is_overlay, locations_of, mount_numbered, no_filesystem}
+use Rattle.vt_spec.specs.Language.Calls.{TaskName, same_name}
 
 abbrev pub bare_task : Task ℕ → Task ℕ
 bare_task task = record task { change = 0 }

@@ -6,12 +6,12 @@ use Rattle.vt_laws.proofs.SameFiles.{ancestors_same, directory_same, directory_u
 use Rattle.vt_laws.specs.Judged.{LookAlike}
 use Rattle.vt_spec.specs.declared.attributes.Kind.TheVariants.{File}
 use Rattle.vt_spec.specs.declared.errors.Rule.TheVariants.{B1, B2}
-use Rattle.vt_spec.specs.Machine.Changes.{Change}
+use Rattle.vt_spec.specs.Language.Changes.{Change}
 use Rattle.vt_spec.specs.Machine.Detach.{is_point, upper_points}
-use Rattle.vt_spec.specs.Machine.FileTree.{attr_in, has_entry_to, is_kind_in, is_removed}
+use Rattle.vt_spec.specs.FileTree.{attr_in, has_entry_to, is_kind_in, is_removed}
 use Rattle.vt_spec.specs.Machine.Filesystems.{can_give_owner, directories_asked, directories_changed, directory_of_name, has_lower_directory_at, lies_below, mounter_rules, object_copied, overlay_rules, path_of_name}
 use Rattle.vt_spec.specs.Machine.Layers.{has_lower_directory}
-use Rattle.vt_spec.specs.Machine.Lists.{before_first, holds_of}
+use Rattle.vt_spec.specs.Lists.{before_first, holds_of}
 use Rattle.vt_spec.specs.Machine.Locked.{counts_in_layer, in_use, is_locked, is_real_upper, lies_in_layer, lies_or_counts_under, live_layers, live_upper_and_work, of_overlay, overlaps_one_of, overlay_or, upper_and_work}
 use Rattle.vt_spec.specs.Machine.Looks.{looks_of}
 use Rattle.vt_spec.specs.Machine.Mounts.{Location, Mount}

@@ -8,14 +8,15 @@ use Rattle.vt_laws.proofs.SameJudged.{same_worlds_are_judged_alike}
 use Rattle.vt_laws.proofs.SameLooks.{found_same}
 use Rattle.vt_laws.specs.Same.{SameWorldsJudgeAlike}
 use Rattle.vt_spec.specs.Machine.Apply.{overfills}
-use Rattle.vt_spec.specs.Machine.Attach.{Copies, Graft, Twig, added_mounts, all_groups_made, attach, attached_at, bindable_children, bindable_tree, bound, copies_at, copies_from, copy_at, copy_number, copy_place, copy_type, graft_of, has_too_many, is_destination, most_mounts, nearest_image, parts_of, pushed_onto, pushed_up, reaches, receiver_below, receivers_of, stands_under, takes_part, top_of_copies, with_moved_mounts}
-use Rattle.vt_spec.specs.Machine.Calls.{Call}
-use Rattle.vt_spec.specs.Machine.Calls.Call.{Bind, MountOverlay, MountPlain, MoveMount}
+use Rattle.vt_spec.specs.Machine.Attach.{Copies, Graft, Twig, added_mounts, all_groups_made, attach, attached_at, bindable_children, bindable_tree, bound, copies_at, copies_from, copy_at, copy_number, copy_place, copy_type, graft_of, has_too_many, is_destination, nearest_image, parts_of, pushed_onto, pushed_up, reaches, receiver_below, receivers_of, stands_under, takes_part, top_of_copies, with_moved_mounts}
+use Rattle.vt_spec.specs.Language.Limits.{most_mounts}
+use Rattle.vt_spec.specs.Language.Calls.{Call, MountFlags}
+use Rattle.vt_spec.specs.Language.Calls.Call.{Bind, MountOverlay, MountPlain, MoveMount}
 use Rattle.vt_spec.specs.Machine.Judge.{bind_permit, judge, mount_overlay_permit, mount_plain_permit, move_permit}
-use Rattle.vt_spec.specs.Machine.Lists.{Fresh, evens, holds_of, odds, rest_of}
+use Rattle.vt_spec.specs.Lists.{Fresh, evens, holds_of, odds, rest_of}
 use Rattle.vt_spec.specs.Machine.Looks.{Looks, looks_of}
 use Rattle.vt_spec.specs.Machine.Merging.{merged_inodes, merged_objects}
-use Rattle.vt_spec.specs.Machine.Mounts.{Location, Mount, MountFlags, Propagation, mount_tree}
+use Rattle.vt_spec.specs.Machine.Mounts.{Location, Mount, Propagation, mount_tree}
 use Rattle.vt_spec.specs.Machine.Mounts.Propagation.{Private, Shared, Slave, Unbindable}
 use Rattle.vt_spec.specs.Machine.Outcome.Mounting.{bound_at, mounted, new_mount, overlay_filesystem, overlay_of_inodes, plain_filesystem, with_new_filesystem}
 use Rattle.vt_spec.specs.Machine.Permits.{Permit}
@@ -116,10 +117,10 @@ module _ (world : World ℕ) (others : List (Filesystem ℕ)) (namespaces : List
     copy_same part twig = λ i. record twig.origin {
       number = copy_number nat_eq new graft part.number twig.origin.number;
       namespace = part.namespace;
-      place = Some (copy_place nat_eq new graft part.number twig.origin);
+      mount_point = Some (copy_place nat_eq new graft part.number twig.origin);
       propagation =
           cond (is_destination nat_eq graft part.number) twig.propagation
-          (type_same new parts (mount_at nat_eq world graft.place) twig part.propagation i);
+          (type_same new parts (mount_at nat_eq world graft.destination) twig part.propagation i);
     }
 
     copies_same : (part : Mount ℕ)
@@ -131,13 +132,13 @@ module _ (world : World ℕ) (others : List (Filesystem ℕ)) (namespaces : List
         → pushed_onto nat_eq world new graft parts mount below ≡ pushed_onto nat_eq other new graft parts mount below
     pushed_same mount None = refl
     pushed_same mount (Some part) = λ i.
-        record mount { place = Some (top_of_copies nat_eq (copies_same part i) graft.place) }
+        record mount { mount_point = Some (top_of_copies nat_eq (copies_same part i) graft.destination) }
 
     mounts_same : (attached_at nat_eq world new graft parts).mounts ≡ (attached_at nat_eq other new graft parts).mounts
     mounts_same = λ i.
         map (λ mount. pushed_same mount (receiver_below nat_eq graft parts mount) i)
-        (with_moved_mounts nat_eq graft.moves world.mounts (copies_same (mount_at nat_eq world graft.place) i))
-        ++ added_mounts graft.moves (copies_same (mount_at nat_eq world graft.place) i)
+        (with_moved_mounts nat_eq graft.moves world.mounts (copies_same (mount_at nat_eq world graft.destination) i))
+        ++ added_mounts graft.moves (copies_same (mount_at nat_eq world graft.destination) i)
         ++ flat_map (λ part. copies_same part i) (rest_of parts)
 
     many_there : has_too_many nat_eq (attached_at nat_eq world new graft parts)
@@ -165,7 +166,7 @@ module _ (world : World ℕ) (others : List (Filesystem ℕ)) (namespaces : List
       ≡ stands_under nat_eq other source mount
   under source mount = λ i.
       holds_of (λ (place : Location ℕ). directory_under_same _ _ (found (mount_at nat_eq world source).filesystem).files
-      source.node place.node i) mount.place
+      source.node place.node i) mount.mount_point
 
   bound_same : (fresh : Fresh ℕ) (source place : Location ℕ) (recursive : Bool)
       → has_too_many nat_eq (bound_at nat_eq fresh world source place recursive)

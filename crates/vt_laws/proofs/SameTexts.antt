@@ -1,7 +1,7 @@
 -- The whole machine has the one text of one tree.
 use Rattle.std.proofs.Common.{◌≡◌, refl, sym, ap, ◌∙◌, ℕ, suc, nat_eq, ◌+◌, Bool, true, false, List, [], ◌∷◌, ◌++◌, length}
 use Rattle.vt_spec.specs.Machine.Run as Machine
-use Rattle.vt_spec.specs.Machine.Script as Script
+use Rattle.vt_spec.specs.Language.Script as Script
 use Rattle.vt_spec.specs.Machine.World as MachineWorld
 use Rattle.vt_spec.specs.OneTree.Run as Tree
 use Rattle.vt_spec.specs.OneTree.World.{World, opening}

@@ -9,27 +9,24 @@ use Rattle.vt_laws.specs.RuleRanks.{IsInOrderAfterWalk, is_in_order_from, rank}
 use Rattle.vt_spec.specs.declared.errors.Rule.{Rule}
 use Rattle.vt_spec.specs.declared.errors.Rule.TheVariants.{B1, C2, S4}
 use Rattle.vt_spec.specs.Errors.{and_then, denial, unless, Rules}
-use Rattle.vt_spec.specs.Machine.Changes.{Change}
-use Rattle.vt_spec.specs.Machine.Changes.Change.{CopyUp, SetAttr, SetBytes}
+use Rattle.vt_spec.specs.Language.Changes.{Change}
+use Rattle.vt_spec.specs.Language.Changes.Change.{CopyUp, SetAttr, SetBytes}
 use Rattle.vt_spec.specs.Machine.Filesystems.{mounter_rules, overlay_rules}
 use Rattle.vt_spec.specs.Machine.Locked.{overlay_or}
-use Rattle.vt_spec.specs.Machine.Outcome.Descriptors.{copy_rules, is_copied_up}
-use Rattle.vt_spec.specs.Machine.Outcome.Removing.{moving, removing}
-use Rattle.vt_spec.specs.Machine.World.{Overlay, filesystem_at}
+use Rattle.vt_spec.specs.Machine.Outcome.Descriptors.{copy_rules, descriptor_at, is_copied_up}
+use Rattle.vt_spec.specs.Machine.Outcome.Removing.{is_one_object, moving, object_there, old_word_rules, removing, rename_new_walk, rmdir_word_rules}
+use Rattle.vt_spec.specs.Machine.World.{Overlay, Task, World, filesystem_at}
 use Rattle.vt_spec.specs.declared.errors.Deny.{Deny}
-use Rattle.vt_spec.specs.Machine.Calls.{Access, Call, OverlayWords}
-use Rattle.vt_spec.specs.Machine.Calls.Call.{Bind, Chdir, Chmod, Chown, Chroot, Close, Drop, Exec, Exit, Fork, Lazy, LinkTo, ListMounts, Ls, Lstat, MakeWhiteout, Mkdir, MountOverlay, MountPlain, MoveMount, Opaque, OpenFile, PivotRoot, Pread, Pwrite, Read, Readlink, Remount, Rename, Rmdir, SetType, Setns, Stat, SymlinkAt, Umask, Umount, Unlink, Unshare, Write}
-use Rattle.vt_spec.specs.Machine.Calls.Creation.{Exclusive, NoCreation, OrCreate}
-use Rattle.vt_spec.specs.Machine.Lists.{Fresh, evens}
-use Rattle.vt_spec.specs.Machine.Mounts.{Location, MountFlags}
+use Rattle.vt_spec.specs.Language.Calls.{Access, Call, MountFlags, OverlayWords}
+use Rattle.vt_spec.specs.Language.Calls.Call.{Bind, Chdir, Chmod, Chown, Chroot, Close, Drop, Exec, Exit, Fork, Lazy, LinkTo, ListMounts, Ls, Lstat, MakeWhiteout, Mkdir, MountOverlay, MountPlain, MoveMount, Opaque, OpenFile, PivotRoot, Pread, Pwrite, Read, Readlink, Remount, Rename, Rmdir, SetType, Setns, Stat, SymlinkAt, Umask, Umount, Unlink, Unshare, Write}
+use Rattle.vt_spec.specs.Language.Calls.Creation.{Exclusive, NoCreation, OrCreate}
+use Rattle.vt_spec.specs.Lists.{Fresh, evens}
+use Rattle.vt_spec.specs.Machine.Mounts.{Location}
 use Rattle.vt_spec.specs.Machine.Outcome.Attributes.{attr_at, attr_with_mode, attr_with_owner}
-use Rattle.vt_spec.specs.Machine.Outcome.Descriptors.{descriptor_at}
-use Rattle.vt_spec.specs.Machine.Outcome.Making.{directory_mode, file_mode, link_mode, link_text_rules, linking, new_file}
+use Rattle.vt_spec.specs.Machine.Outcome.Making.{directory_mode, file_mode, symlink_mode, link_text_rules, linking, new_file}
 use Rattle.vt_spec.specs.Machine.Outcome.Mounting.{destination_walk, layers_walked, source_walk}
-use Rattle.vt_spec.specs.Machine.Outcome.Removing.{is_one_object, object_there, old_word_rules, rename_new_walk, rmdir_word_rules}
 use Rattle.vt_spec.specs.Machine.Rows.{exact_attr, making, new_attr}
-use Rattle.vt_spec.specs.Machine.Walk.{Place, Stop, directory_walk, file_walk, is_directory_there, link_walk, new_leaf_walk, new_walk, object_walk, old_leaf_walk, old_walk}
-use Rattle.vt_spec.specs.Machine.World.{Task, World}
+use Rattle.vt_spec.specs.Machine.Walk.{Place, Stop, directory_walk, file_walk, is_directory_there, symlink_walk, new_leaf_walk, new_walk, object_walk, old_leaf_walk, old_walk}
 use Rattle.vt_spec.specs.Tree.{new_directory}
 use Rattle.vt_spec.specs.Tree.Content.{Symlink}
 
@@ -101,9 +98,9 @@ last_in_order fresh world task (Ls path) =
 last_in_order fresh world task (Stat path) =
     ok_walk (object_walk nat_eq world task path) _ (λ here. refl)
 last_in_order fresh world task (Lstat path) =
-    ok_walk (link_walk nat_eq world task path) _ (λ here. refl)
+    ok_walk (symlink_walk nat_eq world task path) _ (λ here. refl)
 last_in_order fresh world task (Readlink path) =
-    ok_walk (link_walk nat_eq world task path) _ (λ here. refl)
+    ok_walk (symlink_walk nat_eq world task path) _ (λ here. refl)
 last_in_order fresh world task (Read path) =
     ok_walk (object_walk nat_eq world task path) _ (λ here. refl)
 last_in_order fresh world task (Exec path) =
@@ -125,11 +122,11 @@ last_in_order fresh world task (SymlinkAt text path) =
     ok_words (link_text_rules text) _
     (ok_walk (new_leaf_walk nat_eq world task path) _
     (λ place. mounter_in_order (rank B1) refl world place.parent (making place (evens fresh 0)
-    (record { attr = exact_attr task link_mode; content = Symlink text }))))
+    (record { attr = exact_attr task symlink_mode; content = Symlink text }))))
 last_in_order fresh world task (MakeWhiteout path) =
     ok_walk (new_leaf_walk nat_eq world task path) _ (λ place. refl)
 last_in_order fresh world task (LinkTo old new) =
-    ok_walk (link_walk nat_eq world task old) _
+    ok_walk (symlink_walk nat_eq world task old) _
     (λ from. ok_walk (new_leaf_walk nat_eq world task new) _
     (λ place. mounter_in_order (rank B1) refl world place.parent (linking from.location place)))
 last_in_order fresh world task (Unlink path) =
@@ -254,10 +251,10 @@ walks_refuse fresh world task (Stat path) none =
     walk_refuses (last_word_rules (Stat path)) (object_walk nat_eq world task path) _ (object_walks nat_eq world task path) (λ here.
     tt)
 walks_refuse fresh world task (Lstat path) none =
-    walk_refuses (last_word_rules (Lstat path)) (link_walk nat_eq world task path) _ (leaf_walks nat_eq world task path) (λ here.
+    walk_refuses (last_word_rules (Lstat path)) (symlink_walk nat_eq world task path) _ (leaf_walks nat_eq world task path) (λ here.
     tt)
 walks_refuse fresh world task (Readlink path) none =
-    walk_refuses (last_word_rules (Readlink path)) (link_walk nat_eq world task path) _ (leaf_walks nat_eq world task path) (λ here.
+    walk_refuses (last_word_rules (Readlink path)) (symlink_walk nat_eq world task path) _ (leaf_walks nat_eq world task path) (λ here.
     tt)
 walks_refuse fresh world task (Read path) none =
     walk_refuses (last_word_rules (Read path)) (object_walk nat_eq world task path) _ (object_walks nat_eq world task path) (λ here.
@@ -293,7 +290,7 @@ walks_refuse fresh world task (MakeWhiteout path) none =
     (λ place.
     tt)
 walks_refuse fresh world task (LinkTo old new) none =
-    walk_refuses (last_word_rules (LinkTo old new)) (link_walk nat_eq world task old) _ (leaf_walks nat_eq world task old) (λ from.
+    walk_refuses (last_word_rules (LinkTo old new)) (symlink_walk nat_eq world task old) _ (leaf_walks nat_eq world task old) (λ from.
     walk_refuses (last_word_rules (LinkTo old new)) (new_leaf_walk nat_eq world task new) _ (new_leaf_walks nat_eq world task new) (λ place.
     tt))
 walks_refuse fresh world task (Unlink path) none =

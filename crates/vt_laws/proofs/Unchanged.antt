@@ -6,22 +6,23 @@ use Rattle.vt_laws.specs.Denials.{DeniedLineChangesNothing, DirectiveChangesNoth
 use Rattle.vt_spec.specs.declared.errors.Deny.{Deny}
 use Rattle.vt_spec.specs.declared.errors.Rule.TheVariants.{S2}
 use Rattle.vt_spec.specs.Errors.{denial}
-use Rattle.vt_spec.specs.Machine.Calls.{Call}
-use Rattle.vt_spec.specs.Machine.Calls.Call.{Exec, ListMounts, Ls, Lstat, Pread, Read, Readlink, Stat}
-use Rattle.vt_spec.specs.Machine.Calls.Directive.{AskPeers, AskSealed}
+use Rattle.vt_spec.specs.Language.Calls.{Call, TaskName}
+use Rattle.vt_spec.specs.Language.Calls.Call.{Exec, ListMounts, Ls, Lstat, Pread, Read, Readlink, Stat}
+use Rattle.vt_spec.specs.Language.Calls.Directive.{AskPeers, AskSealed}
 use Rattle.vt_spec.specs.Machine.Listing.{mounts_outcome}
-use Rattle.vt_spec.specs.Machine.Lists.{Fresh}
+use Rattle.vt_spec.specs.Lists.{Fresh}
 use Rattle.vt_spec.specs.Machine.Outcome.Descriptors.{descriptor_at, pread_outcome}
 use Rattle.vt_spec.specs.Machine.Outcome.Looking.{exec_outcome, exec_rules, list_outcome, list_rules, lstat_outcome, read_outcome, read_rules, readlink_outcome, readlink_rules, stat_outcome}
 use Rattle.vt_spec.specs.Machine.Outcomes.{Outcome}
 use Rattle.vt_spec.specs.Machine.Policy.{call_outcome, finished_by, only_looks}
 use Rattle.vt_spec.specs.Machine.Run.{Step, line_step_by, requested, spoken_step, step_world}
 use Rattle.vt_spec.specs.Machine.Run.Step.{Answered, Silent}
-use Rattle.vt_spec.specs.Machine.Script.{Grammar, Request, is_silent, longest_line, request_of}
-use Rattle.vt_spec.specs.Machine.Script.Request.{Asking, Calling}
+use Rattle.vt_spec.specs.Language.Script.{Grammar, Request, is_silent, request_of}
+use Rattle.vt_spec.specs.Language.Limits.{longest_line}
+use Rattle.vt_spec.specs.Language.Script.Request.{Asking, Calling}
 use Rattle.vt_spec.specs.Machine.Sealed.{directed}
-use Rattle.vt_spec.specs.Machine.Walk.{directory_walk, link_walk, object_walk, walk_end}
-use Rattle.vt_spec.specs.Machine.World.{Task, TaskName, World, task_called}
+use Rattle.vt_spec.specs.Machine.Walk.{directory_walk, symlink_walk, object_walk, walk_end}
+use Rattle.vt_spec.specs.Machine.World.{Task, World, task_called}
 
 pub directive_changes_nothing : DirectiveChangesNothing
 directive_changes_nothing world AskPeers = refl
@@ -35,9 +36,9 @@ looks_keep fresh world task (Ls path) e =
     after_keeps world (walk_end (directory_walk nat_eq world task path)) _
     (λ here. judged_keeps world (list_rules nat_eq world task here.location) _ refl)
 looks_keep fresh world task (Stat path) e = after_keeps world (walk_end (object_walk nat_eq world task path)) _ (λ here. refl)
-looks_keep fresh world task (Lstat path) e = after_keeps world (walk_end (link_walk nat_eq world task path)) _ (λ here. refl)
+looks_keep fresh world task (Lstat path) e = after_keeps world (walk_end (symlink_walk nat_eq world task path)) _ (λ here. refl)
 looks_keep fresh world task (Readlink path) e =
-    after_keeps world (walk_end (link_walk nat_eq world task path)) _
+    after_keeps world (walk_end (symlink_walk nat_eq world task path)) _
     (λ here. judged_keeps world (readlink_rules nat_eq world here.location) _ refl)
 looks_keep fresh world task (Read path) e =
     after_keeps world (walk_end (object_walk nat_eq world task path)) _

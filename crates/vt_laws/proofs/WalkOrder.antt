@@ -7,7 +7,7 @@ use Rattle.vt_spec.specs.declared.errors.Deny.{Deny}
 use Rattle.vt_spec.specs.declared.errors.Rule.{Rule}
 use Rattle.vt_spec.specs.declared.errors.Rule.TheVariants.{W3, W6, W8}
 use Rattle.vt_spec.specs.Errors.{Rules, denial, unless}
-use Rattle.vt_spec.specs.Machine.Lists.{last_or}
+use Rattle.vt_spec.specs.Lists.{last_or}
 use Rattle.vt_spec.specs.Machine.Mounts.{Location, topmost}
 use Rattle.vt_spec.specs.Machine.Walk.{LastWord, Place, Stop, entry_location, hops, is_directory_there, is_lost, is_top, place_walk, search_rules, stepped, then_walk, walk_end, walk_unless}
 use Rattle.vt_spec.specs.Machine.Walk.LastWord.{Dot, DotDot, Named, NoWord}

@@ -6,12 +6,13 @@ use Rattle.vt_spec.specs.declared.errors.Deny.{Deny}
 use Rattle.vt_spec.specs.declared.errors.Rule.TheVariants.{W6}
 use Rattle.vt_spec.specs.Errors.{and_then, denial, unless}
 use Rattle.vt_spec.specs.PathText.{ends_in_slash, path_rules, words}
-use Rattle.vt_spec.specs.Machine.Calls.{OverlayWords}
-use Rattle.vt_spec.specs.Machine.Lists.{last_or}
+use Rattle.vt_spec.specs.Language.Calls.{OverlayWords}
+use Rattle.vt_spec.specs.Lists.{last_or}
 use Rattle.vt_spec.specs.Machine.Mounts.{Location, topmost}
 use Rattle.vt_spec.specs.Machine.Outcome.Mounting.{destination_walk, each_walked, layers_walked, source_walk, walked_if_given, work_walked}
 use Rattle.vt_spec.specs.Machine.Outcome.Removing.{rename_new_walk}
-use Rattle.vt_spec.specs.Machine.Walk.{Follow, Here, LastWord, Place, Stop, stopped_by, directory_walk, entry_location, file_or_link, file_walk, file_walked, final_word, follow_rules, followed, front_walked, hops, if_link, is_top, last_walked, last_word, link_of, link_start, link_there, link_walk, link_walk_by, link_walked, most_links, new_leaf_walk, new_walk, object_named, object_walk, old_leaf_walk, old_walk, path_text, path_walked, place_walk, placed, search_rules, slash_rules, stepped, up_from, walk_start, word_walked, words_walked}
+use Rattle.vt_spec.specs.Machine.Walk.{Follow, Here, LastWord, Place, Stop, stopped_by, directory_walk, entry_location, file_or_symlink, file_walk, file_walked, final_word, follow_rules, followed, front_walked, hops, if_link, is_top, last_walked, last_word, symlink_of, symlink_start, symlink_there, symlink_walk, symlink_walk_by, symlink_walked, new_leaf_walk, new_walk, object_named, object_walk, old_leaf_walk, old_walk, path_text, path_walked, place_walk, placed, search_rules, slash_rules, stepped, up_from, walk_start, word_walked, words_walked}
+use Rattle.vt_spec.specs.Language.Limits.{most_symlinks}
 use Rattle.vt_spec.specs.Machine.Walk.LastWord.{Dot, DotDot, Named, NoWord}
 use Rattle.vt_spec.specs.Machine.World.{Task, World}
 
@@ -64,18 +65,18 @@ module _ {N : Type 0} (eq : N → N → Bool) (world : World N) (task : Task N) 
       then_walk_own walk_rules (word_walked eq world task reached (last_word word)) _ (word_walks reached (last_word word)) (λ next.
       if_link_walks next _ (follow reached.location next) (h reached.location next)))
 
-  link_walks : (depth : ℕ) → FollowsAsWalk (link_walked eq depth world task)
+  link_walks : (depth : ℕ) → FollowsAsWalk (symlink_walked eq depth world task)
   link_walks zero directory link text = (refl, refl)
   link_walks (suc depth) directory link text =
       then_walk_own walk_rules _ _
-      (walk_unless_own walk_rules link.steps (follow_rules eq world link text) (link_start eq world task directory link text) refl)
+      (walk_unless_own walk_rules link.steps (follow_rules eq world link text) (symlink_start eq world task directory link text) refl)
       (λ start.
-      then_walk_own walk_rules (words_walked eq world task (link_walked eq depth world task) start (reverse (words text))) _
-      (words_walk (link_walked eq depth world task) (link_walks depth) start (reverse (words text))) (λ reached.
+      then_walk_own walk_rules (words_walked eq world task (symlink_walked eq depth world task) start (reverse (words text))) _
+      (words_walk (symlink_walked eq depth world task) (link_walks depth) start (reverse (words text))) (λ reached.
       walk_unless_own walk_rules reached.steps (slash_rules eq world text reached.location) reached refl))
 
   follows : FollowsAsWalk (followed eq world task)
-  follows directory link text = link_walks (most_links + 1) directory link text
+  follows directory link text = link_walks (most_symlinks + 1) directory link text
 
   path_walks : (path : List ℕ) → StopsAsWalk (path_walked eq world task path)
   path_walks path =
@@ -102,14 +103,14 @@ module _ {N : Type 0} (eq : N → N → Bool) (world : World N) (task : Task N) 
   last_walks here DotDot = word_walks here DotDot
   last_walks here (Named name) = word_walks here (Named name)
 
-  link_walks_by : (slash : Bool) (path : List ℕ) → StopsAsWalk (link_walk_by eq slash world task path)
+  link_walks_by : (slash : Bool) (path : List ℕ) → StopsAsWalk (symlink_walk_by eq slash world task path)
   link_walks_by true path = object_walks path
   link_walks_by false path =
       then_walk_own walk_rules (path_text path) _ (text_walks path) (λ text.
       then_walk_own walk_rules _ _ (front_walks (walk_start task text) (reverse (words text))) (λ here.
       last_walks here (final_word (reverse (words text)))))
 
-  pub leaf_walks : (path : List ℕ) → StopsAsWalk (link_walk eq world task path)
+  pub leaf_walks : (path : List ℕ) → StopsAsWalk (symlink_walk eq world task path)
   leaf_walks path = link_walks_by (ends_in_slash path) path
 
   names : (here : Location N) (word : LastWord) → RefusesAsWalk (object_named eq world task here word)
@@ -168,7 +169,7 @@ module _ {N : Type 0} (eq : N → N → Bool) (world : World N) (task : Task N) 
       walk_unless_own walk_rules place.steps (_ ∷ []) place refl)
 
   file_or_link_walks : (place : Place N) (text : Option (List ℕ)) (follow : List ℕ → Result (Place N) (Stop N))
-      → ((inner : List ℕ) → StopsAsWalk (follow inner)) → StopsAsWalk (file_or_link eq world place text follow)
+      → ((inner : List ℕ) → StopsAsWalk (follow inner)) → StopsAsWalk (file_or_symlink eq world place text follow)
   file_or_link_walks place None follow h = tt
   file_or_link_walks place (Some text) follow h = h text
 
@@ -178,16 +179,16 @@ module _ {N : Type 0} (eq : N → N → Bool) (world : World N) (task : Task N) 
   file_walks_by (suc depth) start text slash =
       then_walk_own walk_rules _ _ (front_walks start (reverse (words text))) (λ here.
       then_walk_own walk_rules _ _ (places here (final_word (reverse (words text))) (slash || ends_in_slash text)) (λ place.
-      file_or_link_walks place (link_there eq world place) _ (λ inner.
+      file_or_link_walks place (symlink_there eq world place) _ (λ inner.
       then_walk_own walk_rules _ _
-      (walk_unless_own walk_rules place.steps (follow_rules eq world (link_of here place) inner)
-      (link_start eq world task here.location (link_of here place) inner) refl)
+      (walk_unless_own walk_rules place.steps (follow_rules eq world (symlink_of here place) inner)
+      (symlink_start eq world task here.location (symlink_of here place) inner) refl)
       (λ next. file_walks_by depth next inner (slash || ends_in_slash text)))))
 
   pub file_walks : (path : List ℕ) → StopsAsWalk (file_walk eq world task path)
   file_walks path =
       then_walk_own walk_rules (path_text path) _ (text_walks path) (λ text.
-      then_walk_own walk_rules _ _ (file_walks_by (most_links + 1) (walk_start task text) text false) (λ place.
+      then_walk_own walk_rules _ _ (file_walks_by (most_symlinks + 1) (walk_start task text) text false) (λ place.
       walk_unless_own walk_rules place.steps (_ ∷ []) place refl))
 
   pub source_walks : (path : List ℕ) → StopsAsWalk (source_walk eq world task path)

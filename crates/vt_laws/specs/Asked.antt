@@ -5,20 +5,21 @@ use Rattle.vt_spec.specs.declared.errors.Deny.{Deny}
 use Rattle.vt_spec.specs.declared.errors.Rule.{Rule}
 use Rattle.vt_spec.specs.declared.errors.Rule.TheVariants.{E1, E2, E4, E5, E6, K1, O2, P1, S2, S4}
 use Rattle.vt_spec.specs.Errors.{Rules, and_then, unless}
-use Rattle.vt_spec.specs.Machine.Calls.{Access, Call, OverlayWords}
-use Rattle.vt_spec.specs.Machine.Calls.Call.{Bind, Chdir, Chmod, Chown, Chroot, Close, Drop, Exec, Exit, Fork, Lazy, LinkTo, ListMounts, Ls, Lstat, MakeWhiteout, Mkdir, MountOverlay, MountPlain, MoveMount, Opaque, OpenFile, PivotRoot, Pread, Pwrite, Read, Readlink, Remount, Rename, Rmdir, SetType, Setns, Stat, SymlinkAt, Umask, Umount, Unlink, Unshare, Write}
-use Rattle.vt_spec.specs.Machine.Calls.Creation.{Exclusive, NoCreation, OrCreate}
-use Rattle.vt_spec.specs.Machine.Lists.{Fresh, evens, odds}
-use Rattle.vt_spec.specs.Machine.Mounts.{Location, MountFlags}
+use Rattle.vt_spec.specs.Language.Calls.{Access, Call, MountFlags, OverlayWords}
+use Rattle.vt_spec.specs.Language.Calls.Call.{Bind, Chdir, Chmod, Chown, Chroot, Close, Drop, Exec, Exit, Fork, Lazy, LinkTo, ListMounts, Ls, Lstat, MakeWhiteout, Mkdir, MountOverlay, MountPlain, MoveMount, Opaque, OpenFile, PivotRoot, Pread, Pwrite, Read, Readlink, Remount, Rename, Rmdir, SetType, Setns, Stat, SymlinkAt, Umask, Umount, Unlink, Unshare, Write}
+use Rattle.vt_spec.specs.Language.Calls.Creation.{Exclusive, NoCreation, OrCreate}
+use Rattle.vt_spec.specs.Lists.{Fresh, evens, odds}
+use Rattle.vt_spec.specs.Machine.Mounts.{Location}
 use Rattle.vt_spec.specs.Machine.Outcome.Attributes.{attr_at, attr_rules, attr_with_mode, attr_with_owner, may_chown, opaque_rules}
 use Rattle.vt_spec.specs.Machine.Outcome.Descriptors.{descriptor_at, descriptor_rules, open_rules, pwrite_rules}
 use Rattle.vt_spec.specs.Machine.Outcome.Looking.{exec_rules, list_rules, read_rules, readlink_rules}
-use Rattle.vt_spec.specs.Machine.Outcome.Making.{directory_mode, file_mode, file_word_rules, largest_file, link_mode, link_rules, link_text_rules, linking, make_rules, new_file, new_rules, rewrite_rules, whiteout_rules}
+use Rattle.vt_spec.specs.Machine.Outcome.Making.{directory_mode, file_mode, file_word_rules, symlink_mode, hard_link_rules, link_text_rules, linking, make_rules, new_file, new_rules, rewrite_rules, whiteout_rules}
+use Rattle.vt_spec.specs.Language.Limits.{largest_file}
 use Rattle.vt_spec.specs.Machine.Outcome.Mounting.{admin_rules, bind_rules, bound_at, destination_walk, layer_rules, layers_walked, lazy_rules, mounted, move_rules, moved_to, new_mount_rules, overlay_at, overlay_mounted, pivot_rules, plain_filesystem, remount_rules, source_walk, type_rules, umount_rules}
 use Rattle.vt_spec.specs.Machine.Outcome.Removing.{is_one_object, object_there, old_word_rules, rename_new_walk, rename_rules, rmdir_rules, rmdir_word_rules, same_object_rules, unlink_rules}
 use Rattle.vt_spec.specs.Machine.Outcome.Tasks.{child_credentials, enter_rules, fork_rules}
 use Rattle.vt_spec.specs.Machine.Rows.{exact_attr, lacks, making, new_attr}
-use Rattle.vt_spec.specs.Machine.Walk.{Place, Stop, directory_walk, file_walk, is_directory_there, is_special, link_walk, new_leaf_walk, new_walk, object_walk, old_leaf_walk, old_walk, walk_end}
+use Rattle.vt_spec.specs.Machine.Walk.{Place, Stop, directory_walk, file_walk, is_directory_there, is_special, symlink_walk, new_leaf_walk, new_walk, object_walk, old_leaf_walk, old_walk, walk_end}
 use Rattle.vt_spec.specs.Machine.World.{Task, World, task_called}
 use Rattle.vt_spec.specs.Rights.{cap_sys_admin, cap_sys_chroot, owns}
 use Rattle.vt_spec.specs.Tree.{new_directory}
@@ -97,9 +98,9 @@ abbrev pub asked_last : Fresh ℕ → World ℕ → Task ℕ → Call → Result
 asked_last fresh world task (Ls path) =
     walked (directory_walk nat_eq world task path) (λ here. Ok (list_rules nat_eq world task here.location))
 asked_last fresh world task (Stat path) = walked (object_walk nat_eq world task path) (λ here. Ok [])
-asked_last fresh world task (Lstat path) = walked (link_walk nat_eq world task path) (λ here. Ok [])
+asked_last fresh world task (Lstat path) = walked (symlink_walk nat_eq world task path) (λ here. Ok [])
 asked_last fresh world task (Readlink path) =
-    walked (link_walk nat_eq world task path) (λ here. Ok (readlink_rules nat_eq world here.location))
+    walked (symlink_walk nat_eq world task path) (λ here. Ok (readlink_rules nat_eq world here.location))
 asked_last fresh world task (Read path) =
     walked (object_walk nat_eq world task path) (λ here. Ok (read_rules nat_eq world task here.location))
 asked_last fresh world task (Write path bytes) =
@@ -113,13 +114,13 @@ asked_last fresh world task (Mkdir path mode) =
 asked_last fresh world task (SymlinkAt text path) =
     unless (link_text_rules text)
     (walked (new_leaf_walk nat_eq world task path) (λ place.
-    Ok (new_rules nat_eq fresh world task place (record { attr = exact_attr task link_mode; content = Symlink text }))))
+    Ok (new_rules nat_eq fresh world task place (record { attr = exact_attr task symlink_mode; content = Symlink text }))))
 asked_last fresh world task (MakeWhiteout path) =
     walked (new_leaf_walk nat_eq world task path) (λ place. Ok (whiteout_rules nat_eq world task place))
 asked_last fresh world task (LinkTo old new) =
-    walked (link_walk nat_eq world task old) (λ from.
+    walked (symlink_walk nat_eq world task old) (λ from.
     walked (new_leaf_walk nat_eq world task new) (λ place.
-    Ok ((is_special place.last, E1) ∷ link_rules nat_eq world task from.location place (linking from.location place))))
+    Ok ((is_special place.last, E1) ∷ hard_link_rules nat_eq world task from.location place (linking from.location place))))
 asked_last fresh world task (Unlink path) =
     walked (old_leaf_walk nat_eq world task path) (λ place.
     Ok ((is_special place.last, E2) ∷ unlink_rules nat_eq world task place (object_there place)))

@@ -1,15 +1,15 @@
 -- What a refused call, and a call that only looks, leave as they were.
 use Rattle.std.specs.Prelude.{Err, List, None, Option, true, ℕ, nat_eq, ◌≡◌}
 use Rattle.vt_spec.specs.declared.errors.Deny.{Deny}
-use Rattle.vt_spec.specs.Machine.Calls.{Call, Directive}
-use Rattle.vt_spec.specs.Machine.Lists.{Fresh}
+use Rattle.vt_spec.specs.Language.Calls.{Call, Directive, TaskName}
+use Rattle.vt_spec.specs.Lists.{Fresh}
 use Rattle.vt_spec.specs.Machine.Outcomes.{Outcome}
 use Rattle.vt_spec.specs.Machine.Policy.{only_looks, policy}
 use Rattle.vt_spec.specs.Machine.Run.{line_step, step_world}
 use Rattle.vt_spec.specs.Machine.Run.Step.{Answered}
-use Rattle.vt_spec.specs.Machine.Script.{Grammar}
+use Rattle.vt_spec.specs.Language.Script.{Grammar}
 use Rattle.vt_spec.specs.Machine.Sealed.{directed}
-use Rattle.vt_spec.specs.Machine.World.{TaskName, World}
+use Rattle.vt_spec.specs.Machine.World.{World}
 
 -- a call that is refused leaves the whole world (profile)
 abbrev pub DenialChangesNothing : Type 0

@@ -3,10 +3,10 @@ use Rattle.std.specs.Prelude.{Bool, List, Some, [], if◌then◌else◌, is_ok, 
 use Rattle.vt_spec.specs.declared.errors.Rule.TheVariants.{S2}
 use Rattle.vt_spec.specs.Errors.{denial}
 use Rattle.vt_spec.specs.Machine.Apply.{apply}
-use Rattle.vt_spec.specs.Machine.Calls.{Call}
-use Rattle.vt_spec.specs.Machine.Changes.{Change}
+use Rattle.vt_spec.specs.Language.Calls.{Call, TaskName}
+use Rattle.vt_spec.specs.Language.Changes.{Change}
 use Rattle.vt_spec.specs.Machine.Judge.{judge, judge_in}
-use Rattle.vt_spec.specs.Machine.Lists.{Fresh}
+use Rattle.vt_spec.specs.Lists.{Fresh}
 use Rattle.vt_spec.specs.Machine.Looks.{Looks}
 use Rattle.vt_spec.specs.Machine.Mounts.{Location}
 use Rattle.vt_spec.specs.Machine.Outcomes.{Outcome, after}
@@ -15,8 +15,8 @@ use Rattle.vt_spec.specs.Machine.Policy.{call_outcome, filesystems_changed_by, f
 use Rattle.vt_spec.specs.Machine.Rules.Mounting.{destination_walk, source_walk}
 use Rattle.vt_spec.specs.Machine.SameWorlds.{without_changes}
 use Rattle.vt_spec.specs.Machine.Settled.{settled}
-use Rattle.vt_spec.specs.Machine.Walking.{directory_walk, file_walk, link_walk, new_leaf_walk, new_walk, object_walk, old_leaf_walk, old_walk}
-use Rattle.vt_spec.specs.Machine.World.{Layer, Overlay, Task, TaskName, World, task_called}
+use Rattle.vt_spec.specs.Machine.Walking.{directory_walk, file_walk, symlink_walk, new_leaf_walk, new_walk, object_walk, old_leaf_walk, old_walk}
+use Rattle.vt_spec.specs.Machine.World.{Layer, Overlay, Task, World, task_called}
 
 -- the outcome of each call is its judgement, then its permit applied; a refused call leaves the world
 abbrev pub CallIsJudgedThenApplied : Type 0
@@ -65,7 +65,7 @@ AlikeAreWalkedAlike =
     → (task : Task ℕ) (path : List ℕ)
     → (object_walk nat_eq one task path ≡ object_walk nat_eq other task path)
     × (directory_walk nat_eq one task path ≡ directory_walk nat_eq other task path)
-    × (link_walk nat_eq one task path ≡ link_walk nat_eq other task path)
+    × (symlink_walk nat_eq one task path ≡ symlink_walk nat_eq other task path)
     × (new_walk nat_eq one task path ≡ new_walk nat_eq other task path)
     × (new_leaf_walk nat_eq one task path ≡ new_leaf_walk nat_eq other task path)
     × (old_walk nat_eq one task path ≡ old_walk nat_eq other task path)

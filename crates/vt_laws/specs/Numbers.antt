@@ -2,8 +2,8 @@
 -- with them is to compare them (profile).
 use Rattle.std.specs.Prelude.{All, Bool, List, None, Option, Some, [], false, length, map, nat_eq, nat_lt, option_map, true, ℕ, ⊤, ◌&&◌, ◌++◌, ◌+◌, ◌∷◌, ◌≡◌, ◌≢◌}
 use Rattle.std.specs.List.{list_all}
-use Rattle.vt_spec.specs.Machine.Calls.{Call, Directive}
-use Rattle.vt_spec.specs.Machine.Lists.{Fresh, is_among}
+use Rattle.vt_spec.specs.Language.Calls.{Call, Directive, TaskName}
+use Rattle.vt_spec.specs.Lists.{Fresh, is_among}
 use Rattle.vt_spec.specs.Machine.Mounts.{Location, Mount, Propagation}
 use Rattle.vt_spec.specs.Machine.Mounts.Propagation.{Private, Shared, Slave, Unbindable}
 use Rattle.vt_spec.specs.Machine.Outcomes.{Outcome}
@@ -11,10 +11,10 @@ use Rattle.vt_spec.specs.Machine.Policy.{policy}
 use Rattle.vt_spec.specs.Machine.Renaming.{SameWorld, renamed}
 use Rattle.vt_spec.specs.Machine.Run.{Serves, Step, Tells, first_world, line_step, numbers_in_use, step_text, step_world, text_of}
 use Rattle.vt_spec.specs.Machine.Run.Step.{Answered, Silent}
-use Rattle.vt_spec.specs.Machine.Script.{Grammar, Who, lines_of}
+use Rattle.vt_spec.specs.Language.Script.{Grammar, Who, lines_of}
 use Rattle.vt_spec.specs.Machine.Sealed.{directed}
 use Rattle.vt_spec.specs.Machine.Turns.{Progress, Sched, Turned, turn}
-use Rattle.vt_spec.specs.Machine.World.{Descriptor, Filesystem, Layer, Namespace, Overlay, Real, Task, TaskName, World, opening}
+use Rattle.vt_spec.specs.Machine.World.{Descriptor, Filesystem, Layer, Namespace, Overlay, Real, Task, World, opening}
 use Rattle.vt_spec.specs.Machine.World.Real.{Below, Upper}
 use Rattle.vt_spec.specs.Tree.{Content, Node}
 use Rattle.vt_one_text.specs.Renaming.{Leaves, Renaming}
@@ -128,7 +128,7 @@ module _ (named : ℕ → Bool) where
 
   abbrev pub mount_named : Mount ℕ → Bool
   mount_named mount =
-      named mount.number && none_or named mount.namespace && none_or location_named mount.place && named mount.filesystem
+      named mount.number && none_or named mount.namespace && none_or location_named mount.mount_point && named mount.filesystem
       && named mount.root && propagation_named mount.propagation
 
   abbrev pub content_named : Content ℕ → Bool

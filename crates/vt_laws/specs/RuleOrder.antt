@@ -6,21 +6,21 @@ use Rattle.vt_spec.specs.declared.errors.Deny.{Deny}
 use Rattle.vt_spec.specs.declared.errors.Rule.{Rule}
 use Rattle.vt_spec.specs.declared.errors.Rule.TheVariants.{B1, B2, C1, C2, C3, E1, E2, E3, E4, E5, E6, E7, E8, E9, F1, F2, F3, K1, L1, M10, M11, M12, M2, M3, M4, M5, M6, M7, M8, M9, O1, O2, O3, O4, O5, P1, P2, S1, S2, S3, S4, S5, S6, W1, W2, W3, W4, W5, W6, W7, W8, W9}
 use Rattle.vt_spec.specs.Errors.{Rules, denial}
-use Rattle.vt_spec.specs.Machine.Calls.{Call, Creation}
-use Rattle.vt_spec.specs.Machine.Calls.Call.{Bind, Chdir, Chmod, Chown, Chroot, Close, Drop, Exec, Exit, Fork, Lazy, LinkTo, ListMounts, Ls, Lstat, MakeWhiteout, Mkdir, MountOverlay, MountPlain, MoveMount, Opaque, OpenFile, PivotRoot, Pread, Pwrite, Read, Readlink, Remount, Rename, Rmdir, SetType, Setns, Stat, SymlinkAt, Umask, Umount, Unlink, Unshare, Write}
-use Rattle.vt_spec.specs.Machine.Calls.Creation.{Exclusive, NoCreation, OrCreate}
-use Rattle.vt_spec.specs.Machine.Lists.{Fresh}
+use Rattle.vt_spec.specs.Language.Calls.{Call, Creation, TaskName}
+use Rattle.vt_spec.specs.Language.Calls.Call.{Bind, Chdir, Chmod, Chown, Chroot, Close, Drop, Exec, Exit, Fork, Lazy, LinkTo, ListMounts, Ls, Lstat, MakeWhiteout, Mkdir, MountOverlay, MountPlain, MoveMount, Opaque, OpenFile, PivotRoot, Pread, Pwrite, Read, Readlink, Remount, Rename, Rmdir, SetType, Setns, Stat, SymlinkAt, Umask, Umount, Unlink, Unshare, Write}
+use Rattle.vt_spec.specs.Language.Calls.Creation.{Exclusive, NoCreation, OrCreate}
+use Rattle.vt_spec.specs.Lists.{Fresh}
 use Rattle.vt_spec.specs.Machine.Outcomes.{Outcome}
 use Rattle.vt_spec.specs.Machine.Policy.{policy}
 use Rattle.vt_spec.specs.Machine.Run.{line_step}
 use Rattle.vt_spec.specs.Machine.Run.Step.{Answered}
-use Rattle.vt_spec.specs.Machine.Script.{Grammar, Request, request_of}
-use Rattle.vt_spec.specs.Machine.Script.Request.{Asking, Calling}
+use Rattle.vt_spec.specs.Language.Script.{Grammar, Request, request_of}
+use Rattle.vt_spec.specs.Language.Script.Request.{Asking, Calling}
 use Rattle.vt_spec.specs.Machine.Mounts.{Location}
 use Rattle.vt_spec.specs.Machine.Outcome.Making.{link_text_rules}
 use Rattle.vt_spec.specs.Machine.Outcome.Removing.{rename_new_walk, rmdir_word_rules}
 use Rattle.vt_spec.specs.Machine.Walk.{Here, LastWord, Place, follow_rules, new_leaf_walk, new_name_rules, old_leaf_walk, place_walk, search_rules, stepped, walk_end}
-use Rattle.vt_spec.specs.Machine.World.{Task, TaskName, World, is_removed_at, task_called}
+use Rattle.vt_spec.specs.Machine.World.{Task, World, is_removed_at, task_called}
 use Rattle.vt_spec.specs.PathText.{path_rules}
 
 -- the rules of walks, which each call with a path has: path_resolution(7); those of a removed directory and of nosymfollow too

@@ -5,7 +5,7 @@ use Rattle.std.specs.Str.{bytes_eq}
 use Rattle.vt_spec.specs.declared.errors.Rule.{Rule}
 use Rattle.vt_spec.specs.declared.errors.Rule.TheVariants.{W9}
 use Rattle.vt_spec.specs.Errors.{Rules, rule_name}
-use Rattle.vt_spec.specs.Machine.Script.{value_from}
+use Rattle.vt_spec.specs.Language.Script.{value_from}
 
 -- the letters in their order: script, capabilities, walk, entries, flags, layers, places, credentials, overlays, the mounter, mounts
 abbrev pub letters : List ℕ

@@ -2,9 +2,9 @@
 use Rattle.std.specs.Prelude.{Bool, false, nat_eq, ℕ, ◌≡◌}
 use Rattle.std.specs.List.{All}
 use Rattle.vt_laws.specs.Judged.{LookAlike}
-use Rattle.vt_spec.specs.Machine.Calls.{Call}
+use Rattle.vt_spec.specs.Language.Calls.{Call}
 use Rattle.vt_spec.specs.Machine.Judge.{judge, judge_in}
-use Rattle.vt_spec.specs.Machine.Lists.{Fresh}
+use Rattle.vt_spec.specs.Lists.{Fresh}
 use Rattle.vt_spec.specs.Machine.Looks.{looks_of}
 use Rattle.vt_spec.specs.Machine.Permits.{Permit}
 use Rattle.vt_spec.specs.Machine.SameWorlds.{BelowHasOneName, SameWorlds}

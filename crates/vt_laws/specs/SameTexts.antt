@@ -2,7 +2,7 @@
 use Rattle.std.specs.Prelude.{Bool, List, ℕ, ◌≡◌}
 use Rattle.std.specs.List.{All}
 use Rattle.vt_spec.specs.Machine.Run as whole_run
-use Rattle.vt_spec.specs.Machine.Script.{Version, files, lines_of, request_of, whole}
+use Rattle.vt_spec.specs.Language.Script.{Version, files, lines_of, request_of, whole}
 use Rattle.vt_spec.specs.OneTree.Run as tree_run
 
 -- The text of the whole machine, kept to the calls on files and tasks, is that of one tree,

@@ -1,9 +1,9 @@
 -- A change of an overlay does to its upper layer what it is asked, clause by clause.
 use Rattle.std.proofs.Common.{◌≡◌, ◌≢◌, refl, sym, ap, ◌∙◌, true≢false, arith, ℕ, suc, nat_eq, eq-eqb, ne_eqb, Bool, true, false, cond, ◌||◌, List, [], ◌∷◌, ◌++◌, Option, Some, None, is_some, unwrap_or}
-use Rattle.vt_spec.specs.Machine.Changes.{content_with_parent, node_with_parent, node_without_entry, with_inode, with_moved, with_name, without_name, without_parent}
+use Rattle.vt_spec.specs.Language.Changes.{content_with_parent, node_with_parent, node_without_entry, with_inode, with_moved, with_name, without_name, without_parent}
 use Rattle.vt_spec.specs.Machine.CopyUp.{Merge, Stack, emptied, hides_directory, made, marked, moved, name_left_by, removed, shown_below, upper_directory_named, upper_of}
-use Rattle.vt_spec.specs.Machine.FileTree.{FileTree, is_opaque_in}
-use Rattle.vt_spec.specs.Machine.Lists.{Fresh, then_some}
+use Rattle.vt_spec.specs.FileTree.{FileTree, is_opaque_in}
+use Rattle.vt_spec.specs.Lists.{Fresh, then_some}
 use Rattle.vt_spec.specs.Machine.World.{Real, upper_object}
 use Rattle.vt_spec.specs.Machine.World.Real.{Upper}
 use Rattle.vt_spec.specs.Tree.{Content, Node, entries_in, entry_named, is_directory_node, new_directory, node_with_bytes, node_with_entry}
@@ -108,7 +108,7 @@ module _ (files : FileTree ℕ) (tree : IsTree files.tree) (first : ℕ → Opti
       ∙ marked_itself (hides_directory nat_eq stack here directory name) named (fresh 0)
       (ap is_directory_node there ∙ ap (λ c. Rattle.vt_spec.specs.Rights.is_directory (Rattle.vt_spec.specs.Tree.kind_of c)) made_directory)
       ∙ ap (λ o. hides_directory nat_eq stack here directory name || is_opaque_in o) there
-      ∙ ap (λ c. hides_directory nat_eq stack here directory name || Rattle.vt_spec.specs.Machine.FileTree.opaque_of c) made_directory
+      ∙ ap (λ c. hides_directory nat_eq stack here directory name || Rattle.vt_spec.specs.FileTree.opaque_of c) made_directory
       ∙ or_false (hides_directory nat_eq stack here directory name)
     where
       or_false : (b : Bool) → (b || false) ≡ b

@@ -3,8 +3,8 @@ use Rattle.std.proofs.Common.{◌≡◌, ◌≢◌, ◌≤◌, ◌<◌, length, 
 use Rattle.std.specs.List.{list_any}
 use Rattle.std.proofs.lemmas.List.Folds.{list_any-append}
 use Rattle.vt_spec.specs.Machine.CopyUp.{Merge, copied_each, copied_up, copy_of, directories_to, line_by, line_to}
-use Rattle.vt_spec.specs.Machine.FileTree.{FileTree, a_name}
-use Rattle.vt_spec.specs.Machine.Lists.{Fresh, is_among}
+use Rattle.vt_spec.specs.FileTree.{FileTree, a_name}
+use Rattle.vt_spec.specs.Lists.{Fresh, is_among}
 use Rattle.vt_spec.specs.Machine.World.{Real, upper_object}
 use Rattle.vt_spec.specs.Tree.{Node}
 use Rattle.vt_layer_laws.proofs.CopyingSound.{IsSound, Soundly, State, soundly_copied}

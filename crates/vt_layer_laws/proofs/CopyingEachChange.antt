@@ -1,9 +1,9 @@
 -- Each change of an overlay does to its upper layer what it is asked.
 use Rattle.std.proofs.Common.{◌≡◌, ◌≢◌, refl, sym, ap, subst, ◌∙◌, true≢false, arith, ℕ, ◌+◌, ◌*◌, nat_eq, Bool, true, false, ◌++◌, Some, is_some}
-use Rattle.vt_spec.specs.Machine.Changes.{Change, node_with_attr, node_with_mark}
-use Rattle.vt_spec.specs.Machine.Changes.Change.{AddName, CopyUp, Make, Move, Remove, SetAttr, SetBytes, SetMark}
+use Rattle.vt_spec.specs.Language.Changes.{Change, node_with_attr, node_with_mark}
+use Rattle.vt_spec.specs.Language.Changes.Change.{AddName, CopyUp, Make, Move, Remove, SetAttr, SetBytes, SetMark}
 use Rattle.vt_spec.specs.Machine.CopyUp.{Merge, Stack, changed_both, copied_up, line_to, linked, made, merge_changed, moved, removed, upper_of}
-use Rattle.vt_spec.specs.Machine.Lists.{Fresh, evens, odds}
+use Rattle.vt_spec.specs.Lists.{Fresh, evens, odds}
 use Rattle.vt_spec.specs.Machine.World.{upper_object}
 use Rattle.vt_spec.specs.Tree.{node_with_bytes}
 use Rattle.vt_spec.proofs.Nodes.{directory_used, node_set}
@@ -52,7 +52,7 @@ module _ (fresh : Fresh ℕ) (stack : Stack ℕ) (before : Merge ℕ) (fit : IsF
       (λ k s. let same = fit.distinct (2 * (2 * k) + 1) (2 * (2 * s.0 + 1) + 1) s.1 in let no : ⊥ = omega arith in no)
       (λ k. (2 * k, refl)) (λ k. (2 * (2 * k) + 1, refl)) other
 
-  among_first : (number object other : ℕ) → Rattle.vt_spec.specs.Machine.Lists.is_among nat_eq number (line_to nat_eq before.files object) ≡ true → Rattle.vt_spec.specs.Machine.Lists.is_among nat_eq number (line_to nat_eq before.files object ++ line_to nat_eq before.files other) ≡ true
+  among_first : (number object other : ℕ) → Rattle.vt_spec.specs.Lists.is_among nat_eq number (line_to nat_eq before.files object) ≡ true → Rattle.vt_spec.specs.Lists.is_among nat_eq number (line_to nat_eq before.files object ++ line_to nat_eq before.files other) ≡ true
   among_first number object other e =
       Rattle.std.proofs.lemmas.List.Folds.list_any-append (nat_eq number) (line_to nat_eq before.files object) (line_to nat_eq before.files other)
       ∙ left (Rattle.std.specs.List.list_any (nat_eq number) (line_to nat_eq before.files object)) _ e
@@ -61,7 +61,7 @@ module _ (fresh : Fresh ℕ) (stack : Stack ℕ) (before : Merge ℕ) (fit : IsF
       left true b e = refl
       left false b e = absurd (true≢false (sym e))
 
-  among_second : (number object other : ℕ) → Rattle.vt_spec.specs.Machine.Lists.is_among nat_eq number (line_to nat_eq before.files other) ≡ true → Rattle.vt_spec.specs.Machine.Lists.is_among nat_eq number (line_to nat_eq before.files object ++ line_to nat_eq before.files other) ≡ true
+  among_second : (number object other : ℕ) → Rattle.vt_spec.specs.Lists.is_among nat_eq number (line_to nat_eq before.files other) ≡ true → Rattle.vt_spec.specs.Lists.is_among nat_eq number (line_to nat_eq before.files object ++ line_to nat_eq before.files other) ≡ true
   among_second number object other e =
       Rattle.std.proofs.lemmas.List.Folds.list_any-append (nat_eq number) (line_to nat_eq before.files object) (line_to nat_eq before.files other)
       ∙ right (Rattle.std.specs.List.list_any (nat_eq number) (line_to nat_eq before.files object)) _ e
@@ -70,7 +70,7 @@ module _ (fresh : Fresh ℕ) (stack : Stack ℕ) (before : Merge ℕ) (fit : IsF
       right true b e = refl
       right false b e = e
 
-  in_own_line : (object : ℕ) → Rattle.vt_spec.specs.Machine.Lists.is_among nat_eq object (line_to nat_eq before.files object) ≡ true
+  in_own_line : (object : ℕ) → Rattle.vt_spec.specs.Lists.is_among nat_eq object (line_to nat_eq before.files object) ≡ true
   in_own_line object = last_in_line before.files before.real nothing_spared fresh fit.distinct (λ k s. s) object
 
   overlay_changes : (change : Change ℕ) → SpeaksOfWhatIsThere before.files change → ChangesUpper fresh stack before change (merge_changed nat_eq fresh stack before change)

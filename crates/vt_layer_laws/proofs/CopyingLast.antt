@@ -2,10 +2,10 @@
 use Rattle.std.proofs.Common.{◌≡◌, ◌≢◌, ◌≤◌, refl, sym, ap, subst, ◌∙◌, true≢false, arith, ℕ, zero, suc, ◌+◌, nat_eq, eq-eqb, ne_eqb, Bool, true, false, cond, List, [], ◌∷◌, ◌++◌, length, Option, Some, None, is_some, unwrap_or, ⊎_elim}
 use Rattle.std.specs.List.{list_any}
 use Rattle.std.proofs.lemmas.List.Sorted.{IsPermutation-reverse, list_any-IsPermutation}
-use Rattle.vt_spec.specs.Machine.Changes.{with_inode, with_name}
+use Rattle.vt_spec.specs.Language.Changes.{with_inode, with_name}
 use Rattle.vt_spec.specs.Machine.CopyUp.{Merge, copied_content, copied_each, copied_up, copy_of, copy_parent, directories_to, is_in_upper, line_by, upper_of}
-use Rattle.vt_spec.specs.Machine.FileTree.{FileTree, a_name, ancestors, named_parent}
-use Rattle.vt_spec.specs.Machine.Lists.{Fresh, chain, is_among}
+use Rattle.vt_spec.specs.FileTree.{FileTree, a_name, ancestors, named_parent}
+use Rattle.vt_spec.specs.Lists.{Fresh, chain, is_among}
 use Rattle.vt_spec.specs.Machine.World.{Real, upper_object}
 use Rattle.vt_spec.specs.Machine.World.Real.{Upper}
 use Rattle.vt_spec.specs.Tree.{Content, Node, entries_in, entries_of, is_directory_node, node_with_entry}

@@ -1,8 +1,8 @@
 -- What an inode keeps when its names or its parent change.
 use Rattle.std.proofs.Common.{◌≡◌, refl, sym, ap, ◌∙◌, ℕ, nat_eq, cond, List, [], Option, Some, None, is_some, ⊎_elim}
 use Rattle.std.proofs.lemmas.Bool.Decides.{eqb_tells}
-use Rattle.vt_spec.specs.Machine.Changes.{changed_node, content_with_parent, node_with_parent, node_without_entries, node_without_entry, without_entry}
-use Rattle.vt_spec.specs.Machine.FileTree.{FileTree, attr_in, is_opaque_in, kind_in, opaque_of}
+use Rattle.vt_spec.specs.Language.Changes.{changed_node, content_with_parent, node_with_parent, node_without_entries, node_without_entry, without_entry}
+use Rattle.vt_spec.specs.FileTree.{FileTree, attr_in, is_opaque_in, kind_in, opaque_of}
 use Rattle.vt_spec.specs.Rights.{is_directory}
 use Rattle.vt_spec.specs.Tree.{Content, Entries, Node, bytes_in, bytes_of, entries_of, is_directory_node, kind_of, node_with_entry, with_entries, with_entry}
 use Rattle.vt_spec.specs.Tree.Content.{Directory, Regular, Symlink, Whiteout}

@@ -1,10 +1,10 @@
 -- What a change of an overlay asks for stands in the upper layer after it.
 use Rattle.std.proofs.Common.{◌≡◌, ◌≢◌, refl, sym, ap, subst, ◌∙◌, ℕ, nat_eq, eq-eqb, ne_eqb, Bool, true, false, cond, List, Option, Some, None, is_some, unwrap_or, ⊎_elim}
 use Rattle.std.proofs.lemmas.Bool.Decides.{eqb_tells}
-use Rattle.vt_spec.specs.Machine.Changes.{content_with_mark, content_with_parent, node_with_mark, node_with_parent, node_without_entry, with_inode, with_moved, with_name, without_name, without_parent}
+use Rattle.vt_spec.specs.Language.Changes.{content_with_mark, content_with_parent, node_with_mark, node_with_parent, node_without_entry, with_inode, with_moved, with_name, without_name, without_parent}
 use Rattle.vt_spec.specs.Machine.CopyUp.{Merge, Stack, emptied, hides_directory, linked, made, marked, moved, name_left_by, shown_below, upper_directory_named, upper_of, whiteout_of}
-use Rattle.vt_spec.specs.Machine.FileTree.{FileTree}
-use Rattle.vt_spec.specs.Machine.Lists.{Fresh}
+use Rattle.vt_spec.specs.FileTree.{FileTree}
+use Rattle.vt_spec.specs.Lists.{Fresh}
 use Rattle.vt_spec.specs.Machine.World.{Real, upper_object}
 use Rattle.vt_spec.specs.Machine.World.Real.{Upper}
 use Rattle.vt_spec.specs.Tree.{Content, Node, bytes_of, entries_in, entry_named, is_directory_node, kind_of, node_with_entry}

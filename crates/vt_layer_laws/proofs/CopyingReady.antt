@@ -4,8 +4,8 @@ use Rattle.std.specs.List.{list_any}
 use Rattle.std.proofs.lemmas.List.Folds.{list_any-append}
 use mathlib.Core.List.{reverse-cons}
 use Rattle.vt_spec.specs.Machine.CopyUp.{Merge, copied_up, directories_to, line_by, line_to}
-use Rattle.vt_spec.specs.Machine.FileTree.{FileTree, a_name, named_parent}
-use Rattle.vt_spec.specs.Machine.Lists.{Fresh, chain, is_among}
+use Rattle.vt_spec.specs.FileTree.{FileTree, a_name, named_parent}
+use Rattle.vt_spec.specs.Lists.{Fresh, chain, is_among}
 use Rattle.vt_spec.specs.Machine.World.{Real, upper_object}
 use Rattle.vt_spec.specs.TreeLaws.{entry_at}
 use Rattle.vt_layer_laws.specs.Layers.ChangesUpper.{IsFitToChange, StandsNow}

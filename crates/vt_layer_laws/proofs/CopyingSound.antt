@@ -1,9 +1,9 @@
 -- What is copied up stands in the upper layer: each inode has its own object there, of its kind, and a copy is what is shown.
 use Rattle.std.proofs.Common.{◌≡◌, ◌≢◌, ◌⊎◌, inl, inr, refl, sym, ap, subst, ◌∙◌, ℕ, nat_eq, eq-eqb, ne_eqb, true, false, cond, List, Option, Some, None, is_some, ⊎_elim}
 use Rattle.std.proofs.lemmas.Bool.Decides.{eqb_tells}
-use Rattle.vt_spec.specs.Machine.Changes.{with_inode}
+use Rattle.vt_spec.specs.Language.Changes.{with_inode}
 use Rattle.vt_spec.specs.Machine.CopyUp.{Merge, copied_content, copy_named, copy_of_node, copy_parent, upper_of, with_real}
-use Rattle.vt_spec.specs.Machine.FileTree.{FileTree, a_name, opaque_of}
+use Rattle.vt_spec.specs.FileTree.{FileTree, a_name, opaque_of}
 use Rattle.vt_spec.specs.Machine.World.{Real, upper_object}
 use Rattle.vt_spec.specs.Machine.World.Real.{Upper}
 use Rattle.vt_spec.specs.Machine.WorldLaws.{number_at_path}

@@ -4,7 +4,7 @@ use Rattle.std.specs.List.{list_all, list_any}
 use Rattle.std.specs.Prelude.{option_to_list}
 use Rattle.std.proofs.lemmas.Grind.{flat_map-append}
 use Rattle.std.proofs.lemmas.List.Elements.{filter-append}
-use Rattle.vt_spec.specs.Machine.Lists.{Fresh, any_pair, evens, holds_of, is_among}
+use Rattle.vt_spec.specs.Lists.{Fresh, any_pair, evens, holds_of, is_among}
 use Rattle.vt_spec.specs.Machine.Locked.{counts_in_layer, in_use, is_object_of, lies_in_layer, lies_or_counts_under, live_layers, live_upper_and_work, of_overlay, overlay_or, overlaps_one_of, overlays, upper_and_work}
 use Rattle.vt_spec.specs.declared.errors.Rule.TheVariants.{O2, O3, O5}
 use Rattle.vt_spec.specs.Machine.Outcome.Mounting.{LayerPlaces, layer_rules}

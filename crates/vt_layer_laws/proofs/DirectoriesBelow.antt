@@ -1,8 +1,8 @@
 -- What names lead to from a directory lies under whatever that directory lies under.
 use Rattle.std.proofs.Common.{◌≡◌, ◌≤◌, refl, sym, ap, subst, ◌∙◌, true≢false, arith, ℕ, zero, suc, nat_eq, eqb-true, Bool, true, false, cond, ◌&&◌, ◌||◌, List, [], ◌∷◌, length, Option, Some, None, option_and_then}
 use Rattle.std.specs.List.{list_any}
-use Rattle.vt_spec.specs.Machine.FileTree.{FileTree, has_entry_to, is_directory_under, is_file_under, is_under, named_parent}
-use Rattle.vt_spec.specs.Machine.Lists.{chain, is_among}
+use Rattle.vt_spec.specs.FileTree.{FileTree, has_entry_to, is_directory_under, is_file_under, is_under, named_parent}
+use Rattle.vt_spec.specs.Lists.{chain, is_among}
 use Rattle.vt_spec.specs.Machine.WorldLaws.{ListsNumbers}
 use Rattle.vt_spec.specs.Tree.{is_directory_node}
 use Rattle.vt_spec.specs.TreeLaws.{IsDirectory, IsTree, entry_at, led}

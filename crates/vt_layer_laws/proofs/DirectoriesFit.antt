@@ -5,15 +5,15 @@ use Rattle.std.specs.Ordering.{eq_by_cmp}
 use Rattle.std.specs.Prelude.{nat_le, option_map, option_to_list}
 use Rattle.vt_spec.specs.declared.attributes.Attr.{Attr}
 use Rattle.vt_spec.specs.declared.attributes.Kind.TheVariants.{File}
-use Rattle.vt_spec.specs.Machine.FileTree.{is_kind_in, link_text}
+use Rattle.vt_spec.specs.FileTree.{is_kind_in, symlink_text}
 use Rattle.vt_spec.specs.Machine.Layers.{OpenLayer, Shown, at_path, shown}
-use Rattle.vt_spec.specs.Machine.Lists.{Fresh, is_among, odds}
+use Rattle.vt_spec.specs.Lists.{Fresh, is_among, odds}
 use Rattle.vt_spec.specs.Machine.Merging.{Merged, MergedInode, entry_below, inode_of, merged_content}
-use Rattle.vt_spec.specs.Machine.Outcome.Making.{largest_file}
+use Rattle.vt_spec.specs.Language.Limits.{largest_file, longest_name, longest_path}
 use Rattle.vt_spec.specs.Machine.Outcome.Mounting.{inode_count, overlay_filesystem}
 use Rattle.vt_spec.specs.Machine.World.{Filesystem, Overlay, World, open_layer, shown_layers}
 use Rattle.vt_spec.specs.Machine.WorldLaws.{IsWorld, ListsNumbers, is_fit_filesystem}
-use Rattle.vt_spec.specs.PathText.{is_empty, longest_name, longest_path}
+use Rattle.vt_spec.specs.PathText.{is_empty}
 use Rattle.vt_spec.specs.Tree.{Content, Entries, Node, bytes_in, entries_in, entry_named, name_cmp, names_in}
 use Rattle.vt_spec.specs.Tree.Content.{Directory, Regular, Symlink, Whiteout}
 use Rattle.vt_spec.specs.TreeLaws.{entry_at, led}
@@ -39,7 +39,7 @@ abbrev no_larger : Option (Node ℕ) → Bool
 no_larger node = not (is_kind_in File node) || nat_le (length (bytes_in node)) largest_file
 
 abbrev fit_text : Option (Node ℕ) → Bool
-fit_text node = list_all (λ text. not (is_empty text) && nat_le (length text) longest_path) (option_to_list (link_text node))
+fit_text node = list_all (λ text. not (is_empty text) && nat_le (length text) longest_path) (option_to_list (symlink_text node))
 
 abbrev fit_node : Option (Node ℕ) → Bool
 fit_node node = no_larger node && list_all fit_name (names_in node) && fit_text node

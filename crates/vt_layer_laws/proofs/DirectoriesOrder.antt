@@ -7,7 +7,7 @@ use Rattle.std.specs.FinMap.Entries.{below_all, is_sorted, is_sorted-put}
 use Rattle.std.specs.Ordering.{is_lt}
 use Rattle.std.specs.Prelude.{option_map, ⊤}
 use Rattle.vt_spec.specs.Machine.Layers.{OpenLayer, shown, view_of}
-use Rattle.vt_spec.specs.Machine.Lists.{Fresh, folded}
+use Rattle.vt_spec.specs.Lists.{Fresh, folded}
 use Rattle.vt_spec.specs.Machine.Merging.{Merged, entry_below, merged_at, merged_objects}
 use Rattle.vt_spec.specs.Machine.Views.{Shown, View, names_at, names_shown, node_led, paths_from}
 use Rattle.vt_spec.specs.Tree.{Entries, entries_in, name_cmp, with_entry}
@@ -132,11 +132,11 @@ below_beside : (base : List (List ℕ)) (a b : List ℕ) (rest other : List (Lis
 below_beside [] a b rest other h = inl h
 below_beside (first ∷ base) a b rest other h = inr (refl, below_beside base a b rest other h)
 
-last_below : (base : List (List ℕ)) (a b : List ℕ) → PathBelow (base ++ a ∷ []) (base ++ b ∷ []) → NameBelow a b
-last_below [] a b (inl h) = h
-last_below [] a b (inr h) = absurd h.1
-last_below (first ∷ base) a b (inl h) = not_below_itself first h
-last_below (first ∷ base) a b (inr h) = last_below base a b h.1
+last_parent : (base : List (List ℕ)) (a b : List ℕ) → PathBelow (base ++ a ∷ []) (base ++ b ∷ []) → NameBelow a b
+last_parent [] a b (inl h) = h
+last_parent [] a b (inr h) = absurd h.1
+last_parent (first ∷ base) a b (inl h) = not_below_itself first h
+last_parent (first ∷ base) a b (inr h) = last_parent base a b h.1
 
 module _ (views : List (View ℕ)) where
   abbrev Under : List (List ℕ) → List (List ℕ) → Type 0
@@ -192,7 +192,7 @@ module _ (layers : List (OpenLayer ℕ)) (are_open : AreOpen layers) (longest : 
       is_true _ (rising_sorted (filter_map (entry_below nat_eq fresh has_upper (merged_objects layers longest) path) (merged_objects layers longest))
       (pairwise_filter_map (λ a b. PathBelow a.path b.path) (λ a b. NameBelow a.0 b.0) (entry_below nat_eq fresh has_upper (merged_objects layers longest) path)
       (λ a b x y e f h.
-      last_below path x.0 y.0
+      last_parent path x.0 y.0
       (subst (PathBelow (path ++ x.0 ∷ [])) (entry_is_here layers are_open longest bounded fresh distinct has_upper path y.0 b y f).0
       (subst (λ p. PathBelow p b.path) (entry_is_here layers are_open longest bounded fresh distinct has_upper path x.0 a x e).0 h)))
       (merged_objects layers longest)

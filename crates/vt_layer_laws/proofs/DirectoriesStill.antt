@@ -3,7 +3,7 @@ use Rattle.std.proofs.Common.{◌≡◌, ◌∙◌, refl, sym, ap, subst, inl, i
 use Rattle.std.specs.List.{find, list_any}
 use Rattle.std.specs.Prelude.{option_map, option_to_list}
 use Rattle.vt_spec.specs.Machine.Layers.{node_at_path, shown}
-use Rattle.vt_spec.specs.Machine.Lists.{Fresh, evens, holds_of, is_among, then_some}
+use Rattle.vt_spec.specs.Lists.{Fresh, evens, holds_of, is_among, then_some}
 use Rattle.vt_spec.specs.Machine.Merging.{layer_node, merged_at, real_object}
 use Rattle.vt_spec.specs.Machine.Outcome.Mounting.{overlay_filesystem}
 use Rattle.vt_spec.specs.Machine.World.{Filesystem, Layer, Overlay, Real, World, filesystem_numbered, no_filesystem, open_layer, shown_layers}

@@ -4,9 +4,9 @@ use Rattle.std.specs.List.{All}
 use Rattle.std.specs.Prelude.{option_map, nat_eq}
 use Rattle.std.proofs.lemmas.List.Elements.{All-cons, All-head, All-nil, All-tail}
 use Rattle.std.proofs.lemmas.Option.{slice_get-map}
-use Rattle.vt_spec.specs.Machine.FileTree.{opaque_of}
+use Rattle.vt_spec.specs.FileTree.{opaque_of}
 use Rattle.vt_spec.specs.Machine.Layers.{OpenLayer, view_of}
-use Rattle.vt_spec.specs.Machine.Lists.{then_some, when}
+use Rattle.vt_spec.specs.Lists.{then_some, when}
 use Rattle.vt_spec.specs.Machine.Merging.{layer_node, real_object}
 use Rattle.vt_spec.specs.Machine.Views.{Shown, View, hides, node_led, shown, shown_over}
 use Rattle.vt_spec.specs.Machine.World.{open_layer, shown_layers}

@@ -3,8 +3,8 @@ use Rattle.std.proofs.Common.{◌≡◌, ◌≢◌, refl, sym, ap, ◌∙◌, tr
 use Rattle.std.specs.Prelude.{option_map}
 use Rattle.vt_spec.specs.declared.attributes.Kind.TheVariants.{White}
 use Rattle.std.proofs.lemmas.List.Elements.{All-cons, All-head, All-nil, All-tail}
-use Rattle.vt_spec.specs.Machine.FileTree.{is_kind_in, opaque_of}
-use Rattle.vt_spec.specs.Machine.Lists.{fronts, then_some, when}
+use Rattle.vt_spec.specs.FileTree.{is_kind_in, opaque_of}
+use Rattle.vt_spec.specs.Lists.{fronts, then_some, when}
 use Rattle.vt_spec.specs.Machine.Views.{Shown, View, cuts, hides, node_led, shown, shown_from, shown_over}
 use Rattle.vt_spec.specs.Rights.{is_directory}
 use Rattle.vt_spec.specs.Tree.{Node, Tree, is_directory_node, kind_of}

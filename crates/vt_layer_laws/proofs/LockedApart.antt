@@ -2,8 +2,8 @@
 use Rattle.std.proofs.Common.{◌≡◌, ◌≢◌, refl, sym, ap, subst, ◌∙◌, true≢false, ℕ, nat_eq, eq-eqb, eqb-true, Bool, true, false, cond, not, ◌&&◌, ◌||◌, List, [], ◌∷◌, ◌++◌, Option, Some, None, is_some, unwrap_or, inl, inr, ◌⊎◌, ⊎_elim}
 use Rattle.std.specs.List.{find, list_any, list_all}
 use Rattle.std.specs.Prelude.{flat_map, option_to_list}
-use Rattle.vt_spec.specs.Machine.FileTree.{FileTree, is_under, named_parent}
-use Rattle.vt_spec.specs.Machine.Lists.{any_pair, chain, holds_of, is_among, then_some}
+use Rattle.vt_spec.specs.FileTree.{FileTree, is_under, named_parent}
+use Rattle.vt_spec.specs.Lists.{any_pair, chain, holds_of, is_among, then_some}
 use Rattle.vt_spec.specs.Machine.Locked.{counts_in_layer, is_locked, is_object_of, is_real_upper, lies_in_layer, lies_or_counts_under, live_layers, live_upper_and_work, of_overlay, overlaps_one_of, overlay_or, overlays, upper_and_work}
 use Rattle.vt_spec.specs.Machine.World.{Filesystem, Layer, Overlay, World, filesystem_numbered, is_overlay, layers_of, no_filesystem, upper_object}
 use Rattle.vt_spec.specs.Machine.WorldLaws.{IsWorld, ListsNumbers, SameObject, is_plain_layer, is_there, live_lowers, overlap, real_node}
@@ -40,7 +40,7 @@ never_both a b e f g = true≢false (sym (both_hold a b f g) ∙ e)
 under_itself : (files : FileTree ℕ) (directory : ℕ) → is_directory_node (files.tree.node directory) ≡ true
     → is_under nat_eq files directory directory ≡ true
 under_itself files directory is =
-    ap (λ b. cond b (is_among nat_eq directory (chain (Rattle.std.proofs.Common.length files.numbers) (named_parent nat_eq files.tree) directory)) (Rattle.vt_spec.specs.Machine.FileTree.is_file_under nat_eq files directory directory)) is
+    ap (λ b. cond b (is_among nat_eq directory (chain (Rattle.std.proofs.Common.length files.numbers) (named_parent nat_eq files.tree) directory)) (Rattle.vt_spec.specs.FileTree.is_file_under nat_eq files directory directory)) is
     ∙ first (Rattle.std.proofs.Common.length files.numbers)
   where
     started : (o : Option ℕ) (rest : ℕ → List ℕ)

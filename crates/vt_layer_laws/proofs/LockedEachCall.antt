@@ -2,20 +2,21 @@
 use Rattle.std.proofs.Common.{◌≡◌, ◌≢◌, refl, sym, ap, subst, ◌∙◌, true≢false, eqb-true, ℕ, nat_eq, ne_eqb, Bool, true, false, not, ◌*◌, ◌+◌, List, [], ◌∷◌, ◌||◌, Option, Some, None, is_some, option_map, unwrap_or, inl, inr}
 use Rattle.std.proofs.Common.{length, nat_lt}
 use Rattle.vt_spec.specs.declared.errors.Rule.TheVariants.{E1, E2, E6, K1}
-use Rattle.vt_spec.specs.Machine.Calls.{Access, Creation}
-use Rattle.vt_spec.specs.Machine.Calls.Creation.{Exclusive, NoCreation, OrCreate}
-use Rattle.vt_spec.specs.Machine.Changes.{Change}
-use Rattle.vt_spec.specs.Machine.Changes.Change.{CopyUp, SetAttr, SetBytes, SetMark}
-use Rattle.vt_spec.specs.Machine.Lists.{Fresh, evens, is_among, odds}
+use Rattle.vt_spec.specs.Language.Calls.{Access, Creation}
+use Rattle.vt_spec.specs.Language.Calls.Creation.{Exclusive, NoCreation, OrCreate}
+use Rattle.vt_spec.specs.Language.Changes.{Change}
+use Rattle.vt_spec.specs.Language.Changes.Change.{CopyUp, SetAttr, SetBytes, SetMark}
+use Rattle.vt_spec.specs.Lists.{Fresh, evens, is_among, odds}
 use Rattle.vt_spec.specs.Machine.Locked.{is_locked, is_locked_at}
 use Rattle.vt_spec.specs.Machine.Mounts.{Location}
 use Rattle.vt_spec.specs.Machine.Outcome.Attributes.{attr_rules, attr_set, chmod_outcome, chown_outcome, opaque_outcome, opaque_rules}
 use Rattle.vt_spec.specs.Machine.Outcome.Descriptors.{create_file, descriptor_at, descriptor_rules, exclusive_word_rules, is_copied_up, open_by, open_file, open_outcome, open_rules, opened_or_created, pwrite_outcome, pwrite_rules, pwritten, with_copy}
-use Rattle.vt_spec.specs.Machine.Outcome.Making.{file_mode, file_word_rules, largest_file, link_outcome, link_rules, link_text_rules, linking, made_at, make_rules, mkdir_outcome, new_file, new_rules, rewrite_rules, symlink_outcome, whiteout_outcome, whiteout_rules, with_new, write_outcome, written}
+use Rattle.vt_spec.specs.Machine.Outcome.Making.{file_mode, file_word_rules, hard_link_outcome, hard_link_rules, link_text_rules, linking, made_at, make_rules, mkdir_outcome, new_file, new_rules, rewrite_rules, symlink_outcome, whiteout_outcome, whiteout_rules, with_new, write_outcome, written}
+use Rattle.vt_spec.specs.Language.Limits.{largest_file}
 use Rattle.vt_spec.specs.Machine.Outcome.Removing.{is_one_object, moving, object_there, old_word_rules, rename_new_walk, rename_outcome, rename_rules, renamed_by, removing, rmdir_outcome, rmdir_rules, rmdir_word_rules, same_object_rules, unlink_outcome, unlink_rules, without_replaced}
 use Rattle.vt_spec.specs.Machine.Rightful.{node_allows}
 use Rattle.vt_spec.specs.Machine.Rows.{lacks, making}
-use Rattle.vt_spec.specs.Machine.Walk.{Place, directory_walk, file_walk, is_directory_there, is_special, link_walk, name_of, new_leaf_walk, new_walk, object_walk, old_leaf_walk, old_walk, walk_end}
+use Rattle.vt_spec.specs.Machine.Walk.{Place, directory_walk, file_walk, is_directory_there, is_special, symlink_walk, name_of, new_leaf_walk, new_walk, object_walk, old_leaf_walk, old_walk, walk_end}
 use Rattle.vt_spec.specs.Machine.World.{Descriptor, Overlay, Task, World, filesystem_at, mount_at, node_at}
 use Rattle.vt_spec.specs.Rights.{Credentials, cap_sys_admin}
 use Rattle.vt_spec.specs.Tree.{Node, entries_in, entry_named}
@@ -109,14 +110,14 @@ module _ (world : World ℕ) (fresh : Fresh ℕ) (task : Task ℕ) where
       new_left place _ passed.1.1.1.1.0 (allowed_there _ _ _ passed.1.1.1.1.1.0)))
 
   -- the object that gets a name is there
-  pub link_left : (old name : List ℕ) → Ends (λ here. NodeThere here.location) (link_walk nat_eq world task old)
-      → Left (link_outcome nat_eq fresh world task old name).world
-  unfolding link_outcome
+  pub link_left : (old name : List ℕ) → Ends (λ here. NodeThere here.location) (symlink_walk nat_eq world task old)
+      → Left (hard_link_outcome nat_eq fresh world task old name).world
+  unfolding hard_link_outcome
   link_left old name ends =
-      after_ends (λ here. NodeThere here.location) Left world (link_walk nat_eq world task old) _ same ends (λ from there.
+      after_ends (λ here. NodeThere here.location) Left world (symlink_walk nat_eq world task old) _ same ends (λ from there.
       after_leads Left world same (walk_end (new_leaf_walk nat_eq world task name)) _ (λ place.
       judged_leads Left world same ((is_special place.last, E1) ∷ []) _ (λ word.
-      judged_leads Left world same (link_rules nat_eq world task from.location place (linking from.location place)) _ (λ passed.
+      judged_leads Left world same (hard_link_rules nat_eq world task from.location place (linking from.location place)) _ (λ passed.
       change_left fresh whole place.parent (linking from.location place)
       (λ inode locked new.
       both_fail (nat_eq inode place.parent.node) false

@@ -1,9 +1,9 @@
 -- What lies in a lower layer stays in every call on files, and so do upper layers but for that of one overlay.
 use Rattle.std.proofs.Common.{◌≡◌, ◌≢◌, refl, sym, subst, ◌∙◌, true≢false, ℕ, nat_eq, true, List, [], ◌∷◌, Option, Some, None, inl, ⊎_elim}
 use Rattle.vt_spec.specs.declared.errors.Rule.TheVariants.{K1}
-use Rattle.vt_spec.specs.Machine.Calls.{Call, CapabilityWord, ForkWords}
-use Rattle.vt_spec.specs.Machine.Calls.Call.{Bind, Chdir, Chmod, Chown, Chroot, Close, Drop, Exec, Exit, Fork, Lazy, LinkTo, ListMounts, Ls, Lstat, MakeWhiteout, Mkdir, MountOverlay, MountPlain, MoveMount, Opaque, OpenFile, PivotRoot, Pread, Pwrite, Read, Readlink, Remount, Rename, Rmdir, SetType, Setns, Stat, SymlinkAt, Umask, Umount, Unlink, Unshare, Write}
-use Rattle.vt_spec.specs.Machine.Lists.{Fresh}
+use Rattle.vt_spec.specs.Language.Calls.{Call, CapabilityWord, ForkWords}
+use Rattle.vt_spec.specs.Language.Calls.Call.{Bind, Chdir, Chmod, Chown, Chroot, Close, Drop, Exec, Exit, Fork, Lazy, LinkTo, ListMounts, Ls, Lstat, MakeWhiteout, Mkdir, MountOverlay, MountPlain, MoveMount, Opaque, OpenFile, PivotRoot, Pread, Pwrite, Read, Readlink, Remount, Rename, Rmdir, SetType, Setns, Stat, SymlinkAt, Umask, Umount, Unlink, Unshare, Write}
+use Rattle.vt_spec.specs.Lists.{Fresh}
 use Rattle.vt_spec.specs.Machine.Listing.{mounts_outcome}
 use Rattle.vt_spec.specs.Machine.Locked.{is_locked, lies_or_counts_under, live_layers, upper_and_work}
 use Rattle.vt_spec.specs.Machine.Outcome.Descriptors.{close_outcome, descriptor_at, pread_outcome}
@@ -11,7 +11,7 @@ use Rattle.vt_spec.specs.Machine.Outcome.Looking.{exec_outcome, exec_rules, list
 use Rattle.vt_spec.specs.Machine.Outcome.Tasks.{chdir_outcome, child_credentials, chroot_outcome, drop_outcome, enter_rules, fork_outcome, fork_rules, umask_outcome}
 use Rattle.vt_spec.specs.Machine.Policy.{call_outcome}
 use Rattle.vt_spec.specs.Machine.Rows.{lacks}
-use Rattle.vt_spec.specs.Machine.Walk.{directory_walk, link_walk, object_walk, walk_end}
+use Rattle.vt_spec.specs.Machine.Walk.{directory_walk, symlink_walk, object_walk, walk_end}
 use Rattle.vt_spec.specs.Machine.World.{Layer, Overlay, Task, World, filesystem_numbered, layers_of, task_called}
 use Rattle.vt_spec.specs.Rights.{cap_sys_chroot}
 use Rattle.std.specs.Prelude.{Contains}
@@ -47,12 +47,12 @@ module _ (world : World ℕ) (fresh : Fresh ℕ) (task : Task ℕ) where
 
   lstat_left : (path : List ℕ) → Left (lstat_outcome nat_eq world task path).world
   unfolding lstat_outcome
-  lstat_left path = after_leads Left world same (walk_end (link_walk nat_eq world task path)) _ (λ here. same)
+  lstat_left path = after_leads Left world same (walk_end (symlink_walk nat_eq world task path)) _ (λ here. same)
 
   readlink_left : (path : List ℕ) → Left (readlink_outcome nat_eq world task path).world
   unfolding readlink_outcome
   readlink_left path =
-      after_leads Left world same (walk_end (link_walk nat_eq world task path)) _ (λ here.
+      after_leads Left world same (walk_end (symlink_walk nat_eq world task path)) _ (λ here.
       judged_leads Left world same (readlink_rules nat_eq world here.location) _ (λ passed. same))
 
   read_left : (path : List ℕ) → Left (read_outcome nat_eq world task path).world

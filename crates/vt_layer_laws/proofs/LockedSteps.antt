@@ -7,7 +7,7 @@ use Rattle.vt_spec.specs.declared.errors.Rule.TheVariants.{W6, W8}
 use Rattle.vt_spec.specs.Errors.{denial, unless}
 use Rattle.vt_spec.specs.Tree.{entries_in, entry_named, is_directory_node}
 use Rattle.vt_spec.specs.TreeLaws.{IsTree}
-use Rattle.vt_spec.specs.Machine.Lists.{last_or}
+use Rattle.vt_spec.specs.Lists.{last_or}
 use Rattle.vt_spec.specs.Machine.Mounts.{Location, Mount, child_at, mount_in, no_mount, root_of, same_location, stands_at, topmost}
 use Rattle.vt_spec.specs.Machine.Walk.{Here, LastWord, Stop, entry_location, hop, hops, is_lost, is_top, parent_location, search_rules, stepped, steps_with, up_from, word_walked}
 use Rattle.vt_spec.specs.Machine.Walk.LastWord.{Dot, DotDot, Named, NoWord}
@@ -55,20 +55,20 @@ module _ (world : World ℕ) (conditions : IsWorld nat_eq world) where
       (λ a b there e. directory_there b (child_there a b e)) (length world.mounts) location location is
 
   -- the place of a mount
-  place_there : (number : ℕ) (place : Location ℕ) → (mount_in nat_eq world.mounts number).place ≡ Some place → IsDirectoryThere place
+  place_there : (number : ℕ) (place : Location ℕ) → (mount_in nat_eq world.mounts number).mount_point ≡ Some place → IsDirectoryThere place
   place_there number place e = by (find (λ mount. nat_eq number mount.number) world.mounts) refl e
     where
       by : (o : Option (Mount ℕ)) → find (λ mount. nat_eq number mount.number) world.mounts ≡ o
-          → (unwrap_or o (no_mount number)).place ≡ Some place → IsDirectoryThere place
+          → (unwrap_or o (no_mount number)).mount_point ≡ Some place → IsDirectoryThere place
       by None is h = none_is_not None place refl h
       by (Some mount) is h =
-          found_all (λ m. (at : Location ℕ) → m.place ≡ Some at → is_directory_at nat_eq world at ≡ true) (λ m. nat_eq number m.number) world.mounts mount standing.places is place h
+          found_all (λ m. (at : Location ℕ) → m.mount_point ≡ Some at → is_directory_at nat_eq world at ≡ true) (λ m. nat_eq number m.number) world.mounts mount standing.places is place h
 
   module _ (task : Task ℕ) where
     hop_there : (a b : Location ℕ) → IsDirectoryThere a → hop nat_eq world task a ≡ Some b → IsDirectoryThere b
     hop_there a b is e = by (same_location nat_eq a task.root) (nat_eq a.node (mount_at nat_eq world a).root) e
       where
-        by : (p q : Bool) → cond p None (cond q (mount_at nat_eq world a).place None) ≡ Some b → IsDirectoryThere b
+        by : (p q : Bool) → cond p None (cond q (mount_at nat_eq world a).mount_point None) ≡ Some b → IsDirectoryThere b
         by true q h = none_is_not None b refl h
         by false true h = place_there a.mount b h
         by false false h = none_is_not None b refl h

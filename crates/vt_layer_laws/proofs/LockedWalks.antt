@@ -6,12 +6,14 @@ use Rattle.vt_spec.specs.Errors.{denial}
 use Rattle.vt_spec.specs.declared.errors.Deny.{Deny}
 use Rattle.vt_spec.specs.declared.errors.Rule.TheVariants.{S4}
 use Rattle.vt_spec.specs.PathText.{ends_in_slash, is_absolute, words}
-use Rattle.vt_spec.specs.Machine.FileTree.{link_text}
+use Rattle.vt_spec.specs.FileTree.{symlink_text}
 use Rattle.vt_spec.specs.Machine.Mounts.{Location}
 use Rattle.vt_spec.specs.Machine.Outcome.Descriptors.{descriptor_at, descriptor_numbered}
-use Rattle.vt_spec.specs.Machine.Walk.{Follow, Here, LastWord, Stop, final_word, follow_rules, followed, front_walked, if_link, last_walked, last_word, link_walk_by, link_start, link_walk, link_walked, most_links, object_walk, path_text, path_walked, slash_rules, start_of, walk_start, walk_unless, word_walked, words_walked}
+use Rattle.vt_spec.specs.Machine.Walk.{Follow, Here, LastWord, Stop, final_word, follow_rules, followed, front_walked, if_link, last_walked, last_word, symlink_walk_by, symlink_start, symlink_walk, symlink_walked, object_walk, path_text, path_walked, slash_rules, start_of, walk_start, walk_unless, word_walked, words_walked}
+use Rattle.vt_spec.specs.Language.Limits.{most_symlinks}
 use Rattle.vt_spec.specs.Machine.Walk.LastWord.{Dot, DotDot, Named, NoWord}
-use Rattle.vt_spec.specs.Machine.World.{Descriptor, Task, World, all_locations, files_at, is_directory_at, locations_of, node_at, same_name, task_called}
+use Rattle.vt_spec.specs.Machine.World.{Descriptor, Task, World, all_locations, files_at, is_directory_at, locations_of, node_at, task_called}
+use Rattle.vt_spec.specs.Language.Calls.{same_name}
 use Rattle.vt_spec.specs.Machine.WorldLaws.{IsWorld, is_located_well, stands_on_directories}
 use Rattle.vt_spec.proofs.Lists.{Among, among-flat_map, among-map, among_from_list_all}
 use Rattle.vt_spec.proofs.Nodes.{directory_used}
@@ -77,18 +79,18 @@ module _ (world : World ℕ) (conditions : IsWorld nat_eq world) (task : Task �
       (word_there world conditions task reached (last_word word))
       (λ next found.
       if_link_there next (follow reached.location next) found (λ text. goes reached.location next text end)
-      (link_text (node_at nat_eq world next.location))))
+      (symlink_text (node_at nat_eq world next.location))))
 
-  link_there : (depth : ℕ) → FollowEnds (λ directory link text. link_walked nat_eq depth world task directory link text)
-  link_there zero directory link text is = tt
-  link_there (suc depth) directory link text is =
+  symlink_there : (depth : ℕ) → FollowEnds (λ directory link text. symlink_walked nat_eq depth world task directory link text)
+  symlink_there zero directory link text is = tt
+  symlink_there (suc depth) directory link text is =
       ends_then (λ start. There start.location) (λ next. There next.location)
-      (walk_unless link.steps (follow_rules nat_eq world link text) (link_start nat_eq world task directory link text)) _
+      (walk_unless link.steps (follow_rules nat_eq world link text) (symlink_start nat_eq world task directory link text)) _
       (ends_unless (λ start. There start.location) link.steps (follow_rules nat_eq world link text)
-      (link_start nat_eq world task directory link text) (λ passed. start_there directory text is)) (λ start start_is.
+      (symlink_start nat_eq world task directory link text) (λ passed. start_there directory text is)) (λ start start_is.
       ends_then (λ reached. There reached.location) (λ next. There next.location)
-      (words_walked nat_eq world task (λ inside next inner. link_walked nat_eq depth world task inside next inner) start (reverse (words text))) _
-      (words_there (λ inside next inner. link_walked nat_eq depth world task inside next inner) (link_there depth) start start_is (reverse (words text)))
+      (words_walked nat_eq world task (λ inside next inner. symlink_walked nat_eq depth world task inside next inner) start (reverse (words text))) _
+      (words_there (λ inside next inner. symlink_walked nat_eq depth world task inside next inner) (symlink_there depth) start start_is (reverse (words text)))
       (λ reached end.
       ends_unless (λ next. There next.location) reached.steps (slash_rules nat_eq world text reached.location) reached (λ passed. end)))
 
@@ -96,7 +98,7 @@ module _ (world : World ℕ) (conditions : IsWorld nat_eq world) (task : Task �
   object_walk_there path =
       ends_then (λ here. There here.location) (λ here. There here.location) (path_walked nat_eq world task path) _
       (ends_next (λ here. There here.location) (path_text path) _ (λ text.
-      words_there (followed nat_eq world task) (λ directory link inner is. link_there (most_links + 1) directory link inner is)
+      words_there (followed nat_eq world task) (λ directory link inner is. symlink_there (most_symlinks + 1) directory link inner is)
       (walk_start task text) (start_there task.directory text own_there) (reverse (words text))))
       (λ here end. ends_unless (λ next. There next.location) here.steps (slash_rules nat_eq world path here.location) here (λ passed. end))
 
@@ -104,7 +106,7 @@ module _ (world : World ℕ) (conditions : IsWorld nat_eq world) (task : Task �
       → EndsThere (front_walked nat_eq world task (followed nat_eq world task) here list)
   front_there here is [] = is
   front_there here is (word ∷ front) =
-      words_there (followed nat_eq world task) (λ directory link inner at. link_there (most_links + 1) directory link inner at) here is front
+      words_there (followed nat_eq world task) (λ directory link inner at. symlink_there (most_symlinks + 1) directory link inner at) here is front
 
   last_there : (here : Here ℕ) (word : LastWord) → There here.location → EndsThere (last_walked nat_eq world task here word)
   last_there here NoWord is = is
@@ -112,7 +114,7 @@ module _ (world : World ℕ) (conditions : IsWorld nat_eq world) (task : Task �
   last_there here DotDot is = word_there world conditions task here DotDot
   last_there here (Named name) is = word_there world conditions task here (Named name)
 
-  link_walk_by_there : (b : Bool) (path : List ℕ) → EndsThere (link_walk_by nat_eq b world task path)
+  link_walk_by_there : (b : Bool) (path : List ℕ) → EndsThere (symlink_walk_by nat_eq b world task path)
   link_walk_by_there true path = object_walk_there path
   link_walk_by_there false path =
       ends_next (λ here. There here.location) (path_text path) _ (λ text.
@@ -121,7 +123,7 @@ module _ (world : World ℕ) (conditions : IsWorld nat_eq world) (task : Task �
       (front_there (walk_start task text) (start_there task.directory text own_there) (reverse (words text)))
       (λ here is. last_there here (final_word (reverse (words text))) is))
 
-  pub link_walk_there : (path : List ℕ) → EndsThere (link_walk nat_eq world task path)
+  pub link_walk_there : (path : List ℕ) → EndsThere (symlink_walk nat_eq world task path)
   link_walk_there path = link_walk_by_there (ends_in_slash path) path
 
   pub descriptor_there : (number : ℕ) (fits : Descriptor ℕ → Bool) (descriptor : Descriptor ℕ) → descriptor_at task number fits ≡ Ok descriptor

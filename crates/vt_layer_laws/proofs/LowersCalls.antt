@@ -4,9 +4,9 @@ use Rattle.std.proofs.lemmas.Bool.Decides.{eqb_tells}
 use Rattle.std.specs.List.{find}
 use Rattle.vt_spec.specs.declared.errors.Deny.{Deny}
 use Rattle.vt_spec.specs.Errors.{Rules}
-use Rattle.vt_spec.specs.Machine.Changes.{Change, changed}
+use Rattle.vt_spec.specs.Language.Changes.{Change, changed}
 use Rattle.vt_spec.specs.Machine.Filesystems.{filesystem_changed, with_change, with_files}
-use Rattle.vt_spec.specs.Machine.Lists.{Fresh, is_among}
+use Rattle.vt_spec.specs.Lists.{Fresh, is_among}
 use Rattle.vt_spec.specs.Machine.Locked.{is_locked, is_locked_at}
 use Rattle.vt_spec.specs.Machine.Mounts.{Location}
 use Rattle.vt_spec.specs.Machine.Outcomes.{Outcome, after, judged}

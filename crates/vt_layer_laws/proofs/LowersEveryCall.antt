@@ -1,9 +1,9 @@
 -- Every call that changes no mount by its own leaves what is locked as it was.
 use Rattle.std.proofs.Common.{◌≡◌, ◌≢◌, sym, true≢false, ℕ, nat_eq, true, List, [], ◌∷◌, Option}
 use Rattle.vt_spec.specs.declared.errors.Rule.TheVariants.{K1}
-use Rattle.vt_spec.specs.Machine.Calls.{Call, CapabilityWord, ForkWords}
-use Rattle.vt_spec.specs.Machine.Calls.Call.{Bind, Chdir, Chmod, Chown, Chroot, Close, Drop, Exec, Exit, Fork, Lazy, LinkTo, ListMounts, Ls, Lstat, MakeWhiteout, Mkdir, MountOverlay, MountPlain, MoveMount, Opaque, OpenFile, PivotRoot, Pread, Pwrite, Read, Readlink, Remount, Rename, Rmdir, SetType, Setns, Stat, SymlinkAt, Umask, Umount, Unlink, Unshare, Write}
-use Rattle.vt_spec.specs.Machine.Lists.{Fresh}
+use Rattle.vt_spec.specs.Language.Calls.{Call, CapabilityWord, ForkWords}
+use Rattle.vt_spec.specs.Language.Calls.Call.{Bind, Chdir, Chmod, Chown, Chroot, Close, Drop, Exec, Exit, Fork, Lazy, LinkTo, ListMounts, Ls, Lstat, MakeWhiteout, Mkdir, MountOverlay, MountPlain, MoveMount, Opaque, OpenFile, PivotRoot, Pread, Pwrite, Read, Readlink, Remount, Rename, Rmdir, SetType, Setns, Stat, SymlinkAt, Umask, Umount, Unlink, Unshare, Write}
+use Rattle.vt_spec.specs.Lists.{Fresh}
 use Rattle.vt_spec.specs.Machine.Listing.{mounts_outcome}
 use Rattle.vt_spec.specs.Machine.Locked.{is_locked}
 use Rattle.vt_spec.specs.Machine.Outcome.Descriptors.{close_outcome, descriptor_at, pread_outcome}
@@ -11,7 +11,7 @@ use Rattle.vt_spec.specs.Machine.Outcome.Looking.{exec_outcome, exec_rules, list
 use Rattle.vt_spec.specs.Machine.Outcome.Tasks.{chdir_outcome, child_credentials, chroot_outcome, drop_outcome, enter_rules, fork_outcome, fork_rules, umask_outcome}
 use Rattle.vt_spec.specs.Machine.Policy.{call_outcome}
 use Rattle.vt_spec.specs.Machine.Rows.{lacks}
-use Rattle.vt_spec.specs.Machine.Walk.{directory_walk, link_walk, object_walk, walk_end}
+use Rattle.vt_spec.specs.Machine.Walk.{directory_walk, symlink_walk, object_walk, walk_end}
 use Rattle.vt_spec.specs.Machine.World.{Task, World}
 use Rattle.vt_spec.specs.Rights.{cap_sys_chroot}
 use Rattle.vt_layer_laws.specs.Layers.Untouched.{HasNoUpperLayer, changes_no_mount}
@@ -38,12 +38,12 @@ module _ (world : World ℕ) (filesystem inode : ℕ) (task : Task ℕ) where
 
   lstat_stays : (path : List ℕ) → Kept (lstat_outcome nat_eq world task path).world
   unfolding lstat_outcome
-  lstat_stays path = after_leads Kept world kept (walk_end (link_walk nat_eq world task path)) _ (λ here. kept)
+  lstat_stays path = after_leads Kept world kept (walk_end (symlink_walk nat_eq world task path)) _ (λ here. kept)
 
   readlink_stays : (path : List ℕ) → Kept (readlink_outcome nat_eq world task path).world
   unfolding readlink_outcome
   readlink_stays path =
-      after_leads Kept world kept (walk_end (link_walk nat_eq world task path)) _ (λ here.
+      after_leads Kept world kept (walk_end (symlink_walk nat_eq world task path)) _ (λ here.
       judged_leads Kept world kept (readlink_rules nat_eq world here.location) _ (λ passed. kept))
 
   read_stays : (path : List ℕ) → Kept (read_outcome nat_eq world task path).world

@@ -1,10 +1,10 @@
 -- What each change of a tree leaves as it was.
 use Rattle.std.proofs.Common.{◌≡◌, refl, sym, ap, subst, ◌∙◌, true≢false, ℕ, nat_eq, Bool, true, false, cond, ◌||◌, List, ⊎_elim, Option, Some, None, is_some}
 use Rattle.std.proofs.lemmas.Bool.Decides.{eqb_tells}
-use Rattle.vt_spec.specs.Machine.Changes.{Change, changed, changed_node, content_with_parent, node_with_attr, node_with_mark, node_with_parent, node_without_entry, with_inode, with_moved, with_name, without_name, without_parent}
-use Rattle.vt_spec.specs.Machine.Changes.Change.{AddName, CopyUp, Make, Move, Remove, SetAttr, SetBytes, SetMark}
-use Rattle.vt_spec.specs.Machine.FileTree.{FileTree, attr_in, is_opaque_in, kind_in, opaque_of}
-use Rattle.vt_spec.specs.Machine.Lists.{is_among}
+use Rattle.vt_spec.specs.Language.Changes.{Change, changed, changed_node, content_with_parent, node_with_attr, node_with_mark, node_with_parent, node_without_entry, with_inode, with_moved, with_name, without_name, without_parent}
+use Rattle.vt_spec.specs.Language.Changes.Change.{AddName, CopyUp, Make, Move, Remove, SetAttr, SetBytes, SetMark}
+use Rattle.vt_spec.specs.FileTree.{FileTree, attr_in, is_opaque_in, kind_in, opaque_of}
+use Rattle.vt_spec.specs.Lists.{is_among}
 use Rattle.vt_spec.specs.Tree.{Content, Node, bytes_in, bytes_of, entries_in, entries_of, entry_named, kind_of, node_with_bytes, node_with_entry}
 use Rattle.vt_spec.specs.Tree.Content.{Directory, Regular, Symlink, Whiteout}
 use Rattle.vt_layer_laws.specs.Layers.Untouched.{IsKept, inodes_changed}

@@ -29,14 +29,14 @@ regrouped_filesystems true world = refl
 going_number : (world : World ℕ) (gone : List ℕ) (mount : Mount ℕ) → (after_going nat_eq world gone mount).number ≡ mount.number
 going_number world gone mount = by (Rattle.vt_spec.specs.Machine.Detach.is_going nat_eq gone mount.number)
   where
-    by : (b : Bool) → (cond b (Rattle.vt_spec.specs.Machine.Mounts.detached mount) (record mount { place = Rattle.std.specs.Prelude.option_map (Rattle.vt_spec.specs.Machine.Detach.place_left nat_eq world gone) mount.place })).number ≡ mount.number
+    by : (b : Bool) → (cond b (Rattle.vt_spec.specs.Machine.Mounts.detached mount) (record mount { mount_point = Rattle.std.specs.Prelude.option_map (Rattle.vt_spec.specs.Machine.Detach.mount_point_left nat_eq world gone) mount.mount_point })).number ≡ mount.number
     by true = refl
     by false = refl
 
 going_filesystem : (world : World ℕ) (gone : List ℕ) (mount : Mount ℕ) → (after_going nat_eq world gone mount).filesystem ≡ mount.filesystem
 going_filesystem world gone mount = by (Rattle.vt_spec.specs.Machine.Detach.is_going nat_eq gone mount.number)
   where
-    by : (b : Bool) → (cond b (Rattle.vt_spec.specs.Machine.Mounts.detached mount) (record mount { place = Rattle.std.specs.Prelude.option_map (Rattle.vt_spec.specs.Machine.Detach.place_left nat_eq world gone) mount.place })).filesystem ≡ mount.filesystem
+    by : (b : Bool) → (cond b (Rattle.vt_spec.specs.Machine.Mounts.detached mount) (record mount { mount_point = Rattle.std.specs.Prelude.option_map (Rattle.vt_spec.specs.Machine.Detach.mount_point_left nat_eq world gone) mount.mount_point })).filesystem ≡ mount.filesystem
     by true = refl
     by false = refl
 

@@ -2,10 +2,10 @@
 use Rattle.std.proofs.Common.{◌≡◌, ◌≢◌, refl, sym, ap, subst, ◌∙◌, true≢false, ℕ, nat_eq, ne_eqb, Bool, true, false, cond, List, [], ◌∷◌, map, ⊎_elim, Option, Some, None, unwrap_or}
 use Rattle.std.specs.List.{find}
 use Rattle.std.proofs.lemmas.Bool.Decides.{eqb_tells}
-use Rattle.vt_spec.specs.Machine.Changes.{Change}
+use Rattle.vt_spec.specs.Language.Changes.{Change}
 use Rattle.vt_spec.specs.Machine.CopyUp.{Merge}
 use Rattle.vt_spec.specs.Machine.Filesystems.{filesystem_changed, overlay_changed, with_change, with_files, with_merge}
-use Rattle.vt_spec.specs.Machine.Lists.{Fresh}
+use Rattle.vt_spec.specs.Lists.{Fresh}
 use Rattle.vt_spec.specs.Machine.Mounts.{Location}
 use Rattle.vt_spec.specs.Machine.World.{Filesystem, Layer, Overlay, World, filesystem_at, filesystem_numbered, mount_at, no_filesystem, replaced_if_numbered, with_filesystem}
 

@@ -3,9 +3,9 @@ use Rattle.std.proofs.Common.{◌≡◌, refl, sym, ap, subst, ◌∙◌, true�
 use Rattle.std.specs.List.{list_any}
 use Rattle.std.specs.Cmp.Lexicographic.{bytes_decides}
 use Rattle.vt_spec.specs.declared.attributes.Kind.TheVariants.{White}
-use Rattle.vt_spec.specs.Machine.FileTree.{is_kind, is_kind_in}
+use Rattle.vt_spec.specs.FileTree.{is_kind, is_kind_in}
 use Rattle.vt_spec.specs.Machine.Layers.{OpenLayer, Shown, at_path, cuts, hides, node_at_path, shown, shown_from, shown_over}
-use Rattle.vt_spec.specs.Machine.Lists.{fronts, then_some, when}
+use Rattle.vt_spec.specs.Lists.{fronts, then_some, when}
 use Rattle.vt_spec.specs.Machine.Merging.{layer_node}
 use Rattle.vt_spec.specs.Machine.WorldLaws.{SameObject, same_content}
 use Rattle.vt_spec.specs.Rights.{is_directory}

@@ -1,9 +1,9 @@
 -- What is computed to be shown at a path is what is shown there.
 use Rattle.std.proofs.Common.{◌≡◌, ◌≢◌, ◌<◌, ◌↔◌, refl, sym, ap, subst, ◌∙◌, true≢false, arith, ℕ, zero, suc, ◌+◌, Bool, true, false, not, List, [], ◌∷◌, Option, Some, None, is_some}
 use Rattle.vt_spec.specs.declared.attributes.Kind.TheVariants.{White}
-use Rattle.vt_spec.specs.Machine.FileTree.{is_kind, is_kind_in}
+use Rattle.vt_spec.specs.FileTree.{is_kind, is_kind_in}
 use Rattle.vt_spec.specs.Machine.Layers.{OpenLayer, Shown, at_path, cuts, hides, node_at_path, shown, shown_from, shown_over}
-use Rattle.vt_spec.specs.Machine.Lists.{then_some}
+use Rattle.vt_spec.specs.Lists.{then_some}
 use Rattle.vt_spec.specs.Tree.{Content, Node, kind_of}
 use Rattle.vt_spec.specs.Tree.Content.{Directory, Regular, Symlink, Whiteout}
 use Rattle.vt_layer_laws.specs.Layers.Shown.{HasAt, HasInodeAt, HasUncut, IsCut, IsShown}
@@ -148,7 +148,7 @@ computed_is_shown depth [] path seen e = none_is_some seen e
 computed_is_shown depth (layer ∷ lower) path seen e =
     over (at_path layer path) refl (cuts layer path) refl (computed_is_shown (depth + 1) lower path seen) e
   where
-    top : (object : ℕ) → at_path layer path ≡ Some object → (white : Bool) → is_kind_in White (layer.tree.node object) ≡ white → Rattle.vt_spec.specs.Machine.Lists.when (not white) (record { layer = depth; object = object }) ≡ Some seen → ShownFrom depth (layer ∷ lower) path seen
+    top : (object : ℕ) → at_path layer path ≡ Some object → (white : Bool) → is_kind_in White (layer.tree.node object) ≡ white → Rattle.vt_spec.specs.Lists.when (not white) (record { layer = depth; object = object }) ≡ Some seen → ShownFrom depth (layer ∷ lower) path seen
     top object a true w e = none_is_some seen e
     top object a false w e = (
       record { layer = 0; object = object },
@@ -171,7 +171,7 @@ shown_is_computed : (layers : List (OpenLayer ℕ)) (depth : ℕ) (path : List (
 shown_is_computed [] depth path layer object is = none_is_some is.has_uncut.0.0 is.has_uncut.0.1
 shown_is_computed (top ∷ lower) depth path zero object is =
     ap (λ o. shown_over top depth o (cuts top path) (shown_from (depth + 1) lower path)) (has_top top lower path object is.has_uncut.0)
-    ∙ ap (λ b. Rattle.vt_spec.specs.Machine.Lists.when (not b) (record { layer = depth; object = object }))
+    ∙ ap (λ b. Rattle.vt_spec.specs.Lists.when (not b) (record { layer = depth; object = object }))
     (top_is_no_whiteout top lower path object (has_top top lower path object is.has_uncut.0) is.no_whiteout)
     ∙ ap (λ d. Some (record { layer = d; object = object })) (omega arith)
 shown_is_computed (top ∷ lower) depth path (suc layer) object is =

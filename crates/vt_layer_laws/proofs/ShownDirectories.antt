@@ -1,9 +1,9 @@
 -- What is shown under a name is shown in a directory.
 use Rattle.std.proofs.Common.{◌≡◌, ◌≢◌, refl, sym, ap, subst, ◌∙◌, true≢false, arith, ℕ, suc, ◌+◌, Bool, true, false, not, ◌||◌, List, [], ◌∷◌, ◌++◌, Option, Some, None, is_some, option_and_then, slice_get}
 use Rattle.vt_spec.specs.declared.attributes.Kind.TheVariants.{White}
-use Rattle.vt_spec.specs.Machine.FileTree.{is_kind, is_kind_in, opaque_of}
+use Rattle.vt_spec.specs.FileTree.{is_kind, is_kind_in, opaque_of}
 use Rattle.vt_spec.specs.Machine.Layers.{OpenLayer, Shown, at_path, cuts, hides, node_at_path, shown_from, shown_over}
-use Rattle.vt_spec.specs.Machine.Lists.{then_some, when}
+use Rattle.vt_spec.specs.Lists.{then_some, when}
 use Rattle.vt_spec.specs.Rights.{is_directory}
 use Rattle.vt_spec.specs.Tree.{Content, Node, is_directory_node, kind_of}
 use Rattle.vt_spec.specs.Tree.Content.{Directory, Regular, Symlink, Whiteout}

@@ -1,9 +1,9 @@
 -- The fronts of a path at which a layer cuts what is below it.
 use Rattle.std.proofs.Common.{◌≡◌, ◌≢◌, refl, sym, ap, ◌∙◌, true≢false, ℕ, Bool, true, false, not, ◌||◌, List, [], ◌∷◌, ◌++◌, map, Option, Some, None}
 use Rattle.std.specs.List.{list_any}
-use Rattle.vt_spec.specs.Machine.FileTree.{opaque_of}
+use Rattle.vt_spec.specs.FileTree.{opaque_of}
 use Rattle.vt_spec.specs.Machine.Layers.{OpenLayer, cuts, hides, node_at_path}
-use Rattle.vt_spec.specs.Machine.Lists.{fronts}
+use Rattle.vt_spec.specs.Lists.{fronts}
 use Rattle.vt_spec.specs.Rights.{is_directory}
 use Rattle.vt_spec.specs.Tree.{Content, Node, kind_of}
 use Rattle.vt_spec.specs.Tree.Content.{Directory, Regular, Symlink, Whiteout}

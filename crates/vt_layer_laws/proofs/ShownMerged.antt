@@ -6,7 +6,7 @@ use Rattle.std.specs.Cmp.Lexicographic.{nat_list_cmp_total}
 use Rattle.std.specs.Ordering.{eq_by_cmp, is_eq}
 use Rattle.std.specs.Prelude.{option_map}
 use Rattle.vt_spec.specs.Machine.Layers.{OpenLayer, Shown, at_path, shown}
-use Rattle.vt_spec.specs.Machine.Lists.{Fresh, front_of, last_or, then_some, when}
+use Rattle.vt_spec.specs.Lists.{Fresh, front_of, last_or, then_some, when}
 use Rattle.vt_spec.specs.Machine.Merging.{Merged, MergedInode, entry_below, inode_of, is_one_inode, is_root_path, layer_node, merged_content, merged_inode, merged_inodes, merged_number, merged_objects, real_object, real_of, same_path}
 use Rattle.vt_spec.specs.Rights.{is_directory}
 use Rattle.vt_spec.specs.Tree.{Node, entry_named, is_directory_node, kind_of, name_cmp}

@@ -6,9 +6,9 @@ use Rattle.std.specs.Str.{bytes_eq}
 use Rattle.std.specs.Cmp.Lexicographic.{bytes_decides}
 use Rattle.std.proofs.lemmas.List.Sums.{sum_by-cons}
 use Rattle.std.proofs.lemmas.Option.{slice_get-map}
-use Rattle.vt_spec.specs.Machine.FileTree.{FileTree}
+use Rattle.vt_spec.specs.FileTree.{FileTree}
 use Rattle.vt_spec.specs.Machine.Layers.{OpenLayer, Shown, node_at_path, shown}
-use Rattle.vt_spec.specs.Machine.Lists.{Fresh, holds_of, odds, then_some, when}
+use Rattle.vt_spec.specs.Lists.{Fresh, holds_of, odds, then_some, when}
 use Rattle.vt_spec.specs.Machine.Merging.{merged_inodes, merged_objects, real_of}
 use Rattle.vt_spec.specs.Machine.Outcome.Mounting.{inode_count, overlay_filesystem}
 use Rattle.vt_spec.specs.Machine.World.{Filesystem, Layer, Overlay, Real, World, filesystem_numbered, is_overlay, no_filesystem, open_layer, shown_layers}

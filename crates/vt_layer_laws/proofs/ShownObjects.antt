@@ -5,7 +5,7 @@ use Rattle.std.specs.Prelude.{option_map}
 use Rattle.std.specs.Str.{bytes_eq}
 use Rattle.std.specs.Cmp.Lexicographic.{bytes_decides}
 use Rattle.vt_spec.specs.Machine.Layers.{OpenLayer, Shown, names_shown, paths_from, shown}
-use Rattle.vt_spec.specs.Machine.Lists.{place_from}
+use Rattle.vt_spec.specs.Lists.{place_from}
 use Rattle.vt_spec.specs.Machine.Merging.{Merged, is_one_inode, merged_at, merged_objects, real_object, same_path, same_real}
 use Rattle.vt_spec.specs.Machine.World.Real.{Upper}
 use Rattle.vt_layer_laws.proofs.ShownAtPath.{computed, none_is_some, some_is_one}

@@ -1,7 +1,7 @@
 -- One directory of a tree is led to by one list of names.
 use Rattle.std.proofs.Common.{◌≡◌, ◌≢◌, refl, sym, ap, subst, ◌∙◌, true≢false, arith, ℕ, zero, suc, ◌+◌, Bool, true, false, List, [], ◌∷◌, ◌++◌, length, Option, Some, None, option_and_then}
-use Rattle.vt_spec.specs.Machine.FileTree.{FileTree}
-use Rattle.vt_spec.specs.Machine.Lists.{last_or}
+use Rattle.vt_spec.specs.FileTree.{FileTree}
+use Rattle.vt_spec.specs.Lists.{last_or}
 use Rattle.vt_spec.specs.Machine.Merging.{is_root_path}
 use Rattle.vt_spec.specs.Tree.{Tree}
 use Rattle.vt_spec.specs.TreeLaws.{IsDirectory, IsTree, entry_at, led}

@@ -5,9 +5,9 @@ use Rattle.std.specs.Cmp.Lexicographic.{bytes_decides}
 use Rattle.std.specs.Prelude.{option_map}
 use Rattle.std.specs.Str.{bytes_eq}
 use Rattle.vt_spec.specs.declared.attributes.Kind.TheVariants.{White}
-use Rattle.vt_spec.specs.Machine.FileTree.{is_kind, is_kind_in, is_opaque_in, opaque_of}
+use Rattle.vt_spec.specs.FileTree.{is_kind, is_kind_in, is_opaque_in, opaque_of}
 use Rattle.vt_spec.specs.Machine.Layers.{OpenLayer, Shown, node_at_path, shown}
-use Rattle.vt_spec.specs.Machine.Lists.{Fresh, place_from, then_some}
+use Rattle.vt_spec.specs.Lists.{Fresh, place_from, then_some}
 use Rattle.vt_spec.specs.Machine.Merging.{Merged, MergedInode, inode_of, merged_content, merged_inode, real_object, real_of, same_real}
 use Rattle.vt_spec.specs.Machine.World.{Real}
 use Rattle.vt_spec.specs.Machine.WorldLaws.{SameObject, same_content}

@@ -1,8 +1,8 @@
 -- The directories above one end at the root, within as many steps as there are inodes.
 use Rattle.std.proofs.Common.{◌≡◌, ◌≤◌, refl, sym, ap, subst, ◌∙◌, true≢false, arith, ℕ, zero, suc, nat_eq, eq-eqb, eqb-true, ne_eqb, Bool, true, false, cond, ◌||◌, List, [], ◌∷◌, length, Some, None}
 use Rattle.std.specs.List.{list_any}
-use Rattle.vt_spec.specs.Machine.FileTree.{FileTree, has_entry_to, named_parent}
-use Rattle.vt_spec.specs.Machine.Lists.{chain, when}
+use Rattle.vt_spec.specs.FileTree.{FileTree, has_entry_to, named_parent}
+use Rattle.vt_spec.specs.Lists.{chain, when}
 use Rattle.vt_spec.specs.Machine.WorldLaws.{ListsNumbers}
 use Rattle.vt_spec.specs.Tree.{parent_in}
 use Rattle.vt_spec.specs.TreeLaws.{IsTree}

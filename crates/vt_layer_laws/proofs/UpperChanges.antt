@@ -1,10 +1,10 @@
 -- A change of an overlay writes to new inodes and to objects of the upper layer alone.
 use Rattle.std.proofs.Common.{◌≡◌, ◌≢◌, refl, sym, ap, subst, ◌∙◌, true≢false, ℕ, ◌+◌, ◌*◌, nat_eq, ne_eqb, Bool, true, false, cond, List, Option, Some, None, is_some}
-use Rattle.vt_spec.specs.Machine.Changes.{Change, changed_node, node_with_attr, node_with_mark, node_with_parent, node_without_entries, node_without_entry, with_inode, with_moved}
-use Rattle.vt_spec.specs.Machine.Changes.Change.{AddName, CopyUp, Make, Move, Remove, SetAttr, SetBytes, SetMark}
+use Rattle.vt_spec.specs.Language.Changes.{Change, changed_node, node_with_attr, node_with_mark, node_with_parent, node_without_entries, node_without_entry, with_inode, with_moved}
+use Rattle.vt_spec.specs.Language.Changes.Change.{AddName, CopyUp, Make, Move, Remove, SetAttr, SetBytes, SetMark}
 use Rattle.vt_spec.specs.Machine.CopyUp.{Merge, Stack, changed_both, copied_up, emptied, hides_directory, linked, made, marked, merge_changed, moved, name_left_by, removed, shown_below, upper_directory_named, upper_of, whiteout_of}
-use Rattle.vt_spec.specs.Machine.FileTree.{FileTree, a_name}
-use Rattle.vt_spec.specs.Machine.Lists.{Fresh, evens, odds, then_some}
+use Rattle.vt_spec.specs.FileTree.{FileTree, a_name}
+use Rattle.vt_spec.specs.Lists.{Fresh, evens, odds, then_some}
 use Rattle.vt_spec.specs.Machine.World.{Real, upper_object}
 use Rattle.vt_spec.specs.Machine.WorldLaws.{ListsNumbers}
 use Rattle.vt_spec.specs.Tree.{Node, entries_in, entry_named, is_directory_node, node_with_bytes, node_with_entry}

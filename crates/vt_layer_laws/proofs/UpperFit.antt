@@ -3,7 +3,7 @@ use Rattle.std.proofs.Common.{◌≡◌, refl, sym, ap, subst, ◌∙◌, true�
 use Rattle.std.specs.Prelude.{option_map, option_to_list}
 use Rattle.vt_spec.specs.Machine.Filesystems.{merge_of}
 use Rattle.vt_spec.specs.Machine.Layers.{OpenLayer, Shown, shown}
-use Rattle.vt_spec.specs.Machine.Lists.{Fresh, holds_of, then_some}
+use Rattle.vt_spec.specs.Lists.{Fresh, holds_of, then_some}
 use Rattle.vt_spec.specs.Machine.Merging.{layer_node, real_object}
 use Rattle.vt_spec.specs.Machine.World.{Filesystem, Layer, Overlay, Real, World, filesystem_numbered, open_layer, upper_object}
 use Rattle.vt_spec.specs.Machine.World.Real.{Below, Upper}

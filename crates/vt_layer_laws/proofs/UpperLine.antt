@@ -8,8 +8,8 @@ use Rattle.std.specs.Cmp.Lexicographic.{nat_list_cmp_total}
 use Rattle.std.specs.declared.cmp.Ordering.TheVariants.{Less, Equal, Greater}
 use Rattle.std.specs.FinMap.Entries.{below_all, is_sorted}
 use Rattle.std.specs.Ordering.{eq_by_cmp, is_eq, is_lt}
-use Rattle.vt_spec.specs.Machine.FileTree.{FileTree, a_name, has_entry_to, name_in}
-use Rattle.vt_spec.specs.Machine.Lists.{first_of_list}
+use Rattle.vt_spec.specs.FileTree.{FileTree, a_name, has_entry_to, name_in}
+use Rattle.vt_spec.specs.Lists.{first_of_list}
 use Rattle.vt_spec.specs.Tree.{Content, Entries, Node, Tree, entries_in, entries_of, entry_named, is_directory_node, name_cmp, parent_in}
 use Rattle.vt_spec.specs.Tree.Content.{Directory, Regular, Symlink, Whiteout}
 use Rattle.vt_spec.specs.TreeLaws.{HasName, IsDirectory, IsTree, entry_at, led}

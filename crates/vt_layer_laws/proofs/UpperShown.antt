@@ -4,9 +4,9 @@ use Rattle.std.proofs.Common.{◌≡◌, refl, sym, ap, ◌∙◌, true≢false,
 use Rattle.std.specs.List.{cons_option, filter_map, find, list_any}
 use Rattle.std.specs.Prelude.{option_map}
 use Rattle.vt_spec.specs.declared.attributes.Kind.TheVariants.{White}
-use Rattle.vt_spec.specs.Machine.FileTree.{FileTree, a_name, is_kind, is_kind_in, name_in}
+use Rattle.vt_spec.specs.FileTree.{FileTree, a_name, is_kind, is_kind_in, name_in}
 use Rattle.vt_spec.specs.Machine.Layers.{OpenLayer, Shown, at_path, shown}
-use Rattle.vt_spec.specs.Machine.Lists.{first_of_list, front_of, then_some}
+use Rattle.vt_spec.specs.Lists.{first_of_list, front_of, then_some}
 use Rattle.vt_spec.specs.Machine.Merging.{merged_at, real_object}
 use Rattle.vt_spec.specs.Machine.World.{Real, upper_object}
 use Rattle.vt_spec.specs.Machine.World.Real.{Below, Upper}
@@ -92,7 +92,7 @@ module _ (top : OpenLayer ℕ) (lower : List (OpenLayer ℕ)) where
   upper_is_real path directory e d =
       ap (λ o. option_map (λ object. real_object true object.seen.layer object) (option_map (λ seen. record { path = path; seen = seen }) o))
       (ap (λ o. Rattle.vt_spec.specs.Machine.Layers.shown_over top 0 o (Rattle.vt_spec.specs.Machine.Layers.cuts top path) (Rattle.vt_spec.specs.Machine.Layers.shown_from 1 lower path)) e
-      ∙ ap (λ b. Rattle.vt_spec.specs.Machine.Lists.when (not b) (record { layer = 0; object = directory })) (no_whiteout (top.tree.node directory) d))
+      ∙ ap (λ b. Rattle.vt_spec.specs.Lists.when (not b) (record { layer = 0; object = directory })) (no_whiteout (top.tree.node directory) d))
 
   -- what the upper layer shows at a path with one name more is in a directory of the upper layer
   pub real_is_upper : (path : List (List ℕ)) (name : List ℕ) → is_some (upper_object (real_at (path ++ name ∷ []))) ≡ true → is_some (upper_object (real_at path)) ≡ true

@@ -2,16 +2,16 @@
 use Rattle.std.proofs.Common.{◌≡◌, ◌≢◌, ◌<◌, All, refl, sym, ap, subst, ◌∙◌, true≢false, arith, ℕ, suc, nat_eq, Bool, true, false, cond, not, ◌&&◌, List, [], ◌∷◌, ◌++◌, map, length, Option, Some, None, is_some, unwrap_or}
 use Rattle.std.specs.List.{find, list_all}
 use Rattle.std.specs.Prelude.{nat_le, option_to_list}
-use Rattle.vt_spec.specs.Machine.Changes.{Change}
+use Rattle.vt_spec.specs.Language.Changes.{Change}
 use Rattle.vt_spec.specs.Machine.CopyUp.{Merge, merge_changed}
-use Rattle.vt_spec.specs.Machine.FileTree.{FileTree, a_name}
+use Rattle.vt_spec.specs.FileTree.{FileTree, a_name}
 use Rattle.vt_spec.specs.Machine.Filesystems.{filesystem_changed, merge_of, overlay_changed, stack_of, with_change, with_files, with_merge}
 use Rattle.vt_spec.specs.Machine.Layers.{OpenLayer, shown}
-use Rattle.vt_spec.specs.Machine.Lists.{Fresh, front_of, is_empty_list, then_some}
+use Rattle.vt_spec.specs.Lists.{Fresh, front_of, is_empty_list, then_some}
 use Rattle.vt_spec.specs.Machine.Locked.{of_overlay, overlay_or}
 use Rattle.vt_spec.specs.Machine.Merging.{layer_node, merged_at, real_object}
 use Rattle.vt_spec.specs.Machine.Mounts.{Location}
-use Rattle.vt_spec.specs.Machine.Outcome.Mounting.{most_lowers}
+use Rattle.vt_spec.specs.Language.Limits.{most_lowers}
 use Rattle.vt_spec.specs.Machine.Policy.{same_bool}
 use Rattle.vt_spec.specs.Machine.World.{Filesystem, Layer, Overlay, Real, World, filesystem_at, filesystem_numbered, files_at, is_overlay, layers_of, mount_at, no_filesystem, open_layer, upper_object, with_filesystem}
 use Rattle.vt_spec.specs.Machine.World.Real.{Below, Upper}

@@ -1,10 +1,10 @@
 -- A new name and a removed one, on the view of a layer.
 use Rattle.std.proofs.Common.{◌≡◌, ◌≢◌, refl, sym, ap, subst, ◌∙◌, true≢false, ℕ, nat_eq, Bool, true, false, cond, List, [], ⊎_elim, Option, Some, None, is_some}
 use Rattle.std.proofs.lemmas.Bool.Decides.{eqb_tells}
-use Rattle.vt_spec.specs.Machine.Changes.{changed_node, node_without_entry, with_inode, with_name, without_name, without_parent}
-use Rattle.vt_spec.specs.Machine.Changes.Change.{AddName, CopyUp, Make, Move, Remove, SetAttr, SetBytes, SetMark}
-use Rattle.vt_spec.specs.Machine.FileTree.{FileTree}
-use Rattle.vt_spec.specs.Machine.Lists.{then_some}
+use Rattle.vt_spec.specs.Language.Changes.{changed_node, node_without_entry, with_inode, with_name, without_name, without_parent}
+use Rattle.vt_spec.specs.Language.Changes.Change.{AddName, CopyUp, Make, Move, Remove, SetAttr, SetBytes, SetMark}
+use Rattle.vt_spec.specs.FileTree.{FileTree}
+use Rattle.vt_spec.specs.Lists.{then_some}
 use Rattle.vt_spec.specs.Rights.{is_directory}
 use Rattle.vt_spec.specs.Tree.{Content, Node, Tree, entries_in, entries_of, entry_named, is_directory_node, kind_of, node_with_entry}
 use Rattle.vt_spec.specs.Tree.Content.{Directory, Regular, Symlink, Whiteout}

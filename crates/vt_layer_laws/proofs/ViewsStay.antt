@@ -1,10 +1,10 @@
 -- Changes that move no path of a layer: bytes, attributes and marks, and changes elsewhere in its tree.
 use Rattle.std.proofs.Common.{◌≡◌, refl, sym, ap, subst, ◌∙◌, true≢false, ne_eqb, ℕ, nat_eq, Bool, true, false, ◌||◌, List, [], ◌∷◌, Option, Some, None, is_some, option_and_then}
 use Rattle.vt_spec.specs.declared.attributes.Attr.{Attr}
-use Rattle.vt_spec.specs.Machine.Changes.{Change, changed, changed_node, content_with_mark, node_with_attr, node_with_mark, with_inode}
-use Rattle.vt_spec.specs.Machine.Changes.Change.{AddName, CopyUp, Make, Move, Remove, SetAttr, SetBytes, SetMark}
-use Rattle.vt_spec.specs.Machine.FileTree.{FileTree}
-use Rattle.vt_spec.specs.Machine.Lists.{is_among, then_some}
+use Rattle.vt_spec.specs.Language.Changes.{Change, changed, changed_node, content_with_mark, node_with_attr, node_with_mark, with_inode}
+use Rattle.vt_spec.specs.Language.Changes.Change.{AddName, CopyUp, Make, Move, Remove, SetAttr, SetBytes, SetMark}
+use Rattle.vt_spec.specs.FileTree.{FileTree}
+use Rattle.vt_spec.specs.Lists.{is_among, then_some}
 use Rattle.vt_spec.specs.Tree.{Content, Node, Tree, entries_in, entries_of, entry_named, node_with_bytes}
 use Rattle.vt_spec.specs.Tree.Content.{Directory, Regular, Symlink, Whiteout}
 use Rattle.vt_spec.specs.TreeLaws.{entry_at, led}

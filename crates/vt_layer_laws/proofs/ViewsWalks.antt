@@ -2,7 +2,7 @@
 use Rattle.std.proofs.Common.{◌≡◌, ◌≢◌, refl, sym, ap, ◌∙◌, true≢false, ℕ, nat_eq, Bool, true, false, cond, ◌&&◌, ◌||◌, List, [], ◌∷◌, ◌++◌, map, Option, Some, None, option_and_then}
 use Rattle.std.specs.List.{list_any}
 use Rattle.std.specs.Str.{bytes_eq}
-use Rattle.vt_spec.specs.Machine.Lists.{front_of, fronts, holds_of, last_or, same_option}
+use Rattle.vt_spec.specs.Lists.{front_of, fronts, holds_of, last_or, same_option}
 use Rattle.vt_spec.specs.Machine.Views.{View}
 use Rattle.vt_spec.specs.Tree.{Tree}
 use Rattle.vt_spec.specs.TreeLaws.{entry_at, led}

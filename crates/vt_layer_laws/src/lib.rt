@@ -5,5 +5,5 @@
 
 pub mod directories;
 pub mod layers;
-pub mod views;
 pub mod locked;
+pub mod views;

@@ -3,8 +3,8 @@ use Rattle.std.proofs.Common.{◌≡◌, refl, sym, ap, subst, ◌∙◌, ◌⊎
 use Rattle.std.specs.Prelude.{filter_map}
 use Rattle.std.specs.List.{list_all}
 use Rattle.std.proofs.lemmas.Bool.{and_parts, not-true, or_cases, or_parts}
-use Rattle.vt_spec.specs.Machine.Detach.{after_going, going_at, going_from, has_child, place_below, place_left, taken_away, unmounted}
-use Rattle.vt_spec.specs.Machine.Lists.{chain, holds_of, is_among, last_or}
+use Rattle.vt_spec.specs.Machine.Detach.{after_going, going_at, going_from, has_child, mount_point_of_parent, mount_point_left, taken_away, unmounted}
+use Rattle.vt_spec.specs.Lists.{chain, holds_of, is_among, last_or}
 use Rattle.vt_spec.specs.Machine.Mounts.{Location, Mount, detached, is_shared, mount_in, no_mount, root_of, stands_on}
 use Rattle.vt_spec.specs.Machine.Receives.{is_member_of, regrouped}
 use Rattle.vt_spec.specs.Machine.Settled.{filesystem_lives, is_located, is_mounted, layers_in, located_in, mount_lives, named_in, objects_of_overlay, without_dead_filesystems, without_dead_mounts}
@@ -20,7 +20,7 @@ use Rattle.vt_letting_go.proofs.PlacesLeft.{found_in_filter, found_itself, no_la
 
 -- The unmount of one mount
 module _ (world : World ℕ) (number : ℕ) (alone : has_child nat_eq world number ≡ false) where
-  stays_at : (place : Location ℕ) → nat_eq number place.mount ≡ false → place_left nat_eq world (number ∷ []) place ≡ place
+  stays_at : (place : Location ℕ) → nat_eq number place.mount ≡ false → mount_point_left nat_eq world (number ∷ []) place ≡ place
   stays_at place other = by (length world.mounts)
     where
       not_going : (nat_eq place.mount number || false) ≡ false
@@ -30,31 +30,31 @@ module _ (world : World ℕ) (number : ℕ) (alone : has_child nat_eq world numb
           by true e = absurd (true≢false (sym (eq-eqb number place.mount (sym (eqb-true place.mount number e))) ∙ other))
           by false e = refl
 
-      ends : place_below nat_eq world (number ∷ []) place ≡ None
-      ends = ap (λ b. cond b (mount_at nat_eq world place).place None) not_going
+      ends : mount_point_of_parent nat_eq world (number ∷ []) place ≡ None
+      ends = ap (λ b. cond b (mount_at nat_eq world place).mount_point None) not_going
 
-      by : (n : ℕ) → last_or place (chain n (place_below nat_eq world (number ∷ [])) place) ≡ place
+      by : (n : ℕ) → last_or place (chain n (mount_point_of_parent nat_eq world (number ∷ [])) place) ≡ place
       by zero = refl
       by (suc n) =
-          ap (λ (o : Option (Location ℕ)). last_or place (elim o [ None ↦ place ∷ [] | Some b ↦ place ∷ chain n (place_below nat_eq world (number ∷ [])) b ])) ends
+          ap (λ (o : Option (Location ℕ)). last_or place (elim o [ None ↦ place ∷ [] | Some b ↦ place ∷ chain n (mount_point_of_parent nat_eq world (number ∷ [])) b ])) ends
 
   one_by_one : (mount : Mount ℕ) → Among mount world.mounts → after_going nat_eq world (number ∷ []) mount ≡ detached_if number mount
   one_by_one mount m = by (nat_eq mount.number number)
     where
-      keeps : (o : Option (Location ℕ)) → mount.place ≡ o → option_map (place_left nat_eq world (number ∷ [])) o ≡ o
+      keeps : (o : Option (Location ℕ)) → mount.mount_point ≡ o → option_map (mount_point_left nat_eq world (number ∷ [])) o ≡ o
       keeps None e = refl
       keeps (Some place) e =
           ap Some (stays_at place
           (sym (ap (holds_of (λ l. nat_eq number l.mount)) e) ∙ fails (stands_on nat_eq number) world.mounts alone mount m))
 
-      by : (b : Bool) → cond (b || false) (detached mount) (record mount { place = option_map (place_left nat_eq world (number ∷ [])) mount.place })
+      by : (b : Bool) → cond (b || false) (detached mount) (record mount { mount_point = option_map (mount_point_left nat_eq world (number ∷ [])) mount.mount_point })
           ≡ cond b (detached mount) mount
       by true = refl
-      by false = ap (λ place. record mount { place = place }) (keeps mount.place refl)
+      by false = ap (λ place. record mount { mount_point = place }) (keeps mount.mount_point refl)
 
   goes_alone : StandsUnshared world number → unmounted nat_eq world number ≡ regrouped nat_eq (without_place world number)
   goes_alone unshared =
-      ap (taken_away nat_eq world) (by (mount_numbered nat_eq world number).place unshared)
+      ap (taken_away nat_eq world) (by (mount_numbered nat_eq world number).mount_point unshared)
       ∙ ap (λ mounts. regrouped nat_eq (with_mounts world mounts))
       (map_alike (after_going nat_eq world (number ∷ [])) (detached_if number) world.mounts one_by_one)
     where
@@ -206,7 +206,7 @@ module _ (world : World ℕ) (number : ℕ) (change : Mount ℕ → Mount ℕ) (
       ∙ others_live from.0 from.1 (ap (λ k. nat_eq k number) (sym (moves.number from.0) ∙ ap (λ x. x.number) (sym from.2) ∙ e) ∙ other)
 
   abbrev places_after : List (Location ℕ)
-  places_after = all_locations after ++ map root_of mounted.mounts ++ filter_map (λ mount. mount.place) mounted.mounts
+  places_after = all_locations after ++ map root_of mounted.mounts ++ filter_map (λ mount. mount.mount_point) mounted.mounts
 
   -- Inodes
   module _ (filesystem : Filesystem ℕ) where
@@ -233,7 +233,7 @@ module _ (world : World ℕ) (number : ℕ) (change : Mount ℕ → Mount ℕ) (
     by_location : (location : Location ℕ) → Among location (all_locations world) → filesystem.number ≡ (mount_at nat_eq world location).filesystem
         → is_used_or_among losers.inodes living filesystem location.node ≡ true
     by_location location m e =
-        used_still location (among-append_left (all_locations after ++ map root_of mounted.mounts) (filter_map (λ mount. mount.place) mounted.mounts) location
+        used_still location (among-append_left (all_locations after ++ map root_of mounted.mounts) (filter_map (λ mount. mount.mount_point) mounted.mounts) location
         (among-append_left (all_locations after) (map root_of mounted.mounts) location m))
         (e ∙ sym (found_still location.mount (λ mount n same. or_second (is_some mount.namespace) (is_located nat_eq after mount.number)
         (any_passes (λ l. nat_eq mount.number l.mount) (all_locations after) location m (eq-eqb mount.number location.mount same)))))
@@ -247,7 +247,7 @@ module _ (world : World ℕ) (number : ℕ) (change : Mount ℕ → Mount ℕ) (
         (e ∙ ap (λ n. (mount_in nat_eq world.mounts n).filesystem) (eqb-true mount.number number is)))
         (λ isnt.
         used_still (root_of mount)
-        (among-append_left (all_locations after ++ map root_of mounted.mounts) (filter_map (λ x. x.place) mounted.mounts) (root_of mount)
+        (among-append_left (all_locations after ++ map root_of mounted.mounts) (filter_map (λ x. x.mount_point) mounted.mounts) (root_of mount)
         (among-append_right (all_locations after) (map root_of mounted.mounts) (root_of mount)
         (subst (λ l. Among l (map root_of mounted.mounts)) (same_root mount)
         (among-map root_of mounted.mounts (change mount)
@@ -258,19 +258,19 @@ module _ (world : World ℕ) (number : ℕ) (change : Mount ℕ → Mount ℕ) (
         same_root : (x : Mount ℕ) → root_of (change x) ≡ root_of x
         same_root x = λ i. record { mount = moves.number x i; node = moves.root x i }
 
-    by_place : (mount : Mount ℕ) → Among mount world.mounts → (place : Location ℕ) → mount.place ≡ Some place
+    by_place : (mount : Mount ℕ) → Among mount world.mounts → (place : Location ℕ) → mount.mount_point ≡ Some place
         → filesystem.number ≡ (mount_at nat_eq world place).filesystem → is_used_or_among losers.inodes living filesystem place.node ≡ true
     by_place mount m place p e =
         ⊎_elim
         (λ is. may_go ((mount_at nat_eq world place).filesystem, place.node)
-        (inr (among-map (λ l. ((mount_at nat_eq world l).filesystem, l.node)) (option_to_list (mount_numbered nat_eq world number).place) place
-        (subst (λ o. Among place (option_to_list o)) (sym (ap (λ x. x.place) (it mount m is) ∙ p)) (inl refl)))) e)
+        (inr (among-map (λ l. ((mount_at nat_eq world l).filesystem, l.node)) (option_to_list (mount_numbered nat_eq world number).mount_point) place
+        (subst (λ o. Among place (option_to_list o)) (sym (ap (λ x. x.mount_point) (it mount m is) ∙ p)) (inl refl)))) e)
         (λ isnt.
         used_still place
-        (among-append_right (all_locations after ++ map root_of mounted.mounts) (filter_map (λ x. x.place) mounted.mounts) place
-        (among-filter_map (λ x. x.place) mounted.mounts (change mount) place
+        (among-append_right (all_locations after ++ map root_of mounted.mounts) (filter_map (λ x. x.mount_point) mounted.mounts) place
+        (among-filter_map (λ x. x.mount_point) mounted.mounts (change mount) place
         (among-filter (mount_lives nat_eq after) after.mounts (change mount) (among-map change world.mounts mount m) (others_live mount m isnt))
-        (moves.place mount isnt ∙ p)))
+        (moves.mount_point mount isnt ∙ p)))
         (e ∙ sym (found_still place.mount (other_stays place.mount elsewhere))))
         (decided (nat_eq mount.number number))
       where
@@ -300,7 +300,7 @@ module _ (world : World ℕ) (number : ℕ) (change : Mount ℕ → Mount ℕ) (
         (plain_uses world settles.plain filesystem inode is)
       where
         places_before : List (Location ℕ)
-        places_before = all_locations world ++ map root_of world.mounts ++ filter_map (λ mount. mount.place) world.mounts
+        places_before = all_locations world ++ map root_of world.mounts ++ filter_map (λ mount. mount.mount_point) world.mounts
 
         located : Among inode (located_in nat_eq world filesystem.number) → is_used_or_among losers.inodes living filesystem inode ≡ true
         located m =
@@ -315,9 +315,9 @@ module _ (world : World ℕ) (number : ℕ) (change : Mount ℕ → Mount ℕ) (
             ap (λ l. is_used_or_among losers.inodes living filesystem l.node) mount.2
             ∙ by_root mount.0 mount.1 (e ∙ ap (λ l. (mount_at nat_eq world l).filesystem) mount.2))
             (among-append (all_locations world) (map root_of world.mounts) from.0 other))
-            (λ place. let mount = among-from_filter_map (λ x. x.place) world.mounts from.0 place in
+            (λ place. let mount = among-from_filter_map (λ x. x.mount_point) world.mounts from.0 place in
             by_place mount.0 mount.1 from.0 mount.2 e)
-            (among-append (all_locations world ++ map root_of world.mounts) (filter_map (λ mount. mount.place) world.mounts) from.0 here.0)
+            (among-append (all_locations world ++ map root_of world.mounts) (filter_map (λ mount. mount.mount_point) world.mounts) from.0 here.0)
 
   inodes_but : InodesInUseBut losers.inodes living
   inodes_but =

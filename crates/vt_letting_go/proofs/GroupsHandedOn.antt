@@ -2,7 +2,7 @@
 use Rattle.std.proofs.Common.{◌≡◌, refl, sym, ap, ◌∙◌, ⊎_elim, ℕ, zero, suc, nat_eq, eqb-true, eq-eqb, Bool, true, false, cond, not, ◌||◌, List, [], ◌∷◌, find, length, true≢false, Option, Some, None, is_some, option_to_list}
 use Rattle.std.specs.List.{list_all, list_any}
 use Rattle.std.proofs.lemmas.Bool.{and_parts, or_cases, or_parts}
-use Rattle.vt_spec.specs.Machine.Lists.{chain, holds_of, then_some}
+use Rattle.vt_spec.specs.Lists.{chain, holds_of, then_some}
 use Rattle.vt_spec.specs.Machine.Mounts.{Mount, Propagation, group_of, source_of}
 use Rattle.vt_spec.specs.Machine.Mounts.Propagation.{Private, Shared, Slave, Unbindable}
 use Rattle.vt_spec.specs.Machine.Receives.{has_members, heir, inherited, inheriting, is_lost_group, is_member_of, lost_a_group, regrouped, regrouped_by, slave_of_heir}

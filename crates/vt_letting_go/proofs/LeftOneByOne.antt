@@ -3,7 +3,7 @@ use Rattle.std.proofs.Common.{◌≡◌, refl, sym, ap, subst, ◌∙◌, ⊎_el
 use Rattle.std.specs.Prelude.{filter_map}
 use Rattle.std.specs.List.{list_all, list_any}
 use Rattle.std.proofs.lemmas.Bool.{and_parts, or_cases}
-use Rattle.vt_spec.specs.Machine.Lists.{is_among}
+use Rattle.vt_spec.specs.Lists.{is_among}
 use Rattle.vt_spec.specs.Machine.Mounts.{Location, Mount, mount_in, root_of}
 use Rattle.vt_spec.specs.Machine.Receives.{has_members, is_member_of}
 use Rattle.vt_spec.specs.Machine.Settled.{filesystem_lives, is_located, is_mounted, layers_in, located_in, mount_lives, named_in, objects_of_overlay, only_used_of, settled, used_in, without_dead_filesystems, without_dead_mounts}
@@ -163,7 +163,7 @@ module _ (world : World ℕ) (tasks : List (Task ℕ)) (plain : IsPlain world) (
       ∙ lives
 
   abbrev places_in : World ℕ → List (Mount ℕ) → List (Location ℕ)
-  places_in other mounts = all_locations other ++ map root_of mounts ++ filter_map (λ mount. mount.place) mounts
+  places_in other mounts = all_locations other ++ map root_of mounts ++ filter_map (λ mount. mount.mount_point) mounts
 
   was_at : (f : Filesystem ℕ) (location : Location ℕ) → Among location (places_in world first_mounts)
       → f.number ≡ (mount_in nat_eq first_mounts location.mount).filesystem → Among location.node (located_in nat_eq first_living f.number)
@@ -181,7 +181,7 @@ module _ (world : World ℕ) (tasks : List (Task ℕ)) (plain : IsPlain world) (
       (⊎_elim
       (λ other. ⊎_elim
       (λ at. was_at f from.0
-      (among-append_left (all_locations world ++ map root_of first_mounts) (filter_map (λ mount. mount.place) first_mounts) from.0
+      (among-append_left (all_locations world ++ map root_of first_mounts) (filter_map (λ mount. mount.mount_point) first_mounts) from.0
       (among-append_left (all_locations world) (map root_of first_mounts) from.0 (was_located from.0 at)))
       (e ∙ ap (λ x. x.filesystem) (found_alike from.0.mount (λ mount n same.
       or_second (is_some mount.namespace) (is_located nat_eq once mount.number)
@@ -190,26 +190,26 @@ module _ (world : World ℕ) (tasks : List (Task ℕ)) (plain : IsPlain world) (
       let mount = among-from_map root_of last_mounts from.0 root in
       let was = among-from_filter (mount_lives nat_eq once) world.mounts mount.0 mount.1 in
       was_at f from.0
-      (among-append_left (all_locations world ++ map root_of first_mounts) (filter_map (λ x. x.place) first_mounts) from.0
+      (among-append_left (all_locations world ++ map root_of first_mounts) (filter_map (λ x. x.mount_point) first_mounts) from.0
       (among-append_right (all_locations world) (map root_of first_mounts) from.0
       (subst (λ l. Among l (map root_of first_mounts)) (sym mount.2) (among-map root_of first_mounts mount.0 (last_was_first mount.0 mount.1)))))
       (e ∙ ap (λ x. x.filesystem) (found_alike from.0.mount (λ other n same.
       the_only mount.0 was.0 was.1 other n (same ∙ ap (λ l. l.mount) mount.2)))))
       (among-append (all_locations once) (map root_of last_mounts) from.0 other))
       (λ place.
-      let mount = among-from_filter_map (λ x. x.place) last_mounts from.0 place in
+      let mount = among-from_filter_map (λ x. x.mount_point) last_mounts from.0 place in
       let was = among-from_filter (mount_lives nat_eq once) world.mounts mount.0 mount.1 in
       let attached = on_attached mount.0 was.0 from.0 mount.2 in
       was_at f from.0
-      (among-append_right (all_locations world ++ map root_of first_mounts) (filter_map (λ x. x.place) first_mounts) from.0
-      (among-filter_map (λ x. x.place) first_mounts mount.0 from.0 (last_was_first mount.0 mount.1) mount.2))
+      (among-append_right (all_locations world ++ map root_of first_mounts) (filter_map (λ x. x.mount_point) first_mounts) from.0
+      (among-filter_map (λ x. x.mount_point) first_mounts mount.0 from.0 (last_was_first mount.0 mount.1) mount.2))
       (e ∙ ap (λ x. x.filesystem) (found_alike from.0.mount (λ other n same.
       the_only (mount_at nat_eq world from.0) (found_is_there world.mounts from.0.mount attached)
       (or_first (is_some (mount_at nat_eq world from.0).namespace) (is_located nat_eq once (mount_at nat_eq world from.0).number) attached)
       other n (same ∙ sym (number_found world.mounts from.0.mount))))))
-      (among-append (all_locations once ++ map root_of last_mounts) (filter_map (λ mount. mount.place) last_mounts) from.0 here.0))
+      (among-append (all_locations once ++ map root_of last_mounts) (filter_map (λ mount. mount.mount_point) last_mounts) from.0 here.0))
     where
-      on_attached : (mount : Mount ℕ) → Among mount world.mounts → (place : Location ℕ) → mount.place ≡ Some place → is_some (mount_at nat_eq world place).namespace ≡ true
+      on_attached : (mount : Mount ℕ) → Among mount world.mounts → (place : Location ℕ) → mount.mount_point ≡ Some place → is_some (mount_at nat_eq world place).namespace ≡ true
       on_attached mount n place p =
           (and_parts (is_some (mount_at nat_eq world place).namespace) true
           (sym (ap (λ o. list_all (λ l. is_some (mount_at nat_eq world l).namespace) (option_to_list o)) p)

@@ -3,7 +3,7 @@ use Rattle.std.proofs.Common.{◌≡◌, refl, sym, ap, subst, ◌∙◌, ◌⊎
 use Rattle.std.specs.Prelude.{filter_map}
 use Rattle.std.specs.List.{list_all}
 use Rattle.std.proofs.lemmas.Bool.{or_cases, or_parts}
-use Rattle.vt_spec.specs.Machine.Lists.{is_among}
+use Rattle.vt_spec.specs.Lists.{is_among}
 use Rattle.vt_spec.specs.Machine.Mounts.{Location, Mount, mount_in, root_of}
 use Rattle.vt_spec.specs.Machine.Receives.{is_member_of}
 use Rattle.vt_spec.specs.Machine.Settled.{filesystem_lives, is_located, is_mounted, layers_in, located_in, mount_lives, named_in, objects_of_overlay, settled, without_dead_filesystems, without_dead_mounts}
@@ -19,7 +19,7 @@ use Rattle.vt_letting_go.proofs.PlacesLeft.{found_in_filter, found_itself, no_la
 
 -- the roots, working directories and descriptors, the roots of mounts and the places of a world
 abbrev pub places_of : World ℕ → List (Location ℕ)
-places_of world = all_locations world ++ map root_of world.mounts ++ filter_map (λ mount. mount.place) world.mounts
+places_of world = all_locations world ++ map root_of world.mounts ++ filter_map (λ mount. mount.mount_point) world.mounts
 
 -- what a mount is afterwards: another record of its number, with what it shows
 abbrev pub Image : List (Mount ℕ) → Mount ℕ → Type 0
@@ -27,7 +27,7 @@ Image mounts mount = (image : Mount ℕ) × (Among image mounts × ((root_of ima
 
 -- a place that a mount in use has still, on a mount that is none of those that may go
 abbrev pub StillAPlace : List (Mount ℕ) → List ℕ → Location ℕ → Type 0
-StillAPlace mounts gone place = (mount : Mount ℕ) × (Among mount mounts × ((mount.place ≡ Some place) × (is_among nat_eq place.mount gone ≡ false)))
+StillAPlace mounts gone place = (mount : Mount ℕ) × (Among mount mounts × ((mount.mount_point ≡ Some place) × (is_among nat_eq place.mount gone ≡ false)))
 
 abbrev pub changed : World ℕ → List (Mount ℕ) → (ℕ → Option ℕ) → List (Namespace ℕ) → List (Task ℕ) → World ℕ
 changed world mounts master namespaces tasks = record world { mounts = mounts; master = master; namespaces = namespaces; tasks = tasks }
@@ -37,7 +37,7 @@ pub record Loses (world after : World ℕ) (gone : List ℕ) (left : List (Locat
   pub shown : (location : Location ℕ) → Among location (places_of world) → (mount_at nat_eq after location).filesystem ≡ (mount_at nat_eq world location).filesystem
   pub live : (mount : Mount ℕ) → Among mount after.mounts → is_among nat_eq mount.number gone ≡ false → mount_lives nat_eq after mount ≡ true
   pub locations : (location : Location ℕ) → Among location (all_locations world) → Among location (all_locations after) ⊎ Among location left
-  pub places : (mount : Mount ℕ) → Among mount world.mounts → (place : Location ℕ) → mount.place ≡ Some place → StillAPlace after.mounts gone place ⊎ Among place left
+  pub places : (mount : Mount ℕ) → Among mount world.mounts → (place : Location ℕ) → mount.mount_point ≡ Some place → StillAPlace after.mounts gone place ⊎ Among place left
   pub nowhere : list_all is_nowhere_or_attached after.mounts ≡ true
 
 module _ (world : World ℕ) (mounts : List (Mount ℕ)) (master : ℕ → Option ℕ) (namespaces : List (Namespace ℕ)) (tasks : List (Task ℕ))
@@ -148,10 +148,10 @@ module _ (world : World ℕ) (mounts : List (Mount ℕ)) (master : ℕ → Optio
     by_location location m e =
         ⊎_elim
         (λ stays. or_second (is_inode_among filesystem.number location.node losers.inodes) _
-        (used_still location (among-append_left (all_locations after ++ map root_of mounted.mounts) (filter_map (λ mount. mount.place) mounted.mounts) location
+        (used_still location (among-append_left (all_locations after ++ map root_of mounted.mounts) (filter_map (λ mount. mount.mount_point) mounted.mounts) location
         (among-append_left (all_locations after) (map root_of mounted.mounts) location stays))
         (e ∙ sym (found_still location
-        (among-append_left (all_locations world ++ map root_of world.mounts) (filter_map (λ mount. mount.place) world.mounts) location
+        (among-append_left (all_locations world ++ map root_of world.mounts) (filter_map (λ mount. mount.mount_point) world.mounts) location
         (among-append_left (all_locations world) (map root_of world.mounts) location m))
         (λ mount n same. or_second (is_some mount.namespace) (is_located nat_eq after mount.number)
         (any_passes (λ l. nat_eq mount.number l.mount) (all_locations after) location stays (eq-eqb mount.number location.mount same)))))))
@@ -169,36 +169,36 @@ module _ (world : World ℕ) (mounts : List (Mount ℕ)) (master : ℕ → Optio
         (λ isnt. let image = loses.images mount m in
         or_second (is_inode_among filesystem.number mount.root losers.inodes) _
         (used_still (root_of mount)
-        (among-append_left (all_locations after ++ map root_of mounted.mounts) (filter_map (λ x. x.place) mounted.mounts) (root_of mount)
+        (among-append_left (all_locations after ++ map root_of mounted.mounts) (filter_map (λ x. x.mount_point) mounted.mounts) (root_of mount)
         (among-append_right (all_locations after) (map root_of mounted.mounts) (root_of mount)
         (subst (λ l. Among l (map root_of mounted.mounts)) image.1.1.0
         (among-map root_of mounted.mounts image.0 (among-filter (mount_lives nat_eq after) mounts image.0 image.1.0 (image_lives mount isnt image))))))
         (e ∙ sym (found_still (root_of mount)
-        (among-append_left (all_locations world ++ map root_of world.mounts) (filter_map (λ x. x.place) world.mounts) (root_of mount)
+        (among-append_left (all_locations world ++ map root_of world.mounts) (filter_map (λ x. x.mount_point) world.mounts) (root_of mount)
         (among-append_right (all_locations world) (map root_of world.mounts) (root_of mount) (among-map root_of world.mounts mount m)))
         (stays_there mount.number isnt)))))
         (decided (is_among nat_eq mount.number gone))
 
-    by_place : (mount : Mount ℕ) → Among mount world.mounts → (place : Location ℕ) → mount.place ≡ Some place
+    by_place : (mount : Mount ℕ) → Among mount world.mounts → (place : Location ℕ) → mount.mount_point ≡ Some place
         → filesystem.number ≡ (mount_at nat_eq world place).filesystem → is_used_or_among losers.inodes living filesystem place.node ≡ true
     by_place mount m place p e =
         ⊎_elim
         (λ still. or_second (is_inode_among filesystem.number place.node losers.inodes) _
         (used_still place
-        (among-append_right (all_locations after ++ map root_of mounted.mounts) (filter_map (λ x. x.place) mounted.mounts) place
-        (among-filter_map (λ x. x.place) mounted.mounts still.0 place
+        (among-append_right (all_locations after ++ map root_of mounted.mounts) (filter_map (λ x. x.mount_point) mounted.mounts) place
+        (among-filter_map (λ x. x.mount_point) mounted.mounts still.0 place
         (among-filter (mount_lives nat_eq after) mounts still.0 still.1.0
         (or_first (is_some still.0.namespace) (is_located nat_eq after still.0.number)
         (is_attached still.0 still.1.0 still.1.1.0 (is_some still.0.namespace) refl)))
         still.1.1.0))
         (e ∙ sym (found_still place
-        (among-append_right (all_locations world ++ map root_of world.mounts) (filter_map (λ x. x.place) world.mounts) place
-        (among-filter_map (λ x. x.place) world.mounts mount place m p))
+        (among-append_right (all_locations world ++ map root_of world.mounts) (filter_map (λ x. x.mount_point) world.mounts) place
+        (among-filter_map (λ x. x.mount_point) world.mounts mount place m p))
         (stays_there place.mount still.1.1.1)))))
         (λ gone_from. left_may_go place gone_from e)
         (loses.places mount m place p)
       where
-        is_attached : (on : Mount ℕ) → Among on mounts → on.place ≡ Some place → (b : Bool) → is_some on.namespace ≡ b → is_some on.namespace ≡ true
+        is_attached : (on : Mount ℕ) → Among on mounts → on.mount_point ≡ Some place → (b : Bool) → is_some on.namespace ≡ b → is_some on.namespace ≡ true
         is_attached on n q true f = f
         is_attached on n q false f =
             absurd (true≢false (sym (ap is_some q) ∙ (nowhere_parts on (passes is_nowhere_or_attached mounts loses.nowhere on n) f).0))
@@ -231,9 +231,9 @@ module _ (world : World ℕ) (mounts : List (Mount ℕ)) (master : ℕ → Optio
             ap (λ l. is_used_or_among losers.inodes living filesystem l.node) mount.2
             ∙ by_root mount.0 mount.1 (e ∙ ap (λ l. (mount_at nat_eq world l).filesystem) mount.2))
             (among-append (all_locations world) (map root_of world.mounts) from.0 other))
-            (λ place. let mount = among-from_filter_map (λ x. x.place) world.mounts from.0 place in
+            (λ place. let mount = among-from_filter_map (λ x. x.mount_point) world.mounts from.0 place in
             by_place mount.0 mount.1 from.0 mount.2 e)
-            (among-append (all_locations world ++ map root_of world.mounts) (filter_map (λ mount. mount.place) world.mounts) from.0 here.0)
+            (among-append (all_locations world ++ map root_of world.mounts) (filter_map (λ mount. mount.mount_point) world.mounts) from.0 here.0)
 
   inodes_but : InodesInUseBut losers.inodes living
   inodes_but =

@@ -1,7 +1,7 @@
 -- What goes when mounts get other places.
 use Rattle.std.proofs.Common.{◌≡◌, refl, ap, ◌∙◌, inl, inr, ⊎_elim, ℕ, nat_eq, true, List, [], filter, map, Option, is_some, ◌||◌}
 use Rattle.std.specs.List.{list_all}
-use Rattle.vt_spec.specs.Machine.Lists.{is_among}
+use Rattle.vt_spec.specs.Lists.{is_among}
 use Rattle.vt_spec.specs.Machine.Mounts.{Mount, mount_in}
 use Rattle.vt_spec.specs.Machine.Settled.{is_located, mount_lives}
 use Rattle.vt_spec.specs.Machine.World.{World}
@@ -34,9 +34,9 @@ loses world moved change master settles moves nowhere = record {
       ∙ passes (mount_lives nat_eq world) world.mounts settles.in_use.mounts from.0 from.1;
   locations = λ location m. inl m;
   places = λ mount m place p. ⊎_elim
-      (λ is. inr (among-filter_map (λ x. x.place) (filter (λ x. is_among nat_eq x.number moved) world.mounts) mount place
+      (λ is. inr (among-filter_map (λ x. x.mount_point) (filter (λ x. is_among nat_eq x.number moved) world.mounts) mount place
       (among-filter (λ x. is_among nat_eq x.number moved) world.mounts mount m is) p))
-      (λ isnt. inl (change mount, (among-map change world.mounts mount m, (moves.place mount isnt ∙ p, refl))))
+      (λ isnt. inl (change mount, (among-map change world.mounts mount m, (moves.mount_point mount isnt ∙ p, refl))))
       (decided (is_among nat_eq mount.number moved));
   nowhere = nowhere;
 }

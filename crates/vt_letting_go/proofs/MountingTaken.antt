@@ -2,8 +2,8 @@
 use Rattle.std.proofs.Common.{◌≡◌, refl, sym, ap, subst, ◌∙◌, inl, inr, ⊎_elim, ℕ, zero, suc, nat_eq, Bool, true, false, cond, not, ◌||◌, ◌&&◌, List, [], ◌∷◌, filter, length, map, Option, Some, None, is_some, option_map, true≢false}
 use Rattle.std.specs.List.{list_any}
 use Rattle.std.proofs.lemmas.Bool.{or_parts}
-use Rattle.vt_spec.specs.Machine.Detach.{after_going, is_going, place_below, place_left, taken_away}
-use Rattle.vt_spec.specs.Machine.Lists.{chain, holds_of, is_among, last_or}
+use Rattle.vt_spec.specs.Machine.Detach.{after_going, is_going, mount_point_of_parent, mount_point_left, taken_away}
+use Rattle.vt_spec.specs.Lists.{chain, holds_of, is_among, last_or}
 use Rattle.vt_spec.specs.Machine.Mounts.{Location, Mount, Propagation, detached, mount_in, root_of}
 use Rattle.vt_spec.specs.Machine.Mounts.Propagation.{Private, Shared, Slave, Unbindable}
 use Rattle.vt_spec.specs.Machine.Namespaces.{has_tasks}
@@ -43,11 +43,11 @@ module _ (world : World ℕ) (gone : List ℕ) (namespaces : List (Namespace ℕ
 
   -- what a mount shows stays
   same_part : {A : Type 0} (part : Mount ℕ → A) (mount : Mount ℕ) → part (detached mount) ≡ part mount
-      → part (record mount { place = option_map (place_left nat_eq world gone) mount.place }) ≡ part mount
+      → part (record mount { mount_point = option_map (mount_point_left nat_eq world gone) mount.mount_point }) ≡ part mount
       → part (after_going nat_eq world gone mount) ≡ part mount
   same_part part mount down up = by (is_going nat_eq gone mount.number)
     where
-      by : (c : Bool) → part (cond c (detached mount) (record mount { place = option_map (place_left nat_eq world gone) mount.place })) ≡ part mount
+      by : (c : Bool) → part (cond c (detached mount) (record mount { mount_point = option_map (mount_point_left nat_eq world gone) mount.mount_point })) ≡ part mount
       by true = down
       by false = up
 
@@ -72,30 +72,30 @@ module _ (world : World ℕ) (gone : List ℕ) (namespaces : List (Namespace ℕ
 
   -- a mount that does not go
   stays : (mount : Mount ℕ) → is_going nat_eq gone mount.number ≡ false
-      → after_going nat_eq world gone mount ≡ record mount { place = option_map (place_left nat_eq world gone) mount.place }
-  stays mount isnt = ap (λ c. cond c (detached mount) (record mount { place = option_map (place_left nat_eq world gone) mount.place })) isnt
+      → after_going nat_eq world gone mount ≡ record mount { mount_point = option_map (mount_point_left nat_eq world gone) mount.mount_point }
+  stays mount isnt = ap (λ c. cond c (detached mount) (record mount { mount_point = option_map (mount_point_left nat_eq world gone) mount.mount_point })) isnt
 
   same_namespace : (b : Bool) (mount : Mount ℕ) → is_going nat_eq gone mount.number ≡ false → (change b mount).namespace ≡ mount.namespace
   same_namespace true mount isnt = ap (λ m. m.namespace) (stays mount isnt)
   same_namespace false mount isnt = ap (λ m. m.namespace) (stays mount isnt)
 
-  stays_at : (place : Location ℕ) → is_going nat_eq gone place.mount ≡ false → place_left nat_eq world gone place ≡ place
+  stays_at : (place : Location ℕ) → is_going nat_eq gone place.mount ≡ false → mount_point_left nat_eq world gone place ≡ place
   stays_at place isnt = by (length world.mounts)
     where
-      ends : place_below nat_eq world gone place ≡ None
-      ends = ap (λ b. cond b (mount_at nat_eq world place).place None) isnt
+      ends : mount_point_of_parent nat_eq world gone place ≡ None
+      ends = ap (λ b. cond b (mount_at nat_eq world place).mount_point None) isnt
 
-      by : (n : ℕ) → last_or place (chain n (place_below nat_eq world gone) place) ≡ place
+      by : (n : ℕ) → last_or place (chain n (mount_point_of_parent nat_eq world gone) place) ≡ place
       by zero = refl
       by (suc n) =
-          ap (λ (o : Option (Location ℕ)). last_or place (elim o [ None ↦ place ∷ [] | Some b ↦ place ∷ chain n (place_below nat_eq world gone) b ])) ends
+          ap (λ (o : Option (Location ℕ)). last_or place (elim o [ None ↦ place ∷ [] | Some b ↦ place ∷ chain n (mount_point_of_parent nat_eq world gone) b ])) ends
 
-  same_place : (b : Bool) (mount : Mount ℕ) (place : Location ℕ) → mount.place ≡ Some place → is_going nat_eq gone mount.number ≡ false
-      → is_going nat_eq gone place.mount ≡ false → (change b mount).place ≡ Some place
+  same_place : (b : Bool) (mount : Mount ℕ) (place : Location ℕ) → mount.mount_point ≡ Some place → is_going nat_eq gone mount.number ≡ false
+      → is_going nat_eq gone place.mount ≡ false → (change b mount).mount_point ≡ Some place
   same_place true mount place p isnt on =
-      ap (λ m. m.place) (stays mount isnt) ∙ ap (option_map (place_left nat_eq world gone)) p ∙ ap Some (stays_at place on)
+      ap (λ m. m.mount_point) (stays mount isnt) ∙ ap (option_map (mount_point_left nat_eq world gone)) p ∙ ap Some (stays_at place on)
   same_place false mount place p isnt on =
-      ap (λ m. m.place) (stays mount isnt) ∙ ap (option_map (place_left nat_eq world gone)) p ∙ ap Some (stays_at place on)
+      ap (λ m. m.mount_point) (stays mount isnt) ∙ ap (option_map (mount_point_left nat_eq world gone)) p ∙ ap Some (stays_at place on)
 
   -- one outside every namespace has no place and is private
   private_still : (propagation : Propagation ℕ) → is_private propagation ≡ true → is_private (inherited nat_eq without propagation) ≡ true
@@ -107,20 +107,20 @@ module _ (world : World ℕ) (gone : List ℕ) (namespaces : List (Namespace ℕ
   nowhere_after : (b : Bool) (mount : Mount ℕ) → is_nowhere_or_attached mount ≡ true → is_nowhere_or_attached (change b mount) ≡ true
   nowhere_after b mount h = by b (is_going nat_eq gone mount.number) refl
     where
-      no_place : (o : Option (Location ℕ)) → is_some o ≡ false → not (is_some (option_map (place_left nat_eq world gone) o)) ≡ true
+      no_place : (o : Option (Location ℕ)) → is_some o ≡ false → not (is_some (option_map (mount_point_left nat_eq world gone) o)) ≡ true
       no_place None e = refl
       no_place (Some place) e = absurd (true≢false e)
 
       whole : (propagation : Propagation ℕ) → (is_private mount.propagation ≡ true → is_private propagation ≡ true) → (n : Bool) → is_some mount.namespace ≡ n
-          → (n || (not (is_some (option_map (place_left nat_eq world gone) mount.place)) && is_private propagation)) ≡ true
+          → (n || (not (is_some (option_map (mount_point_left nat_eq world gone) mount.mount_point)) && is_private propagation)) ≡ true
       whole propagation same true e = refl
       whole propagation same false e =
           let parts = nowhere_parts mount h e in
-          ap (λ t. t && is_private propagation) (no_place mount.place parts.0) ∙ same parts.1
+          ap (λ t. t && is_private propagation) (no_place mount.mount_point parts.0) ∙ same parts.1
 
       by : (b c : Bool) → is_going nat_eq gone mount.number ≡ c → is_nowhere_or_attached (change b mount) ≡ true
-      by true true e = ap (λ d. is_nowhere_or_attached (inheriting nat_eq without (cond d (detached mount) (record mount { place = option_map (place_left nat_eq world gone) mount.place })))) e
-      by false true e = ap (λ d. is_nowhere_or_attached (cond d (detached mount) (record mount { place = option_map (place_left nat_eq world gone) mount.place }))) e
+      by true true e = ap (λ d. is_nowhere_or_attached (inheriting nat_eq without (cond d (detached mount) (record mount { mount_point = option_map (mount_point_left nat_eq world gone) mount.mount_point })))) e
+      by false true e = ap (λ d. is_nowhere_or_attached (cond d (detached mount) (record mount { mount_point = option_map (mount_point_left nat_eq world gone) mount.mount_point }))) e
       by true false e =
           ap (λ m. is_nowhere_or_attached (inheriting nat_eq without m)) (stays mount e)
           ∙ whole (inherited nat_eq without mount.propagation) (private_still mount.propagation) (is_some mount.namespace) refl
@@ -138,9 +138,9 @@ module _ (world : World ℕ) (gone : List ℕ) (namespaces : List (Namespace ℕ
           ∙ passes (mount_lives nat_eq world) world.mounts settles.in_use.mounts from.0 from.1;
       locations = λ location m. inl m;
       places = λ mount m place p. ⊎_elim
-          (λ is. inr (among-filter_map (λ x. x.place) (filter (loses_its_place gone) world.mounts) mount place
+          (λ is. inr (among-filter_map (λ x. x.mount_point) (filter (loses_its_place gone) world.mounts) mount place
           (among-filter (loses_its_place gone) world.mounts mount m is) p))
-          (λ isnt. let parts = or_parts (is_going nat_eq gone mount.number) (holds_of (λ l. is_going nat_eq gone l.mount) mount.place) isnt in
+          (λ isnt. let parts = or_parts (is_going nat_eq gone mount.number) (holds_of (λ l. is_going nat_eq gone l.mount) mount.mount_point) isnt in
           let on : is_going nat_eq gone place.mount ≡ false = sym (ap (holds_of (λ l. is_going nat_eq gone l.mount)) p) ∙ parts.1 in
           inl (change b mount, (among-map (change b) world.mounts mount m, (same_place b mount place p parts.0 on, on))))
           (decided (loses_its_place gone mount));

@@ -5,7 +5,7 @@ use Rattle.std.specs.List.{list_all}
 use Rattle.std.proofs.lemmas.Bool.{and_parts, or_cases}
 use Rattle.std.proofs.lemmas.List.{map-append}
 use Rattle.std.proofs.lemmas.List.Folds.{list_any-append}
-use Rattle.vt_spec.specs.Machine.Lists.{is_among}
+use Rattle.vt_spec.specs.Lists.{is_among}
 use Rattle.vt_spec.specs.Machine.Mounts.{Location, Mount, mount_in, no_mount, root_of}
 use Rattle.vt_spec.specs.Machine.Settled.{filesystem_lives, is_located, is_mounted, layers_in, located_in, mount_lives, named_in, objects_of_overlay}
 use Rattle.vt_spec.specs.Machine.World.{Filesystem, World, all_locations, mount_at}
@@ -50,10 +50,10 @@ module _ (world : World ℕ) (mounts : List (Mount ℕ)) (filesystems : List (Fi
   after = with_new world mounts filesystems master
 
   abbrev places_before : List (Location ℕ)
-  places_before = all_locations world ++ map root_of world.mounts ++ filter_map (λ mount. mount.place) world.mounts
+  places_before = all_locations world ++ map root_of world.mounts ++ filter_map (λ mount. mount.mount_point) world.mounts
 
   abbrev places_after : List (Location ℕ)
-  places_after = all_locations after ++ map root_of after.mounts ++ filter_map (λ mount. mount.place) after.mounts
+  places_after = all_locations after ++ map root_of after.mounts ++ filter_map (λ mount. mount.mount_point) after.mounts
 
   numbered : (mount : Mount ℕ) → Among mount world.mounts → is_among nat_eq mount.number (map (λ m. m.number) world.mounts) ≡ true
   numbered mount m = is_among_numbers mount.number (map (λ x. x.number) world.mounts) (among-map (λ x. x.number) world.mounts mount m)
@@ -68,24 +68,24 @@ module _ (world : World ℕ) (mounts : List (Mount ℕ)) (filesystems : List (Fi
       ap (λ l. is_among nat_eq l.mount (map (λ x. x.number) world.mounts)) t.2 ∙ numbered t.0 t.1)
       (among-append (all_locations world) (map root_of world.mounts) location front))
       (λ place.
-      let t = among-from_filter_map (λ x. x.place) world.mounts location place in
+      let t = among-from_filter_map (λ x. x.mount_point) world.mounts location place in
       let on = (and_parts (is_some (mount_at nat_eq world location).namespace) true
       (sym (ap (λ o. list_all (λ l. is_some (mount_at nat_eq world l).namespace) (option_to_list o)) t.2)
       ∙ passes (stands_on_attached world) world.mounts settles.mounts.on_attached t.0 t.1)).0 in
       ap (λ n. is_among nat_eq n (map (λ x. x.number) world.mounts)) (sym (number_found world.mounts location.mount))
       ∙ numbered (mount_at nat_eq world location) (found_is_there world.mounts location.mount on))
-      (among-append (all_locations world ++ map root_of world.mounts) (filter_map (λ mount. mount.place) world.mounts) location m)
+      (among-append (all_locations world ++ map root_of world.mounts) (filter_map (λ mount. mount.mount_point) world.mounts) location m)
 
   roots_more : map root_of after.mounts ≡ map root_of world.mounts ++ map root_of mounts
   roots_more = map-append root_of world.mounts mounts
 
   places_more : (location : Location ℕ) → Among location places_before → Among location places_after
   places_more location m =
-      subst (λ roots. Among location (all_locations after ++ roots ++ filter_map (λ mount. mount.place) after.mounts)) (sym roots_more)
-      (among_more (all_locations world) (map root_of mounts) (map root_of world.mounts) (filter_map (λ mount. mount.place) world.mounts) location m
-      (filter_map (λ mount. mount.place) after.mounts)
-      (λ place n. let t = among-from_filter_map (λ x. x.place) world.mounts place n in
-      among-filter_map (λ x. x.place) after.mounts t.0 place (among-append_left world.mounts mounts t.0 t.1) t.2))
+      subst (λ roots. Among location (all_locations after ++ roots ++ filter_map (λ mount. mount.mount_point) after.mounts)) (sym roots_more)
+      (among_more (all_locations world) (map root_of mounts) (map root_of world.mounts) (filter_map (λ mount. mount.mount_point) world.mounts) location m
+      (filter_map (λ mount. mount.mount_point) after.mounts)
+      (λ place n. let t = among-from_filter_map (λ x. x.mount_point) world.mounts place n in
+      among-filter_map (λ x. x.mount_point) after.mounts t.0 place (among-append_left world.mounts mounts t.0 t.1) t.2))
 
   -- what has a name, is the root, or was at a place is used
   used_after : (f : Filesystem ℕ) (number : ℕ)

@@ -4,9 +4,9 @@ use Rattle.std.specs.Prelude.{nat_lt}
 use Rattle.std.specs.List.{list_all, list_any}
 use Rattle.std.proofs.lemmas.Bool.{and_parts}
 use Rattle.std.proofs.lemmas.Bool.Decides.{nat_tests}
-use Rattle.vt_spec.specs.Machine.Attach.{most_mounts}
-use Rattle.vt_spec.specs.Machine.Detach.{after_going, place_below, place_left, taken_away}
-use Rattle.vt_spec.specs.Machine.Lists.{chain, holds_of, last_or}
+use Rattle.vt_spec.specs.Language.Limits.{most_mounts}
+use Rattle.vt_spec.specs.Machine.Detach.{after_going, mount_point_of_parent, mount_point_left, taken_away}
+use Rattle.vt_spec.specs.Lists.{chain, holds_of, last_or}
 use Rattle.vt_spec.specs.Machine.Mounts.{Location, Mount}
 use Rattle.vt_spec.specs.Machine.Namespaces.{has_tasks, is_in_ended}
 use Rattle.vt_spec.specs.Machine.Receives.{lost_a_group, regrouped, regrouped_by}
@@ -17,19 +17,19 @@ use Rattle.vt_letting_go.proofs.Lists.{Among, among-from_map, among_numbers, any
 
 -- Where nothing is taken away, places stay.
 module _ (world : World ℕ) where
-  place_stays : (place : Location ℕ) → place_left nat_eq world [] place ≡ place
+  place_stays : (place : Location ℕ) → mount_point_left nat_eq world [] place ≡ place
   place_stays place = by (length world.mounts)
     where
-      by : (n : ℕ) → last_or place (chain n (place_below nat_eq world []) place) ≡ place
+      by : (n : ℕ) → last_or place (chain n (mount_point_of_parent nat_eq world []) place) ≡ place
       by zero = refl
       by (suc n) = refl
 
   pub nothing_taken : taken_away nat_eq world [] ≡ regrouped nat_eq world
   nothing_taken =
       ap (λ mounts. regrouped nat_eq (with_mounts world mounts))
-      (map_same (after_going nat_eq world []) world.mounts (λ mount m. ap (λ place. record mount { place = place }) (same mount.place)))
+      (map_same (after_going nat_eq world []) world.mounts (λ mount m. ap (λ place. record mount { mount_point = place }) (same mount.mount_point)))
     where
-      same : (o : Option (Location ℕ)) → option_map (place_left nat_eq world []) o ≡ o
+      same : (o : Option (Location ℕ)) → option_map (mount_point_left nat_eq world []) o ≡ o
       same None = refl
       same (Some place) = ap Some (place_stays place)
 

@@ -3,7 +3,7 @@ use Rattle.std.proofs.Common.{◌≡◌, refl, sym, ap, subst, ◌∙◌, ◌⊎
 use Rattle.std.specs.Prelude.{All}
 use Rattle.std.specs.List.{list_all, list_any}
 use Rattle.std.proofs.lemmas.Bool.{and_parts, not-true, or_parts}
-use Rattle.vt_spec.specs.Machine.Lists.{any_pair, holds_of}
+use Rattle.vt_spec.specs.Lists.{any_pair, holds_of}
 use Rattle.vt_spec.specs.Machine.Locked.{of_overlay, overlay_or}
 use Rattle.vt_spec.specs.Machine.Mounts.{Location, Mount, mount_in, no_mount}
 use Rattle.vt_spec.specs.Machine.World.{Filesystem, Layer, Overlay, World, filesystem_numbered, is_overlay, layers_of, mount_at, mount_numbered, no_filesystem}
@@ -38,7 +38,7 @@ found_or_none (first ∷ rest) number = by (nat_eq number first.number) (found_o
 
 module _ (world : World ℕ) (is : IsWorld nat_eq world) where
   -- a mount with a place is in a namespace
-  attached : (mount : Mount ℕ) → Among mount world.mounts → is_some mount.place ≡ true → is_some mount.namespace ≡ true
+  attached : (mount : Mount ℕ) → Among mount world.mounts → is_some mount.mount_point ≡ true → is_some mount.namespace ≡ true
   attached mount m placed = by (is_some mount.namespace) refl
     where
       by : (b : Bool) → is_some mount.namespace ≡ b → is_some mount.namespace ≡ true
@@ -47,7 +47,7 @@ module _ (world : World ℕ) (is : IsWorld nat_eq world) where
           absurd (true≢false
           (sym placed ∙ (nowhere_parts mount (passes is_nowhere_or_attached world.mounts is.mounts.nowhere mount m) e).0))
 
-  on_attached : (mount : Mount ℕ) → Among mount world.mounts → (place : Location ℕ) → mount.place ≡ Some place
+  on_attached : (mount : Mount ℕ) → Among mount world.mounts → (place : Location ℕ) → mount.mount_point ≡ Some place
       → is_some (mount_at nat_eq world place).namespace ≡ true
   on_attached mount m place p =
       by (among_from_all (λ (x : Mount ℕ). Stands nat_eq world x.number) world.mounts is.mounts.standing mount m)
@@ -56,9 +56,9 @@ module _ (world : World ℕ) (is : IsWorld nat_eq world) where
       by : Stands nat_eq world mount.number → mount_numbered nat_eq world mount.number ≡ mount
           → is_some (mount_at nat_eq world place).namespace ≡ true
       by (at_root number e) itself =
-          absurd (true≢false (sym (ap is_some p) ∙ sym (ap (λ (x : Mount ℕ). is_some x.place) itself) ∙ ap is_some e))
+          absurd (true≢false (sym (ap is_some p) ∙ sym (ap (λ (x : Mount ℕ). is_some x.mount_point) itself) ∙ ap is_some e))
       by (on_parent number at e same stands) itself =
-          let it : at ≡ place = same_Some at place (sym e ∙ ap (λ (x : Mount ℕ). x.place) itself ∙ p) in
+          let it : at ≡ place = same_Some at place (sym e ∙ ap (λ (x : Mount ℕ). x.mount_point) itself ∙ p) in
           ap (λ l. is_some (mount_at nat_eq world l).namespace) (sym it)
           ∙ ap is_some (sym same) ∙ ap (λ (x : Mount ℕ). is_some x.namespace) itself
           ∙ attached mount m (ap is_some p)
@@ -67,10 +67,10 @@ pub mounts_of_worlds_stand : MountsOfWorldsStand
 mounts_of_worlds_stand world is = record {
   one_number = is.mounts.one_number;
   nowhere = is.mounts.nowhere;
-  on_attached = all_pass (stands_on_attached world) world.mounts (λ mount m. by mount m mount.place refl);
+  on_attached = all_pass (stands_on_attached world) world.mounts (λ mount m. by mount m mount.mount_point refl);
 }
   where
-    by : (mount : Mount ℕ) → Among mount world.mounts → (o : Option (Location ℕ)) → mount.place ≡ o
+    by : (mount : Mount ℕ) → Among mount world.mounts → (o : Option (Location ℕ)) → mount.mount_point ≡ o
         → list_all (λ place. is_some (mount_at nat_eq world place).namespace) (option_to_list o) ≡ true
     by mount m None e = refl
     by mount m (Some place) e = ap (λ b. b && true) (on_attached world is mount m place e)

@@ -3,7 +3,7 @@ use Rattle.std.proofs.Common.{◌≡◌, refl, sym, ap, subst, ◌∙◌, ◌⊎
 use Rattle.std.specs.Prelude.{filter_map}
 use Rattle.std.specs.List.{list_all, list_any}
 use Rattle.std.proofs.lemmas.Bool.{and_parts, or_cases, or_parts}
-use Rattle.vt_spec.specs.Machine.Lists.{any_pair, holds_of, is_among}
+use Rattle.vt_spec.specs.Lists.{any_pair, holds_of, is_among}
 use Rattle.vt_spec.specs.Machine.Mounts.{Location, Mount, Propagation, group_of, mount_in, no_mount, root_of, same_location}
 use Rattle.vt_spec.specs.Machine.Mounts.Propagation.{Private, Shared, Slave, Unbindable}
 use Rattle.vt_spec.specs.Machine.Receives.{is_member_of}
@@ -82,8 +82,8 @@ number_found (first ∷ rest) number = by (nat_eq number first.number) refl (num
 
 -- a mount outside every namespace has no place, and is in no group
 pub nowhere_parts : (mount : Mount ℕ) → is_nowhere_or_attached mount ≡ true → is_some mount.namespace ≡ false
-    → (is_some mount.place ≡ false) × (is_private mount.propagation ≡ true)
-nowhere_parts mount h e = by (is_some mount.namespace) e (is_some mount.place) (is_private mount.propagation) h
+    → (is_some mount.mount_point ≡ false) × (is_private mount.propagation ≡ true)
+nowhere_parts mount h e = by (is_some mount.namespace) e (is_some mount.mount_point) (is_private mount.propagation) h
   where
     by : (n : Bool) → n ≡ false → (p k : Bool) → (n || (not p && k)) ≡ true → (p ≡ false) × (k ≡ true)
     by true f p k g = absurd (true≢false f)
@@ -264,7 +264,7 @@ module _ (world : World ℕ) (tasks : List (Task ℕ)) (left : List (Location �
 
     -- what is at a place that is used still
     used_still : (location : Location ℕ)
-        → Among location (all_locations after ++ map root_of mounted.mounts ++ filter_map (λ mount. mount.place) mounted.mounts)
+        → Among location (all_locations after ++ map root_of mounted.mounts ++ filter_map (λ mount. mount.mount_point) mounted.mounts)
         → filesystem.number ≡ (mount_at nat_eq mounted location).filesystem → is_inode_used swept filesystem location.node ≡ true
     used_still location m e =
         or_second (nat_eq location.node filesystem.files.tree.root) _
@@ -274,9 +274,9 @@ module _ (world : World ℕ) (tasks : List (Task ℕ)) (left : List (Location �
         (is_among_right location.node (named_in filesystem.files) (located_in nat_eq swept filesystem.number)
         (is_among_numbers location.node (located_in nat_eq swept filesystem.number)
         (among-map (λ l. l.node) (filter (λ l. nat_eq filesystem.number (mount_at nat_eq mounted l).filesystem)
-        (all_locations after ++ map root_of mounted.mounts ++ filter_map (λ mount. mount.place) mounted.mounts)) location
+        (all_locations after ++ map root_of mounted.mounts ++ filter_map (λ mount. mount.mount_point) mounted.mounts)) location
         (among-filter (λ l. nat_eq filesystem.number (mount_at nat_eq mounted l).filesystem)
-        (all_locations after ++ map root_of mounted.mounts ++ filter_map (λ mount. mount.place) mounted.mounts) location m
+        (all_locations after ++ map root_of mounted.mounts ++ filter_map (λ mount. mount.mount_point) mounted.mounts) location m
         (eq-eqb filesystem.number (mount_at nat_eq mounted location).filesystem e)))))))
 
     -- what was left may go
@@ -305,7 +305,7 @@ module _ (world : World ℕ) (tasks : List (Task ℕ)) (left : List (Location �
     by_location location m e =
         ⊎_elim
         (λ stays. or_second (is_inode_among filesystem.number location.node losers.inodes) _
-        (used_still location (among-append_left (all_locations after ++ map root_of mounted.mounts) (filter_map (λ mount. mount.place) mounted.mounts) location
+        (used_still location (among-append_left (all_locations after ++ map root_of mounted.mounts) (filter_map (λ mount. mount.mount_point) mounted.mounts) location
         (among-append_left (all_locations after) (map root_of mounted.mounts) location stays))
         (e ∙ ap (λ x. x.filesystem) (sym (found_still location.mount (λ mount n same. located_lives mount location stays same))))))
         (λ gone. may_go location gone e location.node (inl refl))
@@ -317,7 +317,7 @@ module _ (world : World ℕ) (tasks : List (Task ℕ)) (left : List (Location �
         ⊎_elim
         (λ lives. or_second (is_inode_among filesystem.number mount.root losers.inodes) _
         (used_still (root_of mount)
-        (among-append_left (all_locations after ++ map root_of mounted.mounts) (filter_map (λ x. x.place) mounted.mounts) (root_of mount)
+        (among-append_left (all_locations after ++ map root_of mounted.mounts) (filter_map (λ x. x.mount_point) mounted.mounts) (root_of mount)
         (among-append_right (all_locations after) (map root_of mounted.mounts) (root_of mount)
         (among-map root_of mounted.mounts mount (among-filter (mount_lives nat_eq after) world.mounts mount m lives))))
         (e ∙ ap (λ x. x.filesystem) (sym (found_still mount.number (only_one mount m lives))))))
@@ -326,13 +326,13 @@ module _ (world : World ℕ) (tasks : List (Task ℕ)) (left : List (Location �
         (inr (ap (λ x. x.root) (sym (filesystem_left mount m gone.0 gone.1 gone.2)))))
         (decided (mount_lives nat_eq after mount))
 
-    by_place : (mount : Mount ℕ) → Among mount world.mounts → (place : Location ℕ) → mount.place ≡ Some place
+    by_place : (mount : Mount ℕ) → Among mount world.mounts → (place : Location ℕ) → mount.mount_point ≡ Some place
         → filesystem.number ≡ (mount_at nat_eq world place).filesystem → is_used_or_among losers.inodes swept filesystem place.node ≡ true
     by_place mount m place p e =
         or_second (is_inode_among filesystem.number place.node losers.inodes) _
         (used_still place
-        (among-append_right (all_locations after ++ map root_of mounted.mounts) (filter_map (λ x. x.place) mounted.mounts) place
-        (among-filter_map (λ x. x.place) mounted.mounts mount place
+        (among-append_right (all_locations after ++ map root_of mounted.mounts) (filter_map (λ x. x.mount_point) mounted.mounts) place
+        (among-filter_map (λ x. x.mount_point) mounted.mounts mount place
         (among-filter (mount_lives nat_eq after) world.mounts mount m (attached_lives mount (is_attached (is_some mount.namespace) refl))) p))
         (e ∙ ap (λ x. x.filesystem) (sym (found_still place.mount (λ other n same.
         only_one on there (attached_lives on on_attached) other n (same ∙ sym (number_found world.mounts place.mount)))))))
@@ -358,9 +358,9 @@ module _ (world : World ℕ) (tasks : List (Task ℕ)) (left : List (Location �
     pub by_located : (number : ℕ) → Among number (located_in nat_eq world filesystem.number) → is_used_or_among losers.inodes swept filesystem number ≡ true
     by_located number m =
         let from = among-from_map (λ l. l.node) (filter (λ l. nat_eq filesystem.number (mount_at nat_eq world l).filesystem)
-        (all_locations world ++ map root_of world.mounts ++ filter_map (λ mount. mount.place) world.mounts)) number m in
+        (all_locations world ++ map root_of world.mounts ++ filter_map (λ mount. mount.mount_point) world.mounts)) number m in
         let here = among-from_filter (λ l. nat_eq filesystem.number (mount_at nat_eq world l).filesystem)
-        (all_locations world ++ map root_of world.mounts ++ filter_map (λ mount. mount.place) world.mounts) from.0 from.1 in
+        (all_locations world ++ map root_of world.mounts ++ filter_map (λ mount. mount.mount_point) world.mounts) from.0 from.1 in
         let e : filesystem.number ≡ (mount_at nat_eq world from.0).filesystem = eqb-true filesystem.number (mount_at nat_eq world from.0).filesystem here.1 in
         ap (is_used_or_among losers.inodes swept filesystem) from.2
         ∙ ⊎_elim
@@ -370,9 +370,9 @@ module _ (world : World ℕ) (tasks : List (Task ℕ)) (left : List (Location �
         ap (λ l. is_used_or_among losers.inodes swept filesystem l.node) mount.2
         ∙ by_root mount.0 mount.1 (e ∙ ap (λ l. (mount_at nat_eq world l).filesystem) mount.2))
         (among-append (all_locations world) (map root_of world.mounts) from.0 other))
-        (λ place. let mount = among-from_filter_map (λ x. x.place) world.mounts from.0 place in
+        (λ place. let mount = among-from_filter_map (λ x. x.mount_point) world.mounts from.0 place in
         by_place mount.0 mount.1 from.0 mount.2 e)
-        (among-append (all_locations world ++ map root_of world.mounts) (filter_map (λ mount. mount.place) world.mounts) from.0 here.0)
+        (among-append (all_locations world ++ map root_of world.mounts) (filter_map (λ mount. mount.mount_point) world.mounts) from.0 here.0)
 
     -- what the world used is used still, or may go
     by_use : IsPlain world → (number : ℕ) → is_inode_used world filesystem number ≡ true → is_used_or_among losers.inodes swept filesystem number ≡ true

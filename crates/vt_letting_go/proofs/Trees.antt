@@ -5,8 +5,8 @@ use Rattle.std.specs.Ordering.{eq_by_cmp}
 use Rattle.vt_spec.specs.Tree.{Content, Entries, Node, entries_in, entry_named, is_directory_node, name_cmp}
 use Rattle.vt_spec.specs.Tree.Content.{Directory, Regular, Symlink, Whiteout}
 use Rattle.vt_spec.specs.TreeLaws.{HasName}
-use Rattle.vt_spec.specs.Machine.FileTree.{FileTree, targets_in}
-use Rattle.vt_spec.specs.Machine.Lists.{is_among}
+use Rattle.vt_spec.specs.FileTree.{FileTree, targets_in}
+use Rattle.vt_spec.specs.Lists.{is_among}
 use Rattle.vt_spec.specs.Machine.Settled.{named_in}
 use Rattle.vt_spec.proofs.Nodes.{none_is_not}
 use Rattle.vt_letting_go.specs.InUse.{IsListedTree}

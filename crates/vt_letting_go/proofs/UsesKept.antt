@@ -2,8 +2,9 @@
 use Rattle.std.proofs.Common.{◌≡◌, refl, sym, ap, subst, ◌∙◌, ⊎_elim, ℕ, nat_eq, eqb-true, eq-eqb, Bool, true, false, cond, ◌||◌, ◌&&◌, List, [], ◌∷◌, filter, map, true≢false, flat_map, ◌++◌, Option, is_some}
 use Rattle.std.specs.Prelude.{filter_map}
 use Rattle.std.specs.List.{cons_option, list_all, list_any}
-use Rattle.vt_spec.specs.Machine.Lists.{is_among}
-use Rattle.vt_spec.specs.Machine.Mounts.{Mount, MountFlags, mount_in, replaced_if_same, root_of}
+use Rattle.vt_spec.specs.Lists.{is_among}
+use Rattle.vt_spec.specs.Machine.Mounts.{Mount, mount_in, replaced_if_same, root_of}
+use Rattle.vt_spec.specs.Language.Calls.{MountFlags}
 use Rattle.vt_spec.specs.Machine.Receives.{has_members, is_member_of}
 use Rattle.vt_spec.specs.Machine.Settled.{filesystem_lives, has_layer_on, is_located, is_mounted, layers_in, located_in, mount_lives, named_in, objects_of_overlay, settled}
 use Rattle.vt_spec.specs.Machine.World.{Filesystem, World, all_locations, mount_at, with_mounts}
@@ -25,9 +26,9 @@ module _ (world : World ℕ) (change : Mount ℕ → Mount ℕ) (master : ℕ �
       ∙ map_alike (λ mount. root_of (change mount)) root_of world.mounts
       (λ mount m. λ i. record { mount = keeps.number mount i; node = keeps.root mount i })
 
-  same_places : (mounts : List (Mount ℕ)) → filter_map (λ mount. mount.place) (map change mounts) ≡ filter_map (λ mount. mount.place) mounts
+  same_places : (mounts : List (Mount ℕ)) → filter_map (λ mount. mount.mount_point) (map change mounts) ≡ filter_map (λ mount. mount.mount_point) mounts
   same_places [] = refl
-  same_places (mount ∷ rest) = λ i. cons_option (keeps.place mount i) (same_places rest i)
+  same_places (mount ∷ rest) = λ i. cons_option (keeps.mount_point mount i) (same_places rest i)
 
   same_filesystem : (number : ℕ) → (mount_in nat_eq after.mounts number).filesystem ≡ (mount_in nat_eq world.mounts number).filesystem
   same_filesystem number =
@@ -94,7 +95,7 @@ keeps_flags : (number : ℕ) (flags : MountFlags) → KeepsUses (flags_if number
 keeps_flags number flags = record {
   number = λ mount. by mount (λ m. m.number) (λ m. refl) (nat_eq mount.number number);
   namespace = λ mount. by mount (λ m. m.namespace) (λ m. refl) (nat_eq mount.number number);
-  place = λ mount. by mount (λ m. m.place) (λ m. refl) (nat_eq mount.number number);
+  mount_point = λ mount. by mount (λ m. m.mount_point) (λ m. refl) (nat_eq mount.number number);
   filesystem = λ mount. by mount (λ m. m.filesystem) (λ m. refl) (nat_eq mount.number number);
   root = λ mount. by mount (λ m. m.root) (λ m. refl) (nat_eq mount.number number);
 }

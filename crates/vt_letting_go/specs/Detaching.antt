@@ -22,7 +22,7 @@ without_place world number = with_mounts world (map (detached_if number) world.m
 abbrev pub StandsUnshared : World ℕ → ℕ → Type 0
 StandsUnshared world number =
     list_all (λ place. not (is_shared (mount_at nat_eq world place).propagation))
-    (option_to_list (mount_numbered nat_eq world number).place) ≡ true
+    (option_to_list (mount_numbered nat_eq world number).mount_point) ≡ true
 
 -- A mount on which no other stands, at a place of a mount that is not shared, is unmounted alone: it has no place,
 -- namespace or group any more, and all other mounts are as they were. Groups that lost their last member are handed on.
@@ -39,7 +39,7 @@ pub record MovesOne (one : ℕ) (change : Mount ℕ → Mount ℕ) : Type 0 wher
   pub filesystem : (mount : Mount ℕ) → (change mount).filesystem ≡ mount.filesystem
   pub root : (mount : Mount ℕ) → (change mount).root ≡ mount.root
   pub namespace : (mount : Mount ℕ) → nat_eq mount.number one ≡ false → (change mount).namespace ≡ mount.namespace
-  pub place : (mount : Mount ℕ) → nat_eq mount.number one ≡ false → (change mount).place ≡ mount.place
+  pub mount_point : (mount : Mount ℕ) → nat_eq mount.number one ≡ false → (change mount).mount_point ≡ mount.mount_point
 
 abbrev pub with_changed : World ℕ → (Mount ℕ → Mount ℕ) → (ℕ → Option ℕ) → World ℕ
 with_changed world change master = record world { mounts = map change world.mounts; master = master }
@@ -48,7 +48,7 @@ with_changed world change master = record world { mounts = map change world.moun
 abbrev pub inodes_of_mount : World ℕ → Mount ℕ → List Inode
 inodes_of_mount world mount =
     (mount.filesystem, mount.root)
-    ∷ map (λ place. ((mount_at nat_eq world place).filesystem, place.node)) (option_to_list mount.place)
+    ∷ map (λ place. ((mount_at nat_eq world place).filesystem, place.node)) (option_to_list mount.mount_point)
 
 abbrev pub used_by_mount : World ℕ → ℕ → List ℕ → Losers
 used_by_mount world number groups = record {

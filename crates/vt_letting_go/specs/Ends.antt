@@ -1,9 +1,10 @@
 -- A namespace ends with its last task, and how many mounts a namespace has: mount_namespaces(7), proc(5).
 use Rattle.std.specs.Prelude.{List, false, filter, length, map, nat_eq, nat_lt, not, option_to_list, true, ℕ, ◌+◌, ◌++◌, ◌||◌, ◌≡◌, ◌≤◌}
 use Rattle.std.specs.List.{list_all, list_any}
-use Rattle.vt_spec.specs.Machine.Attach.{has_too_many, most_mounts}
+use Rattle.vt_spec.specs.Machine.Attach.{has_too_many}
+use Rattle.vt_spec.specs.Language.Limits.{most_mounts}
 use Rattle.vt_spec.specs.Machine.Detach.{taken_away}
-use Rattle.vt_spec.specs.Machine.Lists.{holds_of}
+use Rattle.vt_spec.specs.Lists.{holds_of}
 use Rattle.vt_spec.specs.Machine.Mounts.{Mount}
 use Rattle.vt_spec.specs.Machine.Namespaces.{has_tasks, namespaces_ended}
 use Rattle.vt_spec.specs.Machine.Receives.{regrouped}

@@ -1,7 +1,7 @@
 -- A group that loses its last member hands its slaves on to its master: mount_namespaces(7), "slave".
 use Rattle.std.specs.Prelude.{Bool, Option, [], false, if◌then◌else◌, map, nat_eq, option_to_list, true, ℕ, ◌||◌, ◌∷◌, ◌≡◌}
 use Rattle.std.specs.List.{list_all, list_any}
-use Rattle.vt_spec.specs.Machine.Lists.{holds_of}
+use Rattle.vt_spec.specs.Lists.{holds_of}
 use Rattle.vt_spec.specs.Machine.Mounts.{Mount, Propagation, source_of}
 use Rattle.vt_spec.specs.Machine.Mounts.Propagation.{Private, Shared, Slave, Unbindable}
 use Rattle.vt_spec.specs.Machine.Receives.{has_members, lost_a_group, regrouped, slave_of_heir}

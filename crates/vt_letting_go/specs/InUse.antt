@@ -2,8 +2,8 @@
 -- MNT_DETACH.
 use Rattle.std.specs.Prelude.{All, Bool, None, false, nat_eq, true, ℕ, ◌≡◌}
 use Rattle.std.specs.List.{list_all}
-use Rattle.vt_spec.specs.Machine.FileTree.{FileTree}
-use Rattle.vt_spec.specs.Machine.Lists.{holds_of, is_among}
+use Rattle.vt_spec.specs.FileTree.{FileTree}
+use Rattle.vt_spec.specs.Lists.{holds_of, is_among}
 use Rattle.vt_spec.specs.Machine.Locked.{of_overlay}
 use Rattle.vt_spec.specs.Machine.Receives.{has_members}
 use Rattle.vt_spec.specs.Machine.Settled.{filesystem_lives, mount_lives, settled, used_in}

@@ -1,8 +1,9 @@
 -- Changes of mounts that take no use away: mount(2), also with MS_BIND, MS_REMOUNT, MS_SHARED and its kin.
 use Rattle.std.specs.Prelude.{Bool, List, Option, false, if◌then◌else◌, is_some, map, nat_eq, true, ℕ, ◌++◌, ◌||◌, ◌≡◌}
 use Rattle.std.specs.List.{list_all}
-use Rattle.vt_spec.specs.Machine.Lists.{any_pair, is_among}
-use Rattle.vt_spec.specs.Machine.Mounts.{Location, Mount, MountFlags}
+use Rattle.vt_spec.specs.Lists.{any_pair, is_among}
+use Rattle.vt_spec.specs.Machine.Mounts.{Location, Mount}
+use Rattle.vt_spec.specs.Language.Calls.{MountFlags}
 use Rattle.vt_spec.specs.Machine.Outcome.Mounting.{with_flags}
 use Rattle.vt_spec.specs.Machine.Settled.{is_mounted, named_in, settled}
 use Rattle.vt_spec.specs.Machine.World.{Filesystem, World, all_locations, with_mounts}
@@ -14,7 +15,7 @@ use Rattle.vt_letting_go.specs.Leaving.{IsSettledPlain}
 pub record KeepsUses (change : Mount ℕ → Mount ℕ) : Type 0 where
   pub number : (mount : Mount ℕ) → (change mount).number ≡ mount.number
   pub namespace : (mount : Mount ℕ) → (change mount).namespace ≡ mount.namespace
-  pub place : (mount : Mount ℕ) → (change mount).place ≡ mount.place
+  pub mount_point : (mount : Mount ℕ) → (change mount).mount_point ≡ mount.mount_point
   pub filesystem : (mount : Mount ℕ) → (change mount).filesystem ≡ mount.filesystem
   pub root : (mount : Mount ℕ) → (change mount).root ≡ mount.root
 

@@ -1,7 +1,7 @@
 -- What goes when tasks leave places: close(2), chdir(2), chroot(2), setns(2), _exit(2).
 use Rattle.std.specs.Prelude.{Bool, List, [], false, flat_map, is_some, map, nat_eq, option_to_list, true, ℕ, ◌||◌, ◌∷◌, ◌≡◌}
 use Rattle.std.specs.List.{list_all, list_any}
-use Rattle.vt_spec.specs.Machine.Lists.{any_pair}
+use Rattle.vt_spec.specs.Lists.{any_pair}
 use Rattle.vt_spec.specs.Machine.Mounts.{Location, Mount, same_location}
 use Rattle.vt_spec.specs.Machine.Settled.{settled}
 use Rattle.vt_spec.specs.Machine.World.{Task, World, all_locations, mount_at}
@@ -12,7 +12,7 @@ use Rattle.vt_letting_go.specs.OneByOne.{Inode, IsPlain, Losers, let_go}
 -- the mount that a place is on is in a namespace
 abbrev pub stands_on_attached : World ℕ → Mount ℕ → Bool
 stands_on_attached world mount =
-    list_all (λ place. is_some (mount_at nat_eq world place).namespace) (option_to_list mount.place)
+    list_all (λ place. is_some (mount_at nat_eq world place).namespace) (option_to_list mount.mount_point)
 
 -- Of mounts: each has a number of its own, one outside every namespace has no place and is private, and a place is on a
 -- mount in a namespace.

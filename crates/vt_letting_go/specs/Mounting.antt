@@ -3,7 +3,7 @@
 use Rattle.std.specs.List.{list_all}
 use Rattle.std.specs.Prelude.{Bool, List, Option, [], false, filter, filter_map, map, nat_eq, true, ℕ, ◌++◌, ◌||◌, ◌≡◌}
 use Rattle.vt_spec.specs.Machine.Detach.{is_going, taken_away}
-use Rattle.vt_spec.specs.Machine.Lists.{holds_of, is_among}
+use Rattle.vt_spec.specs.Lists.{holds_of, is_among}
 use Rattle.vt_spec.specs.Machine.Mounts.{Location, Mount}
 use Rattle.vt_spec.specs.Machine.Namespaces.{is_in_ended, namespaces_ended}
 use Rattle.vt_spec.specs.Machine.Settled.{settled}
@@ -32,10 +32,10 @@ used_by_mounts world gone places groups = record {
 -- a mount that goes, or that stands on one and falls to another place
 abbrev pub loses_its_place : List ℕ → Mount ℕ → Bool
 loses_its_place gone mount =
-    is_going nat_eq gone mount.number || holds_of (λ place. is_going nat_eq gone place.mount) mount.place
+    is_going nat_eq gone mount.number || holds_of (λ place. is_going nat_eq gone place.mount) mount.mount_point
 
 abbrev pub places_lost : World ℕ → List ℕ → List (Location ℕ)
-places_lost world gone = filter_map (λ mount. mount.place) (filter (loses_its_place gone) world.mounts)
+places_lost world gone = filter_map (λ mount. mount.mount_point) (filter (loses_its_place gone) world.mounts)
 
 -- Where any mounts are taken away, that goes which nothing uses any more of what they used and of the places that they
 -- and the mounts on them had, and nothing else. The groups are those that may have lost their last member.
@@ -65,11 +65,11 @@ pub record MovesSome (moved : List ℕ) (change : Mount ℕ → Mount ℕ) : Typ
   pub filesystem : (mount : Mount ℕ) → (change mount).filesystem ≡ mount.filesystem
   pub root : (mount : Mount ℕ) → (change mount).root ≡ mount.root
   pub namespace : (mount : Mount ℕ) → (change mount).namespace ≡ mount.namespace
-  pub place : (mount : Mount ℕ) → is_among nat_eq mount.number moved ≡ false → (change mount).place ≡ mount.place
+  pub mount_point : (mount : Mount ℕ) → is_among nat_eq mount.number moved ≡ false → (change mount).mount_point ≡ mount.mount_point
 
 abbrev pub places_moved : World ℕ → List ℕ → List (Location ℕ)
 places_moved world moved =
-    filter_map (λ mount. mount.place) (filter (λ mount. is_among nat_eq mount.number moved) world.mounts)
+    filter_map (λ mount. mount.mount_point) (filter (λ mount. is_among nat_eq mount.number moved) world.mounts)
 
 -- Then at the most the inodes of their old places go.
 abbrev pub MovingLetsGo : Type 0

@@ -2,7 +2,7 @@
 -- among them the upper inodes of what went. The kernel's overlayfs document, path_resolution(7), unlink(2).
 use Rattle.std.specs.Prelude.{All, Bool, List, None, Option, Some, [], flat_map, if◌then◌else◌, map, nat_eq, not, option_map, option_to_list, true, ℕ, ◌&&◌, ◌++◌, ◌+◌, ◌∷◌, ◌≡◌}
 use Rattle.std.specs.List.{list_all}
-use Rattle.vt_spec.specs.Machine.Lists.{folded}
+use Rattle.vt_spec.specs.Lists.{folded}
 use Rattle.vt_spec.specs.Machine.Locked.{of_overlay}
 use Rattle.vt_spec.specs.Machine.Settled.{settled, without_dead_filesystems, without_dead_in, without_dead_inodes}
 use Rattle.vt_spec.specs.Machine.World.{Filesystem, Layer, Overlay, Real, World, is_overlay, layers_of, upper_object}

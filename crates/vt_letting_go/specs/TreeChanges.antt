@@ -1,9 +1,9 @@
 -- What goes when a plain tree changes: unlink(2), rmdir(2), rename(2); mkdir(2), link(2), write(2), chmod(2).
 use Rattle.std.specs.Prelude.{List, [], map, nat_eq, true, ℕ, ◌||◌, ◌≡◌}
 use Rattle.std.specs.List.{list_all}
-use Rattle.vt_spec.specs.Machine.FileTree.{FileTree}
+use Rattle.vt_spec.specs.FileTree.{FileTree}
 use Rattle.vt_spec.specs.Machine.Filesystems.{with_files}
-use Rattle.vt_spec.specs.Machine.Lists.{is_among}
+use Rattle.vt_spec.specs.Lists.{is_among}
 use Rattle.vt_spec.specs.Machine.Settled.{named_in, settled}
 use Rattle.vt_spec.specs.Machine.World.{World, filesystem_numbered, with_filesystem}
 use Rattle.vt_letting_go.specs.InUse.{IsListedTree}

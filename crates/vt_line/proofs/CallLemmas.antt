@@ -1,9 +1,9 @@
 -- Calls by their names and words.
 use Rattle.std.specs.Global.{Vec}
 use Rattle.std.proofs.Common.{List, None, Option, Some, Result, Err, option_map, refl, subst, sym, ap, ◌≡◌, ◌∙◌, ◌∷◌, [], ℕ, IsSome, IsSomeAnd}
-use Rattle.vt_spec.specs.Machine.Calls.{Call}
-use Rattle.vt_spec.specs.Machine.Lists.{then_some}
-use Rattle.vt_spec.specs.Machine.Script.{no_more, path_alone, path_word, two_paths, word_then}
+use Rattle.vt_spec.specs.Language.Calls.{Call}
+use Rattle.vt_spec.specs.Lists.{then_some}
+use Rattle.vt_spec.specs.Language.Script.{no_more, path_alone, path_word, two_paths, word_then}
 use Rattle.vt_request.specs.declared.request.Call.{Call as KeptCall}
 use Rattle.vt_line.specs.declared.names.CallName.{CallName}
 use Rattle.vt_line.specs.declared.calls.ReadError.{ReadError}

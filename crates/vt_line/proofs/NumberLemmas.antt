@@ -5,7 +5,7 @@ use Rattle.std.proofs.lemmas.Bool.Decides.{nat_tests}
 use Rattle.std.proofs.Math.Nat.{mul-le-mul_right}
 use Rattle.std.specs.List.{list_all}
 use Rattle.vt_spec.specs.PathText.{is_empty}
-use Rattle.vt_spec.specs.Machine.Script.{number_in, digits_below, value_from, child_number}
+use Rattle.vt_spec.specs.Language.Script.{number_in, digits_below, value_from, child_number}
 
 -- a number grows with each digit
 pub value_from-grows : (base value : ℕ) (text : List ℕ) → 1 ≤ base → value ≤ value_from base value text

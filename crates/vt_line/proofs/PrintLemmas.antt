@@ -3,14 +3,14 @@ use Rattle.std.proofs.Common.{◌≡◌, ℕ, Result, Ok, Err, codes, decimal, s
 use Rattle.std.proofs.lemmas.List.{append-nil}
 use Rattle.std.proofs.lemmas.List.Concat.{flat_map-append}
 use Rattle.std.specs.List.{flat_map}
-use Rattle.vt_spec.specs.Machine.Script.{is_plain}
+use Rattle.vt_spec.specs.Language.Script.{is_plain}
 use Rattle.std.specs.Global.{Vec}
-use Rattle.vt_spec.specs.Machine.Outcomes.Answer.{Names}
-use Rattle.vt_spec.specs.Machine.Outcomes.{StatLine}
+use Rattle.vt_spec.specs.Language.Answers.Answer.{Names}
+use Rattle.vt_spec.specs.Language.Answers.{StatLine}
 use Rattle.vt_spec.specs.declared.attributes.Kind.{Kind}
 use Rattle.vt_spec.specs.declared.attributes.Kind.TheVariants.{Dir, File, Link, White}
 use Rattle.vt_spec.specs.declared.errors.Deny.{Deny}
-use Rattle.vt_spec.specs.Machine.Printed.{hex_digit, owner_words, printed_byte, printed_line, printed_rows, printed_text, printed_value, reply_line, spaced, stat_words}
+use Rattle.vt_spec.specs.Language.Printed.{hex_digit, owner_words, printed_byte, printed_line, printed_rows, printed_text, printed_value, reply_line, spaced, stat_words}
 use Rattle.vt_request.specs.Answers.{answer_of, result_of}
 use Rattle.vt_request.specs.declared.answer.Answer.{Answer}
 use Rattle.vt_request.specs.declared.answer.Answer.TheVariants.{Done, Bytes, Told, Opened, Child}

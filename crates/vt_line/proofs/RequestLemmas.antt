@@ -4,15 +4,14 @@ use Rattle.std.specs.List.{list_any}
 use Rattle.std.specs.Str.{bytes_eq}
 use Rattle.std.proofs.lemmas.Bool.Decides.{nat_tests}
 use Rattle.std.proofs.lemmas.Slice.Eq.{bytes_eq-Decides}
-use Rattle.vt_spec.specs.Machine.Calls.{Call}
-use Rattle.vt_spec.specs.Machine.Calls as asked
-use Rattle.vt_spec.specs.Machine.Calls.Call.{MountOverlay, MountPlain}
-use Rattle.vt_spec.specs.Machine.Lists.{then_some}
-use Rattle.vt_spec.specs.Machine.Mounts.{plain_flags}
-use Rattle.vt_spec.specs.Machine.Script.{Request, access_word, asked_by, attribute_words, bytes_word, call_asked, call_words, capabilities_word, chown_call, creation_words, descriptor_word, descriptor_words, directive_asked, each_of, file_call_names, files, flags_or_plain, flags_word, fork_words, groups_word, identity_word, kept_or_identity, may_have, mode_word, mount_words, mounting_words, naming_words, no_more, offset_word, options_of, path_alone, path_word, raw_tokens, request_of, request_of_texts, task_word, task_words, token_text, two_paths, type_word, word_then, yes_or_no_word}
-use Rattle.vt_spec.specs.Machine.Script.Request.{Calling}
-use Rattle.vt_spec.specs.Machine.Script.Version.{One}
-use Rattle.vt_spec.specs.Machine.Script.Who.{Nobody, Someone}
+use Rattle.vt_spec.specs.Language.Calls.{Call, plain_flags}
+use Rattle.vt_spec.specs.Language.Calls as asked
+use Rattle.vt_spec.specs.Language.Calls.Call.{MountOverlay, MountPlain}
+use Rattle.vt_spec.specs.Lists.{then_some}
+use Rattle.vt_spec.specs.Language.Script.{Request, access_word, asked_by, attribute_words, bytes_word, call_asked, call_words, capabilities_word, chown_call, creation_words, descriptor_word, descriptor_words, directive_asked, each_of, file_call_names, files, flags_or_plain, flags_word, fork_words, groups_word, identity_word, kept_or_identity, may_have, mode_word, mount_words, mounting_words, naming_words, no_more, offset_word, options_of, path_alone, path_word, raw_tokens, request_of, request_of_texts, task_word, task_words, token_text, two_paths, type_word, word_then, yes_or_no_word}
+use Rattle.vt_spec.specs.Language.Script.Request.{Calling}
+use Rattle.vt_spec.specs.Language.Script.Version.{One}
+use Rattle.vt_spec.specs.Language.Script.Who.{Nobody, Someone}
 use Rattle.vt_line.specs.declared.calls.ReadError.{ReadError}
 use Rattle.vt_line.specs.declared.calls.ReadError.TheVariants.{Grammar, Memory}
 use Rattle.vt_line.specs.declared.names.CallName.{CallName}

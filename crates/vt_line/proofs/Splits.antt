@@ -7,7 +7,7 @@ use Rattle.std.specs.Iterator.Adapters.{skip_source, skip_count, skip_steps}
 use Rattle.std.specs.declared.iter.Skip.{Skip}
 use Rattle.std.specs.List.{slice_split}
 use Rattle.vt_spec.specs.PathText.{parts}
-use Rattle.vt_spec.specs.Machine.Script.{each_of, with_first}
+use Rattle.vt_spec.specs.Language.Script.{each_of, with_first}
 use Rattle.vt_line.proofs.TokenLemmas.{parts-split}
 
 -- a split yields the parts

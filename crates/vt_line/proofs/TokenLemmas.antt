@@ -9,8 +9,8 @@ use Rattle.std.specs.Option.{option_map_or}
 use Rattle.std.specs.List.{find, list_all, slice_split, onto_first, sum_by}
 use Rattle.std.specs.Str.{bytes_eq}
 use Rattle.vt_spec.specs.PathText.{parts, with_byte, is_empty}
-use Rattle.vt_spec.specs.Machine.Script.{each_of, is_plain, is_silent, raw_tokens, is_silent_token, spelled, token_text, with_completed, with_first}
-use Rattle.vt_spec.specs.Machine.Script.Reading.{AfterBackslash, Between, Failed}
+use Rattle.vt_spec.specs.Language.Script.{each_of, is_plain, is_silent, raw_tokens, is_silent_token, spelled, token_text, with_completed, with_first}
+use Rattle.vt_spec.specs.Language.Script.Reading.{AfterBackslash, Between, Failed}
 use Rattle.vt_line.specs.Tokens.{cut, few_texts}
 
 -- the parts of a text are those of a split

@@ -13,9 +13,9 @@ use Rattle.std.proofs.lemmas.Str.{IsUtf8-from_ascii}
 use Rattle.std.proofs.lemmas.Slice.Eq.{bytes_eq-Decides}
 use Rattle.bitflags.specs.Sets.{find_row, find_name}
 use Rattle.vt_cred.specs.Caps.{capability_table}
-use Rattle.vt_spec.specs.Machine.Calls.CapabilityWord.{These}
+use Rattle.vt_spec.specs.Language.Calls.CapabilityWord.{These}
 use Rattle.vt_spec.specs.PathText.{parts}
-use Rattle.vt_spec.specs.Machine.Script.{task_word, name_of_parts, each_of, with_first, child_number, capability_named, capabilities_word, union, groups_word, identity_word}
+use Rattle.vt_spec.specs.Language.Script.{task_word, name_of_parts, each_of, with_first, child_number, capability_named, capabilities_word, union, groups_word, identity_word}
 
 -- a task's name by its first part
 pub task_word-other : (text first : List ℕ) (rest : List (List ℕ)) → parts 46 text ≡ first ∷ rest → bytes_eq first (codes "t") ≡ false → task_word text ≡ None

@@ -1,10 +1,10 @@
 -- Calls as their words are read, and what becomes of a line that asks for one.
 use Rattle.std.specs.Prelude.{List, None, Option, Some, length, ℕ, ◌<◌, ◌≡◌, ◌⊎◌, IsSome, IsSomeAnd, Result, Ok, Err}
-use Rattle.vt_spec.specs.Machine.Calls as spec
-use Rattle.vt_spec.specs.Machine.Calls.Call.{Chmod, Chown, Close, Drop, Exec, Exit, Fork, LinkTo, Ls, Lstat, Mkdir, OpenFile, Pread, Pwrite, Read, Readlink, Rename, Rmdir, Stat, SymlinkAt, Umask, Unlink, Write}
-use Rattle.vt_spec.specs.Machine.Script.{Request, call_words, no_more, path_word, word_then}
-use Rattle.vt_spec.specs.Machine.Script.Request.{Asking, Calling}
-use Rattle.vt_spec.specs.Machine.Script.Version.{One}
+use Rattle.vt_spec.specs.Language.Calls as spec
+use Rattle.vt_spec.specs.Language.Calls.Call.{Chmod, Chown, Close, Drop, Exec, Exit, Fork, LinkTo, Ls, Lstat, Mkdir, OpenFile, Pread, Pwrite, Read, Readlink, Rename, Rmdir, Stat, SymlinkAt, Umask, Unlink, Write}
+use Rattle.vt_spec.specs.Language.Script.{Request, call_words, no_more, path_word, word_then}
+use Rattle.vt_spec.specs.Language.Script.Request.{Asking, Calling}
+use Rattle.vt_spec.specs.Language.Script.Version.{One}
 use Rattle.vt_request.specs.declared.request.Call.{Call}
 use Rattle.vt_request.specs.declared.task.TaskName.{TaskName}
 use Rattle.vt_request.specs.declared.task.TheConstants.{INLINE_NUMBERS}

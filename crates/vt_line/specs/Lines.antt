@@ -1,7 +1,8 @@
 -- What a line of a script says.
 use Rattle.std.specs.Prelude.{◌≡◌, ◌≤◌, ℕ, true, false, List, length, Some}
-use Rattle.vt_spec.specs.Machine.Script.{files, longest_line, is_silent, request_of}
-use Rattle.vt_spec.specs.Machine.Script.Request.{Calling}
+use Rattle.vt_spec.specs.Language.Script.{files, is_silent, request_of}
+use Rattle.vt_spec.specs.Language.Limits.{longest_line}
+use Rattle.vt_spec.specs.Language.Script.Request.{Calling}
 use Rattle.vt_line.specs.declared.line.Line.{Line}
 use Rattle.vt_line.specs.declared.line.Line.TheVariants.{Silent, Call}
 use Rattle.vt_request.specs.Requests.{call_of}

@@ -6,8 +6,8 @@ use Rattle.vt_spec.specs.Errors.{errno_name, number_of, rule_name}
 use Rattle.vt_spec.specs.declared.attributes.Kind.{Kind}
 use Rattle.vt_spec.specs.declared.attributes.Kind.TheVariants.{Dir, File, Link, White}
 use Rattle.vt_spec.specs.declared.errors.Deny.{Deny}
-use Rattle.vt_spec.specs.Machine.Outcomes.{Answer, StatLine}
-use Rattle.vt_spec.specs.Machine.Printed.{printed_text, printed_value}
+use Rattle.vt_spec.specs.Language.Answers.{Answer, StatLine}
+use Rattle.vt_spec.specs.Language.Printed.{printed_text, printed_value}
 
 -- names, behind a space each
 abbrev pub printed_names : List (Vec ℕ) → List ℕ

@@ -1,8 +1,8 @@
 -- The texts of a line, free of capacities, and how a token's bytes are read.
 use Rattle.std.specs.Prelude.{List, None, Option, [], drop, if◌then◌else◌, length, map, nat_le, take, ℕ, ◌∷◌}
 use denote.Ref.{Bor}
-use Rattle.vt_spec.specs.Machine.Script as spec
-use Rattle.vt_spec.specs.Machine.Script.{each_of, raw_tokens, token_text}
+use Rattle.vt_spec.specs.Language.Script as spec
+use Rattle.vt_spec.specs.Language.Script.{each_of, raw_tokens, token_text}
 use Rattle.vt_line.specs.declared.token.Reading.{Reading}
 use Rattle.vt_line.specs.declared.token.Reading.TheVariants.{Between, AfterBackslash, AfterX, AfterHigh, Failed}
 use Rattle.vt_line.specs.declared.token.TheConstants.{MOST_TEXTS}

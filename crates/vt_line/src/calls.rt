@@ -1,8 +1,8 @@
 //! The calls of the grammar, read from the words behind their names.
 ghost use Rattle.std.specs.Prelude.{◌≡◌, option_map};
 ghost use Rattle.std.specs.Global.{Vec};
-ghost use Rattle.vt_spec.specs.Machine.Calls.Call.{Chmod, Chown, Fork, Mkdir, OpenFile, Pwrite, Write};
-ghost use Rattle.vt_spec.specs.Machine.Script.{creation_words, fork_words};
+ghost use Rattle.vt_spec.specs.Language.Calls.Call.{Chmod, Chown, Fork, Mkdir, OpenFile, Pwrite, Write};
+ghost use Rattle.vt_spec.specs.Language.Script.{creation_words, fork_words};
 ghost use Rattle.vt_request.specs.Requests.{access_of, call_of, creation_of};
 ghost use Rattle.vt_line.specs.Calls.{call_named, child_of, lone_path, path_pair, ArePathsRead, IsCallRead};
 

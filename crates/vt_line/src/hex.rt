@@ -1,7 +1,7 @@
 //! Lower-case hexadecimal digits, of which an escape has two.
 ghost use Rattle.std.specs.Prelude.{◌≡◌, ◌+◌, ◌*◌, ◌/◌, ◌%◌};
-ghost use Rattle.vt_spec.specs.Machine.Script.{hex_value};
-ghost use Rattle.vt_spec.specs.Machine.Printed.{hex_digit};
+ghost use Rattle.vt_spec.specs.Language.Script.{hex_value};
+ghost use Rattle.vt_spec.specs.Language.Printed.{hex_digit};
 
 use std::marker::Model;
 

@@ -1,6 +1,6 @@
 //! The names of the calls on files and tasks.
 ghost use Rattle.std.specs.Prelude.{◌≡◌, None, false, IfSome};
-ghost use Rattle.vt_spec.specs.Machine.Script.{file_call_names};
+ghost use Rattle.vt_spec.specs.Language.Script.{file_call_names};
 
 /// A call, without its words.
 #[derive(Clone, Copy, Debug, PartialEq, Eq)]

@@ -1,6 +1,6 @@
 //! The numbers of the grammar.
 ghost use Rattle.std.specs.Prelude.{◌≡◌, ◌≤◌, ◌<◌, ◌+◌, ◌-◌, ◌&&◌, nat_le, nat_lt, if◌then◌else◌, IfSome};
-ghost use Rattle.vt_spec.specs.Machine.Script.{number_in, mode_word, child_number, identity_word, offset_word, descriptor_word};
+ghost use Rattle.vt_spec.specs.Language.Script.{number_in, mode_word, child_number, identity_word, offset_word, descriptor_word};
 
 use vt_spec::attributes::Mode;
 

@@ -1,7 +1,7 @@
 //! How answers are printed, without taking memory.
 ghost use Rattle.std.specs.Prelude.{◌≡◌, ◌+◌, ◌/◌, ◌%◌, ◌^◌, ◌<◌, [], ◌∷◌, ◌++◌, decimal, false, length, slice_index, All, IsTrue, IfErr};
-ghost use Rattle.vt_spec.specs.Machine.Printed.{hex_digit, owner_words, printed_mode, printed_task, printed_text, printed_value, reply_line, spaced, stat_words};
-ghost use Rattle.vt_spec.specs.Machine.Script.{is_plain};
+ghost use Rattle.vt_spec.specs.Language.Printed.{hex_digit, owner_words, printed_mode, printed_task, printed_text, printed_value, reply_line, spaced, stat_words};
+ghost use Rattle.vt_spec.specs.Language.Script.{is_plain};
 ghost use Rattle.vt_io.specs.Sink.{Prints};
 ghost use Rattle.vt_request.specs.Answers.{answer_of, result_of, stat_line_of};
 ghost use Rattle.vt_line.specs.Printing.{further_words, kind_text, printed_names, printed_numbers, reply_words};

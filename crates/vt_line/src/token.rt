@@ -1,7 +1,8 @@
 //! The tokens of a line, and the texts that they spell.
 ghost use Rattle.std.specs.Prelude.{◌≡◌, ◌+◌, ◌≤◌, ◌<◌, ◌||◌, ◌==◌, ◌++◌, Some, None, length, option_map, cond, sum, true, false, IfSome};
 ghost use Rattle.std.specs.List.{list_all};
-ghost use Rattle.vt_spec.specs.Machine.Script.{is_silent, is_plain, longest_line, raw_tokens, token_text, each_of, next_reading, completed};
+ghost use Rattle.vt_spec.specs.Language.Script.{is_silent, is_plain, raw_tokens, token_text, each_of, next_reading, completed};
+ghost use Rattle.vt_spec.specs.Language.Limits.{longest_line};
 ghost use Rattle.vt_line.specs.Tokens.{reading_of, texts_of, few_texts, cut};
 
 use crate::hex::HexDigit;
@@ -145,7 +146,7 @@ fn unescape(token: &[u8], text: &mut ArrayVec<u8, LONGEST_LINE>) -> bool
 
 impl Unescaped {
     ghost use Rattle.std.specs.Prelude.{◌≡◌, ◌≤◌, length, option_map};
-    ghost use Rattle.vt_spec.specs.Machine.Script.{longest_line};
+    ghost use Rattle.vt_spec.specs.Language.Limits.{longest_line};
     ghost use Rattle.vt_line.specs.Tokens.{texts_of, few_texts};
 
     /// The texts that a line's tokens spell.

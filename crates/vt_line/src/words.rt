@@ -1,6 +1,6 @@
 //! The words of a line: its task, its call and what the call is given.
 ghost use Rattle.std.specs.Prelude.{◌≡◌, ◌<◌, option_map, length, is_some, true, Some, IfOk, IfSome, OnErr};
-ghost use Rattle.vt_spec.specs.Machine.Script.{task_word, path_word, capability_named, capabilities_word, access_word, kept_or_identity, groups_word};
+ghost use Rattle.vt_spec.specs.Language.Script.{task_word, path_word, capability_named, capabilities_word, access_word, kept_or_identity, groups_word};
 ghost use Rattle.vt_request.specs.declared.task.TheConstants.{INLINE_NUMBERS};
 ghost use Rattle.vt_cred.specs.Caps.{capability_bits};
 ghost use Rattle.vt_request.specs.Requests.{access_of, capabilities_of};

@@ -1,7 +1,7 @@
 //! Worked examples: corners of mounts.
 ghost use Rattle.std.specs.Prelude.{◌≡◌, [], codes, ◌++◌};
 ghost use Rattle.vt_spec.specs.Machine.Run.{machine_text};
-ghost use Rattle.vt_spec.specs.Machine.Script.Version.{One};
+ghost use Rattle.vt_spec.specs.Language.Script.Version.{One};
 
 /// `..` from a mount over the task's root goes on from its place and stays there.
 pub fn over_the_root()

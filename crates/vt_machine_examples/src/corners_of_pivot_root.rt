@@ -1,7 +1,7 @@
 //! Worked examples: corners of pivot_root.
 ghost use Rattle.std.specs.Prelude.{◌≡◌, [], codes, ◌++◌};
 ghost use Rattle.vt_spec.specs.Machine.Run.{machine_text};
-ghost use Rattle.vt_spec.specs.Machine.Script.Version.{Two};
+ghost use Rattle.vt_spec.specs.Language.Script.Version.{Two};
 
 /// Tasks of the namespace get the new root, a changed root does not.
 pub fn pivot_of_a_task_elsewhere()

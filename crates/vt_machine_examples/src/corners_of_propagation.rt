@@ -1,7 +1,7 @@
 //! Worked examples: corners of propagation.
 ghost use Rattle.std.specs.Prelude.{◌≡◌, [], codes, ◌++◌};
 ghost use Rattle.vt_spec.specs.Machine.Run.{machine_text};
-ghost use Rattle.vt_spec.specs.Machine.Script.Version.{One};
+ghost use Rattle.vt_spec.specs.Language.Script.Version.{One};
 
 /// What becomes of the slaves of a group that loses its members.
 pub fn slaves_of_an_emptied_group()

@@ -1,7 +1,7 @@
 //! Worked examples: corners of the grammar.
 ghost use Rattle.std.specs.Prelude.{◌≡◌, [], codes, ◌++◌};
 ghost use Rattle.vt_spec.specs.Machine.Run.{machine_text};
-ghost use Rattle.vt_spec.specs.Machine.Script.Version.{One};
+ghost use Rattle.vt_spec.specs.Language.Script.Version.{One};
 
 /// Tokens by their decoded text.
 pub fn tokens()

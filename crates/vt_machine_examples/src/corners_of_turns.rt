@@ -1,6 +1,6 @@
 //! Worked examples: corners of turns.
 ghost use Rattle.std.specs.Prelude.{◌≡◌, [], codes, ◌++◌};
-ghost use Rattle.vt_spec.specs.Machine.Script.Version.{One};
+ghost use Rattle.vt_spec.specs.Language.Script.Version.{One};
 ghost use Rattle.vt_spec.specs.Machine.Turns.{turns_text};
 
 /// Each word of a path, and of a link's text, takes a turn; a path without words takes none.

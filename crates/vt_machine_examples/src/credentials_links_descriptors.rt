@@ -2,7 +2,7 @@
 ghost use Rattle.std.specs.Prelude.{◌≡◌, [], codes, ◌++◌, ◌+◌, decimal, replicate, ℕ};
 ghost use Rattle.std.specs.List.{flat_map, range_with_len};
 ghost use Rattle.vt_spec.specs.Machine.Run.{machine_text};
-ghost use Rattle.vt_spec.specs.Machine.Script.Version.{One};
+ghost use Rattle.vt_spec.specs.Language.Script.Version.{One};
 
 /// An owner without owner bits gets nothing from the other bits.
 pub fn owner_class_alone()

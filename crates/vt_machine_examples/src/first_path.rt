@@ -1,7 +1,7 @@
 //! Worked examples: first path.
 ghost use Rattle.std.specs.Prelude.{◌≡◌, [], codes, ◌++◌, replicate};
 ghost use Rattle.vt_spec.specs.Machine.Run.{machine_text, script_text};
-ghost use Rattle.vt_spec.specs.Machine.Script.Version.{One};
+ghost use Rattle.vt_spec.specs.Language.Script.Version.{One};
 
 /// An empty script writes nothing.
 pub fn empty_script()

@@ -1,7 +1,7 @@
 //! Worked examples: mounts.
 ghost use Rattle.std.specs.Prelude.{◌≡◌, [], codes, ◌++◌};
 ghost use Rattle.vt_spec.specs.Machine.Run.{machine_text};
-ghost use Rattle.vt_spec.specs.Machine.Script.Version.{One};
+ghost use Rattle.vt_spec.specs.Language.Script.Version.{One};
 
 /// A working directory under a later mount; .. crosses a mount root.
 pub fn covered_working_directory()

@@ -1,7 +1,7 @@
 //! Worked examples: namespaces.
 ghost use Rattle.std.specs.Prelude.{◌≡◌, [], codes, ◌++◌};
 ghost use Rattle.vt_spec.specs.Machine.Run.{machine_text};
-ghost use Rattle.vt_spec.specs.Machine.Script.Version.{One};
+ghost use Rattle.vt_spec.specs.Language.Script.Version.{One};
 
 /// A mount in one namespace alone; entering it; an unbindable mount.
 pub fn two_namespaces()

@@ -2,7 +2,7 @@
 ghost use Rattle.std.specs.Prelude.{◌≡◌, [], codes, ◌++◌, ◌+◌, decimal, replicate, ℕ};
 ghost use Rattle.std.specs.List.{flat_map, range_with_len};
 ghost use Rattle.vt_spec.specs.Machine.Run.{machine_text};
-ghost use Rattle.vt_spec.specs.Machine.Script.Version.{Two};
+ghost use Rattle.vt_spec.specs.Language.Script.Version.{Two};
 
 /// As in the first version.
 pub fn empty_script_in_the_whole()

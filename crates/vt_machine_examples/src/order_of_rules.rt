@@ -1,7 +1,7 @@
 //! Worked examples: where several rules fail at once.
 ghost use Rattle.std.specs.Prelude.{◌≡◌, [], codes, ◌++◌};
 ghost use Rattle.vt_spec.specs.Machine.Run.{machine_text};
-ghost use Rattle.vt_spec.specs.Machine.Script.Version.{One};
+ghost use Rattle.vt_spec.specs.Language.Script.Version.{One};
 
 /// The special last word of the first path answers before the second path is walked.
 pub fn special_words_before_the_second_path()

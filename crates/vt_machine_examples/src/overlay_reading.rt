@@ -2,7 +2,7 @@
 ghost use Rattle.std.specs.Prelude.{◌≡◌, [], codes, ◌++◌, decimal};
 ghost use Rattle.std.specs.List.{flat_map, range_with_len};
 ghost use Rattle.vt_spec.specs.Machine.Run.{machine_text};
-ghost use Rattle.vt_spec.specs.Machine.Script.Version.{One};
+ghost use Rattle.vt_spec.specs.Language.Script.Version.{One};
 
 /// What a whiteout and an opaque mark in a higher layer hide.
 pub fn whiteout_and_opaque_mark_in_a_layer()

@@ -1,7 +1,7 @@
 //! Worked examples: overlay writing.
 ghost use Rattle.std.specs.Prelude.{◌≡◌, [], codes, ◌++◌};
 ghost use Rattle.vt_spec.specs.Machine.Run.{machine_text};
-ghost use Rattle.vt_spec.specs.Machine.Script.Version.{One};
+ghost use Rattle.vt_spec.specs.Language.Script.Version.{One};
 
 /// A removed directory leaves a whiteout, a new one over it is opaque; the same is shown after
 /// mounting again.

@@ -1,8 +1,8 @@
 //! Worked examples: a sealed container's calls answer alike in the world and in its part of it.
 ghost use Rattle.std.specs.Prelude.{◌≡◌, ◌∷◌, [], codes, nat_eq, ◌++◌};
 ghost use Rattle.vt_spec.specs.Machine.Run.{first_world, text_from, world_from};
-ghost use Rattle.vt_spec.specs.Machine.Script.Version.{One};
-ghost use Rattle.vt_spec.specs.Machine.Script.{lines_of, whole};
+ghost use Rattle.vt_spec.specs.Language.Script.Version.{One};
+ghost use Rattle.vt_spec.specs.Language.Script.{lines_of, whole};
 ghost use Rattle.vt_spec.specs.Machine.Sealed.{part_of};
 
 /// A container over a locked image, beside the task that made it.

@@ -1,7 +1,7 @@
 //! Worked examples: pivot root.
 ghost use Rattle.std.specs.Prelude.{◌≡◌, [], codes, ◌++◌};
 ghost use Rattle.vt_spec.specs.Machine.Run.{machine_text};
-ghost use Rattle.vt_spec.specs.Machine.Script.Version.{Two};
+ghost use Rattle.vt_spec.specs.Language.Script.Version.{Two};
 
 /// The root mount is exchanged and the old one unmounted.
 pub fn old_root_below_the_new_one()

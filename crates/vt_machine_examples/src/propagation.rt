@@ -1,7 +1,7 @@
 //! Worked examples: propagation.
 ghost use Rattle.std.specs.Prelude.{◌≡◌, [], codes, ◌++◌};
 ghost use Rattle.vt_spec.specs.Machine.Run.{machine_text};
-ghost use Rattle.vt_spec.specs.Machine.Script.Version.{One};
+ghost use Rattle.vt_spec.specs.Language.Script.Version.{One};
 
 /// A shared mount is bound to a place in itself.
 pub fn shared_mount_bound_into_itself()

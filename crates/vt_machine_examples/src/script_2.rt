@@ -1,7 +1,7 @@
 //! Worked examples: script 2.
 ghost use Rattle.std.specs.Prelude.{◌≡◌, [], codes, ◌++◌};
 ghost use Rattle.vt_spec.specs.Machine.Run.{machine_text};
-ghost use Rattle.vt_spec.specs.Machine.Script.Version.{Two};
+ghost use Rattle.vt_spec.specs.Language.Script.Version.{Two};
 
 /// Links on a mount with nosymfollow are not followed; binds keep the flag.
 pub fn nosymfollow()

@@ -1,7 +1,7 @@
 //! Worked examples: sealed.
 ghost use Rattle.std.specs.Prelude.{◌≡◌, [], codes, ◌++◌};
 ghost use Rattle.vt_spec.specs.Machine.Run.{machine_text};
-ghost use Rattle.vt_spec.specs.Machine.Script.Version.{One};
+ghost use Rattle.vt_spec.specs.Language.Script.Version.{One};
 
 /// A container whose lower layer is the whole outer tree is sealed.
 pub fn sealed_container_over_a_locked_image()

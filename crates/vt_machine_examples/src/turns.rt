@@ -1,6 +1,6 @@
 //! Worked examples: turns.
 ghost use Rattle.std.specs.Prelude.{◌≡◌, [], codes, ◌++◌};
-ghost use Rattle.vt_spec.specs.Machine.Script.Version.{One};
+ghost use Rattle.vt_spec.specs.Language.Script.Version.{One};
 ghost use Rattle.vt_spec.specs.Machine.Turns.{turns_text};
 
 /// A walk under way sees that a search right was taken away.

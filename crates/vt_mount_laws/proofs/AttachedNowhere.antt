@@ -3,7 +3,7 @@ use Rattle.std.proofs.Common.{◌≡◌, refl, sym, ap, ◌∙◌, true, false, 
 use Rattle.std.proofs.lemmas.Bool.{and_parts}
 use Rattle.vt_spec.proofs.Lists.{Among, among-append, among-from_filter, among-from_flat_map, among-from_map, among_from_list_all, list_all_from_among}
 use Rattle.vt_spec.specs.Machine.Attach.{Copies, added_mounts, attached_by, bind_tree, copies_at, copy_at, pushed_onto, reaches, receiver_below, receivers_of, takes_part, with_moved_mounts}
-use Rattle.vt_spec.specs.Machine.Lists.{folded, holds_of, rest_of}
+use Rattle.vt_spec.specs.Lists.{folded, holds_of, rest_of}
 use Rattle.vt_spec.specs.Machine.Mounts.{Location, Mount, replaced_if_same, same_location, stands_at, with_mount}
 use Rattle.vt_spec.specs.Machine.Outcome.Mounting.{moved_tree, new_mount, with_new_filesystem}
 use Rattle.vt_spec.specs.Machine.World.{World, mount_at}
@@ -77,7 +77,7 @@ module _ (world : World ℕ) (new : Copies ℕ) (place : Location ℕ) (moves : 
           let at : Mount ℕ → Location ℕ = λ part. record { mount = part.number; node = place.node } in
           let stood = (found_in (λ other. stands_at nat_eq (at other) mount) (rest_of part_list) part f).1 in
           sym (ap (λ b. is_some mount.namespace || (not b && is_private mount.propagation))
-          (is_there (same_location nat_eq (at part)) mount.place stood))
+          (is_there (same_location nat_eq (at part)) mount.mount_point stood))
           ∙ e
 
   moved_fits : (b : Bool) (mount : Mount ℕ)

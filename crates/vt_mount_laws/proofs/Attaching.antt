@@ -5,7 +5,7 @@ use Rattle.std.specs.Prelude.{if◌then◌else◌, unwrap_or}
 use Rattle.std.proofs.lemmas.Option.{same_Some}
 use Rattle.vt_spec.proofs.Lists.{Among, all_from_among, among-append, chain_ends, chain_goes_on, last_of_chain, among-append_left, among-append_right, among-flat_map, among-from_filter, among-from_flat_map, among-from_map, among-map, among_from_all, among_from_list_all}
 use Rattle.vt_spec.specs.Machine.Attach.{Copies, Graft, Twig, attached_by, copies_at, copy_at, copy_number, graft_of, is_top, parts_of, place_on_copy, pushed_onto, pushed_up, receiver_below, receivers_of, takes_part, top_of_copies, twig_of}
-use Rattle.vt_spec.specs.Machine.Lists.{chain, first_of_list, holds_of, last_or, rest_of}
+use Rattle.vt_spec.specs.Lists.{chain, first_of_list, holds_of, last_or, rest_of}
 use Rattle.vt_spec.specs.Machine.Mounts.{Location, Mount, child_at, group_of, mount_in, root_of, same_location, stands_at}
 use Rattle.vt_spec.specs.Machine.Receives.{receivers, receives}
 use Rattle.vt_spec.specs.Machine.World.{World, mount_at, mount_numbered}
@@ -24,7 +24,7 @@ use Rattle.vt_mount_laws.proofs.MountsReplaced.{found_itself}
 -- A list of mounts is a tree: its first is the top, and each other one stands on one of them
 pub data Hangs (mounts : List (Mount ℕ)) : ℕ → Type 0 where
   from_top : (first : Mount ℕ) (rest : List (Mount ℕ)) → mounts ≡ first ∷ rest → Hangs mounts first.number
-  from_parent : (origin : Mount ℕ) (place : Location ℕ) → Among origin mounts → origin.place ≡ Some place
+  from_parent : (origin : Mount ℕ) (place : Location ℕ) → Among origin mounts → origin.mount_point ≡ Some place
       → Hangs mounts place.mount → Hangs mounts origin.number
 
 -- a mount of this number hangs in the list
@@ -158,7 +158,7 @@ module _ (world : World ℕ) (new : Copies ℕ) (place : Location ℕ) (mounts :
     top_stands origin m e =
         let found = found_copy part origin is_part m in
         on_parent (copy part origin).number (place_at part)
-        (ap (λ (x : Mount ℕ). x.place) found ∙ ap (λ b. Some (landing part origin.place b)) e)
+        (ap (λ (x : Mount ℕ). x.mount_point) found ∙ ap (λ b. Some (landing part origin.mount_point b)) e)
         (ap (λ (x : Mount ℕ). x.namespace) found ∙ sym in_its) stands
 
     copies_stand : (number : ℕ) → Hangs mounts number → (origin : Mount ℕ) → Among origin mounts
@@ -180,10 +180,10 @@ module _ (world : World ℕ) (new : Copies ℕ) (place : Location ℕ) (mounts :
             sym (found_itself mounts own other l) ∙ ap (mount_in nat_eq mounts) (sym same)
             ∙ found_itself mounts own origin m in
             let parent = hanging mounts on.mount later in
-            let place_is : origin.place ≡ Some on = ap (λ (x : Mount ℕ). x.place) (sym it) ∙ f in
+            let place_is : origin.mount_point ≡ Some on = ap (λ (x : Mount ℕ). x.mount_point) (sym it) ∙ f in
             on_parent (copy part origin).number (place_on_copy nat_eq new tree part.number on)
-            (ap (λ (x : Mount ℕ). x.place) found
-            ∙ ap (λ b. Some (landing part origin.place b)) e
+            (ap (λ (x : Mount ℕ). x.mount_point) found
+            ∙ ap (λ b. Some (landing part origin.mount_point b)) e
             ∙ ap (λ p. Some (landing part p false)) place_is)
             (ap (λ (x : Mount ℕ). x.namespace) found
             ∙ sym (ap (λ k. (mount_numbered nat_eq after k).namespace)
@@ -201,7 +201,7 @@ module _ (world : World ℕ) (new : Copies ℕ) (place : Location ℕ) (mounts :
 
   -- its parent is there, where mounts outside every namespace have no place
   pub parent_there : NowhereOrAttached world → (number : ℕ) (on : Location ℕ)
-      → (mount_numbered nat_eq world number).place ≡ Some on
+      → (mount_numbered nat_eq world number).mount_point ≡ Some on
       → (mount_numbered nat_eq world number).namespace ≡ (mount_numbered nat_eq world on.mount).namespace
       → is_mount world on.mount ≡ true
   parent_there nowhere number on e f =
@@ -213,19 +213,19 @@ module _ (world : World ℕ) (new : Copies ℕ) (place : Location ℕ) (mounts :
       (f ∙ ap (λ (x : Mount ℕ). x.namespace) none)))
       (found_or_none world.mounts on.mount)
     where
-      outside : (mount : Mount ℕ) → Among mount world.mounts → mount.place ≡ Some on → mount.namespace ≡ None → ⊥
+      outside : (mount : Mount ℕ) → Among mount world.mounts → mount.mount_point ≡ Some on → mount.namespace ≡ None → ⊥
       outside mount m p none =
           true≢false
           (sym (among_from_list_all is_nowhere_or_attached world.mounts nowhere mount m)
-          ∙ ap (λ n. is_some n || (not (is_some mount.place) && is_private mount.propagation)) none
+          ∙ ap (λ n. is_some n || (not (is_some mount.mount_point) && is_private mount.propagation)) none
           ∙ ap (λ q. not (is_some q) && is_private mount.propagation) p)
 
   stands_after : NowhereOrAttached world → (number : ℕ) → Stands nat_eq world number → is_mount world number ≡ true
       → Stands nat_eq after number
   stands_after nowhere number (at_root it e) is =
       at_root it
-      (ap (λ (x : Mount ℕ). x.place) (found_old it is)
-      ∙ ap (λ (x : Mount ℕ). x.place)
+      (ap (λ (x : Mount ℕ). x.mount_point) (found_old it is)
+      ∙ ap (λ (x : Mount ℕ). x.mount_point)
       (none_pushes world new tree parts (mount_numbered nat_eq world it) (at_no_place (rest_of parts))) ∙ e)
     where
       at_no_place : (list : List (Mount ℕ))
@@ -244,8 +244,8 @@ module _ (world : World ℕ) (new : Copies ℕ) (place : Location ℕ) (mounts :
           → is_mount world on.mount ≡ true → Stands nat_eq after on.mount → Stands nat_eq after it
       by None none parent_is parent =
           on_parent it on
-          (ap (λ (x : Mount ℕ). x.place) (found_old it is)
-          ∙ ap (λ (x : Mount ℕ). x.place)
+          (ap (λ (x : Mount ℕ). x.mount_point) (found_old it is)
+          ∙ ap (λ (x : Mount ℕ). x.mount_point)
           (ap (pushed_onto nat_eq world new tree parts (mount_numbered nat_eq world it)) none) ∙ e)
           (ap (λ (x : Mount ℕ). x.namespace) (found_old it is) ∙ push_namespace (mount_numbered nat_eq world it) ∙ f
           ∙ sym (ap (λ (x : Mount ℕ). x.namespace) (found_old on.mount parent_is)
@@ -275,8 +275,8 @@ module _ (world : World ℕ) (new : Copies ℕ) (place : Location ℕ) (mounts :
           let number : new_place.mount ≡ (copy receiver origin.0).number =
           onto.2 ∙ ap (λ (x : Mount ℕ). x.number) it_is in
           on_parent it new_place
-          (ap (λ (x : Mount ℕ). x.place) (found_old it is)
-          ∙ ap (λ (x : Mount ℕ). x.place)
+          (ap (λ (x : Mount ℕ). x.mount_point) (found_old it is)
+          ∙ ap (λ (x : Mount ℕ). x.mount_point)
           (ap (pushed_onto nat_eq world new tree parts (mount_numbered nat_eq world it)) some))
           (ap (λ (x : Mount ℕ). x.namespace) (found_old it is) ∙ push_namespace (mount_numbered nat_eq world it) ∙ f
           ∙ ap (λ n. (mount_numbered nat_eq world n).namespace) same ∙ ap (λ (x : Mount ℕ). x.namespace) receiver_itself

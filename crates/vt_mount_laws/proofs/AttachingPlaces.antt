@@ -7,11 +7,11 @@ use Rattle.std.proofs.lemmas.List.{length-map}
 use Rattle.std.proofs.lemmas.Option.{same_Some}
 use Rattle.vt_spec.proofs.Lists.{Among, among-append_left, among-append_right, among-flat_map, among-from_flat_map, among-from_map, among-map, among_from_all, chain_ends, chain_goes_on, is_among_numbers, last_of_chain, none_from_among, pair-map}
 use Rattle.vt_spec.specs.Machine.Attach.{Copies, Graft, Twig, attached_by, copies_at, copy_at, graft_of, is_top, parts_of, place_on_copy, pushed_onto, pushed_up, receiver_below, top_of_copies, twig_of}
-use Rattle.vt_spec.specs.Machine.Lists.{any_pair, chain, first_of_list, holds_of, last_or, rest_of, same_option}
+use Rattle.vt_spec.specs.Lists.{any_pair, chain, first_of_list, holds_of, last_or, rest_of, same_option}
 use Rattle.vt_spec.specs.Machine.Mounts.{Location, Mount, child_at, group_of, mount_in, root_of, same_location, stands_at}
 use Rattle.vt_spec.specs.Machine.Run.{numbers_in_use}
 use Rattle.vt_spec.specs.Machine.World.{World, mount_at, mount_numbered}
-use Rattle.vt_spec.specs.Machine.WorldLaws.{Stands, stand_at_one_place}
+use Rattle.vt_spec.specs.Machine.WorldLaws.{Stands, share_a_mount_point}
 use Rattle.vt_spec.specs.Machine.WorldLaws.Stands.{at_root, on_parent}
 use Rattle.vt_mount_laws.specs.Mounts.Attaching.{OneNumberAMount, is_mount, numbers_of}
 use Rattle.vt_mount_laws.specs.Mounts.Conditions.{NowhereOrAttached}
@@ -27,35 +27,35 @@ use Rattle.vt_mount_laws.proofs.MountsReplaced.{apart, found_itself}
 use Rattle.vt_mount_laws.proofs.Standing.{fewer_numbers, rank, rank_child}
 
 abbrev pub test : Mount ℕ → Mount ℕ → Bool
-test a b = stand_at_one_place nat_eq a b
+test a b = share_a_mount_point nat_eq a b
 
 abbrev pub beside : Option (Location ℕ) → Option (Location ℕ) → Bool
 beside other place = is_some place && same_option (same_location nat_eq) place other
 
 -- two places on two mounts
-pub differ_by_mount : (a b : Mount ℕ) (p q : Location ℕ) → a.place ≡ Some p → b.place ≡ Some q
+pub differ_by_mount : (a b : Mount ℕ) (p q : Location ℕ) → a.mount_point ≡ Some p → b.mount_point ≡ Some q
     → nat_eq p.mount q.mount ≡ false → test a b ≡ false
 differ_by_mount a b p q e f differ =
-    ap (beside b.place) e
+    ap (beside b.mount_point) e
     ∙ ap (same_option (same_location nat_eq) (Some p)) f
     ∙ ap (λ c. c && nat_eq p.node q.node) differ
 
 -- what stands at one place has it twice
-pub one_place : (a b : Mount ℕ) → test a b ≡ true → (p : Location ℕ) × (a.place ≡ Some p) × (b.place ≡ Some p)
-one_place a b h = by a.place refl b.place refl
+pub one_place : (a b : Mount ℕ) → test a b ≡ true → (p : Location ℕ) × (a.mount_point ≡ Some p) × (b.mount_point ≡ Some p)
+one_place a b h = by a.mount_point refl b.mount_point refl
   where
-    by : (x : Option (Location ℕ)) → a.place ≡ x → (y : Option (Location ℕ)) → b.place ≡ y
-        → (p : Location ℕ) × (a.place ≡ Some p) × (b.place ≡ Some p)
-    by None e y f = absurd (true≢false (sym h ∙ ap (beside b.place) e))
+    by : (x : Option (Location ℕ)) → a.mount_point ≡ x → (y : Option (Location ℕ)) → b.mount_point ≡ y
+        → (p : Location ℕ) × (a.mount_point ≡ Some p) × (b.mount_point ≡ Some p)
+    by None e y f = absurd (true≢false (sym h ∙ ap (beside b.mount_point) e))
     by (Some p) e None f =
-        absurd (true≢false (sym h ∙ ap (beside b.place) e ∙ ap (same_option (same_location nat_eq) (Some p)) f))
+        absurd (true≢false (sym h ∙ ap (beside b.mount_point) e ∙ ap (same_option (same_location nat_eq) (Some p)) f))
     by (Some p) e (Some q) f =
         let same : same_location nat_eq p q ≡ true =
-        sym (ap (beside b.place) e ∙ ap (same_option (same_location nat_eq) (Some p)) f) ∙ h in
+        sym (ap (beside b.mount_point) e ∙ ap (same_option (same_location nat_eq) (Some p)) f) ∙ h in
         (p, e, f ∙ ap Some (sym (same_location_is p q same)))
 
 -- and the other way round
-pub stand_together : (a b : Mount ℕ) (p : Location ℕ) → a.place ≡ Some p → b.place ≡ Some p → test a b ≡ true
+pub stand_together : (a b : Mount ℕ) (p : Location ℕ) → a.mount_point ≡ Some p → b.mount_point ≡ Some p → test a b ≡ true
 stand_together a b p e f = one_place_of_two p a b e f
 
 -- of the mounts of a list no two have one place
@@ -138,7 +138,7 @@ module _ (list : List (Mount ℕ)) where
     cover_rank here child e =
         let found = found_in (stands_at nat_eq here) list child e in
         rank_child world one all child.number here
-        (ap (λ (x : Mount ℕ). x.place) (found_itself world.mounts one child (are_there child found.0))
+        (ap (λ (x : Mount ℕ). x.mount_point) (found_itself world.mounts one child (are_there child found.0))
         ∙ stands_there here child found.1)
 
     visited_deeper : (n : ℕ) (here end : Location ℕ) (steps : Covers list n here end) (number : ℕ)
@@ -262,10 +262,10 @@ module _ (world : World ℕ) (new : Copies ℕ) (place : Location ℕ) (mounts :
 
   -- Where a copy stands: the top at the part's place, another one on the copy of what its origin stands on
   data CopyPlace (part origin : Mount ℕ) : Type 0 where
-    at_part : nat_eq origin.number top.number ≡ true → (copy part origin).place ≡ Some (place_at part)
+    at_part : nat_eq origin.number top.number ≡ true → (copy part origin).mount_point ≡ Some (place_at part)
         → CopyPlace part origin
-    on_copy : (on : Location ℕ) (parent : Mount ℕ) → nat_eq origin.number top.number ≡ false → origin.place ≡ Some on
-        → Among parent mounts → parent.number ≡ on.mount → (copy part origin).place ≡ Some (place_upon part on)
+    on_copy : (on : Location ℕ) (parent : Mount ℕ) → nat_eq origin.number top.number ≡ false → origin.mount_point ≡ Some on
+        → Among parent mounts → parent.number ≡ on.mount → (copy part origin).mount_point ≡ Some (place_upon part on)
         → CopyPlace part origin
 
   top_test : (origin : Mount ℕ) → is_top nat_eq tree origin.number ≡ nat_eq origin.number top.number
@@ -276,8 +276,8 @@ module _ (world : World ℕ) (new : Copies ℕ) (place : Location ℕ) (mounts :
   copy_place_of part origin m = by (nat_eq origin.number top.number) refl origin.number (hangs origin m) refl
     where
       placed : (b : Bool) → nat_eq origin.number top.number ≡ b
-          → (copy part origin).place ≡ Some (landing part origin.place b)
-      placed b e = ap (λ c. Some (landing part origin.place c)) (top_test origin ∙ e)
+          → (copy part origin).mount_point ≡ Some (landing part origin.mount_point b)
+      placed b e = ap (λ c. Some (landing part origin.mount_point c)) (top_test origin ∙ e)
 
       by : (b : Bool) → nat_eq origin.number top.number ≡ b → (n : ℕ) → Hangs mounts n → n ≡ origin.number
           → CopyPlace part origin
@@ -292,7 +292,7 @@ module _ (world : World ℕ) (new : Copies ℕ) (place : Location ℕ) (mounts :
       by false e n (from_parent other on l f later) is =
           let it : other ≡ origin =
           sym (found_itself mounts own other l) ∙ ap (mount_in nat_eq mounts) is ∙ found_itself mounts own origin m in
-          let place_is : origin.place ≡ Some on = ap (λ (x : Mount ℕ). x.place) (sym it) ∙ f in
+          let place_is : origin.mount_point ≡ Some on = ap (λ (x : Mount ℕ). x.mount_point) (sym it) ∙ f in
           let parent = hanging mounts on.mount later in
           on_copy on parent.0 e place_is parent.1 parent.2
           (placed false e ∙ ap (λ p. Some (landing part p false)) place_is)
@@ -395,7 +395,7 @@ module _ (world : World ℕ) (new : Copies ℕ) (place : Location ℕ) (mounts :
             ∙ ap (new.copy part.number) (sym same_too)) in
             let mount_is : on.mount ≡ at.mount = sym same ∙ number.1 ∙ same_too in
             let node_is : on.node ≡ at.node = ap (λ (l : Location ℕ). l.node) equal in
-            let place_is : b.place ≡ Some on = h ∙ sym (λ i. Some (record { mount = mount_is i; node = node_is i })) in
+            let place_is : b.mount_point ≡ Some on = h ∙ sym (λ i. Some (record { mount = mount_is i; node = node_is i })) in
             true≢false (sym (stand_together a b on f place_is) ∙ spread a b i j e g differ))
 
     copies_spread : (part : Mount ℕ) → Among part parts → any_pair test (copies part) ≡ false
@@ -419,8 +419,8 @@ module _ (world : World ℕ) (new : Copies ℕ) (place : Location ℕ) (mounts :
     data PushCase (mount : Mount ℕ) : Type 0 where
       stays : push mount ≡ mount → receiver_below nat_eq tree parts mount ≡ None → PushCase mount
       goes : (receiver origin : Mount ℕ) → Among receiver (rest_of parts) → Among origin mounts
-          → mount.place ≡ Some (place_at receiver)
-          → (push mount).place ≡ Some (top_at receiver)
+          → mount.mount_point ≡ Some (place_at receiver)
+          → (push mount).mount_point ≡ Some (top_at receiver)
           → (top_at receiver).mount ≡ new.copy receiver.number origin.number → PushCase mount
 
     top_in : Among top mounts
@@ -440,11 +440,11 @@ module _ (world : World ℕ) (new : Copies ℕ) (place : Location ℕ) (mounts :
             let of = copied receiver onto.0 onto.1 in
             goes receiver of.0 found.0 of.1
             (stands_there (place_at receiver) mount found.1)
-            (ap (λ (x : Mount ℕ). x.place) (ap (pushed_onto nat_eq world new tree parts mount) e))
+            (ap (λ (x : Mount ℕ). x.mount_point) (ap (pushed_onto nat_eq world new tree parts mount) e))
             (onto.2 ∙ ap (λ (x : Mount ℕ). x.number) of.2)
 
     -- what has a place stands on a mount that is there
-    on_is_there : (mount : Mount ℕ) → Among mount world.mounts → (on : Location ℕ) → mount.place ≡ Some on
+    on_is_there : (mount : Mount ℕ) → Among mount world.mounts → (on : Location ℕ) → mount.mount_point ≡ Some on
         → is_mount world on.mount ≡ true
     on_is_there mount m on e =
         let itself : mount_numbered nat_eq world mount.number ≡ mount = found_itself world.mounts one mount m in
@@ -453,10 +453,10 @@ module _ (world : World ℕ) (new : Copies ℕ) (place : Location ℕ) (mounts :
         by : Stands nat_eq world mount.number → mount_numbered nat_eq world mount.number ≡ mount
             → is_mount world on.mount ≡ true
         by (at_root number f) itself =
-            absurd (true≢false (sym (ap is_some e) ∙ sym (ap (λ (x : Mount ℕ). is_some x.place) itself) ∙ ap is_some f))
+            absurd (true≢false (sym (ap is_some e) ∙ sym (ap (λ (x : Mount ℕ). is_some x.mount_point) itself) ∙ ap is_some f))
         by (on_parent number at f g stands) itself =
             let same : at.mount ≡ on.mount =
-            ap (λ (l : Location ℕ). l.mount) (same_Some at on (sym f ∙ ap (λ (x : Mount ℕ). x.place) itself ∙ e)) in
+            ap (λ (l : Location ℕ). l.mount) (same_Some at on (sym f ∙ ap (λ (x : Mount ℕ). x.mount_point) itself ∙ e)) in
             subst (λ n. is_mount world n ≡ true) same
             (parent_there world new place mounts serve own one there hangs top others is_tree nowhere number at f g)
 
@@ -466,16 +466,16 @@ module _ (world : World ℕ) (new : Copies ℕ) (place : Location ℕ) (mounts :
       where
         -- one that stays, and one that goes onto a copy
         mixed : (x y : Mount ℕ) → Among x world.mounts → push x ≡ x → (receiver origin : Mount ℕ)
-            → Among receiver (rest_of parts) → Among origin mounts → (push y).place ≡ Some (top_at receiver)
+            → Among receiver (rest_of parts) → Among origin mounts → (push y).mount_point ≡ Some (top_at receiver)
             → (top_at receiver).mount ≡ new.copy receiver.number origin.number
             → (test (push x) (push y) ≡ false) × (test (push y) (push x) ≡ false)
-        mixed x y k keeps receiver origin r o f same = at x.place refl
+        mixed x y k keeps receiver origin r o f same = at x.mount_point refl
           where
-            at : (found : Option (Location ℕ)) → x.place ≡ found
+            at : (found : Option (Location ℕ)) → x.mount_point ≡ found
                 → (test (push x) (push y) ≡ false) × (test (push y) (push x) ≡ false)
             at None e = (
-              ap (λ (z : Mount ℕ). test z (push y)) keeps ∙ ap (beside (push y).place) e,
-              ap (λ (z : Mount ℕ). test (push y) z) keeps ∙ ap (beside x.place) f
+              ap (λ (z : Mount ℕ). test z (push y)) keeps ∙ ap (beside (push y).mount_point) e,
+              ap (λ (z : Mount ℕ). test (push y) z) keeps ∙ ap (beside x.mount_point) f
                   ∙ ap (same_option (same_location nat_eq) (Some (top_at receiver))) e,
             )
             at (Some on) e =
@@ -537,13 +537,13 @@ module _ (world : World ℕ) (new : Copies ℕ) (place : Location ℕ) (mounts :
         by origin o (at_part e f) (stays g h) in_copies =
             false_from_ne_true (test (push a) (copy part origin)) (λ both.
             let t = one_place (push a) (copy part origin) both in
-            let stands : a.place ≡ Some (place_at part) =
-            ap (λ (z : Mount ℕ). z.place) (sym g) ∙ t.1 ∙ ap Some (sym (same_Some (place_at part) t.0 (sym f ∙ t.2))) in
+            let stands : a.mount_point ≡ Some (place_at part) =
+            ap (λ (z : Mount ℕ). z.mount_point) (sym g) ∙ t.1 ∙ ap Some (sym (same_Some (place_at part) t.0 (sym f ∙ t.2))) in
             ⊎_elim
             (λ is_destination.
             let number : part.number ≡ place.mount =
             ap (λ (z : Mount ℕ). z.number) is_destination ∙ number_found world.mounts place.mount in
-            let at_place : a.place ≡ Some place =
+            let at_place : a.mount_point ≡ Some place =
             stands ∙ (λ i. Some (record { mount = number i; node = place.node })) in
             true≢false (sym (stands_at_its_place place a at_place)
             ∙ unfound (stands_at nat_eq place) world.mounts free a m))
@@ -557,10 +557,10 @@ module _ (world : World ℕ) (new : Copies ℕ) (place : Location ℕ) (mounts :
             (ap (λ c. nat_eq c part.number) same
             ∙ apart part.number (new.copy receiver.number second.number)
             (copy_is_new receiver second (inr r) u part.number (part_there part n)))
-        by origin o (on_copy on parent e f there_is same c) (stays g h) in_copies = at a.place refl
+        by origin o (on_copy on parent e f there_is same c) (stays g h) in_copies = at a.mount_point refl
           where
-            at : (found : Option (Location ℕ)) → a.place ≡ found → test (push a) (copy part origin) ≡ false
-            at None d = ap (λ (z : Mount ℕ). test z (copy part origin)) g ∙ ap (beside (copy part origin).place) d
+            at : (found : Option (Location ℕ)) → a.mount_point ≡ found → test (push a) (copy part origin) ≡ false
+            at None d = ap (λ (z : Mount ℕ). test z (copy part origin)) g ∙ ap (beside (copy part origin).mount_point) d
             at (Some stands_on) d =
                 ap (λ (z : Mount ℕ). test z (copy part origin)) g
                 ∙ differ_by_mount a (copy part origin) stands_on (place_upon part on) d c
@@ -575,7 +575,7 @@ module _ (world : World ℕ) (new : Copies ℕ) (place : Location ℕ) (mounts :
                 same_part receiver part (inr r) n (eqb-true receiver.number part.number equal) in
                 false_from_ne_true (test (push a) (copy part origin)) (λ both.
                 let t = one_place (push a) (copy part origin) both in
-                let top_place : (copy part origin).place ≡ Some (top_at part) =
+                let top_place : (copy part origin).mount_point ≡ Some (top_at part) =
                 t.2 ∙ ap Some (sym (same_Some (top_at receiver) t.0 (sym h ∙ t.1)))
                 ∙ ap (λ (z : Mount ℕ). Some (top_at z)) itself in
                 true≢false

@@ -2,7 +2,7 @@
 use Rattle.std.proofs.Common.{◌≡◌, refl, sym, ap, subst, ◌∙◌, true, false, nat_eq, ℕ, Bool, List, None, Option, Some, [], eq-eqb, eqb-true, filter, flat_map, inl, inr, length, suc, true≢false, zero, ⊎_elim, ◌∷◌, ◌⊎◌}
 use Rattle.vt_spec.proofs.Lists.{Among, all_from_among, among-flat_map, among-from_filter, among-from_flat_map, among_from_all}
 use Rattle.vt_spec.specs.Machine.Attach.{bind_tree, bindable_children, bindable_tree, bound, parts_of, stands_under}
-use Rattle.vt_spec.specs.Machine.Lists.{holds_of}
+use Rattle.vt_spec.specs.Lists.{holds_of}
 use Rattle.vt_spec.specs.Machine.Mounts.{Location, Mount, children, stands_on}
 use Rattle.vt_spec.specs.Machine.Outcome.Mounting.{moved_tree, new_mount, with_new_filesystem}
 use Rattle.vt_spec.specs.Machine.World.{Filesystem, World}
@@ -22,12 +22,12 @@ module _ (world : World ℕ) (whole : List (Mount ℕ)) where
   -- a child of what hangs
   pub child_hangs : (number : ℕ) (child : Mount ℕ) → Among child (children nat_eq world.mounts number) → Among child whole
       → Hangs whole number → Hangs whole child.number
-  child_hangs number child m there hung = by child.place refl
+  child_hangs number child m there hung = by child.mount_point refl
     where
       on : stands_on nat_eq number child ≡ true
       on = (among-from_filter (stands_on nat_eq number) world.mounts child m).1
 
-      by : (place : Option (Location ℕ)) → child.place ≡ place → Hangs whole child.number
+      by : (place : Option (Location ℕ)) → child.mount_point ≡ place → Hangs whole child.number
       by None e = absurd (true≢false (sym on ∙ ap (holds_of (λ p. nat_eq number p.mount)) e))
       by (Some place) e =
           from_parent child place there e

@@ -2,7 +2,7 @@
 use Rattle.std.proofs.Common.{◌≡◌, refl, sym, ap, ◌∙◌, false, nat_eq, ℕ, List, None, Some, eq-eqb, flat_map, is_some, map, true≢false, ⊎_elim}
 use Rattle.vt_spec.proofs.Lists.{Among, all_from_among, among_from_all, none_among}
 use Rattle.vt_spec.specs.Machine.Detach.{going, has_child, mounts_on, taken_away}
-use Rattle.vt_spec.specs.Machine.Lists.{holds_of}
+use Rattle.vt_spec.specs.Lists.{holds_of}
 use Rattle.vt_spec.specs.Machine.Mounts.{Location, Mount, mount_tree, stands_on}
 use Rattle.vt_spec.specs.Machine.Namespaces.{namespaces_ended}
 use Rattle.vt_spec.specs.Machine.World.{World, mount_numbered}
@@ -26,7 +26,7 @@ use Rattle.vt_mount_laws.proofs.UnmountingTrees.{AreClosed, closed_keeps_apart, 
 -- nothing stands on a mount without children
 pub none_stands : (world : World ℕ) (one : ℕ) → has_child nat_eq world one ≡ false → (x : Mount ℕ) (place : Location ℕ)
     → Among x world.mounts
-    → x.place ≡ Some place → place.mount ≡ one → ⊥
+    → x.mount_point ≡ Some place → place.mount ≡ one → ⊥
 none_stands world one childless x place m e same =
     true≢false
     (sym (ap (holds_of (λ p. nat_eq one p.mount)) e ∙ eq-eqb one place.mount (sym same))
@@ -66,8 +66,8 @@ unmount_keeps_mounts world one kept childless =
     (lands_by_places world gone kept.one_number kept.standing (λ x place m e goes.
     ⊎_elim
     (λ itself. absurd (none_stands world one childless x place m e (itself ∙ number_found world.mounts one)))
-    (λ t. ap (λ n. is_some (mount_numbered nat_eq world n).place) t.3
-    ∙ ap (λ z. is_some z.place) (found_itself world.mounts kept.one_number t.0 t.1) ∙ t.4)
+    (λ t. ap (λ n. is_some (mount_numbered nat_eq world n).mount_point) t.3
+    ∙ ap (λ z. is_some z.mount_point) (found_itself world.mounts kept.one_number t.0 t.1) ∙ t.4)
     (goes_or_may world mount place.mount goes))))
 
 pub trees_keep_mounts : TreesKeepMounts
@@ -86,9 +86,9 @@ replaced_keeps_mounts world (Some object) kept = points_keep_mounts world object
 stands_alike : (world other : World ℕ) → ((number : ℕ)
     → mount_numbered nat_eq other number ≡ mount_numbered nat_eq world number)
     → (number : ℕ) → Stands nat_eq world number → Stands nat_eq other number
-stands_alike world other same number (at_root it e) = at_root it (ap (λ m. m.place) (same it) ∙ e)
+stands_alike world other same number (at_root it e) = at_root it (ap (λ m. m.mount_point) (same it) ∙ e)
 stands_alike world other same number (on_parent it place e f stands) =
-    on_parent it place (ap (λ m. m.place) (same it) ∙ e)
+    on_parent it place (ap (λ m. m.mount_point) (same it) ∙ e)
     (ap (λ m. m.namespace) (same it) ∙ f ∙ ap (λ m. m.namespace) (sym (same place.mount)))
     (stands_alike world other same place.mount stands)
 

@@ -3,8 +3,8 @@ use Rattle.std.proofs.Common.{◌≡◌, refl, sym, ap, subst, ◌∙◌, true, 
 use Rattle.std.proofs.lemmas.Bool.{and_from, false_from_ne_true, le-leb}
 use Rattle.std.specs.List.{list_any}
 use Rattle.vt_spec.proofs.Lists.{Among, all_from_among, among-from_filter, among-from_flat_map, among-from_map, among_from_contains, among_from_list_all, among_numbers, any_among, any_from_among, contains_from_among, filter_here, filter_skip, list_all_from_among}
-use Rattle.vt_spec.specs.Machine.Detach.{after_going, going, is_going, is_point, mounts_on, place_left, points_of, taken_away}
-use Rattle.vt_spec.specs.Machine.Lists.{holds_of}
+use Rattle.vt_spec.specs.Machine.Detach.{after_going, going, is_going, is_point, mounts_on, mount_point_left, points_of, taken_away}
+use Rattle.vt_spec.specs.Lists.{holds_of}
 use Rattle.vt_spec.specs.Machine.Mounts.{Location, Mount, children, mount_in, mount_tree, stands_on, tree_from}
 use Rattle.vt_spec.specs.Machine.Namespaces.{has_tasks, is_in_ended}
 use Rattle.vt_spec.specs.Machine.Receives.{inheriting}
@@ -125,7 +125,7 @@ module _ (world : World ℕ) (gone : List ℕ) where
   -- root mounts stay where those that go are none, or in another namespace
   pub taken_keeps_roots : (namespace : ℕ)
       → ((mount : Mount ℕ) → Among mount world.mounts → is_going nat_eq gone mount.number ≡ true
-      → (is_some mount.place ≡ true) ⊎ (lies_in namespace mount ≡ false))
+      → (is_some mount.mount_point ≡ true) ⊎ (lies_in namespace mount ≡ false))
       → root_mounts_in (taken_away nat_eq world gone) namespace ≡ root_mounts_in world namespace
   taken_keeps_roots namespace placed =
       ap (λ mounts. length (filter (is_root_mount nat_eq) (filter (lies_in namespace) mounts))) mounts_after
@@ -134,7 +134,7 @@ module _ (world : World ℕ) (gone : List ℕ) where
       (λ mount m. by mount m (is_going nat_eq gone mount.number) refl)
       ∙ sym (ap length (filter_twice (is_root_mount nat_eq) (lies_in namespace) world.mounts))
     where
-      no_root : (mount : Mount ℕ) → (is_some mount.place ≡ true) ⊎ (lies_in namespace mount ≡ false)
+      no_root : (mount : Mount ℕ) → (is_some mount.mount_point ≡ true) ⊎ (lies_in namespace mount ≡ false)
           → is_root namespace mount ≡ false
       no_root mount (inl e) = ap (λ b. lies_in namespace mount && not b) e ∙ both (lies_in namespace mount)
         where
@@ -144,20 +144,20 @@ module _ (world : World ℕ) (gone : List ℕ) where
       no_root mount (inr e) = ap (λ b. b && is_root_mount nat_eq mount) e
 
       placed_alike : (place : Option (Location ℕ))
-          → is_some (option_map (place_left nat_eq world gone) place) ≡ is_some place
+          → is_some (option_map (mount_point_left nat_eq world gone) place) ≡ is_some place
       placed_alike None = refl
       placed_alike (Some p) = refl
 
       by : (mount : Mount ℕ) → Among mount world.mounts → (b : Bool) → is_going nat_eq gone mount.number ≡ b
           → is_root namespace (after_it mount) ≡ is_root namespace mount
       by mount m true e =
-          ap (λ x. holds_of (nat_eq namespace) x.namespace && not (is_some x.place))
+          ap (λ x. holds_of (nat_eq namespace) x.namespace && not (is_some x.mount_point))
           (going_is_detached world gone mount e)
           ∙ sym (no_root mount (placed mount m e))
       by mount m false e =
-          ap (λ x. holds_of (nat_eq namespace) x.namespace && not (is_some x.place))
+          ap (λ x. holds_of (nat_eq namespace) x.namespace && not (is_some x.mount_point))
           (staying_is_placed world gone mount e)
-          ∙ ap (λ b. lies_in namespace mount && not b) (placed_alike mount.place)
+          ∙ ap (λ b. lies_in namespace mount && not b) (placed_alike mount.mount_point)
 
 -- a mount with the number of another is that one
 same_mount : (world : World ℕ) → OneNumberEach world → (a b : Mount ℕ) → Among a world.mounts → Among b world.mounts
@@ -171,14 +171,14 @@ unmount_keeps_roots world one each placed namespace =
     let itself = mount_numbered nat_eq world one in
     taken_keeps_roots world (going nat_eq world itself) namespace (λ mount m goes.
     inl (⊎_elim
-    (λ same. ap (λ x. is_some x.place) (sym (found_itself world.mounts each mount m)
+    (λ same. ap (λ x. is_some x.mount_point) (sym (found_itself world.mounts each mount m)
     ∙ ap (mount_in nat_eq world.mounts) (same ∙ number_found world.mounts one)) ∙ placed)
-    (λ t. ap (λ x. is_some x.place) (same_mount world each mount t.0 m t.1 t.3) ∙ t.4)
+    (λ t. ap (λ x. is_some x.mount_point) (same_mount world each mount t.0 m t.1 t.3) ∙ t.4)
     (goes_or_may world itself mount.number goes)))
 
 -- what lies in a tree is its top, or stands at a place
 pub tree_placed : (depth : ℕ) (mounts : List (Mount ℕ)) (top x : Mount ℕ) → Among x (tree_from nat_eq depth mounts top)
-    → (x ≡ top) ⊎ (Among x mounts × (is_some x.place ≡ true))
+    → (x ≡ top) ⊎ (Among x mounts × (is_some x.mount_point ≡ true))
 tree_placed zero mounts top x m = ⊎_elim inl (λ none. absurd none) m
 tree_placed (suc depth) mounts top x m =
     ⊎_elim inl
@@ -188,8 +188,8 @@ tree_placed (suc depth) mounts top x m =
     ⊎_elim
     (λ same. inr (
       subst (λ z. Among z mounts) (sym same) child.0,
-      ap (λ z. is_some z.place) same
-          ∙ placed from.0.place child.1,
+      ap (λ z. is_some z.mount_point) same
+          ∙ placed from.0.mount_point child.1,
     ))
     inr
     (tree_placed depth mounts from.0 x from.2))
@@ -209,24 +209,24 @@ trees_keep_roots world tops each placed namespace =
     let tree = among-from_flat_map (mount_tree nat_eq world.mounts) tops from.0 from.1 in
     inl (⊎_elim
     (λ same.
-    ap (λ x. is_some x.place) (sym (found_itself world.mounts each mount m)
+    ap (λ x. is_some x.mount_point) (sym (found_itself world.mounts each mount m)
     ∙ ap (mount_in nat_eq world.mounts) (from.2 ∙ ap (λ x. x.number) same))
     ∙ among_from_list_all (λ (x : Mount ℕ). is_some
-    (mount_numbered nat_eq world x.number).place) tops placed tree.0 tree.1)
-    (λ t. ap (λ x. is_some x.place) (same_mount world each mount from.0 m t.0 from.2) ∙ t.1)
+    (mount_numbered nat_eq world x.number).mount_point) tops placed tree.0 tree.1)
+    (λ t. ap (λ x. is_some x.mount_point) (same_mount world each mount from.0 m t.0 from.2) ∙ t.1)
     (tree_placed (length world.mounts) world.mounts tree.0 from.0 tree.2)))
 
 pub points_keep_roots : PointsKeepRootMounts
 points_keep_roots world location each =
     trees_keep_roots world (mounts_on nat_eq world location) each
-    (list_all_from_among (λ (x : Mount ℕ). is_some (mount_numbered nat_eq world x.number).place)
+    (list_all_from_among (λ (x : Mount ℕ). is_some (mount_numbered nat_eq world x.number).mount_point)
     (mounts_on nat_eq world location) (λ mount m.
     let from =
     among-from_filter (λ (x : Mount ℕ). list_any (λ point. is_point nat_eq world point.0 point.1 x)
     (points_of nat_eq world location)) world.mounts mount m in
     let some =
     any_among (λ point. is_point nat_eq world point.0 point.1 mount) (points_of nat_eq world location) from.1 in
-    ap (λ x. is_some x.place) (found_itself world.mounts each mount from.0) ∙ placed mount.place some.0 some.2))
+    ap (λ x. is_some x.mount_point) (found_itself world.mounts each mount from.0) ∙ placed mount.mount_point some.0 some.2))
   where
     placed : (place : Option (Location ℕ)) (point : ℕ × ℕ)
         → holds_of (λ p. nat_eq p.node point.1 && nat_eq (mount_at nat_eq world p).filesystem point.0) place ≡ true

@@ -4,7 +4,7 @@ use Rattle.std.proofs.lemmas.Bool.{false_from_ne_true}
 use Rattle.std.specs.Prelude.{if◌then◌else◌}
 use Rattle.vt_spec.proofs.Lists.{Among, among-from_map, among_cases, among_from_list_all, among_numbers, none_from_among}
 use Rattle.vt_spec.specs.Machine.Detach.{depth_of, going, has_child, taken_away, unmounted, unmounted_if_there}
-use Rattle.vt_spec.specs.Machine.Lists.{folded, holds_of, is_among}
+use Rattle.vt_spec.specs.Lists.{folded, holds_of, is_among}
 use Rattle.vt_spec.specs.Machine.Mounts.{Location, Mount, stands_on}
 use Rattle.vt_spec.specs.Machine.World.{World, mount_numbered}
 use Rattle.vt_spec.specs.Machine.WorldLaws.{MountInvariants, is_nowhere_or_attached, is_private}
@@ -25,12 +25,12 @@ use Rattle.vt_mount_laws.proofs.UnmountingPlaces.Falls.{direct, down}
 -- a mount outside every namespace has no place
 no_place_outside : (world : World ℕ) → NowhereOrAttached world → (number : ℕ)
     → is_some (mount_numbered nat_eq world number).namespace ≡ false
-    → (mount_numbered nat_eq world number).place ≡ None
+    → (mount_numbered nat_eq world number).mount_point ≡ None
 no_place_outside world nowhere number e =
     ⊎_elim
-    (λ there. by mount.place (sym (ap (λ b. b || (not (is_some mount.place) && is_private mount.propagation)) e)
+    (λ there. by mount.mount_point (sym (ap (λ b. b || (not (is_some mount.mount_point) && is_private mount.propagation)) e)
     ∙ among_from_list_all is_nowhere_or_attached world.mounts nowhere mount there))
-    (λ none. ap (λ m. m.place) none)
+    (λ none. ap (λ m. m.mount_point) none)
     (found_or_none world.mounts number)
   where
     mount : Mount ℕ
@@ -42,14 +42,14 @@ no_place_outside world nowhere number e =
 
 -- a mount on which nothing stands is without a place once it is unmounted
 no_place_then : (world : World ℕ) → MountInvariants nat_eq world → (one : ℕ) → has_child nat_eq world one ≡ false
-    → (mount_numbered nat_eq (unmounted nat_eq world one) one).place ≡ None
-no_place_then world kept one childless = by (mount_numbered nat_eq world one).place refl
+    → (mount_numbered nat_eq (unmounted nat_eq world one) one).mount_point ≡ None
+no_place_then world kept one childless = by (mount_numbered nat_eq world one).mount_point refl
   where
-    by : (place : Option (Location ℕ)) → (mount_numbered nat_eq world one).place ≡ place
-        → (mount_numbered nat_eq (unmounted nat_eq world one) one).place ≡ None
+    by : (place : Option (Location ℕ)) → (mount_numbered nat_eq world one).mount_point ≡ place
+        → (mount_numbered nat_eq (unmounted nat_eq world one) one).mount_point ≡ None
     by None e = root_stays world (going nat_eq world (mount_numbered nat_eq world one)) one e
     by (Some place) e =
-        ap (λ m. m.place)
+        ap (λ m. m.mount_point)
         (detached_by_number world (going nat_eq world (mount_numbered nat_eq world one)) one
         (the_mount_itself_goes world one place kept.one_child e childless))
 
@@ -65,10 +65,10 @@ module _ (start : World ℕ) (at_first : MountInvariants nat_eq start) (one : �
   -- the tree whose event is over stand nowhere
   record IsUnderWay (world : World ℕ) (left : List (Mount ℕ)) : Type 0 where
     kept : MountInvariants nat_eq world
-    over : (number : ℕ) (place : Location ℕ) → (mount_numbered nat_eq world number).place ≡ Some place
+    over : (number : ℕ) (place : Location ℕ) → (mount_numbered nat_eq world number).mount_point ≡ Some place
         → StoodOver place.mount number
     done : (number : ℕ) → LiesIn start one number
-        → (is_among nat_eq number (numbers_of left) ≡ true) ⊎ ((mount_numbered nat_eq world number).place ≡ None)
+        → (is_among nat_eq number (numbers_of left) ≡ true) ⊎ ((mount_numbered nat_eq world number).mount_point ≡ None)
     order : AreDeepestFirst start left
     lies : (mount : Mount ℕ) → Among mount left → LiesIn start one mount.number
     itself : (mount : Mount ℕ) → Among mount left → mount_numbered nat_eq start mount.number ≡ mount
@@ -106,16 +106,16 @@ module _ (start : World ℕ) (at_first : MountInvariants nat_eq start) (one : �
     childless : has_child nat_eq world mount.number ≡ false
     childless =
         none_from_among (stands_on nat_eq mount.number) world.mounts
-        (λ x m. false_from_ne_true _ (λ on. none x m x.place refl on))
+        (λ x m. false_from_ne_true _ (λ on. none x m x.mount_point refl on))
       where
-        none : (x : Mount ℕ) → Among x world.mounts → (place : Option (Location ℕ)) → x.place ≡ place
+        none : (x : Mount ℕ) → Among x world.mounts → (place : Option (Location ℕ)) → x.mount_point ≡ place
             → stands_on nat_eq mount.number x ≡ true → ⊥
         none x m None e on = true≢false (sym on ∙ ap (holds_of (λ p. nat_eq mount.number p.mount)) e)
         none x m (Some p) e on =
             let same : mount.number ≡ p.mount =
             eqb-true mount.number p.mount (sym (ap (holds_of (λ q. nat_eq mount.number q.mount)) e) ∙ on) in
             let found = found_itself world.mounts way.kept.one_number x m in
-            let over = way.over x.number p (ap (λ z. z.place) found ∙ e) in
+            let over = way.over x.number p (ap (λ z. z.mount_point) found ∙ e) in
             let high = over.1 in
             let equal : rank_of mount.number ≡ rank_of p.mount = ap rank_of same in
             let lies =
@@ -125,7 +125,7 @@ module _ (start : World ℕ) (at_first : MountInvariants nat_eq start) (one : �
             (λ later.
             let low = no_deeper mount left way.order way.itself x.number later in
             absurd (omega (arith, low, high, equal)))
-            (λ gone. true≢false (sym (ap is_some e) ∙ ap (λ z. is_some z.place) (sym found) ∙ ap is_some gone))
+            (λ gone. true≢false (sym (ap is_some e) ∙ ap (λ z. is_some z.mount_point) (sym found) ∙ ap is_some gone))
             (way.done x.number lies)
 
     abbrev gone : List ℕ
@@ -139,24 +139,24 @@ module _ (start : World ℕ) (at_first : MountInvariants nat_eq start) (one : �
         further below.mount place.mount number (way.over place.mount below e) (falls_over number place fall)
 
     over_then : (number : ℕ) (place : Location ℕ)
-        → (mount_numbered nat_eq (taken_away nat_eq world gone) number).place ≡ Some place
+        → (mount_numbered nat_eq (taken_away nat_eq world gone) number).mount_point ≡ Some place
         → StoodOver place.mount number
     over_then number place e =
         falls_over number place
         (stood world gone (mount_numbered nat_eq world number) place
-        (sym (ap (λ m. m.place) (taken world gone number)) ∙ e)).1
+        (sym (ap (λ m. m.mount_point) (taken world gone number)) ∙ e)).1
 
     -- of a mount without a place nothing is left to do
-    done_then : (after : World ℕ) → (mount_numbered nat_eq after mount.number).place ≡ None
-        → ((number : ℕ) → (mount_numbered nat_eq world number).place ≡ None
-        → (mount_numbered nat_eq after number).place ≡ None)
+    done_then : (after : World ℕ) → (mount_numbered nat_eq after mount.number).mount_point ≡ None
+        → ((number : ℕ) → (mount_numbered nat_eq world number).mount_point ≡ None
+        → (mount_numbered nat_eq after number).mount_point ≡ None)
         → (number : ℕ) → LiesIn start one number
-        → (is_among nat_eq number (numbers_of left) ≡ true) ⊎ ((mount_numbered nat_eq after number).place ≡ None)
+        → (is_among nat_eq number (numbers_of left) ≡ true) ⊎ ((mount_numbered nat_eq after number).mount_point ≡ None)
     done_then after here stays number lies =
         ⊎_elim
         (λ later.
         ⊎_elim
-        (λ same. inr (ap (λ k. (mount_numbered nat_eq after k).place) same ∙ here))
+        (λ same. inr (ap (λ k. (mount_numbered nat_eq after k).mount_point) same ∙ here))
         inl
         (among_cases number mount.number (numbers_of left) later))
         (λ none. inr (stays number none))

@@ -3,8 +3,8 @@ use Rattle.std.proofs.Common.{◌≡◌, refl, sym, ap, ◌∙◌, true, false, 
 use Rattle.std.proofs.lemmas.Bool.{le-leb, leb-true}
 use Rattle.std.specs.Prelude.{if◌then◌else◌}
 use Rattle.vt_spec.proofs.Lists.{Among, all_from_among, among_from_all, among_from_contains}
-use Rattle.vt_spec.specs.Machine.Detach.{going, is_going, place_left, taken_away, unmounted, unmounted_if_there}
-use Rattle.vt_spec.specs.Machine.Lists.{folded}
+use Rattle.vt_spec.specs.Machine.Detach.{going, is_going, mount_point_left, taken_away, unmounted, unmounted_if_there}
+use Rattle.vt_spec.specs.Lists.{folded}
 use Rattle.vt_spec.specs.Machine.Mounts.{Location, Mount}
 use Rattle.vt_spec.specs.Machine.World.{World, mount_numbered, mounts_of}
 use Rattle.vt_mount_laws.specs.Mounts.Conditions.{OneNumberEach}
@@ -76,7 +76,7 @@ lazy_unmount_takes_none_in world one = all_take_none_in (taken_in_turn world one
 -- Root mounts: what goes in turn has a place, or has gone
 abbrev IsPlacedOrOut : World ℕ → ℕ → Type 0
 IsPlacedOrOut world number =
-    (is_some (mount_numbered nat_eq world number).place ≡ true)
+    (is_some (mount_numbered nat_eq world number).mount_point ≡ true)
     ⊎ ((mount_numbered nat_eq world number).namespace ≡ None)
 
 placed_or_out_then : (world : World ℕ) (gone : List ℕ) (number : ℕ) → IsPlacedOrOut world number
@@ -86,7 +86,7 @@ placed_or_out_then world gone number was = by (is_going nat_eq gone number) refl
     itself : Mount ℕ
     itself = mount_numbered nat_eq world number
 
-    alike : (place : Option (Location ℕ)) → is_some (option_map (place_left nat_eq world gone) place) ≡ is_some place
+    alike : (place : Option (Location ℕ)) → is_some (option_map (mount_point_left nat_eq world gone) place) ≡ is_some place
     alike None = refl
     alike (Some p) = refl
 
@@ -95,10 +95,10 @@ placed_or_out_then world gone number was = by (is_going nat_eq gone number) refl
     by true e was = inr (ap (λ m. m.namespace) (detached_by_number world gone number e))
     by false e (inr none) = inr ((kept_by_number world gone number e).namespace ∙ none)
     by false e (inl placed) =
-        inl (ap (λ m. is_some m.place) (taken world gone number)
-        ∙ ap (λ m. is_some m.place)
+        inl (ap (λ m. is_some m.mount_point) (taken world gone number)
+        ∙ ap (λ m. is_some m.mount_point)
         (staying_is_placed world gone itself (ap (is_going nat_eq gone) (number_found world.mounts number) ∙ e))
-        ∙ alike itself.place ∙ placed)
+        ∙ alike itself.mount_point ∙ placed)
 
 all_keep_roots : (mounts : List (Mount ℕ)) (world : World ℕ) → OneNumberEach world
     → ((mount : Mount ℕ) → Among mount mounts → IsPlacedOrOut world mount.number)
@@ -115,7 +115,7 @@ all_keep_roots (mount ∷ mounts) world each placed namespace =
         ≡ root_mounts_in world namespace
     by false e later = later world each (λ x m. placed x (inr m)) namespace
     by true e later =
-        let there : is_some (mount_numbered nat_eq world mount.number).place ≡ true =
+        let there : is_some (mount_numbered nat_eq world mount.number).mount_point ≡ true =
         ⊎_elim (λ f. f) (λ none. absurd (true≢false (sym e ∙ ap is_some none))) (placed mount (inl refl)) in
         later (unmounted nat_eq world mount.number) (unmount_keeps_numbers world mount.number each)
         (λ x m. placed_or_out_then world (going nat_eq world (mount_numbered nat_eq world mount.number)) x.number
@@ -127,8 +127,8 @@ pub lazy_unmount_keeps_roots : LazyUnmountKeepsRootMounts
 lazy_unmount_keeps_roots world one each placed =
     all_keep_roots (taken_in_turn world one) world each (λ mount m.
     inl (⊎_elim
-    (λ top. ap (λ (x : Mount ℕ). is_some (mount_numbered nat_eq world x.number).place) top
-    ∙ ap (λ n. is_some (mount_numbered nat_eq world n).place) (number_found world.mounts one) ∙ placed)
-    (λ t. ap (λ x. is_some x.place) (found_itself world.mounts each mount t.0) ∙ t.1)
+    (λ top. ap (λ (x : Mount ℕ). is_some (mount_numbered nat_eq world x.number).mount_point) top
+    ∙ ap (λ n. is_some (mount_numbered nat_eq world n).mount_point) (number_found world.mounts one) ∙ placed)
+    (λ t. ap (λ x. is_some x.mount_point) (found_itself world.mounts each mount t.0) ∙ t.1)
     (tree_placed (length world.mounts) world.mounts (mount_numbered nat_eq world one) mount
     (from_tree world one mount m))))

@@ -4,7 +4,7 @@ use Rattle.std.proofs.lemmas.Bool.{ltb-false, ltb-true}
 use Rattle.std.specs.Prelude.{if◌then◌else◌, ⊤}
 use Rattle.vt_spec.proofs.Lists.{Among, among-from_flat_map, among-from_map, among-map, among-flat_map, among_numbers, is_among_numbers}
 use Rattle.vt_spec.specs.Machine.Detach.{deepest_first, depth_of, insert_deepest, is_going}
-use Rattle.vt_spec.specs.Machine.Lists.{folded, is_among}
+use Rattle.vt_spec.specs.Lists.{folded, is_among}
 use Rattle.vt_spec.specs.Machine.Mounts.{Mount, mount_in, mount_tree, tree_from}
 use Rattle.vt_spec.specs.Machine.World.{World, mount_numbered}
 use Rattle.vt_mount_laws.specs.Mounts.Attaching.{numbers_of}

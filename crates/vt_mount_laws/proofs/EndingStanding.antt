@@ -30,7 +30,7 @@ module _ (world : World ℕ) (gone : List ℕ) where
   -- what stays is left on a mount that stays
   abbrev AllLand : Type 0
   AllLand =
-      (number : ℕ) (place : Location ℕ) → is_going nat_eq gone number ≡ false → (before_it number).place ≡ Some place
+      (number : ℕ) (place : Location ℕ) → is_going nat_eq gone number ≡ false → (before_it number).mount_point ≡ Some place
       → (rest : Location ℕ) × FallsTo world gone place rest
 
   -- a place stands on in the namespace of a mount
@@ -40,13 +40,13 @@ module _ (world : World ℕ) (gone : List ℕ) where
 
   fallen : (number : ℕ) (place rest : Location ℕ) → place.mount ≡ number → FallsTo world gone place rest
       → Stands nat_eq later number
-      → ((below : Location ℕ) → (before_it number).place ≡ Some below → FallsTo world gone below rest
+      → ((below : Location ℕ) → (before_it number).mount_point ≡ Some below → FallsTo world gone below rest
       → LandsOn number rest)
       → LandsOn number rest
   fallen number place rest same (rests at stays) itself deeper =
       (subst (Stands nat_eq later) (sym same) itself, ap (λ n. (before_it n).namespace) (sym same))
   fallen number place rest same (falls at below end goes under more) itself deeper =
-      deeper below (ap (λ n. (before_it n).place) (sym same) ∙ under) more
+      deeper below (ap (λ n. (before_it n).mount_point) (sym same) ∙ under) more
 
   module _ (one : OneNumberEach world) (all : AllStand world) (land : AllLand) where
     stands_later : (number : ℕ) → Stands nat_eq world number
@@ -71,7 +71,7 @@ module _ (world : World ℕ) (gone : List ℕ) where
             → ((place rest : Location ℕ) → place.mount ≡ on.mount → FallsTo world gone place rest
             → LandsOn on.mount rest)
             → Stands nat_eq later it
-        by true goes deeper = at_root it (ap (λ m. m.place) (detached_by_number world gone it goes))
+        by true goes deeper = at_root it (ap (λ m. m.mount_point) (detached_by_number world gone it goes))
         by false stays deeper =
             let landed = land it on stays e in
             let l = deeper on landed.0 refl landed.1 in
@@ -87,30 +87,30 @@ module _ (world : World ℕ) (gone : List ℕ) where
 
   -- it is so where what goes has a place, or nothing stands on it
   pub lands_by_places : OneNumberEach world → AllStand world
-      → ((x : Mount ℕ) (place : Location ℕ) → Among x world.mounts → x.place ≡ Some place
+      → ((x : Mount ℕ) (place : Location ℕ) → Among x world.mounts → x.mount_point ≡ Some place
       → is_going nat_eq gone place.mount ≡ true
-      → is_some (mount_at nat_eq world place).place ≡ true)
+      → is_some (mount_at nat_eq world place).mount_point ≡ true)
       → AllLand
   lands_by_places one all placed number place stays e =
       from place.mount (stand world one all place.mount) number place e refl
     where
       from : (below : ℕ) → Stands nat_eq world below → (above : ℕ) (at : Location ℕ)
-          → (before_it above).place ≡ Some at
+          → (before_it above).mount_point ≡ Some at
           → at.mount ≡ below → (rest : Location ℕ) × FallsTo world gone at rest
       from below (at_root it f) above at g same = by (is_going nat_eq gone at.mount) refl
         where
           by : (b : Bool) → is_going nat_eq gone at.mount ≡ b → (rest : Location ℕ) × FallsTo world gone at rest
           by true goes =
               absurd (true≢false (sym (placed (before_it above) at (placed_among world.mounts above at g) g goes)
-              ∙ ap (λ n. is_some (before_it n).place) same ∙ ap is_some f))
+              ∙ ap (λ n. is_some (before_it n).mount_point) same ∙ ap is_some f))
           by false rest = (at, rests at rest)
       from below (on_parent it on f same_namespace stands) above at g same =
           by (is_going nat_eq gone at.mount) refl
-          (from on.mount stands at.mount on (ap (λ n. (before_it n).place) same ∙ f) refl)
+          (from on.mount stands at.mount on (ap (λ n. (before_it n).mount_point) same ∙ f) refl)
         where
           by : (b : Bool) → is_going nat_eq gone at.mount ≡ b → ((rest : Location ℕ) × FallsTo world gone on rest)
               → (rest : Location ℕ) × FallsTo world gone at rest
-          by true goes l = (l.0, falls at on l.0 goes (ap (λ n. (before_it n).place) same ∙ f) l.1)
+          by true goes l = (l.0, falls at on l.0 goes (ap (λ n. (before_it n).mount_point) same ∙ f) l.1)
           by false rest l = (at, rests at rest)
 
   -- and where what goes takes all that stands on it with it

@@ -13,7 +13,7 @@ use Rattle.vt_spec.specs.Machine.Mounts.{Mount, Propagation, group_of, mount_in,
 use Rattle.vt_spec.specs.Machine.World.{World, mount_numbered, mounts_of, mount_at}
 use Rattle.vt_spec.specs.Machine.Detach.{after_going, deepest_first, going, is_going, unmounted, unmounted_if_there}
 use Rattle.vt_spec.specs.Machine.Namespaces.{copied_mount, is_in_ended, pivoted, pivoted_mount, unshared}
-use Rattle.vt_spec.specs.Machine.Lists.{evens, folded, holds_of, is_among, odds, then_some}
+use Rattle.vt_spec.specs.Lists.{evens, folded, holds_of, is_among, odds, then_some}
 use Rattle.vt_mount_laws.proofs.MountsReplaced.{found_itself, replaced_elsewhere, replaced_there}
 use Rattle.vt_mount_laws.proofs.Unmounting.{going_is_detached, middle, staying_is_placed}
 use Rattle.vt_spec.specs.Machine.Receives.{groups_up, has_members, heir, inherited, inheriting, is_lost_group, is_member_of, lost_a_group, regrouped, regrouped_by, slave_of_heir}
@@ -191,7 +191,7 @@ pivot_keeps_groups world namespace root new put live = groups_live_by (pivoted n
     kept : (mount : Mount ℕ) → (pivoted_mount nat_eq root new put mount).propagation ≡ mount.propagation
     kept mount = by (nat_eq mount.number new.number) (nat_eq mount.number root.number)
       where
-        by : (a b : Bool) → (if a then (record mount { place = root.place }) else if b then (record mount { place = Some put }) else mount).propagation ≡ mount.propagation
+        by : (a b : Bool) → (if a then (record mount { mount_point = root.mount_point }) else if b then (record mount { mount_point = Some put }) else mount).propagation ≡ mount.propagation
         by true b = refl
         by false true = refl
         by false false = refl
@@ -236,11 +236,11 @@ settling_keeps_groups world nowhere live = groups_live_by (settled nat_eq world)
   where
     attached : (mount : Mount ℕ) → is_nowhere_or_attached mount ≡ true → (group : ℕ) → mount.propagation ≡ Shared group
         → mount_lives nat_eq world mount ≡ true
-    attached mount fit group shared = by (is_some mount.namespace) (sym (ap (λ k. is_some mount.namespace || (not (is_some mount.place) && is_private k)) shared) ∙ fit)
+    attached mount fit group shared = by (is_some mount.namespace) (sym (ap (λ k. is_some mount.namespace || (not (is_some mount.mount_point) && is_private k)) shared) ∙ fit)
       where
-        by : (b : Bool) → (b || (not (is_some mount.place) && false)) ≡ true → (b || is_located nat_eq world mount.number) ≡ true
+        by : (b : Bool) → (b || (not (is_some mount.mount_point) && false)) ≡ true → (b || is_located nat_eq world mount.number) ≡ true
         by true e = refl
-        by false e = absurd (true≢false (sym e ∙ never (not (is_some mount.place))))
+        by false e = absurd (true≢false (sym e ∙ never (not (is_some mount.mount_point))))
           where
             never : (a : Bool) → (a && false) ≡ false
             never true = refl

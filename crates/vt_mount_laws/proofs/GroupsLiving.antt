@@ -1,6 +1,5 @@
 -- Groups live just where the test of it says so.
-use Rattle.std.proofs.Common.{◌≡◌, ℕ, nat_eq}
-use Rattle.vt_spec.specs.Machine.Mounts.{Mount, source_of}
+use Rattle.std.proofs.Common.{ℕ, nat_eq}
 use Rattle.vt_spec.specs.Machine.World.{World}
 use Rattle.vt_spec.specs.Machine.WorldLaws.{HasLivingGroups}
 use Rattle.vt_spec.proofs.Lists.{all_from_among, among_from_all}

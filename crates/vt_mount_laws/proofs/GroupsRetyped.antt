@@ -3,15 +3,15 @@ use Rattle.std.proofs.Common.{◌≡◌, refl, sym, ap, subst, ◌∙◌, true, 
 use Rattle.std.specs.List.{list_any}
 use Rattle.vt_spec.specs.Machine.Mounts.{Mount, Propagation, index_of, source_of}
 use Rattle.vt_spec.specs.Machine.Mounts.Propagation.{Private, Shared, Slave, Unbindable}
-use Rattle.vt_spec.specs.Machine.Calls.TypeWord.{ToPrivate, ToShared, ToSlave, ToUnbindable}
+use Rattle.vt_spec.specs.Language.Calls.TypeWord.{ToPrivate, ToShared, ToSlave, ToUnbindable}
 use Rattle.vt_mount_laws.proofs.GroupsUp.{EndsUp, LivesIn, lives_in}
 use Rattle.vt_mount_laws.proofs.GroupsUp.EndsUp.{at_top, goes_up}
 use Rattle.vt_spec.specs.Machine.WorldLaws.Lives.{has_master, has_no_master}
 use Rattle.vt_spec.proofs.Lists.{Among, among-from_map, any_among, is_among_numbers}
-use Rattle.vt_spec.specs.Machine.Lists.{is_among}
+use Rattle.vt_spec.specs.Lists.{is_among}
 use Rattle.vt_mount_laws.specs.Mounts.Receivers.{GroupsLive}
 use Rattle.vt_mount_laws.specs.Mounts.Conditions.{TypeKeepsGroups}
-use Rattle.vt_spec.specs.Machine.Calls.{TypeWord}
+use Rattle.vt_spec.specs.Language.Calls.{TypeWord}
 use Rattle.vt_spec.specs.Machine.World.{World, mount_numbered}
 use Rattle.vt_mount_laws.proofs.MountsRetyped.{between, groups_by, next_world, retype, retyped_if}
 use Rattle.std.proofs.lemmas.Bool.Decides.{eqb_tells}

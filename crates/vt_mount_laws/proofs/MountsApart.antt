@@ -3,7 +3,7 @@ use Rattle.std.proofs.Common.{◌≡◌, refl, sym, ap, ◌∙◌, true, false, 
 use Rattle.vt_spec.specs.Machine.Mounts.{Mount, mount_in, mount_tree, replaced_if_same, same_location, with_mount, numbers_by}
 use Rattle.vt_spec.proofs.Lists.{Among, pair-filter, pair-map, among-append, among-from_map, among_from_list_all, list_all_from_among}
 use Rattle.vt_mount_laws.specs.Mounts.Conditions.{AreApart, KeptByFlags, KeptByInheritance, KeptByLazyUnmount, KeptBySettling, KeptByType, NowhereOrAttached, OneNumberEach, FlagsKeepNowhere, KeptByUnshare}
-use Rattle.vt_spec.specs.Machine.Lists.{any_pair, folded, same_option, evens, odds}
+use Rattle.vt_spec.specs.Lists.{any_pair, folded, same_option, evens, odds}
 use Rattle.vt_mount_laws.specs.Mounts.Places.{OneMountAPlace}
 use Rattle.vt_mount_laws.specs.Mounts.Attaching.{OneNumberAMount}
 use Rattle.vt_spec.specs.Machine.World.{World, mount_at, mount_numbered, mounts_of}
@@ -17,31 +17,31 @@ use Rattle.vt_spec.specs.Machine.Settled.{mount_lives}
 use Rattle.vt_mount_laws.proofs.Groups.{mounts-regrouped}
 use Rattle.vt_mount_laws.proofs.MountsFound.{number_found}
 use Rattle.vt_spec.specs.Machine.Types.{named_mounts}
-use Rattle.vt_spec.specs.Machine.WorldLaws.{stand_at_one_place, is_nowhere_or_attached}
+use Rattle.vt_spec.specs.Machine.WorldLaws.{share_a_mount_point, is_nowhere_or_attached}
 use Rattle.vt_spec.specs.Machine.Namespaces.{copied_mount}
 
 -- places that stay the same stay apart
-places_same : (f : Mount ℕ → Mount ℕ) (mounts : List (Mount ℕ)) → ((mount : Mount ℕ) → Among mount mounts → (f mount).place ≡ mount.place)
+places_same : (f : Mount ℕ → Mount ℕ) (mounts : List (Mount ℕ)) → ((mount : Mount ℕ) → Among mount mounts → (f mount).mount_point ≡ mount.mount_point)
     → OneMountAPlace mounts → OneMountAPlace (map f mounts)
 places_same f mounts same one =
-    pair-map (stand_at_one_place nat_eq) (stand_at_one_place nat_eq) f mounts
+    pair-map (share_a_mount_point nat_eq) (share_a_mount_point nat_eq) f mounts
     (λ a b m n differ.
-    ap (λ p. is_some p && same_option (same_location nat_eq) p (f b).place) (same a m)
-    ∙ ap (λ q. is_some a.place && same_option (same_location nat_eq) a.place q) (same b n)
+    ap (λ p. is_some p && same_option (same_location nat_eq) p (f b).mount_point) (same a m)
+    ∙ ap (λ q. is_some a.mount_point && same_option (same_location nat_eq) a.mount_point q) (same b n)
     ∙ differ)
     one
 
 -- a mount in the place of the one with its number, at the same place
 replaced_same_place : (mounts : List (Mount ℕ)) → OneNumberAMount mounts → (new : Mount ℕ)
-    → (mount_in nat_eq mounts new.number).place ≡ new.place
-    → (old : Mount ℕ) → Among old mounts → (replaced_if_same nat_eq new old).place ≡ old.place
+    → (mount_in nat_eq mounts new.number).mount_point ≡ new.mount_point
+    → (old : Mount ℕ) → Among old mounts → (replaced_if_same nat_eq new old).mount_point ≡ old.mount_point
 replaced_same_place mounts one new same old m = by (nat_eq new.number old.number) refl
   where
-    by : (b : Bool) → nat_eq new.number old.number ≡ b → (replaced_if_same nat_eq new old).place ≡ old.place
+    by : (b : Bool) → nat_eq new.number old.number ≡ b → (replaced_if_same nat_eq new old).mount_point ≡ old.mount_point
     by true e =
-        ap (λ x. x.place) (replaced_there new old e) ∙ sym same
-        ∙ ap (λ x. x.place) (ap (mount_in nat_eq mounts) (eqb-true new.number old.number e) ∙ found_itself mounts one old m)
-    by false e = ap (λ x. x.place) (replaced_elsewhere new old e)
+        ap (λ x. x.mount_point) (replaced_there new old e) ∙ sym same
+        ∙ ap (λ x. x.mount_point) (ap (mount_in nat_eq mounts) (eqb-true new.number old.number e) ∙ found_itself mounts one old m)
+    by false e = ap (λ x. x.mount_point) (replaced_elsewhere new old e)
 
 pub flags_keep_apart : KeptByFlags AreApart
 flags_keep_apart world here flags both =
@@ -49,7 +49,7 @@ flags_keep_apart world here flags both =
     record {
       by_number = flags_keep_numbers world here flags both.by_number;
       by_place = places_same (replaced_if_same nat_eq new) world.mounts
-          (replaced_same_place world.mounts both.by_number new (ap (λ n. (mount_in nat_eq world.mounts n).place) (number_found world.mounts here.mount))) both.by_place;
+          (replaced_same_place world.mounts both.by_number new (ap (λ n. (mount_in nat_eq world.mounts n).mount_point) (number_found world.mounts here.mount))) both.by_place;
     }
 
 pub types_keep_apart : KeptByType AreApart
@@ -59,22 +59,22 @@ types_keep_apart world fresh number word recursive both =
     let middle = between world group word named in
     record {
       by_number = types_keep_numbers world fresh number word recursive both.by_number;
-      by_place = ap (any_pair (stand_at_one_place nat_eq)) (mounts-regrouped middle)
+      by_place = ap (any_pair (share_a_mount_point nat_eq)) (mounts-regrouped middle)
           ∙ places_same (inheriting nat_eq middle) middle.mounts (λ mount m. refl)
-          (places_same (retype world group word named) world.mounts (λ mount m. (retype_keeps world group word named mount).place) both.by_place);
+          (places_same (retype world group word named) world.mounts (λ mount m. (retype_keeps world group word named mount).mount_point) both.by_place);
     }
 
 pub inheritance_keeps_apart : KeptByInheritance AreApart
 inheritance_keeps_apart world both = record {
   by_number = inheritance_keeps_numbers world both.by_number;
-  by_place = ap (any_pair (stand_at_one_place nat_eq)) (mounts-regrouped world)
+  by_place = ap (any_pair (share_a_mount_point nat_eq)) (mounts-regrouped world)
       ∙ places_same (inheriting nat_eq world) world.mounts (λ mount m. refl) both.by_place;
 }
 
 pub settling_keeps_apart : KeptBySettling AreApart
 settling_keeps_apart world both = record {
   by_number = settling_keeps_numbers world both.by_number;
-  by_place = pair-filter (stand_at_one_place nat_eq) (mount_lives nat_eq world) world.mounts both.by_place;
+  by_place = pair-filter (share_a_mount_point nat_eq) (mount_lives nat_eq world) world.mounts both.by_place;
 }
 
 -- Lazy unmounts

@@ -6,7 +6,7 @@ use Rattle.vt_spec.specs.Machine.Attach.{Copies, Graft, added_mounts, attached_b
 use Rattle.vt_mount_laws.specs.Mounts.Attaching.{KeepsAllButPlace, AttachKeepsMounts, AttachLeavesMounts, KeepsWhatItShows, MoveKeepsMounts, MoveLeavesMounts, NewMountsFollow, is_mount, numbers_of, stands_at_a_receiver, MovedMountsShow}
 use Rattle.vt_spec.specs.Machine.Mounts.{Mount, group_of, no_mount, stands_at, Location, mount_in, with_mount}
 use Rattle.vt_spec.specs.Machine.World.{World, mount_at, mount_numbered}
-use Rattle.vt_spec.specs.Machine.Lists.{folded, rest_of, Fresh, is_among}
+use Rattle.vt_spec.specs.Lists.{folded, rest_of, Fresh, is_among}
 use Rattle.std.specs.Prelude.{if◌then◌else◌}
 use Rattle.std.proofs.lemmas.Bool.{or_parts}
 use Rattle.vt_spec.proofs.Lists.{Among, among-from_map, among-map, none_among}
@@ -33,7 +33,7 @@ module _ (world : World ℕ) (new : Copies ℕ) (graft : Graft ℕ) (parts : Lis
           record { number = refl; namespace = refl; filesystem = refl; root = refl; flags = refl; propagation = refl }
 
   abbrev pub is_pushed_by : Mount ℕ → Mount ℕ → Bool
-  is_pushed_by mount receiver = stands_at nat_eq (record { mount = receiver.number; node = graft.place.node }) mount
+  is_pushed_by mount receiver = stands_at nat_eq (record { mount = receiver.number; node = graft.destination.node }) mount
 
   -- what stands at no receiver's place is left
   pub none_pushes : (mount : Mount ℕ)

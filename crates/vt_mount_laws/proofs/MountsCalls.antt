@@ -1,19 +1,18 @@
 -- What a granted call makes of the mounts.
 use Rattle.std.proofs.Common.{◌≡◌, refl, sym, ap, subst, ◌∙◌, false, Bool, List, Ok, Result, Some, [], nat_eq, ok_or, ℕ, ◌||◌, ◌∷◌}
 use Rattle.vt_spec.specs.declared.errors.Deny.{Deny}
-use Rattle.vt_spec.specs.Machine.Calls.Call.{Bind, Exit, Lazy, MountOverlay, MountPlain, MoveMount, PivotRoot, Remount, Rmdir, SetType, Setns, Unshare, Rename}
+use Rattle.vt_spec.specs.Language.Calls.Call.{Bind, Exit, Lazy, MountOverlay, MountPlain, MoveMount, PivotRoot, Remount, Rmdir, SetType, Setns, Unshare, Rename}
 use Rattle.vt_mount_laws.specs.Mounts.Granted.{BindBinds, ExitEnds, LazyUnmounts, Leaves, MountMounts, MoveMoves, OverlayMounts, PivotPivots, RemountSetsFlags, RmdirTakesMounts, SetnsEnters, TypeIsSet, UnshareCopies, RenameOfOneObject, RenameReplaces}
-use Rattle.vt_spec.specs.Machine.Calls.{Call, OverlayWords, TypeWord}
-use Rattle.vt_spec.specs.Machine.Outcomes.Answer.{Done}
-use Rattle.vt_spec.specs.Machine.Lists.{Fresh, odds}
+use Rattle.vt_spec.specs.Language.Calls.{Call, MountFlags, OverlayWords, TaskName, TypeWord}
+use Rattle.vt_spec.specs.Language.Answers.Answer.{Done}
+use Rattle.vt_spec.specs.Lists.{Fresh, odds}
 use Rattle.vt_mount_laws.specs.Mounts.FileCalls.{HasLiving}
 use Rattle.vt_spec.specs.Machine.Walk.{Here, Place, directory_walk, old_walk, walk_end, is_directory_there, old_leaf_walk}
 use Rattle.vt_spec.specs.declared.errors.Rule.TheVariants.{K1, S2}
 use Rattle.vt_spec.specs.Machine.Outcome.Mounting.{LayerPlaces, admin_rules, bind_outcome, bind_rules, bound_at, destination_walk, layer_rules, layers_walked, lazy_outcome, lazy_rules, mount_overlay_outcome, mount_plain_outcome, mounted, move_outcome, move_rules, moved_to, new_mount_rules, overlay_at, overlay_mounted, pivot_outcome, pivot_rules, plain_filesystem, remount_outcome, remount_rules, source_walk, type_outcome, type_rules, with_flags}
-use Rattle.vt_spec.specs.Machine.Mounts.{MountFlags}
 use Rattle.vt_spec.specs.Machine.Outcomes.{Outcome, after, granted, judged}
 use Rattle.vt_spec.specs.Errors.{Rules, denial}
-use Rattle.vt_spec.specs.Machine.World.{Task, TaskName, World, mount_at, task_called, without_task}
+use Rattle.vt_spec.specs.Machine.World.{Task, World, mount_at, task_called, without_task}
 use Rattle.vt_mount_laws.proofs.MountsGranted.{answered, judged_granted, settles}
 use Rattle.vt_spec.specs.Machine.Policy.{call_outcome, only_looks, policy}
 use Rattle.vt_spec.specs.Rights.{cap_sys_admin, cap_sys_chroot}

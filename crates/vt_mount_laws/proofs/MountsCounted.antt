@@ -2,7 +2,7 @@
 use Rattle.std.proofs.Common.{◌≡◌, refl, sym, ap, ◌∙◌, true, false, nat_eq, ℕ, Bool, List, [], cond, filter, inl, inr, is_some, length, map, not, ◌∷◌}
 use Rattle.std.proofs.lemmas.List.{length-map}
 use Rattle.vt_spec.proofs.Lists.{Among, among-from_filter, filter_here, filter_skip}
-use Rattle.vt_spec.specs.Machine.Lists.{holds_of}
+use Rattle.vt_spec.specs.Lists.{holds_of}
 use Rattle.vt_spec.specs.Machine.Mounts.{Mount}
 use Rattle.vt_spec.specs.Machine.World.{World, mounts_of}
 use Rattle.vt_spec.specs.Machine.WorldLaws.{is_root_mount}
@@ -39,7 +39,7 @@ filter_alike p q (y ∷ ys) same =
 abbrev pub is_in : ℕ → Mount ℕ → Bool
 is_in namespace mount = holds_of (nat_eq namespace) mount.namespace
 
-pub same_root : (a b : Mount ℕ) → a.place ≡ b.place → is_root_mount nat_eq a ≡ is_root_mount nat_eq b
+pub same_root : (a b : Mount ℕ) → a.mount_point ≡ b.mount_point → is_root_mount nat_eq a ≡ is_root_mount nat_eq b
 same_root a b e = ap (λ p. not (is_some p)) e
 
 -- mounts that keep their namespaces stay as many in each
@@ -54,7 +54,7 @@ as_many_mounts world after f changed inside namespace =
 -- and those that keep their places, too, as many root mounts
 pub as_many : (world after : World ℕ) (f : Mount ℕ → Mount ℕ) → after.mounts ≡ map f world.mounts
     → ((mount : Mount ℕ) → Among mount world.mounts → (f mount).namespace ≡ mount.namespace)
-    → ((mount : Mount ℕ) → Among mount world.mounts → (f mount).place ≡ mount.place)
+    → ((mount : Mount ℕ) → Among mount world.mounts → (f mount).mount_point ≡ mount.mount_point)
     → (namespace : ℕ) → HasAsMany world namespace after namespace
 as_many world after f changed inside placed namespace =
     let before = mounts_of nat_eq world namespace in

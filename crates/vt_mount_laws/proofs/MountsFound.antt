@@ -3,7 +3,7 @@ use Rattle.std.proofs.Common.{◌≡◌, refl, sym, ap, subst, ◌∙◌, ◌⊎
 use Rattle.std.specs.Prelude.{unwrap_or}
 use Rattle.std.proofs.lemmas.Option.{same_Some}
 use Rattle.vt_spec.specs.Machine.Mounts.{Location, Mount, mount_in, no_mount}
-use Rattle.vt_spec.specs.Machine.Lists.{is_among}
+use Rattle.vt_spec.specs.Lists.{is_among}
 use Rattle.vt_spec.proofs.Lists.{Among}
 use Rattle.vt_mount_laws.specs.Mounts.Attaching.{numbers_of}
 
@@ -49,10 +49,10 @@ found_there (first ∷ rest) number h = by (nat_eq number first.number) refl (fo
 
 -- a mount that has a place is one of the list
 pub placed_among : (mounts : List (Mount ℕ)) (number : ℕ) (place : Location ℕ)
-    → (mount_in nat_eq mounts number).place ≡ Some place → Among (mount_in nat_eq mounts number) mounts
+    → (mount_in nat_eq mounts number).mount_point ≡ Some place → Among (mount_in nat_eq mounts number) mounts
 placed_among mounts number place e =
     ⊎_elim (λ m. m)
-    (λ none. absurd (true≢false (sym (ap is_some e) ∙ ap (λ m. is_some m.place) none)))
+    (λ none. absurd (true≢false (sym (ap is_some e) ∙ ap (λ m. is_some m.mount_point) none)))
     (found_or_none mounts number)
 
 -- what a test finds is in the list, and passes it

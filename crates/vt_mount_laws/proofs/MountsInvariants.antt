@@ -2,8 +2,9 @@
 use Rattle.std.proofs.Common.{◌≡◌, refl, sym, ap, ◌∙◌, true, false, nat_eq, ℕ, Bool, List, None, Option, Some, eqb-true, is_some, map, not, ⊎_elim, ◌&&◌, ◌||◌}
 use Rattle.std.specs.List.{list_any}
 use Rattle.vt_spec.proofs.Lists.{Among, among-from_map, among_from_list_all, any_among, list_all_from_among}
-use Rattle.vt_spec.specs.Machine.Lists.{Fresh}
-use Rattle.vt_spec.specs.Machine.Mounts.{Location, Mount, MountFlags, mount_in, replaced_if_same}
+use Rattle.vt_spec.specs.Lists.{Fresh}
+use Rattle.vt_spec.specs.Machine.Mounts.{Location, Mount, mount_in, replaced_if_same}
+use Rattle.vt_spec.specs.Language.Calls.{MountFlags}
 use Rattle.vt_spec.specs.Machine.Outcome.Mounting.{with_flags}
 use Rattle.vt_spec.specs.Machine.Receives.{inheriting}
 use Rattle.vt_spec.specs.Machine.Types.{named_mounts, type_after, with_type}
@@ -78,7 +79,7 @@ module _ (world : World ℕ) (mounts : MountInvariants nat_eq world) where
           → is_nowhere_or_attached (retyped_if world group word named mount b) ≡ true
       by group named mount m true f =
           let kind = type_after (group mount.number) word mount.propagation in
-          ap (λ s. s || (not (is_some mount.place) && is_private kind)) (f refl)
+          ap (λ s. s || (not (is_some mount.mount_point) && is_private kind)) (f refl)
       by group named mount m false f = among_from_list_all is_nowhere_or_attached world.mounts mounts.nowhere mount m
 
 pub type_keeps_mounts : SetTypeKeepsMounts
@@ -124,7 +125,7 @@ type_keeps_counts world fresh number word recursive namespace =
     let first =
     as_many world middle (retype world group word named) refl
     (λ mount m. (retype_keeps world group word named mount).namespace)
-    (λ mount m. (retype_keeps world group word named mount).place) namespace in
+    (λ mount m. (retype_keeps world group word named mount).mount_point) namespace in
     let second =
     as_many middle (with_type nat_eq fresh world number word recursive) (inheriting nat_eq middle)
     (mounts-regrouped middle) (λ mount m. refl) (λ mount m. refl) namespace in
@@ -136,21 +137,21 @@ module _ (world : World ℕ) (here : Location ℕ) (flags : MountFlags) (one : O
 
   replaced_keeps : (mount : Mount ℕ) → Among mount world.mounts
       → ((replaced_if_same nat_eq new mount).namespace ≡ mount.namespace)
-      × ((replaced_if_same nat_eq new mount).place ≡ mount.place)
+      × ((replaced_if_same nat_eq new mount).mount_point ≡ mount.mount_point)
   replaced_keeps mount m = by (nat_eq new.number mount.number) refl
     where
       by : (b : Bool) → nat_eq new.number mount.number ≡ b
           → ((replaced_if_same nat_eq new mount).namespace ≡ mount.namespace)
-          × ((replaced_if_same nat_eq new mount).place ≡ mount.place)
+          × ((replaced_if_same nat_eq new mount).mount_point ≡ mount.mount_point)
       by true f =
           let same : mount_at nat_eq world here ≡ mount =
           ap (mount_in nat_eq world.mounts) (sym (number_found world.mounts here.mount) ∙ eqb-true _ _ f)
           ∙ found_itself world.mounts one mount m in (
             ap (λ x. x.namespace) (replaced_there new mount f) ∙ ap (λ x. x.namespace) same,
-            ap (λ x. x.place) (replaced_there new mount f) ∙ ap (λ x. x.place) same,
+            ap (λ x. x.mount_point) (replaced_there new mount f) ∙ ap (λ x. x.mount_point) same,
           )
       by false f =
-          (ap (λ x. x.namespace) (replaced_elsewhere new mount f), ap (λ x. x.place) (replaced_elsewhere new mount f))
+          (ap (λ x. x.namespace) (replaced_elsewhere new mount f), ap (λ x. x.mount_point) (replaced_elsewhere new mount f))
 
 pub flags_keep_counts : SetFlagsKeepCounts
 flags_keep_counts world here flags namespace one =

@@ -7,7 +7,7 @@ use Rattle.vt_spec.specs.Machine.Mounts.Propagation.{Private, Shared, Slave, Unb
 use Rattle.vt_mount_laws.specs.Mounts.Conditions.{KeptByEndedNamespaces, KeptByFlags, KeptByInheritance, KeptByPivot, KeptBySettling, KeptByTakingAway, KeptByType, KeptByUnmount, NowhereOrAttached, OneNumberEach}
 use Rattle.vt_spec.specs.Machine.Mounts.{Location, Propagation, Mount, detached}
 use Rattle.vt_spec.specs.Machine.World.{World, mount_numbered, mount_at}
-use Rattle.vt_spec.specs.Machine.Detach.{after_going, going, is_going, place_left, taken_away}
+use Rattle.vt_spec.specs.Machine.Detach.{after_going, going, is_going, mount_point_left, taken_away}
 use Rattle.vt_spec.proofs.Lists.{all-filter, all-map, pair-filter}
 use Rattle.std.specs.Prelude.{if◌then◌else◌}
 use Rattle.vt_spec.specs.Machine.Receives.{inherited, inheriting, regrouped}
@@ -48,7 +48,7 @@ flags_keep_numbers world here flags e =
 pub pivot_number : (root new : Mount ℕ) (put : Location ℕ) (mount : Mount ℕ) → (pivoted_mount nat_eq root new put mount).number ≡ mount.number
 pivot_number root new put mount = by (nat_eq mount.number new.number) (nat_eq mount.number root.number)
   where
-    by : (a b : Bool) → (if a then (record mount { place = root.place }) else if b then (record mount { place = Some put }) else mount).number ≡ mount.number
+    by : (a b : Bool) → (if a then (record mount { mount_point = root.mount_point }) else if b then (record mount { mount_point = Some put }) else mount).number ≡ mount.number
     by true b = refl
     by false true = refl
     by false false = refl
@@ -72,27 +72,27 @@ nowhere_inherits world mount e = by mount.propagation refl e
     either_way false false c h = absurd (true≢false (sym h))
 
     by : (kind : Propagation ℕ) → mount.propagation ≡ kind
-        → (is_some mount.namespace || (not (is_some mount.place) && is_private mount.propagation)) ≡ true
-        → (is_some mount.namespace || (not (is_some mount.place) && is_private (inherited nat_eq world mount.propagation))) ≡ true
-    by (Shared group) f h = ap (λ k. is_some mount.namespace || (not (is_some mount.place) && is_private (inherited nat_eq world k))) f ∙ sym (ap (λ k. is_some mount.namespace || (not (is_some mount.place) && is_private k)) f) ∙ h
+        → (is_some mount.namespace || (not (is_some mount.mount_point) && is_private mount.propagation)) ≡ true
+        → (is_some mount.namespace || (not (is_some mount.mount_point) && is_private (inherited nat_eq world mount.propagation))) ≡ true
+    by (Shared group) f h = ap (λ k. is_some mount.namespace || (not (is_some mount.mount_point) && is_private (inherited nat_eq world k))) f ∙ sym (ap (λ k. is_some mount.namespace || (not (is_some mount.mount_point) && is_private k)) f) ∙ h
     by (Slave above) f h =
-        either_way (is_some mount.namespace) (not (is_some mount.place)) (is_private (inherited nat_eq world mount.propagation))
-        (sym (ap (λ k. is_some mount.namespace || (not (is_some mount.place) && is_private k)) f) ∙ h)
-    by Private f h = ap (λ k. is_some mount.namespace || (not (is_some mount.place) && is_private (inherited nat_eq world k))) f ∙ sym (ap (λ k. is_some mount.namespace || (not (is_some mount.place) && is_private k)) f) ∙ h
-    by Unbindable f h = ap (λ k. is_some mount.namespace || (not (is_some mount.place) && is_private (inherited nat_eq world k))) f ∙ sym (ap (λ k. is_some mount.namespace || (not (is_some mount.place) && is_private k)) f) ∙ h
+        either_way (is_some mount.namespace) (not (is_some mount.mount_point)) (is_private (inherited nat_eq world mount.propagation))
+        (sym (ap (λ k. is_some mount.namespace || (not (is_some mount.mount_point) && is_private k)) f) ∙ h)
+    by Private f h = ap (λ k. is_some mount.namespace || (not (is_some mount.mount_point) && is_private (inherited nat_eq world k))) f ∙ sym (ap (λ k. is_some mount.namespace || (not (is_some mount.mount_point) && is_private k)) f) ∙ h
+    by Unbindable f h = ap (λ k. is_some mount.namespace || (not (is_some mount.mount_point) && is_private (inherited nat_eq world k))) f ∙ sym (ap (λ k. is_some mount.namespace || (not (is_some mount.mount_point) && is_private k)) f) ∙ h
 
 nowhere_after : (world : World ℕ) (gone : List ℕ) (mount : Mount ℕ) → is_nowhere_or_attached mount ≡ true
     → is_nowhere_or_attached (after_going nat_eq world gone mount) ≡ true
-nowhere_after world gone mount e = by (is_going nat_eq gone mount.number) mount.place refl
+nowhere_after world gone mount e = by (is_going nat_eq gone mount.number) mount.mount_point refl
   where
-    by : (b : Bool) (place : Option (Location ℕ)) → mount.place ≡ place
-        → is_nowhere_or_attached (if b then detached mount else (record mount { place = option_map (place_left nat_eq world gone) mount.place })) ≡ true
+    by : (b : Bool) (place : Option (Location ℕ)) → mount.mount_point ≡ place
+        → is_nowhere_or_attached (if b then detached mount else (record mount { mount_point = option_map (mount_point_left nat_eq world gone) mount.mount_point })) ≡ true
     by true place f = refl
     by false None f =
-        ap (λ p. is_some mount.namespace || (not (is_some (option_map (place_left nat_eq world gone) p)) && is_private mount.propagation)) f
+        ap (λ p. is_some mount.namespace || (not (is_some (option_map (mount_point_left nat_eq world gone) p)) && is_private mount.propagation)) f
         ∙ sym (ap (λ p. is_some mount.namespace || (not (is_some p) && is_private mount.propagation)) f) ∙ e
     by false (Some place) f =
-        ap (λ p. is_some mount.namespace || (not (is_some (option_map (place_left nat_eq world gone) p)) && is_private mount.propagation)) f
+        ap (λ p. is_some mount.namespace || (not (is_some (option_map (mount_point_left nat_eq world gone) p)) && is_private mount.propagation)) f
         ∙ sym (ap (λ p. is_some mount.namespace || (not (is_some p) && is_private mount.propagation)) f) ∙ e
 
 pub taking_away_keeps_nowhere : KeptByTakingAway NowhereOrAttached

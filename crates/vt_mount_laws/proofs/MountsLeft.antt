@@ -2,29 +2,30 @@
 use Rattle.std.proofs.Common.{◌≡◌, refl, sym, ℕ, nat_eq, Bool, true, false, true≢false, List, [], ◌∷◌, Option, Some, None, Result, Ok, Err, length, nat_lt, unwrap_or}
 use Rattle.vt_spec.specs.declared.errors.Deny.{Deny}
 use Rattle.vt_spec.specs.Errors.{Rules}
-use Rattle.vt_spec.specs.Machine.Calls.{Access, Call, Creation}
-use Rattle.vt_spec.specs.Machine.Calls.Creation.{Exclusive, NoCreation, OrCreate}
-use Rattle.vt_spec.specs.Machine.Calls.Call.{Bind, Chdir, Chmod, Chown, Chroot, Close, Drop, Exec, Exit, Fork, Lazy, LinkTo, ListMounts, Ls, Lstat, MakeWhiteout, Mkdir, MountOverlay, MountPlain, MoveMount, Opaque, OpenFile, PivotRoot, Pread, Pwrite, Read, Readlink, Remount, Rename, Rmdir, SetType, Setns, Stat, SymlinkAt, Umask, Umount, Unlink, Unshare, Write}
-use Rattle.vt_spec.specs.Machine.Changes.{Change}
+use Rattle.vt_spec.specs.Language.Calls.{Access, Call, Creation}
+use Rattle.vt_spec.specs.Language.Calls.Creation.{Exclusive, NoCreation, OrCreate}
+use Rattle.vt_spec.specs.Language.Calls.Call.{Bind, Chdir, Chmod, Chown, Chroot, Close, Drop, Exec, Exit, Fork, Lazy, LinkTo, ListMounts, Ls, Lstat, MakeWhiteout, Mkdir, MountOverlay, MountPlain, MoveMount, Opaque, OpenFile, PivotRoot, Pread, Pwrite, Read, Readlink, Remount, Rename, Rmdir, SetType, Setns, Stat, SymlinkAt, Umask, Umount, Unlink, Unshare, Write}
+use Rattle.vt_spec.specs.Language.Changes.{Change}
 use Rattle.vt_spec.specs.Machine.Filesystems.{filesystem_changed, overlay_changed, with_change}
 use Rattle.vt_spec.specs.Machine.Listing.{mounts_outcome}
-use Rattle.vt_spec.specs.Machine.Lists.{Fresh, odds, evens}
+use Rattle.vt_spec.specs.Lists.{Fresh, odds, evens}
 use Rattle.vt_spec.specs.Machine.Mounts.{Location}
 use Rattle.vt_spec.specs.Machine.Outcome.Attributes.{chmod_outcome, chown_outcome, opaque_outcome, attr_at, attr_rules, attr_set, attr_with_mode, attr_with_owner, may_chown, opaque_rules}
 use Rattle.vt_spec.specs.Machine.Outcome.Descriptors.{close_outcome, create_file, open_by, open_file, open_outcome, opened_or_created, pread_outcome, pwrite_outcome, pwritten, with_copy, descriptor_at, descriptor_rules, exclusive_word_rules, is_copied_up, open_rules, overwritten, pwrite_rules}
 use Rattle.vt_spec.specs.Machine.Outcome.Looking.{exec_outcome, list_outcome, lstat_outcome, read_outcome, readlink_outcome, stat_outcome, exec_rules, list_rules, read_rules, readlink_rules}
-use Rattle.vt_spec.specs.Machine.Outcome.Making.{link_outcome, made_at, mkdir_outcome, symlink_outcome, whiteout_outcome, write_outcome, written, directory_mode, file_mode, file_word_rules, largest_file, link_mode, link_rules, link_text_rules, linking, make_rules, new_file, new_rules, rewrite_rules, whiteout_rules}
+use Rattle.vt_spec.specs.Machine.Outcome.Making.{hard_link_outcome, made_at, mkdir_outcome, symlink_outcome, whiteout_outcome, write_outcome, written, directory_mode, file_mode, file_word_rules, symlink_mode, hard_link_rules, link_text_rules, linking, make_rules, new_file, new_rules, rewrite_rules, whiteout_rules}
+use Rattle.vt_spec.specs.Language.Limits.{largest_file}
 use Rattle.vt_spec.specs.Machine.Outcome.Removing.{unlink_outcome, object_there, removing, unlink_rules}
 use Rattle.vt_spec.specs.Machine.Outcome.Tasks.{chdir_outcome, chroot_outcome, drop_outcome, fork_outcome, umask_outcome, child_credentials, enter_rules, fork_rules}
 use Rattle.vt_spec.specs.Machine.Outcomes.{Outcome, after, judged}
 use Rattle.vt_spec.specs.Machine.Policy.{call_outcome}
-use Rattle.vt_spec.specs.Machine.Walk.{Place, directory_walk, file_walk, is_special, link_walk, new_leaf_walk, new_walk, object_walk, old_leaf_walk, walk_end}
+use Rattle.vt_spec.specs.Machine.Walk.{Place, directory_walk, file_walk, is_special, symlink_walk, new_leaf_walk, new_walk, object_walk, old_leaf_walk, walk_end}
 use Rattle.vt_spec.specs.Machine.World.{Filesystem, Layer, Overlay, Task, World, filesystem_at, node_at}
 use Rattle.vt_spec.specs.Tree.{Node, bytes_in, new_directory}
 use Rattle.vt_mount_laws.specs.Mounts.FileCalls.{FileCallsLeaveMounts, is_of_no_mount}
 use Rattle.vt_mount_laws.proofs.MountsGranted.{policy_leaves}
 use Rattle.vt_spec.specs.declared.attributes.Attr.{Attr}
-use Rattle.vt_spec.specs.Machine.Changes.Change.{CopyUp, SetAttr, SetBytes, SetMark}
+use Rattle.vt_spec.specs.Language.Changes.Change.{CopyUp, SetAttr, SetBytes, SetMark}
 use Rattle.vt_spec.specs.declared.errors.Rule.TheVariants.{E1, E2, E6, K1}
 use Rattle.vt_spec.specs.Tree.Content.{Symlink, Whiteout}
 use Rattle.vt_spec.specs.Rights.{cap_sys_admin, cap_sys_chroot, owns}
@@ -114,13 +115,13 @@ module _ (world : World ℕ) where
   -- each such call
   call_leaves : (fresh : Fresh ℕ) (task : Task ℕ) (call : Call) → is_of_no_mount call ≡ true
       → Leaves (call_outcome nat_eq fresh world task call)
-  unfolding list_outcome stat_outcome lstat_outcome readlink_outcome read_outcome exec_outcome mkdir_outcome symlink_outcome whiteout_outcome link_outcome write_outcome unlink_outcome chmod_outcome chown_outcome opaque_outcome open_outcome pread_outcome pwrite_outcome close_outcome chdir_outcome chroot_outcome umask_outcome drop_outcome fork_outcome mounts_outcome
+  unfolding list_outcome stat_outcome lstat_outcome readlink_outcome read_outcome exec_outcome mkdir_outcome symlink_outcome whiteout_outcome hard_link_outcome write_outcome unlink_outcome chmod_outcome chown_outcome opaque_outcome open_outcome pread_outcome pwrite_outcome close_outcome chdir_outcome chroot_outcome umask_outcome drop_outcome fork_outcome mounts_outcome
   call_leaves fresh task (Ls path) e =
       after_leaves (walk_end (directory_walk nat_eq world task path)) _ (λ here. judged_leaves (list_rules nat_eq world task here.location) _ refl)
   call_leaves fresh task (Stat path) e = after_leaves (walk_end (object_walk nat_eq world task path)) _ (λ here. refl)
-  call_leaves fresh task (Lstat path) e = after_leaves (walk_end (link_walk nat_eq world task path)) _ (λ here. refl)
+  call_leaves fresh task (Lstat path) e = after_leaves (walk_end (symlink_walk nat_eq world task path)) _ (λ here. refl)
   call_leaves fresh task (Readlink path) e =
-      after_leaves (walk_end (link_walk nat_eq world task path)) _ (λ here. judged_leaves (readlink_rules nat_eq world here.location) _ refl)
+      after_leaves (walk_end (symlink_walk nat_eq world task path)) _ (λ here. judged_leaves (readlink_rules nat_eq world here.location) _ refl)
   call_leaves fresh task (Read path) e =
       after_leaves (walk_end (object_walk nat_eq world task path)) _ (λ here. judged_leaves (read_rules nat_eq world task here.location) _ refl)
   call_leaves fresh task (Write path bytes) e =
@@ -132,16 +133,16 @@ module _ (world : World ℕ) where
       made_leaves fresh task place (record { attr = new_attr task (unwrap_or mode directory_mode); content = new_directory place.parent.node }))
   call_leaves fresh task (SymlinkAt text path) e =
       judged_leaves (link_text_rules text) _ (after_leaves (walk_end (new_leaf_walk nat_eq world task path)) _ (λ place.
-      made_leaves fresh task place (record { attr = exact_attr task link_mode; content = Symlink text })))
+      made_leaves fresh task place (record { attr = exact_attr task symlink_mode; content = Symlink text })))
   call_leaves fresh task (MakeWhiteout path) e =
       after_leaves (walk_end (new_leaf_walk nat_eq world task path)) _ (λ place.
       judged_leaves (whiteout_rules nat_eq world task place) _
       (mounts-with_change (odds fresh) place.parent (making place (evens fresh 0) (record { attr = exact_attr task 0; content = Whiteout }))))
   call_leaves fresh task (LinkTo old new) e =
-      after_leaves (walk_end (link_walk nat_eq world task old)) _ (λ from.
+      after_leaves (walk_end (symlink_walk nat_eq world task old)) _ (λ from.
       after_leaves (walk_end (new_leaf_walk nat_eq world task new)) _ (λ place.
       judged_leaves ((is_special place.last, E1) ∷ []) _
-      (judged_leaves (link_rules nat_eq world task from.location place (linking from.location place)) _
+      (judged_leaves (hard_link_rules nat_eq world task from.location place (linking from.location place)) _
       (mounts-with_change fresh place.parent (linking from.location place)))))
   call_leaves fresh task (Unlink path) e =
       after_leaves (walk_end (old_leaf_walk nat_eq world task path)) _ (λ place.

@@ -5,7 +5,7 @@ use Rattle.vt_spec.specs.Machine.Mounts.{Mount, Location, group_of, numbers_by, 
 use Rattle.vt_spec.proofs.Lists.{Among, among-append, among-append_left, among-flat_map, among-from_filter, among-from_flat_map, among-from_map, any_among, is_among_numbers, none_among, none_from_among, among-map, pair-filter, pair-map}
 use Rattle.vt_mount_laws.proofs.GroupsKept.{member_shared}
 use Rattle.vt_mount_laws.proofs.MountsFound.{number_found}
-use Rattle.vt_spec.specs.Machine.Lists.{Fresh, any_pair, evens, holds_of, odds, place_from}
+use Rattle.vt_spec.specs.Lists.{Fresh, any_pair, evens, holds_of, odds, place_from}
 use Rattle.vt_spec.specs.Machine.Attach.{Copies, Graft, Twig, attached_by, copies_at, copies_from, copy_at, graft_of, index_of_group, is_destination, numbered, parts_of, reaches, receivers_of, takes_part, twig_of}
 use Rattle.vt_spec.specs.Machine.Receives.{has_members, is_member_of, receivers, receives}
 use Rattle.vt_spec.specs.Machine.Run.{Serves, numbers_in_use, used_by_filesystem, used_by_mount}

@@ -4,7 +4,7 @@ use Rattle.vt_spec.specs.Machine.Mounts.{Mount, mount_in, no_mount, replaced_if_
 use Rattle.std.proofs.lemmas.Bool.Decides.{eqb_tells}
 use Rattle.vt_mount_laws.proofs.MountsFound.{found-map, number_found, numbers-map}
 use Rattle.std.specs.Prelude.{if◌then◌else◌}
-use Rattle.vt_spec.specs.Machine.Lists.{is_among, any_pair}
+use Rattle.vt_spec.specs.Lists.{is_among, any_pair}
 use Rattle.vt_mount_laws.specs.Mounts.Attaching.{numbers_of, OneNumberAMount}
 use Rattle.std.proofs.lemmas.Bool.{or_parts}
 use Rattle.vt_spec.proofs.Lists.{Among, among-from_filter, among-from_flat_map, none_among}

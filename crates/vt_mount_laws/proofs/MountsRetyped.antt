@@ -2,17 +2,17 @@
 use Rattle.std.proofs.Common.{◌≡◌, refl, sym, ap, ◌∙◌, true, false, Bool, subst, ℕ, nat_eq, List, None, [], inl, map, ◌∷◌, ◌||◌}
 use Rattle.std.specs.List.{list_any}
 use Rattle.vt_spec.specs.Machine.Mounts.Propagation.{Private, Shared, Slave, Unbindable}
-use Rattle.vt_spec.specs.Machine.Calls.TypeWord.{ToSlave}
+use Rattle.vt_spec.specs.Language.Calls.TypeWord.{ToSlave}
 use Rattle.vt_mount_laws.specs.Mounts.Changing.{FlagsAreOfOne, FlagsAreSet, KeepsAllButType, AloneIsPrivate, TypeIsAllThatChanges, TypeIsOfTheNamed, TypeIsTaken, TypesAreOfMounts}
 use Rattle.vt_mount_laws.specs.Mounts.Unmounting.{KeepsAllButMounts, has_its_master}
 use Rattle.vt_spec.specs.Machine.Mounts.{Mount, Propagation, mount_in, numbers_by, with_mount}
-use Rattle.vt_spec.specs.Machine.Calls.{TypeWord}
+use Rattle.vt_spec.specs.Language.Calls.{TypeWord}
 use Rattle.vt_spec.specs.Machine.World.{World, mount_numbered, mount_at}
 use Rattle.vt_mount_laws.proofs.MountsFound.{found-map, found-map_there, number_found, numbers-map}
 use Rattle.vt_mount_laws.proofs.MountsReplaced.{found-with_mount_itself, found-with_mount_other, none_numbered}
 use Rattle.vt_spec.specs.Machine.Receives.{has_members, inherited, inheriting, lost_a_group, regrouped_by, slave_of_heir}
 use Rattle.vt_mount_laws.proofs.Groups.{inherited_kept, members-regrouped, mounts-regrouped, no_heir}
-use Rattle.vt_spec.specs.Machine.Lists.{is_among, Fresh}
+use Rattle.vt_spec.specs.Lists.{is_among, Fresh}
 use Rattle.vt_mount_laws.specs.Mounts.Attaching.{is_mount, numbers_of}
 use Rattle.vt_spec.specs.Machine.Types.{master_after, named_mounts, retyped, retyped_mount, type_after, with_master, with_new_groups, with_type}
 use Rattle.vt_spec.proofs.Lists.{is_among_numbers}
@@ -34,7 +34,7 @@ flags_are_of_one world here flags number other =
 -- Types
 all_but_type_itself : (mount : Mount ℕ) → KeepsAllButType mount mount
 all_but_type_itself mount =
-    record { number = refl; namespace = refl; place = refl; filesystem = refl; root = refl; flags = refl }
+    record { number = refl; namespace = refl; mount_point = refl; filesystem = refl; root = refl; flags = refl }
 
 -- mounts that take their types at once
 module _ (world : World ℕ) (group : ℕ → ℕ) (word : TypeWord) (named : List (Mount ℕ)) where
@@ -59,7 +59,7 @@ module _ (world : World ℕ) (group : ℕ → ℕ) (word : TypeWord) (named : Li
   retype_keeps mount = by (is_named mount)
     where
       by : (b : Bool) → KeepsAllButType mount (retyped_if mount b)
-      by true = record { number = refl; namespace = refl; place = refl; filesystem = refl; root = refl; flags = refl }
+      by true = record { number = refl; namespace = refl; mount_point = refl; filesystem = refl; root = refl; flags = refl }
       by false = all_but_type_itself mount
 
   pub numbers-retyped : numbers_of next_world.mounts ≡ numbers_of world.mounts
@@ -94,7 +94,7 @@ module _ (world : World ℕ) (group : ℕ → ℕ) (word : TypeWord) (named : Li
           (record {
             number = r.number;
             namespace = r.namespace;
-            place = r.place;
+            mount_point = r.mount_point;
             filesystem = r.filesystem;
             root = r.root;
             flags = r.flags;

@@ -2,7 +2,7 @@
 use Rattle.std.proofs.Common.{◌≡◌, refl, sym, ap, subst, ◌∙◌, true, false, nat_eq, ℕ, Bool, List, [], append-nil, eqb-true, flat_map, inl, inr, is_some, length, not, suc, true≢false, zero, ⊎_elim, ◌&&◌, ◌∷◌, ◌||◌}
 use Rattle.vt_spec.proofs.Lists.{Among, among-flat_map, among-from_filter, among-from_flat_map, among-from_map, among_from_all, among_from_list_all, none_among, none_from_among}
 use Rattle.vt_spec.specs.Machine.Attach.{parts_of}
-use Rattle.vt_spec.specs.Machine.Lists.{holds_of, is_among}
+use Rattle.vt_spec.specs.Lists.{holds_of, is_among}
 use Rattle.vt_spec.specs.Machine.Mounts.{Location, Mount, children, mount_in, mount_tree, stands_on, tree_from}
 use Rattle.vt_spec.specs.Machine.Outcome.Mounting.{moved_tree}
 use Rattle.vt_spec.specs.Machine.World.{World, mount_at, mount_numbered}
@@ -34,11 +34,11 @@ top_among_tree : (fuel : ℕ) (mounts : List (Mount ℕ)) (top : Mount ℕ) → 
 top_among_tree fuel mounts top = let t = tree_top fuel mounts top in subst (Among top) (sym t.1) (inl refl)
 
 -- a number of a mount that has a place, or is in a namespace, is that of one that is there
-placed_there : (mounts : List (Mount ℕ)) (number : ℕ) → is_some (mount_in nat_eq mounts number).place ≡ true
+placed_there : (mounts : List (Mount ℕ)) (number : ℕ) → is_some (mount_in nat_eq mounts number).mount_point ≡ true
     → Among (mount_in nat_eq mounts number) mounts
 placed_there mounts number placed =
     ⊎_elim (λ l. l)
-    (λ none. absurd (true≢false (sym placed ∙ ap (λ (x : Mount ℕ). is_some x.place) none)))
+    (λ none. absurd (true≢false (sym placed ∙ ap (λ (x : Mount ℕ). is_some x.mount_point) none)))
     (found_or_none mounts number)
 
 attached_there : (mounts : List (Mount ℕ)) (number : ℕ) → is_some (mount_in nat_eq mounts number).namespace ≡ true
@@ -86,12 +86,12 @@ module _ (world : World ℕ) where
         by (at_root it e) itself on =
             absurd (true≢false
             (sym on
-            ∙ ap (λ (x : Mount ℕ). holds_of (λ (p : Location ℕ). nat_eq mount.number p.mount) x.place) (sym itself)
+            ∙ ap (λ (x : Mount ℕ). holds_of (λ (p : Location ℕ). nat_eq mount.number p.mount) x.mount_point) (sym itself)
             ∙ ap (holds_of (λ (p : Location ℕ). nat_eq mount.number p.mount)) e))
         by (on_parent it at e f stands) itself on =
             let parent : mount.number ≡ at.mount =
             eqb-true mount.number at.mount
-            (sym (ap (λ (x : Mount ℕ). holds_of (λ (p : Location ℕ). nat_eq mount.number p.mount) x.place) (sym itself)
+            (sym (ap (λ (x : Mount ℕ). holds_of (λ (p : Location ℕ). nat_eq mount.number p.mount) x.mount_point) (sym itself)
             ∙ ap (holds_of (λ (p : Location ℕ). nat_eq mount.number p.mount)) e) ∙ on) in
             ap (λ (x : Mount ℕ). x.namespace) (sym itself) ∙ f
             ∙ ap (λ n. (mount_numbered nat_eq world n).namespace) (sym parent)
@@ -150,7 +150,7 @@ module _ (world : World ℕ) where
           attached = attached;
         }
       where
-        in_some : (mount : Mount ℕ) → Among mount world.mounts → is_some mount.place ≡ true
+        in_some : (mount : Mount ℕ) → Among mount world.mounts → is_some mount.mount_point ≡ true
             → is_some mount.namespace ≡ true
         in_some mount m placed =
             by (is_some mount.namespace)

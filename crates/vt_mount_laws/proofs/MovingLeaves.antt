@@ -6,7 +6,7 @@ use Rattle.std.proofs.lemmas.Bool.{false_from_ne_true, or_from, or_parts}
 use Rattle.std.proofs.lemmas.Option.{same_Some}
 use Rattle.vt_spec.proofs.Lists.{Among, all_from_among, among-from_map, among-map, among_from_all, among_from_list_all, among_numbers, list_all_from_among, none_among, none_from_among, pair-map}
 use Rattle.vt_spec.specs.Machine.Attach.{Copies, Graft, Twig, copy_at, graft_of, parts_of, place_on_copy, twig_of}
-use Rattle.vt_spec.specs.Machine.Lists.{any_pair, first_of_list, folded, holds_of, is_among}
+use Rattle.vt_spec.specs.Lists.{any_pair, first_of_list, folded, holds_of, is_among}
 use Rattle.vt_spec.specs.Machine.Mounts.{Location, Mount, child_at, group_of, mount_in, stands_at, with_mount}
 use Rattle.vt_spec.specs.Machine.World.{World, mount_at, mount_numbered}
 use Rattle.vt_spec.specs.Machine.WorldLaws.{Stands, is_nowhere_or_attached, is_private}
@@ -59,7 +59,7 @@ pair_by test (first ∷ rest) own each =
 
 -- what a mount stands on is there, where mounts outside every namespace have no place
 pub stood_on_there : (world : World ℕ) → NowhereOrAttached world → (number : ℕ) (on : Location ℕ)
-    → (mount_numbered nat_eq world number).place ≡ Some on
+    → (mount_numbered nat_eq world number).mount_point ≡ Some on
     → (mount_numbered nat_eq world number).namespace ≡ (mount_numbered nat_eq world on.mount).namespace
     → is_mount world on.mount ≡ true
 stood_on_there world nowhere number on e f =
@@ -71,11 +71,11 @@ stood_on_there world nowhere number on e f =
     (f ∙ ap (λ (x : Mount ℕ). x.namespace) none)))
     (found_or_none world.mounts on.mount)
   where
-    outside : (mount : Mount ℕ) → Among mount world.mounts → mount.place ≡ Some on → mount.namespace ≡ None → ⊥
+    outside : (mount : Mount ℕ) → Among mount world.mounts → mount.mount_point ≡ Some on → mount.namespace ≡ None → ⊥
     outside mount m p none =
         true≢false
         (sym (among_from_list_all is_nowhere_or_attached world.mounts nowhere mount m)
-        ∙ ap (λ n. is_some n || (not (is_some mount.place) && is_private mount.propagation)) none
+        ∙ ap (λ n. is_some n || (not (is_some mount.mount_point) && is_private mount.propagation)) none
         ∙ ap (λ q. not (is_some q) && is_private mount.propagation) p)
 
 -- a mount of the list has this number
@@ -94,7 +94,7 @@ pub record MayMove (world : World ℕ) (place : Location ℕ) (mounts : List (Mo
   pub top : Mount ℕ
   pub rest : List (Mount ℕ)
   pub is_tree : mounts ≡ top ∷ rest
-  pub closed : (x : Mount ℕ) (at : Location ℕ) → Among x world.mounts → x.place ≡ Some at
+  pub closed : (x : Mount ℕ) (at : Location ℕ) → Among x world.mounts → x.mount_point ≡ Some at
       → is_moved mounts at.mount ≡ true → is_moved mounts x.number ≡ true
   pub outside : is_moved mounts place.mount ≡ false
   pub in_one : (origin : Mount ℕ) → Among origin mounts → origin.namespace ≡ (mount_at nat_eq world place).namespace
@@ -189,7 +189,7 @@ module _ (world : World ℕ) (new : Copies ℕ) (place : Location ℕ) (mounts :
       by mount (stayed m) = among_from_list_all is_nowhere_or_attached world.mounts may.nowhere mount m
       by mount (came origin m e) =
           ap is_nowhere_or_attached e
-          ∙ ap (λ b. b || (not (is_some (arrived origin).place) && is_private (arrived origin).propagation))
+          ∙ ap (λ b. b || (not (is_some (arrived origin).mount_point) && is_private (arrived origin).propagation))
           may.attached
 
   -- it is in the namespace in which it was
@@ -217,18 +217,18 @@ module _ (world : World ℕ) (new : Copies ℕ) (place : Location ℕ) (mounts :
       else unwrap_or (option_map (place_on_copy nat_eq new tree destination.number) parent) place
 
   placed : (origin : Mount ℕ) (b : Bool) → nat_eq origin.number may.top.number ≡ b
-      → (arrived origin).place ≡ Some (landing origin.place b)
+      → (arrived origin).mount_point ≡ Some (landing origin.mount_point b)
   placed origin b e =
-      ap (λ c. Some (landing origin.place c))
+      ap (λ c. Some (landing origin.mount_point c))
       (ap (λ (ms : List (Mount ℕ)). holds_of (same_origin (twig origin)) (first_of_list (map twig ms))) may.is_tree ∙ e)
 
-  top_place : (origin : Mount ℕ) → nat_eq origin.number may.top.number ≡ true → (arrived origin).place ≡ Some place
+  top_place : (origin : Mount ℕ) → nat_eq origin.number may.top.number ≡ true → (arrived origin).mount_point ≡ Some place
   top_place origin e =
       placed origin true e
       ∙ ap (λ (k : ℕ). Some (record { mount = k; node = place.node })) (number_found world.mounts place.mount)
 
   other_place : (origin : Mount ℕ) → nat_eq origin.number may.top.number ≡ false → (on : Location ℕ)
-      → origin.place ≡ Some on → (arrived origin).place ≡ Some on
+      → origin.mount_point ≡ Some on → (arrived origin).mount_point ≡ Some on
   other_place origin e on f =
       placed origin false e ∙ ap (λ p. Some (landing p false)) f
       ∙ ap (λ (k : ℕ). Some (record { mount = k; node = on.node })) (keeps_number world new place mounts on.mount)
@@ -244,8 +244,8 @@ module _ (world : World ℕ) (new : Copies ℕ) (place : Location ℕ) (mounts :
       sym (found_itself mounts may.own a m) ∙ ap (mount_in nat_eq mounts) same ∙ found_itself mounts may.own b n
 
   data ArrivedPlace (origin : Mount ℕ) : Type 0 where
-    at_place : nat_eq origin.number may.top.number ≡ true → (arrived origin).place ≡ Some place → ArrivedPlace origin
-    as_before : (on : Location ℕ) → origin.place ≡ Some on → (arrived origin).place ≡ Some on → ArrivedPlace origin
+    at_place : nat_eq origin.number may.top.number ≡ true → (arrived origin).mount_point ≡ Some place → ArrivedPlace origin
+    as_before : (on : Location ℕ) → origin.mount_point ≡ Some on → (arrived origin).mount_point ≡ Some on → ArrivedPlace origin
 
   arrived_place : (origin : Mount ℕ) → Among origin mounts → (number : ℕ) → Hangs mounts number → number ≡ origin.number
       → ArrivedPlace origin
@@ -257,15 +257,15 @@ module _ (world : World ℕ) (new : Copies ℕ) (place : Location ℕ) (mounts :
       by : (b : Bool) → nat_eq origin.number may.top.number ≡ b → ArrivedPlace origin
       by true e = at_place e (top_place origin e)
       by false e =
-          let place_is : origin.place ≡ Some on =
-          ap (λ (x : Mount ℕ). x.place) (sym (same_mover other origin l m is)) ∙ f in
+          let place_is : origin.mount_point ≡ Some on =
+          ap (λ (x : Mount ℕ). x.mount_point) (sym (same_mover other origin l m is)) ∙ f in
           as_before on place_is (other_place origin e on place_is)
 
   -- Standing
   stayed_stands : (number : ℕ) → Stands nat_eq world number → is_moved mounts number ≡ false
       → Stands nat_eq left number
   stayed_stands number (at_root it e) other =
-      at_root it (ap (λ (x : Mount ℕ). x.place) (found_stayed it other) ∙ e)
+      at_root it (ap (λ (x : Mount ℕ). x.mount_point) (found_stayed it other) ∙ e)
   stayed_stands number (on_parent it on e f stands) other =
       by (is_moved mounts on.mount) refl (stayed_stands on.mount stands)
     where
@@ -276,7 +276,7 @@ module _ (world : World ℕ) (new : Copies ℕ) (place : Location ℕ) (mounts :
           (sym (may.closed (mount_numbered nat_eq world it) on (placed_among world.mounts it on e) e g)
           ∙ ap (is_moved mounts) (number_found world.mounts it) ∙ other))
       by false g parent_stands =
-          on_parent it on (ap (λ (x : Mount ℕ). x.place) (found_stayed it other) ∙ e)
+          on_parent it on (ap (λ (x : Mount ℕ). x.mount_point) (found_stayed it other) ∙ e)
           (ap (λ (x : Mount ℕ). x.namespace) (found_stayed it other) ∙ f
           ∙ sym (ap (λ (x : Mount ℕ). x.namespace) (found_stayed on.mount g)))
           (parent_stands g)
@@ -293,7 +293,7 @@ module _ (world : World ℕ) (new : Copies ℕ) (place : Location ℕ) (mounts :
       → Stands nat_eq left origin.number
   top_stands origin m e =
       on_parent origin.number place
-      (ap (λ (x : Mount ℕ). x.place) (found_arrived origin m) ∙ top_place origin e)
+      (ap (λ (x : Mount ℕ). x.mount_point) (found_arrived origin m) ∙ top_place origin e)
       (ap (λ (x : Mount ℕ). x.namespace) (found_arrived origin m)
       ∙ sym (ap (λ (x : Mount ℕ). x.namespace) (found_stayed place.mount may.outside)))
       destination_stands
@@ -310,11 +310,11 @@ module _ (world : World ℕ) (new : Copies ℕ) (place : Location ℕ) (mounts :
           → Stands nat_eq left origin.number
       by true e parent_stands = top_stands origin m e
       by false e parent_stands =
-          let place_is : origin.place ≡ Some on =
-          ap (λ (x : Mount ℕ). x.place) (sym (same_mover other origin l m (sym same))) ∙ f in
+          let place_is : origin.mount_point ≡ Some on =
+          ap (λ (x : Mount ℕ). x.mount_point) (sym (same_mover other origin l m (sym same))) ∙ f in
           let parent = hanging mounts on.mount later in
           on_parent origin.number on
-          (ap (λ (x : Mount ℕ). x.place) (found_arrived origin m) ∙ other_place origin e on place_is)
+          (ap (λ (x : Mount ℕ). x.mount_point) (found_arrived origin m) ∙ other_place origin e on place_is)
           (ap (λ (x : Mount ℕ). x.namespace) (found_arrived origin m)
           ∙ sym (ap (λ n. (mount_numbered nat_eq left n).namespace) (sym parent.2)
           ∙ ap (λ (x : Mount ℕ). x.namespace) (found_arrived parent.0 parent.1)))
@@ -345,8 +345,8 @@ module _ (world : World ℕ) (new : Copies ℕ) (place : Location ℕ) (mounts :
 
   -- Places: the top is at the place, another one where a mount of its number stood
   data LeftPlace (mount : Mount ℕ) : Type 0 where
-    at_destination : nat_eq mount.number may.top.number ≡ true → mount.place ≡ Some place → LeftPlace mount
-    as_it_was : (old : Mount ℕ) → Among old world.mounts → old.number ≡ mount.number → mount.place ≡ old.place
+    at_destination : nat_eq mount.number may.top.number ≡ true → mount.mount_point ≡ Some place → LeftPlace mount
+    as_it_was : (old : Mount ℕ) → Among old world.mounts → old.number ≡ mount.number → mount.mount_point ≡ old.mount_point
         → LeftPlace mount
 
   left_place : (mount : Mount ℕ) → LeftCase mount → LeftPlace mount
@@ -358,9 +358,9 @@ module _ (world : World ℕ) (new : Copies ℕ) (place : Location ℕ) (mounts :
 
       by : ArrivedPlace origin → LeftPlace mount
       by (at_place f g) =
-          at_destination (ap (λ k. nat_eq k may.top.number) number ∙ f) (ap (λ (x : Mount ℕ). x.place) e ∙ g)
+          at_destination (ap (λ k. nat_eq k may.top.number) number ∙ f) (ap (λ (x : Mount ℕ). x.mount_point) e ∙ g)
       by (as_before on f g) =
-          as_it_was origin (may.inside origin m) (sym number) (ap (λ (x : Mount ℕ). x.place) e ∙ g ∙ sym f)
+          as_it_was origin (may.inside origin m) (sym number) (ap (λ (x : Mount ℕ). x.mount_point) e ∙ g ∙ sym f)
 
   pub places_left : OneMountAPlace world.mounts → child_at nat_eq world.mounts place ≡ None
       → OneMountAPlace left.mounts
@@ -369,7 +369,7 @@ module _ (world : World ℕ) (new : Copies ℕ) (place : Location ℕ) (mounts :
       by a b (left_place a (left_case a m)) (left_place b (left_case b n)) differ)
     where
       -- none stood at the place
-      not_there : (old : Mount ℕ) → Among old world.mounts → old.place ≡ Some place → ⊥
+      not_there : (old : Mount ℕ) → Among old world.mounts → old.mount_point ≡ Some place → ⊥
       not_there old m e =
           true≢false (sym (stands_at_its_place place old e) ∙ unfound (stands_at nat_eq place) world.mounts free old m)
 
@@ -388,6 +388,6 @@ module _ (world : World ℕ) (new : Copies ℕ) (place : Location ℕ) (mounts :
           let t = one_place a b both in
           not_there old m (sym h ∙ t.1 ∙ ap Some (sym (same_Some place t.0 (sym f ∙ t.2)))))
       by a b (as_it_was old m e f) (as_it_was other n g h) differ =
-          ap (beside b.place) f ∙ ap (λ p. beside p old.place) h
+          ap (beside b.mount_point) f ∙ ap (λ p. beside p old.mount_point) h
           ∙ two_of world.mounts places old other m n
           (ap (λ k. nat_eq k other.number) e ∙ ap (nat_eq a.number) g ∙ differ)

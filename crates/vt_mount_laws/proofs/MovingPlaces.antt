@@ -6,7 +6,7 @@ use Rattle.std.proofs.lemmas.Bool.{false_from_ne_true, or_parts}
 use Rattle.std.proofs.lemmas.Option.{same_Some}
 use Rattle.vt_spec.proofs.Lists.{Among, among-from_filter, among-from_flat_map, among-from_map, among-map, among_from_all, is_among_numbers, pair-map}
 use Rattle.vt_spec.specs.Machine.Attach.{Copies, Graft, Twig, attached_by, copies_at, copy_at, graft_of, is_top, parts_of, place_on_copy, pushed_onto, pushed_up, receiver_below, receivers_of, takes_part, top_of_copies, twig_of}
-use Rattle.vt_spec.specs.Machine.Lists.{any_pair, first_of_list, holds_of, is_among, rest_of, same_option}
+use Rattle.vt_spec.specs.Lists.{any_pair, first_of_list, holds_of, is_among, rest_of, same_option}
 use Rattle.vt_spec.specs.Machine.Mounts.{Location, Mount, child_at, group_of, mount_in, root_of, same_location, stands_at}
 use Rattle.vt_spec.specs.Machine.Run.{numbers_in_use}
 use Rattle.vt_spec.specs.Machine.World.{World, mount_at, mount_numbered}
@@ -93,10 +93,10 @@ module _ (world : World ℕ) (new : Copies ℕ) (place : Location ℕ) (mounts :
 
   -- Where a copy stands: the top at the part's place, another one on the copy of what its origin stands on
   data CopyPlace (part origin : Mount ℕ) : Type 0 where
-    at_part : nat_eq origin.number may.top.number ≡ true → (copy part origin).place ≡ Some (place_at part)
+    at_part : nat_eq origin.number may.top.number ≡ true → (copy part origin).mount_point ≡ Some (place_at part)
         → CopyPlace part origin
-    on_copy : (on : Location ℕ) (parent : Mount ℕ) → origin.place ≡ Some on
-        → Among parent mounts → parent.number ≡ on.mount → (copy part origin).place ≡ Some (place_upon part on)
+    on_copy : (on : Location ℕ) (parent : Mount ℕ) → origin.mount_point ≡ Some on
+        → Among parent mounts → parent.number ≡ on.mount → (copy part origin).mount_point ≡ Some (place_upon part on)
         → CopyPlace part origin
 
   top_test : (origin : Mount ℕ) → is_top nat_eq tree origin.number ≡ nat_eq origin.number may.top.number
@@ -108,8 +108,8 @@ module _ (world : World ℕ) (new : Copies ℕ) (place : Location ℕ) (mounts :
       by (nat_eq origin.number may.top.number) refl origin.number (may.hangs origin m) refl
     where
       placed : (b : Bool) → nat_eq origin.number may.top.number ≡ b
-          → (copy part origin).place ≡ Some (landing part origin.place b)
-      placed b e = ap (λ c. Some (landing part origin.place c)) (top_test origin ∙ e)
+          → (copy part origin).mount_point ≡ Some (landing part origin.mount_point b)
+      placed b e = ap (λ c. Some (landing part origin.mount_point c)) (top_test origin ∙ e)
 
       by : (b : Bool) → nat_eq origin.number may.top.number ≡ b → (n : ℕ) → Hangs mounts n → n ≡ origin.number
           → CopyPlace part origin
@@ -122,7 +122,7 @@ module _ (world : World ℕ) (new : Copies ℕ) (place : Location ℕ) (mounts :
           let it : other ≡ origin =
           sym (found_itself mounts may.own other l) ∙ ap (mount_in nat_eq mounts) is
           ∙ found_itself mounts may.own origin m in
-          let place_is : origin.place ≡ Some on = ap (λ (x : Mount ℕ). x.place) (sym it) ∙ f in
+          let place_is : origin.mount_point ≡ Some on = ap (λ (x : Mount ℕ). x.mount_point) (sym it) ∙ f in
           let parent = hanging mounts on.mount later in
           on_copy on parent.0 place_is parent.1 parent.2
           (placed false e ∙ ap (λ p. Some (landing part p false)) place_is
@@ -222,7 +222,7 @@ module _ (world : World ℕ) (new : Copies ℕ) (place : Location ℕ) (mounts :
             ∙ ap (new.copy part.number) (sym same_too)) in
             let mount_is : on.mount ≡ at.mount = sym same ∙ number.1 ∙ same_too in
             let node_is : on.node ≡ at.node = ap (λ (l : Location ℕ). l.node) equal in
-            let place_is : b.place ≡ Some on = h ∙ sym (λ i. Some (record { mount = mount_is i; node = node_is i })) in
+            let place_is : b.mount_point ≡ Some on = h ∙ sym (λ i. Some (record { mount = mount_is i; node = node_is i })) in
             true≢false (sym (stand_together a b on f place_is)
             ∙ two_of world.mounts places a b (may.inside a i) (may.inside b j) differ))
 
@@ -251,8 +251,8 @@ module _ (world : World ℕ) (new : Copies ℕ) (place : Location ℕ) (mounts :
     data PushCase (mount : Mount ℕ) : Type 0 where
       stays : push mount ≡ mount → receiver_below nat_eq tree parts mount ≡ None → PushCase mount
       goes : (receiver origin : Mount ℕ) → Among receiver takers → Among origin mounts
-          → mount.place ≡ Some (place_at receiver)
-          → (push mount).place ≡ Some (top_at receiver)
+          → mount.mount_point ≡ Some (place_at receiver)
+          → (push mount).mount_point ≡ Some (top_at receiver)
           → (top_at receiver).mount ≡ new.copy receiver.number origin.number → PushCase mount
 
     top_in : Among may.top mounts
@@ -272,11 +272,11 @@ module _ (world : World ℕ) (new : Copies ℕ) (place : Location ℕ) (mounts :
             let of = copied receiver onto.0 onto.1 in
             goes receiver of.0 found.0 of.1
             (stands_there (place_at receiver) mount found.1)
-            (ap (λ (x : Mount ℕ). x.place) (ap (pushed_onto nat_eq world new tree parts mount) e))
+            (ap (λ (x : Mount ℕ). x.mount_point) (ap (pushed_onto nat_eq world new tree parts mount) e))
             (onto.2 ∙ ap (λ (x : Mount ℕ). x.number) of.2 ∙ number_of_copy receiver found.0 of.0)
 
     -- what has a place stands on a mount that is there
-    on_is_there : (mount : Mount ℕ) → Among mount moved.mounts → (on : Location ℕ) → mount.place ≡ Some on
+    on_is_there : (mount : Mount ℕ) → Among mount moved.mounts → (on : Location ℕ) → mount.mount_point ≡ Some on
         → is_mount world on.mount ≡ true
     on_is_there mount m on e =
         let itself : mount_numbered nat_eq moved mount.number ≡ mount =
@@ -288,10 +288,10 @@ module _ (world : World ℕ) (new : Copies ℕ) (place : Location ℕ) (mounts :
         by : Stands nat_eq moved mount.number → mount_numbered nat_eq moved mount.number ≡ mount
             → is_mount moved on.mount ≡ true
         by (at_root number f) itself =
-            absurd (true≢false (sym (ap is_some e) ∙ sym (ap (λ (x : Mount ℕ). is_some x.place) itself) ∙ ap is_some f))
+            absurd (true≢false (sym (ap is_some e) ∙ sym (ap (λ (x : Mount ℕ). is_some x.mount_point) itself) ∙ ap is_some f))
         by (on_parent number at f g stands) itself =
             let same : at.mount ≡ on.mount =
-            ap (λ (l : Location ℕ). l.mount) (same_Some at on (sym f ∙ ap (λ (x : Mount ℕ). x.place) itself ∙ e)) in
+            ap (λ (l : Location ℕ). l.mount) (same_Some at on (sym f ∙ ap (λ (x : Mount ℕ). x.mount_point) itself ∙ e)) in
             subst (λ n. is_mount moved n ≡ true) same
             (stood_on_there moved (nowhere_left world new place mounts may) number at f g)
 
@@ -301,16 +301,16 @@ module _ (world : World ℕ) (new : Copies ℕ) (place : Location ℕ) (mounts :
       where
         -- one that stays, and one that goes onto a copy
         mixed : (x y : Mount ℕ) → Among x moved.mounts → push x ≡ x → (receiver origin : Mount ℕ)
-            → Among receiver takers → Among origin mounts → (push y).place ≡ Some (top_at receiver)
+            → Among receiver takers → Among origin mounts → (push y).mount_point ≡ Some (top_at receiver)
             → (top_at receiver).mount ≡ new.copy receiver.number origin.number
             → (test (push x) (push y) ≡ false) × (test (push y) (push x) ≡ false)
-        mixed x y k keeps receiver origin r o f same = at x.place refl
+        mixed x y k keeps receiver origin r o f same = at x.mount_point refl
           where
-            at : (found : Option (Location ℕ)) → x.place ≡ found
+            at : (found : Option (Location ℕ)) → x.mount_point ≡ found
                 → (test (push x) (push y) ≡ false) × (test (push y) (push x) ≡ false)
             at None e = (
-              ap (λ (z : Mount ℕ). test z (push y)) keeps ∙ ap (beside (push y).place) e,
-              ap (λ (z : Mount ℕ). test (push y) z) keeps ∙ ap (beside x.place) f
+              ap (λ (z : Mount ℕ). test z (push y)) keeps ∙ ap (beside (push y).mount_point) e,
+              ap (λ (z : Mount ℕ). test (push y) z) keeps ∙ ap (beside x.mount_point) f
                   ∙ ap (same_option (same_location nat_eq) (Some (top_at receiver))) e,
             )
             at (Some on) e =
@@ -373,8 +373,8 @@ module _ (world : World ℕ) (new : Copies ℕ) (place : Location ℕ) (mounts :
         by origin o (at_part e f) (stays g h) in_copies =
             false_from_ne_true (test (push a) (copy part origin)) (λ both.
             let t = one_place (push a) (copy part origin) both in
-            let stands : a.place ≡ Some (place_at part) =
-            ap (λ (z : Mount ℕ). z.place) (sym g) ∙ t.1 ∙ ap Some (sym (same_Some (place_at part) t.0 (sym f ∙ t.2))) in
+            let stands : a.mount_point ≡ Some (place_at part) =
+            ap (λ (z : Mount ℕ). z.mount_point) (sym g) ∙ t.1 ∙ ap Some (sym (same_Some (place_at part) t.0 (sym f ∙ t.2))) in
             true≢false
             (sym (stands_at_its_place (place_at part) a stands)
             ∙ unfound (λ other. stands_at nat_eq (place_at other) a) takers h part n))
@@ -383,10 +383,10 @@ module _ (world : World ℕ) (new : Copies ℕ) (place : Location ℕ) (mounts :
             (ap (λ c. nat_eq c part.number) same
             ∙ apart part.number (new.copy receiver.number second.number)
             (copy_is_new receiver second r u part.number (part_there part n)))
-        by origin o (on_copy on parent f there_is same c) (stays g h) in_copies = at a.place refl
+        by origin o (on_copy on parent f there_is same c) (stays g h) in_copies = at a.mount_point refl
           where
-            at : (found : Option (Location ℕ)) → a.place ≡ found → test (push a) (copy part origin) ≡ false
-            at None d = ap (λ (z : Mount ℕ). test z (copy part origin)) g ∙ ap (beside (copy part origin).place) d
+            at : (found : Option (Location ℕ)) → a.mount_point ≡ found → test (push a) (copy part origin) ≡ false
+            at None d = ap (λ (z : Mount ℕ). test z (copy part origin)) g ∙ ap (beside (copy part origin).mount_point) d
             at (Some stands_on) d =
                 ap (λ (z : Mount ℕ). test z (copy part origin)) g
                 ∙ differ_by_mount a (copy part origin) stands_on (place_upon part on) d c
@@ -401,7 +401,7 @@ module _ (world : World ℕ) (new : Copies ℕ) (place : Location ℕ) (mounts :
                 same_part receiver part r n (eqb-true receiver.number part.number equal) in
                 false_from_ne_true (test (push a) (copy part origin)) (λ both.
                 let t = one_place (push a) (copy part origin) both in
-                let top_place : (copy part origin).place ≡ Some (top_at part) =
+                let top_place : (copy part origin).mount_point ≡ Some (top_at part) =
                 t.2 ∙ ap Some (sym (same_Some (top_at receiver) t.0 (sym h ∙ t.1)))
                 ∙ ap (λ (z : Mount ℕ). Some (top_at z)) itself in
                 true≢false

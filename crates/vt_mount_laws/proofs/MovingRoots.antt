@@ -3,7 +3,7 @@ use Rattle.std.proofs.Common.{◌≡◌, refl, sym, ap, subst, ◌∙◌, true, 
 use Rattle.std.proofs.lemmas.List.{length-append}
 use Rattle.std.proofs.lemmas.List.Elements.{filter-append}
 use Rattle.vt_spec.specs.Machine.Attach.{Copies, Graft, added_mounts, attached_by, bind_tree, copies_at, copy_at, parts_of, pushed_onto, receiver_below}
-use Rattle.vt_spec.specs.Machine.Lists.{folded, holds_of, rest_of}
+use Rattle.vt_spec.specs.Lists.{folded, holds_of, rest_of}
 use Rattle.vt_spec.specs.Machine.Mounts.{Location, Mount, children, mount_in, replaced_if_same, stands_at, stands_on, tree_from, with_mount}
 use Rattle.std.specs.Prelude.{Contains}
 use Rattle.vt_spec.specs.Machine.Outcome.Mounting.{moved_tree, new_mount, with_new_filesystem}
@@ -81,7 +81,7 @@ module _ (namespace : ℕ) where
       (filter (is_root_mount nat_eq) (filter is_in ys))
 
   -- one with a place is none
-  placed_no_root : (mount : Mount ℕ) → is_some mount.place ≡ true → is_root_in namespace mount ≡ false
+  placed_no_root : (mount : Mount ℕ) → is_some mount.mount_point ≡ true → is_root_in namespace mount ≡ false
   placed_no_root mount e = ap (λ b. not b && is_in mount) e
 
 -- a mount of a world is in this namespace
@@ -112,10 +112,10 @@ module _ (world : World ℕ) (new : Copies ℕ) (place : Location ℕ) (moves : 
 
   -- a copy has a place, and the namespace of its part
   copy_has : (part x : Mount ℕ) → Among x (copies part)
-      → (is_some x.place ≡ true) × (x.namespace ≡ part.namespace)
+      → (is_some x.mount_point ≡ true) × (x.namespace ≡ part.namespace)
   copy_has part x m =
       let from = among-from_map (copy_at nat_eq world new tree parts part) tree.twigs x m in
-      (ap (λ (y : Mount ℕ). is_some y.place) from.2, ap (λ (y : Mount ℕ). y.namespace) from.2)
+      (ap (λ (y : Mount ℕ). is_some y.mount_point) from.2, ap (λ (y : Mount ℕ). y.namespace) from.2)
 
   added_has : (b : Bool) (x : Mount ℕ) → Among x (added_mounts b (copies destination)) → Among x (copies destination)
   added_has true x m = absurd m
@@ -129,18 +129,18 @@ module _ (world : World ℕ) (new : Copies ℕ) (place : Location ℕ) (moves : 
       (λ l. let from = among-from_flat_map copies (rest_of parts) x l in (from.0, inr from.1, from.2))
       (among-append (added_mounts moves (copies destination)) (flat_map copies (rest_of parts)) x m)
 
-  pushed_alike : (mount : Mount ℕ) → is_some (pushing mount).place ≡ is_some mount.place
+  pushed_alike : (mount : Mount ℕ) → is_some (pushing mount).mount_point ≡ is_some mount.mount_point
   pushed_alike mount = by (receiver_below nat_eq tree parts mount) refl
     where
       by : (part : Option (Mount ℕ)) → receiver_below nat_eq tree parts mount ≡ part
-          → is_some (pushing mount).place ≡ is_some mount.place
-      by None e = ap (λ o. is_some (pushed_onto nat_eq world new tree parts mount o).place) e
+          → is_some (pushing mount).mount_point ≡ is_some mount.mount_point
+      by None e = ap (λ o. is_some (pushed_onto nat_eq world new tree parts mount o).mount_point) e
       by (Some part) e =
           let at : Location ℕ = record { mount = part.number; node = place.node } in
           let found =
           found_in (λ (other : Mount ℕ). stands_at nat_eq (record { mount = other.number; node = place.node }) mount)
           (rest_of parts) part e in
-          ap (λ o. is_some (pushed_onto nat_eq world new tree parts mount o).place) e
+          ap (λ o. is_some (pushed_onto nat_eq world new tree parts mount o).mount_point) e
           ∙ sym (ap is_some (stands_there at mount found.1))
 
   -- no root mount is added
@@ -241,9 +241,9 @@ among_folded mounts (copy ∷ copies) x m =
 
 -- by some with places, where they had places
 count_folded : (namespace : ℕ) (mounts copies : List (Mount ℕ))
-    → ((copy : Mount ℕ) → Among copy copies → is_some copy.place ≡ true)
+    → ((copy : Mount ℕ) → Among copy copies → is_some copy.mount_point ≡ true)
     → ((x copy : Mount ℕ) → Among x mounts → Among copy copies → nat_eq copy.number x.number ≡ true
-    → is_some x.place ≡ true)
+    → is_some x.mount_point ≡ true)
     → count namespace (folded (with_mount nat_eq) mounts copies) ≡ count namespace mounts
 count_folded namespace mounts [] placed had = refl
 count_folded namespace mounts (copy ∷ copies) placed had =
@@ -256,12 +256,12 @@ count_folded namespace mounts (copy ∷ copies) placed had =
   where
     by : (old : Mount ℕ) → Among old mounts → (x : Mount ℕ) → x ≡ replaced_if_same nat_eq copy old
         → (c : Mount ℕ) → Among c copies → nat_eq c.number x.number ≡ true
-        → (b : Bool) → nat_eq copy.number old.number ≡ b → is_some x.place ≡ true
+        → (b : Bool) → nat_eq copy.number old.number ≡ b → is_some x.mount_point ≡ true
     by old l x e c n same true f =
-        ap (λ (y : Mount ℕ). is_some y.place) (e ∙ replaced_there copy old f) ∙ placed copy (inl refl)
+        ap (λ (y : Mount ℕ). is_some y.mount_point) (e ∙ replaced_there copy old f) ∙ placed copy (inl refl)
     by old l x e c n same false f =
         let kept : x ≡ old = e ∙ replaced_elsewhere copy old f in
-        ap (λ (y : Mount ℕ). is_some y.place) kept
+        ap (λ (y : Mount ℕ). is_some y.mount_point) kept
         ∙ had old c l (inr n) (ap (λ (y : Mount ℕ). nat_eq c.number y.number) (sym kept) ∙ same)
 
     alike : (x : Mount ℕ) → Among x mounts → (b : Bool) → nat_eq copy.number x.number ≡ b
@@ -273,16 +273,16 @@ count_folded namespace mounts (copy ∷ copies) placed had =
     alike x m false f = ap (is_root_in namespace) (replaced_elsewhere copy x f)
 
 -- each mount of a tree has a place, where its top has one
-pub tree_placed : (fuel : ℕ) (mounts : List (Mount ℕ)) (top x : Mount ℕ) → is_some top.place ≡ true
-    → Among x (tree_from nat_eq fuel mounts top) → is_some x.place ≡ true
+pub tree_placed : (fuel : ℕ) (mounts : List (Mount ℕ)) (top x : Mount ℕ) → is_some top.mount_point ≡ true
+    → Among x (tree_from nat_eq fuel mounts top) → is_some x.mount_point ≡ true
 tree_placed zero mounts top x e m =
-    ⊎_elim (λ same. ap (λ (y : Mount ℕ). is_some y.place) same ∙ e) (λ none. absurd none) m
+    ⊎_elim (λ same. ap (λ (y : Mount ℕ). is_some y.mount_point) same ∙ e) (λ none. absurd none) m
 tree_placed (suc fuel) mounts top x e m =
-    ⊎_elim (λ same. ap (λ (y : Mount ℕ). is_some y.place) same ∙ e)
+    ⊎_elim (λ same. ap (λ (y : Mount ℕ). is_some y.mount_point) same ∙ e)
     (λ later.
     let from = among-from_flat_map (tree_from nat_eq fuel mounts) (children nat_eq mounts top.number) x later in
     let on = (among-from_filter (stands_on nat_eq top.number) mounts from.0 from.1).1 in
-    tree_placed fuel mounts from.0 x (by from.0.place on) from.2)
+    tree_placed fuel mounts from.0 x (by from.0.mount_point on) from.2)
     m
   where
     by : (place : Option (Location ℕ)) → holds_of (λ (p : Location ℕ). nat_eq top.number p.mount) place ≡ true
@@ -305,17 +305,17 @@ moves_keep_root_mounts world fresh source place one placed namespace =
     let itself : x ≡ from.0 =
     sym (found_itself world.mounts one x m) ∙ ap (mount_in nat_eq world.mounts) number
     ∙ found_itself world.mounts one from.0 (there of_tree) in
-    ap (λ (y : Mount ℕ). is_some y.place) itself
+    ap (λ (y : Mount ℕ). is_some y.mount_point) itself
     ∙ tree_placed (length world.mounts) world.mounts (mount_at nat_eq world source) from.0 placed from.1))
   where
-    top_there : (found : Option (Location ℕ)) → (mount_at nat_eq world source).place ≡ found
+    top_there : (found : Option (Location ℕ)) → (mount_at nat_eq world source).mount_point ≡ found
         → Among (mount_at nat_eq world source) world.mounts
     top_there None e = absurd (true≢false (sym placed ∙ ap is_some e))
     top_there (Some at) e = placed_among world.mounts source.mount at e
 
     there : {origin : Mount ℕ} → (origin ≡ mount_at nat_eq world source) ⊎ Among origin world.mounts
         → Among origin world.mounts
-    there (inl e) = subst (λ y. Among y world.mounts) (sym e) (top_there (mount_at nat_eq world source).place refl)
+    there (inl e) = subst (λ y. Among y world.mounts) (sym e) (top_there (mount_at nat_eq world source).mount_point refl)
     there (inr m) = m
 
 pub moves_stay_in_namespaces : MovesStayInNamespaces

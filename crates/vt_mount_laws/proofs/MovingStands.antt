@@ -5,7 +5,7 @@ use Rattle.std.specs.Prelude.{if◌then◌else◌, unwrap_or}
 use Rattle.std.proofs.lemmas.Option.{same_Some}
 use Rattle.vt_spec.proofs.Lists.{Among, all_from_among, among-append, among-append_right, among-flat_map, among-from_flat_map, among-from_map, among-map, among_from_all}
 use Rattle.vt_spec.specs.Machine.Attach.{Copies, Graft, Twig, attached_by, copies_at, copy_at, copy_number, graft_of, is_top, parts_of, place_on_copy, pushed_onto, pushed_up, receiver_below, top_of_copies, twig_of}
-use Rattle.vt_spec.specs.Machine.Lists.{first_of_list, holds_of, is_among, rest_of}
+use Rattle.vt_spec.specs.Lists.{first_of_list, holds_of, is_among, rest_of}
 use Rattle.vt_spec.specs.Machine.Mounts.{Location, Mount, group_of, mount_in, same_location, stands_at}
 use Rattle.vt_spec.specs.Machine.World.{World, mount_at, mount_numbered}
 use Rattle.vt_spec.specs.Machine.WorldLaws.{Stands}
@@ -113,7 +113,7 @@ module _ (world : World ℕ) (new : Copies ℕ) (place : Location ℕ) (mounts :
     top_stands origin m e =
         let found = found_copy part origin is_part m in
         on_parent (copy part origin).number (place_at part)
-        (ap (λ (x : Mount ℕ). x.place) found ∙ ap (λ b. Some (landing part origin.place b)) e)
+        (ap (λ (x : Mount ℕ). x.mount_point) found ∙ ap (λ b. Some (landing part origin.mount_point b)) e)
         (ap (λ (x : Mount ℕ). x.namespace) found ∙ sym in_its) stands
 
     copies_stand : (number : ℕ) → Hangs mounts number → (origin : Mount ℕ) → Among origin mounts
@@ -135,10 +135,10 @@ module _ (world : World ℕ) (new : Copies ℕ) (place : Location ℕ) (mounts :
             sym (found_itself mounts may.own other l) ∙ ap (mount_in nat_eq mounts) (sym same)
             ∙ found_itself mounts may.own origin m in
             let parent = hanging mounts on.mount later in
-            let place_is : origin.place ≡ Some on = ap (λ (x : Mount ℕ). x.place) (sym it) ∙ f in
+            let place_is : origin.mount_point ≡ Some on = ap (λ (x : Mount ℕ). x.mount_point) (sym it) ∙ f in
             on_parent (copy part origin).number (place_on_copy nat_eq new tree part.number on)
-            (ap (λ (x : Mount ℕ). x.place) found
-            ∙ ap (λ b. Some (landing part origin.place b)) e
+            (ap (λ (x : Mount ℕ). x.mount_point) found
+            ∙ ap (λ b. Some (landing part origin.mount_point b)) e
             ∙ ap (λ p. Some (landing part p false)) place_is)
             (ap (λ (x : Mount ℕ). x.namespace) found
             ∙ sym (ap (λ k. (mount_numbered nat_eq after k).namespace)
@@ -173,8 +173,8 @@ module _ (world : World ℕ) (new : Copies ℕ) (place : Location ℕ) (mounts :
       → Stands nat_eq after number
   stands_after number (at_root it e) is =
       at_root it
-      (ap (λ (x : Mount ℕ). x.place) (found_old it is)
-      ∙ ap (λ (x : Mount ℕ). x.place)
+      (ap (λ (x : Mount ℕ). x.mount_point) (found_old it is)
+      ∙ ap (λ (x : Mount ℕ). x.mount_point)
       (none_pushes world new tree parts (mount_numbered nat_eq moved it) (at_no_place takers)) ∙ e)
     where
       at_no_place : (list : List (Mount ℕ))
@@ -193,8 +193,8 @@ module _ (world : World ℕ) (new : Copies ℕ) (place : Location ℕ) (mounts :
           → is_mount moved on.mount ≡ true → Stands nat_eq after on.mount → Stands nat_eq after it
       by None none parent_is parent =
           on_parent it on
-          (ap (λ (x : Mount ℕ). x.place) (found_old it is)
-          ∙ ap (λ (x : Mount ℕ). x.place)
+          (ap (λ (x : Mount ℕ). x.mount_point) (found_old it is)
+          ∙ ap (λ (x : Mount ℕ). x.mount_point)
           (ap (pushed_onto nat_eq world new tree parts (mount_numbered nat_eq moved it)) none) ∙ e)
           (ap (λ (x : Mount ℕ). x.namespace) (found_old it is) ∙ push_namespace (mount_numbered nat_eq moved it) ∙ f
           ∙ sym (ap (λ (x : Mount ℕ). x.namespace) (found_old on.mount parent_is)
@@ -215,8 +215,8 @@ module _ (world : World ℕ) (new : Copies ℕ) (place : Location ℕ) (mounts :
           let number : new_place.mount ≡ (copy receiver origin.0).number =
           onto.2 ∙ ap (λ (x : Mount ℕ). x.number) it_is in
           on_parent it new_place
-          (ap (λ (x : Mount ℕ). x.place) (found_old it is)
-          ∙ ap (λ (x : Mount ℕ). x.place)
+          (ap (λ (x : Mount ℕ). x.mount_point) (found_old it is)
+          ∙ ap (λ (x : Mount ℕ). x.mount_point)
           (ap (pushed_onto nat_eq world new tree parts (mount_numbered nat_eq moved it)) some))
           (ap (λ (x : Mount ℕ). x.namespace) (found_old it is) ∙ push_namespace (mount_numbered nat_eq moved it) ∙ f
           ∙ ap (λ n. (mount_numbered nat_eq moved n).namespace) same ∙ taker_kept receiver found.0

@@ -4,13 +4,13 @@ use Rattle.std.specs.Prelude.{if◌then◌else◌}
 use Rattle.std.proofs.lemmas.Bool.{and_parts, false_from_ne_true}
 use Rattle.std.proofs.lemmas.Option.{same_Some}
 use Rattle.vt_spec.proofs.Lists.{Among, all_from_among, among-from_map, among-map, among_from_list_all, any_among, chain_ends, chain_goes_on, list_all_from_among, pair-map}
-use Rattle.vt_spec.specs.Machine.Lists.{any_pair, chain, rest_of}
+use Rattle.vt_spec.specs.Lists.{any_pair, chain, rest_of}
 use Rattle.vt_spec.specs.Machine.Mounts.{Location, Mount, root_of, stands_at}
 use Rattle.vt_spec.specs.Machine.Namespaces.{pivoted, pivoted_mount}
 use Rattle.vt_spec.specs.Machine.Looks.{looks_of}
 use Rattle.vt_spec.specs.Machine.Rules.Mounting.{is_below_mount, lies_under_place}
 use Rattle.vt_spec.specs.Machine.World.{World, mount_at, mount_numbered}
-use Rattle.vt_spec.specs.Machine.WorldLaws.{MountInvariants, Stands, is_nowhere_or_attached, is_private, stand_at_one_place}
+use Rattle.vt_spec.specs.Machine.WorldLaws.{MountInvariants, Stands, is_nowhere_or_attached, is_private, share_a_mount_point}
 use Rattle.vt_spec.specs.Machine.WorldLaws.Stands.{at_root, on_parent}
 use Rattle.vt_mount_laws.specs.Mounts.Namespaces.{CanPivot, NumberedMountsCanPivot, PivotKeepsMounts}
 use Rattle.vt_mount_laws.proofs.GroupsLiving.{all_live, tested_live}
@@ -27,7 +27,7 @@ use Rattle.vt_mount_laws.proofs.Unsharing.{parent_of, stands_itself}
 -- what the places below a place are on
 module _ (world : World ℕ) where
   abbrev next : Location ℕ → Option (Location ℕ)
-  next here = (mount_at nat_eq world here).place
+  next here = (mount_at nat_eq world here).mount_point
 
   pub on_chain : (n : ℕ) (here place : Location ℕ) → Among place (chain n next here)
       → LiesIn world place.mount here.mount
@@ -95,24 +95,24 @@ module _ (world : World ℕ) (namespace : ℕ) (root new : Mount ℕ) (put : Loc
   put_among = inside_there put.mount may.put_inside
 
   -- the new root mount stands over the old one
-  new_stands_over : (at : Location ℕ) × (new.place ≡ Some at) × LiesIn world root.number at.mount
+  new_stands_over : (at : Location ℕ) × (new.mount_point ≡ Some at) × LiesIn world root.number at.mount
   new_stands_over =
       let one = any_among (λ (place : Location ℕ). nat_eq root.number place.mount)
       (rest_of (chain (length world.mounts) (next world) (root_of new))) may.new_over in
       let t = after_start world (length world.mounts) (root_of new) one.0 one.1 in (
         t.0,
-        ap (λ x. x.place) (sym may.new_there) ∙ t.1,
+        ap (λ x. x.mount_point) (sym may.new_there) ∙ t.1,
         subst (λ n. LiesIn world n t.0.mount) (sym (eqb-true root.number one.0.mount one.2)) t.2,
       )
 
-  pub new_placed : is_some new.place ≡ true
+  pub new_placed : is_some new.mount_point ≡ true
   new_placed = ap is_some new_stands_over.1
 
   new_higher : level root.number < level new.number
   new_higher =
       let t = new_stands_over in
       let step = rank_child world mounts.one_number mounts.standing new.number t.0
-      (ap (λ x. x.place) may.new_there ∙ t.1) in
+      (ap (λ x. x.mount_point) may.new_there ∙ t.1) in
       ⊎_elim
       (λ same. let equal : level root.number ≡ level t.0.mount = ap level same in omega (arith, equal, step))
       (λ more. omega (arith, more, step))
@@ -144,16 +144,16 @@ module _ (world : World ℕ) (namespace : ℕ) (root new : Mount ℕ) (put : Loc
   -- what becomes of each
   abbrev moved_if : Bool → Bool → Mount ℕ → Mount ℕ
   moved_if first second mount =
-      if first then record mount { place = root.place } else if second then record mount { place = Some put } else mount
+      if first then record mount { mount_point = root.mount_point } else if second then record mount { mount_point = Some put } else mount
 
-  pub moved_new : (move new).place ≡ root.place
+  pub moved_new : (move new).mount_point ≡ root.mount_point
   moved_new =
-      ap (λ b. (moved_if b (nat_eq new.number root.number) new).place) (eq-eqb new.number new.number refl)
+      ap (λ b. (moved_if b (nat_eq new.number root.number) new).mount_point) (eq-eqb new.number new.number refl)
 
-  pub moved_root : (move root).place ≡ Some put
+  pub moved_root : (move root).mount_point ≡ Some put
   moved_root =
-      ap (λ b. (moved_if b (nat_eq root.number root.number) root).place) two
-      ∙ ap (λ b. (moved_if false b root).place) (eq-eqb root.number root.number refl)
+      ap (λ b. (moved_if b (nat_eq root.number root.number) root).mount_point) two
+      ∙ ap (λ b. (moved_if false b root).mount_point) (eq-eqb root.number root.number refl)
 
   pub moved_other : (mount : Mount ℕ) → nat_eq mount.number new.number ≡ false
       → nat_eq mount.number root.number ≡ false → move mount ≡ mount
@@ -178,10 +178,10 @@ module _ (world : World ℕ) (namespace : ℕ) (root new : Mount ℕ) (put : Loc
 
   -- Standing
   stand_on : (mount parent : Mount ℕ) → Among mount world.mounts → Among parent world.mounts → (place : Location ℕ)
-      → (move mount).place ≡ Some place → parent.number ≡ place.mount → mount.namespace ≡ parent.namespace
+      → (move mount).mount_point ≡ Some place → parent.number ≡ place.mount → mount.namespace ≡ parent.namespace
       → Stands nat_eq after parent.number → Stands nat_eq after mount.number
   stand_on mount parent m n place e number inside stands =
-      on_parent mount.number place (ap (λ x. x.place) (found_after mount m) ∙ e)
+      on_parent mount.number place (ap (λ x. x.mount_point) (found_after mount m) ∙ e)
       (ap (λ x. x.namespace) (found_after mount m) ∙ moved_namespace mount ∙ inside ∙ sym (moved_namespace parent)
       ∙ ap (λ x. x.namespace) (sym (found_after parent n)) ∙ ap (λ k. (mount_numbered nat_eq after k).namespace) number)
       (subst (Stands nat_eq after) number stands)
@@ -189,15 +189,15 @@ module _ (world : World ℕ) (namespace : ℕ) (root new : Mount ℕ) (put : Loc
   -- a mount that stays where it is stands where the one below does
   carry : (mount : Mount ℕ) → Among mount world.mounts → nat_eq mount.number new.number ≡ false
       → nat_eq mount.number root.number ≡ false
-      → ((place : Location ℕ) → mount.place ≡ Some place → Stands nat_eq after place.mount)
+      → ((place : Location ℕ) → mount.mount_point ≡ Some place → Stands nat_eq after place.mount)
       → Stands nat_eq after mount.number
-  carry mount m e f below = by mount.place refl
+  carry mount m e f below = by mount.mount_point refl
     where
-      stays : (move mount).place ≡ mount.place
-      stays = ap (λ x. x.place) (moved_other mount e f)
+      stays : (move mount).mount_point ≡ mount.mount_point
+      stays = ap (λ x. x.mount_point) (moved_other mount e f)
 
-      by : (found : Option (Location ℕ)) → mount.place ≡ found → Stands nat_eq after mount.number
-      by None g = at_root mount.number (ap (λ x. x.place) (found_after mount m) ∙ stays ∙ g)
+      by : (found : Option (Location ℕ)) → mount.mount_point ≡ found → Stands nat_eq after mount.number
+      by None g = at_root mount.number (ap (λ x. x.mount_point) (found_after mount m) ∙ stays ∙ g)
       by (Some place) g =
           let parent = parent_of world mounts mount m place g in
           stand_on mount parent.parent m parent.there place (stays ∙ g) parent.number parent.namespace
@@ -205,13 +205,13 @@ module _ (world : World ℕ) (namespace : ℕ) (root new : Mount ℕ) (put : Loc
 
   -- a mount that is found under a number has the place that is found there
   found_place : (number : ℕ) (mount : Mount ℕ) → Among mount world.mounts → mount.number ≡ number
-      → (mount_numbered nat_eq world number).place ≡ mount.place
+      → (mount_numbered nat_eq world number).mount_point ≡ mount.mount_point
   found_place number mount m same =
-      ap (λ n. (mount_numbered nat_eq world n).place) (sym same)
-      ∙ ap (λ x. x.place) (found_itself world.mounts mounts.one_number mount m)
+      ap (λ n. (mount_numbered nat_eq world n).mount_point) (sym same)
+      ∙ ap (λ x. x.mount_point) (found_itself world.mounts mounts.one_number mount m)
 
   no_place : (number : ℕ) (mount : Mount ℕ) → Among mount world.mounts → mount.number ≡ number
-      → (mount_numbered nat_eq world number).place ≡ None → (place : Location ℕ) → mount.place ≡ Some place → ⊥
+      → (mount_numbered nat_eq world number).mount_point ≡ None → (place : Location ℕ) → mount.mount_point ≡ Some place → ⊥
   no_place number mount m same e place f =
       true≢false (sym (ap is_some f) ∙ ap is_some (sym (found_place number mount m same)) ∙ ap is_some e)
 
@@ -249,14 +249,14 @@ module _ (world : World ℕ) (namespace : ℕ) (root new : Mount ℕ) (put : Loc
 
   -- so the new one stands, where the old one stood,
   new_stands : Stands nat_eq after new.number
-  new_stands = by root.place refl
+  new_stands = by root.mount_point refl
     where
-      by : (found : Option (Location ℕ)) → root.place ≡ found → Stands nat_eq after new.number
-      by None e = at_root new.number (ap (λ x. x.place) (found_after new new_among) ∙ moved_new ∙ e)
+      by : (found : Option (Location ℕ)) → root.mount_point ≡ found → Stands nat_eq after new.number
+      by None e = at_root new.number (ap (λ x. x.mount_point) (found_after new new_among) ∙ moved_new ∙ e)
       by (Some place) e =
           let parent = parent_of world mounts root root_among place e in
           let step = rank_child world mounts.one_number mounts.standing root.number place
-          (ap (λ x. x.place) may.root_there ∙ e) in
+          (ap (λ x. x.mount_point) may.root_there ∙ e) in
           let level_is : level parent.parent.number ≡ level place.mount = ap level parent.number in
           stand_on new parent.parent new_among parent.there place (moved_new ∙ e) parent.number
           (may.new_inside ∙ sym may.root_inside ∙ parent.namespace)
@@ -311,7 +311,7 @@ module _ (world : World ℕ) (namespace : ℕ) (root new : Mount ℕ) (put : Loc
 
   -- and so all.
   either : (mount : Mount ℕ) → Among mount world.mounts
-      → ((place : Location ℕ) → mount.place ≡ Some place → Stands nat_eq after place.mount)
+      → ((place : Location ℕ) → mount.mount_point ≡ Some place → Stands nat_eq after place.mount)
       → Stands nat_eq after mount.number
   either mount m below = by (nat_eq mount.number new.number) refl (nat_eq mount.number root.number) refl
     where
@@ -343,42 +343,42 @@ module _ (world : World ℕ) (namespace : ℕ) (root new : Mount ℕ) (put : Loc
   swapped number = cond (nat_eq number root.number) new.number number
 
   -- what stands at a place stood there, or was one whose place it took; or it is the old root mount
-  came_from : (mount : Mount ℕ) → Among mount world.mounts → (place : Location ℕ) → (move mount).place ≡ Some place
-      → ((before : Mount ℕ) × Among before world.mounts × (before.place ≡ Some place)
+  came_from : (mount : Mount ℕ) → Among mount world.mounts → (place : Location ℕ) → (move mount).mount_point ≡ Some place
+      → ((before : Mount ℕ) × Among before world.mounts × (before.mount_point ≡ Some place)
       × (mount.number ≡ swapped before.number))
       ⊎ ((mount.number ≡ root.number) × (put ≡ place))
   came_from mount m place e = by (nat_eq mount.number new.number) refl (nat_eq mount.number root.number) refl
     where
       by : (a : Bool) → nat_eq mount.number new.number ≡ a → (b : Bool) → nat_eq mount.number root.number ≡ b
-          → ((before : Mount ℕ) × Among before world.mounts × (before.place ≡ Some place)
+          → ((before : Mount ℕ) × Among before world.mounts × (before.mount_point ≡ Some place)
           × (mount.number ≡ swapped before.number))
           ⊎ ((mount.number ≡ root.number) × (put ≡ place))
       by true f b g =
           inl (
             root,
             root_among,
-            sym (ap (λ x. (move x).place) (is_new mount m f) ∙ moved_new) ∙ e,
+            sym (ap (λ x. (move x).mount_point) (is_new mount m f) ∙ moved_new) ∙ e,
             eqb-true mount.number new.number f
                 ∙ ap (λ c. cond c new.number root.number) (sym (eq-eqb root.number root.number refl)),
           )
       by false f true g =
           inr (
             eqb-true mount.number root.number g,
-            same_Some put place (sym (ap (λ x. (move x).place) (is_root mount m g) ∙ moved_root) ∙ e),
+            same_Some put place (sym (ap (λ x. (move x).mount_point) (is_root mount m g) ∙ moved_root) ∙ e),
           )
       by false f false g =
           inl (
             mount,
             m,
-            ap (λ x. x.place) (sym (moved_other mount f g)) ∙ e,
+            ap (λ x. x.mount_point) (sym (moved_other mount f g)) ∙ e,
             ap (λ c. cond c new.number mount.number) (sym g),
           )
 
   two_after : (a b : Mount ℕ) → Among a world.mounts → Among b world.mounts → same_number a b ≡ false
-      → stand_at_one_place nat_eq (move a) (move b) ≡ false
-  two_after a b m n differ = false_from_ne_true (stand_at_one_place nat_eq (move a) (move b)) (λ together.
+      → share_a_mount_point nat_eq (move a) (move b) ≡ false
+  two_after a b m n differ = false_from_ne_true (share_a_mount_point nat_eq (move a) (move b)) (λ together.
       let both = place_of_both (move a) (move b) together in
-      let none_at_put : (x : Mount ℕ) → Among x world.mounts → x.place ≡ Some put → ⊥ =
+      let none_at_put : (x : Mount ℕ) → Among x world.mounts → x.mount_point ≡ Some put → ⊥ =
       λ x k e.
       true≢false (sym (stands_at_its_place put x e) ∙ unfound (stands_at nat_eq put) world.mounts may.put_free x k) in
       let one : a.number ≡ b.number → ⊥ = λ same. true≢false (sym (eq-eqb a.number b.number same) ∙ differ) in
@@ -400,9 +400,9 @@ module _ (world : World ℕ) (namespace : ℕ) (root new : Mount ℕ) (put : Loc
       (came_from b n both.0 both.2))
       (came_from a m both.0 both.1))
 
-  one_child_after : any_pair (stand_at_one_place nat_eq) after.mounts ≡ false
+  one_child_after : any_pair (share_a_mount_point nat_eq) after.mounts ≡ false
   one_child_after =
-      pair-map same_number (stand_at_one_place nat_eq) move world.mounts two_after mounts.one_number
+      pair-map same_number (share_a_mount_point nat_eq) move world.mounts two_after mounts.one_number
 
   -- Mounts outside every namespace are not moved
   nowhere_after : (mount : Mount ℕ) → Among mount world.mounts → is_nowhere_or_attached (move mount) ≡ true
@@ -414,7 +414,7 @@ module _ (world : World ℕ) (namespace : ℕ) (root new : Mount ℕ) (put : Loc
 
       by : (found : Option ℕ) → mount.namespace ≡ found → is_nowhere_or_attached (move mount) ≡ true
       by (Some number) e =
-          ap (λ n. is_some n || (not (is_some (move mount).place) && is_private (move mount).propagation))
+          ap (λ n. is_some n || (not (is_some (move mount).mount_point) && is_private (move mount).propagation))
           (moved_namespace mount ∙ e)
       by None e =
           ap is_nowhere_or_attached

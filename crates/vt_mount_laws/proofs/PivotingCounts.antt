@@ -4,7 +4,7 @@ use Rattle.std.specs.List.{list_any}
 use Rattle.std.proofs.lemmas.Bool.{false_from_ne_true, or_parts}
 use Rattle.std.proofs.lemmas.List.{length-map}
 use Rattle.vt_spec.proofs.Lists.{Among, among-filter, among-from_filter, filter_here, filter_skip, none_among, pair-filter}
-use Rattle.vt_spec.specs.Machine.Lists.{any_pair, holds_of}
+use Rattle.vt_spec.specs.Lists.{any_pair, holds_of}
 use Rattle.vt_spec.specs.Machine.Mounts.{Location, Mount}
 use Rattle.vt_spec.specs.Machine.Namespaces.{pivoted}
 use Rattle.vt_spec.specs.Machine.World.{World, mounts_of}

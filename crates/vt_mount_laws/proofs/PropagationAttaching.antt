@@ -5,7 +5,7 @@ use Rattle.std.specs.List.{list_any}
 use Rattle.std.proofs.lemmas.Bool.{false_from_ne_true}
 use Rattle.vt_spec.proofs.Lists.{Among, among_from_contains, contains_from_among, among-from_map, among_numbers, any_from_among, is_among_numbers}
 use Rattle.vt_spec.specs.Machine.Attach.{Copies, copies_from, parts_of, pushed_onto, receiver_below, type_at, type_on_shared}
-use Rattle.vt_spec.specs.Machine.Lists.{holds_of, is_among, rest_of}
+use Rattle.vt_spec.specs.Lists.{holds_of, is_among, rest_of}
 use Rattle.vt_spec.specs.Machine.Mounts.{Location, Mount, Propagation, group_of, is_shared, same_location}
 use Rattle.vt_spec.specs.Machine.Mounts.Propagation.{Private, Shared, Slave, Unbindable}
 use Rattle.vt_spec.specs.Machine.Receives.{is_member_of}
@@ -22,16 +22,16 @@ use Rattle.vt_mount_laws.proofs.PropagationTypes.{image_new, image_of, kind, kin
 
 module _ (it : Attachment) (can : CanAttach it) where
   abbrev pub supply : Copies ℕ
-  supply = copies_from nat_eq it.fresh (parts_of nat_eq it.world it.place) it.mounts
+  supply = copies_from nat_eq it.fresh (parts_of nat_eq it.world it.mount_point) it.mounts
 
-  pub serve_copies : ServeAsCopies it.world (parts_of nat_eq it.world it.place) it.mounts supply
-  serve_copies = supplies_serve_as_copies it.world it.fresh (parts_of nat_eq it.world it.place) it.mounts can.serves
+  pub serve_copies : ServeAsCopies it.world (parts_of nat_eq it.world it.mount_point) it.mounts supply
+  serve_copies = supplies_serve_as_copies it.world it.fresh (parts_of nat_eq it.world it.mount_point) it.mounts can.serves
 
-  pub serve_images : ServeAsImages it.world (parts_of nat_eq it.world it.place) it.mounts supply
-  serve_images = supplies_serve_as_images it.world it.fresh (parts_of nat_eq it.world it.place) it.mounts can.serves
+  pub serve_images : ServeAsImages it.world (parts_of nat_eq it.world it.mount_point) it.mounts supply
+  serve_images = supplies_serve_as_images it.world it.fresh (parts_of nat_eq it.world it.mount_point) it.mounts can.serves
 
-  pub part_among : (part : Mount ℕ) → IsPart it part → Among part (parts_of nat_eq it.world it.place)
-  part_among part c = among_from_contains (parts_of nat_eq it.world it.place) part c
+  pub part_among : (part : Mount ℕ) → IsPart it part → Among part (parts_of nat_eq it.world it.mount_point)
+  part_among part c = among_from_contains (parts_of nat_eq it.world it.mount_point) part c
 
   pub tree_among : (origin : Mount ℕ) → IsOfTree it origin → Among origin it.mounts
   tree_among origin c = among_from_contains it.mounts origin c
@@ -41,49 +41,49 @@ module _ (it : Attachment) (can : CanAttach it) where
       among_from_contains it.world.mounts origin (can.moving e origin (contains_from_among it.mounts origin m))
 
   abbrev pub arrived_at : Mount ℕ → Mount ℕ → Mount ℕ
-  arrived_at = arrived it.world supply it.place it.moves it.mounts
+  arrived_at = arrived it.world supply it.mount_point it.moves it.mounts
 
   abbrev pub made_at : Mount ℕ → Mount ℕ → Mount ℕ
-  made_at = made it.world supply it.place it.moves it.mounts
+  made_at = made it.world supply it.mount_point it.moves it.mounts
 
   abbrev pub kind_of : Mount ℕ → Mount ℕ → Propagation ℕ
-  kind_of = kind it.world supply it.place it.moves it.mounts serve_images can.each_once
+  kind_of = kind it.world supply it.mount_point it.moves it.mounts serve_images can.each_once
 
   abbrev pub image_group : Mount ℕ → ℕ → ℕ
-  image_group = image_of it.world supply it.place it.moves it.mounts serve_images can.each_once
+  image_group = image_of it.world supply it.mount_point it.moves it.mounts serve_images can.each_once
 
   pub is_copy : (part origin : Mount ℕ) → IsPart it part → IsOfTree it origin
       → copy_of it part origin ≡ arrived_at part origin
   is_copy part origin c d =
-      found_copy it.world supply it.place it.moves it.mounts serve_copies can.each_once can.one_number moving_there part
+      found_copy it.world supply it.mount_point it.moves it.mounts serve_copies can.each_once can.one_number moving_there part
       origin (part_among part c) (tree_among origin d)
 
   pub copy_keeps : (part origin : Mount ℕ) → IsPart it part → IsOfTree it origin
       → KeepsAllButPlace (made_at part origin) (copy_of it part origin)
   copy_keeps part origin c d =
       subst (KeepsAllButPlace (made_at part origin)) (sym (is_copy part origin c d))
-      (arrived_keeps it.world supply it.place it.moves it.mounts part origin)
+      (arrived_keeps it.world supply it.mount_point it.moves it.mounts part origin)
 
   pub copy_kind : (part origin : Mount ℕ) → IsPart it part → IsOfTree it origin
       → (copy_of it part origin).propagation ≡ kind_of part origin
   copy_kind part origin c d = (copy_keeps part origin c d).propagation
 
   -- a copy has a place
-  placed : (part origin : Mount ℕ) → is_some (arrived_at part origin).place ≡ true
+  placed : (part origin : Mount ℕ) → is_some (arrived_at part origin).mount_point ≡ true
   placed part origin = by (moves_to it part)
     where
       pushed : (below : Option (Mount ℕ))
-          → is_some (pushed_onto nat_eq it.world supply (tree it.world supply it.place it.moves it.mounts)
-          (parts_of nat_eq it.world it.place) (made_at part origin) below).place ≡ true
+          → is_some (pushed_onto nat_eq it.world supply (tree it.world supply it.mount_point it.moves it.mounts)
+          (parts_of nat_eq it.world it.mount_point) (made_at part origin) below).mount_point ≡ true
       pushed None = refl
       pushed (Some receiver) = refl
 
       by : (b : Bool)
-          → is_some (if b then push it.world supply it.place it.moves it.mounts (made_at part origin)
-          else made_at part origin).place ≡ true
+          → is_some (if b then push it.world supply it.mount_point it.moves it.mounts (made_at part origin)
+          else made_at part origin).mount_point ≡ true
       by true =
-          pushed (receiver_below nat_eq (tree it.world supply it.place it.moves it.mounts)
-          (parts_of nat_eq it.world it.place) (made_at part origin))
+          pushed (receiver_below nat_eq (tree it.world supply it.mount_point it.moves it.mounts)
+          (parts_of nat_eq it.world it.mount_point) (made_at part origin))
       by false = refl
 
   there : (part origin : Mount ℕ) → IsPart it part → IsOfTree it origin
@@ -92,8 +92,8 @@ module _ (it : Attachment) (can : CanAttach it) where
       contains_from_among (world_after it).mounts (copy_of it part origin)
       (⊎_elim (λ m. m)
       (λ none. absurd (true≢false (sym (placed part origin)
-      ∙ ap (λ (x : Mount ℕ). is_some x.place) (sym (is_copy part origin c d))
-      ∙ ap (λ (x : Mount ℕ). is_some x.place) none)))
+      ∙ ap (λ (x : Mount ℕ). is_some x.mount_point) (sym (is_copy part origin c d))
+      ∙ ap (λ (x : Mount ℕ). is_some x.mount_point) none)))
       (found_or_none (world_after it).mounts (number_at it part origin)))
 
   number_new : (part origin : Mount ℕ) → IsPart it part → IsOfTree it origin
@@ -106,44 +106,44 @@ module _ (it : Attachment) (can : CanAttach it) where
       (sym (is_among_numbers (numbers_in_use it.world) old.0.number (number_in_use it.world old.0 old.1))
       ∙ ap (λ n. is_among nat_eq n (numbers_in_use it.world)) (sym old.2)
       ∙ serve_copies.unused part.number origin.number
-      (is_one_of (parts_of nat_eq it.world it.place) part (part_among part c))
+      (is_one_of (parts_of nat_eq it.world it.mount_point) part (part_among part c))
       (is_one_of it.mounts origin (tree_among origin d))))
 
   first_stands : (part first : Mount ℕ) (rest : List (Mount ℕ)) → IsPart it part → it.mounts ≡ first ∷ rest
-      → (copy_of it part first).place ≡ Some (record { mount = part.number; node = it.place.node })
+      → (copy_of it part first).mount_point ≡ Some (record { mount = part.number; node = it.mount_point.node })
   first_stands part first rest c e =
-      ap (λ (x : Mount ℕ). x.place)
+      ap (λ (x : Mount ℕ). x.mount_point)
       (is_copy part first c
       (contains_from_among it.mounts first (subst (λ ms. Among first ms) (sym e) (inl refl)))
-      ∙ first_not_pushed it.world supply it.place it.moves it.mounts part first rest e)
-      ∙ first_place it.world supply it.place it.moves it.mounts part first rest e
+      ∙ first_not_pushed it.world supply it.mount_point it.moves it.mounts part first rest e)
+      ∙ first_place it.world supply it.mount_point it.moves it.mounts part first rest e
 
   other_stands : (part first origin below : Mount ℕ) (rest : List (Mount ℕ)) (at : Location ℕ) → IsPart it part
       → it.mounts ≡ first ∷ rest → IsOfTree it origin → nat_eq origin.number first.number ≡ false → IsOfTree it below
-      → origin.place ≡ Some at → at.mount ≡ below.number
-      → (moves_to it part && stands_at_a_receiver it.world it.place origin) ≡ false
-      → (copy_of it part origin).place ≡ Some (record { mount = (copy_of it part below).number; node = at.node })
+      → origin.mount_point ≡ Some at → at.mount ≡ below.number
+      → (moves_to it part && stands_at_a_receiver it.world it.mount_point origin) ≡ false
+      → (copy_of it part origin).mount_point ≡ Some (record { mount = (copy_of it part below).number; node = at.node })
   other_stands part first origin below rest at c e d differ f stood on free =
-      ap (λ (x : Mount ℕ). x.place)
+      ap (λ (x : Mount ℕ). x.mount_point)
       (is_copy part origin c d
-      ∙ not_pushed it.world supply it.place it.moves it.mounts part origin (by (moves_to it part) refl))
+      ∙ not_pushed it.world supply it.mount_point it.moves it.mounts part origin (by (moves_to it part) refl))
       ∙ place
       ∙ ap (λ n. Some (record { mount = n; node = at.node }))
       (sym (number_found (world_after it).mounts (number_at it part below)))
     where
       takers : List (Mount ℕ)
-      takers = rest_of (parts_of nat_eq it.world it.place)
+      takers = rest_of (parts_of nat_eq it.world it.mount_point)
 
-      place : (made_at part origin).place ≡ Some (record { mount = number_at it part below; node = at.node })
-      place = other_place it.world supply it.place it.moves it.mounts part first origin below rest at e differ stood on
+      place : (made_at part origin).mount_point ≡ Some (record { mount = number_at it part below; node = at.node })
+      place = other_place it.world supply it.mount_point it.moves it.mounts part first origin below rest at e differ stood on
 
       by : (b : Bool) → moves_to it part ≡ b
-          → (b && list_any (is_pushed_by it.world supply (tree it.world supply it.place it.moves it.mounts)
-          (parts_of nat_eq it.world it.place) (made_at part origin)) (rest_of (parts_of nat_eq it.world it.place)))
+          → (b && list_any (is_pushed_by it.world supply (tree it.world supply it.mount_point it.moves it.mounts)
+          (parts_of nat_eq it.world it.mount_point) (made_at part origin)) (rest_of (parts_of nat_eq it.world it.mount_point)))
           ≡ false
       by false g = refl
       by true g =
-          let same : (made_at part origin).place ≡ origin.place =
+          let same : (made_at part origin).mount_point ≡ origin.mount_point =
           place
           ∙ ap (λ b. Some (record { mount = if b then below.number else supply.copy part.number below.number; node = at.node }))
           g
@@ -151,14 +151,14 @@ module _ (it : Attachment) (can : CanAttach it) where
           ap
           (λ p. list_any
           (λ (receiver : Mount ℕ).
-          holds_of (same_location nat_eq (record { mount = receiver.number; node = it.place.node })) p)
-          (rest_of (parts_of nat_eq it.world it.place)))
+          holds_of (same_location nat_eq (record { mount = receiver.number; node = it.mount_point.node })) p)
+          (rest_of (parts_of nat_eq it.world it.mount_point)))
           same
-          ∙ sym (ap (λ b. b && stands_at_a_receiver it.world it.place origin) g) ∙ free
+          ∙ sym (ap (λ b. b && stands_at_a_receiver it.world it.mount_point origin) g) ∙ free
 
   destination_part : IsPart it (destination_of it)
   destination_part =
-      contains_from_among (parts_of nat_eq it.world it.place) (destination_of it) (inl refl)
+      contains_from_among (parts_of nat_eq it.world it.mount_point) (destination_of it) (inl refl)
 
 pub each_is_copied : EachIsCopied
 each_is_copied it part origin can c d = record {
@@ -200,7 +200,7 @@ module _ (it : Attachment) (can : CanAttach it) (origin : Mount ℕ) (d : IsOfTr
       ≡ type_at (supply it can) (group_of (destination_of it).propagation) origin
   kind_at_destination =
       copy_kind it can (destination_of it) origin (destination_part it can) d
-      ∙ kind_there it.world (supply it can) it.place it.moves it.mounts (serve_images it can) can.each_once origin
+      ∙ kind_there it.world (supply it can) it.mount_point it.moves it.mounts (serve_images it can) can.each_once origin
 
   abbrev new_group : ℕ → ℕ
   new_group group = (supply it can).image group origin.number
@@ -225,9 +225,9 @@ private_on_shared it origin can d e f =
     let m = tree_among it can origin d in (
       new_group it can origin d own.0,
       kind_on_shared it can origin d own.0 own.1 ∙ ap (type_on_shared (new_group it can origin d own.0)) f,
-      there_new it.world (supply it can) it.place it.moves it.mounts (serve_images it can) can.each_once origin m own.0
+      there_new it.world (supply it can) it.mount_point it.moves it.mounts (serve_images it can) can.each_once origin m own.0
           own.1,
-      private_there it.world (supply it can) it.place it.moves it.mounts (serve_images it can) can.each_once origin m
+      private_there it.world (supply it can) it.mount_point it.moves it.mounts (serve_images it can) can.each_once origin m
           own.0 own.1 f,
     )
 
@@ -237,9 +237,9 @@ slave_on_shared it origin master can d e f =
     let m = tree_among it can origin d in (
       new_group it can origin d own.0,
       kind_on_shared it can origin d own.0 own.1 ∙ ap (type_on_shared (new_group it can origin d own.0)) f,
-      there_new it.world (supply it can) it.place it.moves it.mounts (serve_images it can) can.each_once origin m own.0
+      there_new it.world (supply it can) it.mount_point it.moves it.mounts (serve_images it can) can.each_once origin m own.0
           own.1,
-      slave_there it.world (supply it can) it.place it.moves it.mounts (serve_images it can) can.each_once origin m
+      slave_there it.world (supply it can) it.mount_point it.moves it.mounts (serve_images it can) can.each_once origin m
           own.0 master own.1 f,
     )
 
@@ -251,7 +251,7 @@ pub copy_shared : (it : Attachment) (can : CanAttach it) (part origin : Mount �
     → (copy_of it part origin).propagation ≡ Shared (image_group it can origin group)
 copy_shared it can part origin group c d e =
     copy_kind it can part origin c d
-    ∙ shared_kind it.world (supply it can) it.place it.moves it.mounts (serve_images it can) can.each_once part origin
+    ∙ shared_kind it.world (supply it can) it.mount_point it.moves it.mounts (serve_images it can) can.each_once part origin
     (part_among it can part c) group e
 
 pub copies_at_peers_are_peers : CopiesAtPeersArePeers
@@ -265,7 +265,7 @@ pub copies_at_slaves_are_slaves : CopiesAtSlavesAreSlaves
 copies_at_slaves_are_slaves it one other origin master group can c c_other d away e near e_other = (
   image_group it can origin group,
   copy_kind it can one origin c d
-      ∙ slave_kind it.world (supply it can) it.place it.moves it.mounts (serve_images it can) can.each_once one origin
+      ∙ slave_kind it.world (supply it can) it.mount_point it.moves it.mounts (serve_images it can) can.each_once one origin
       master group away e near,
   copy_shared it can other origin group c_other d e_other,
 )
@@ -277,12 +277,12 @@ copies_at_lower_groups_follow it one other origin own master group can c c_other
   (
     image_group it can origin own,
     copy_shared it can one origin own c d e,
-    image_new it.world (supply it can) it.place it.moves it.mounts (serve_images it can) can.each_once origin
+    image_new it.world (supply it can) it.mount_point it.moves it.mounts (serve_images it can) can.each_once origin
         (tree_among it can origin d) own
-        (any_from_among (is_member_of nat_eq own) (parts_of nat_eq it.world it.place) one (part_among it can one c)
+        (any_from_among (is_member_of nat_eq own) (parts_of nat_eq it.world it.mount_point) one (part_among it can one c)
         (shared_member own one e))
         lacks,
-    lower_master it.world (supply it can) it.place it.moves it.mounts (serve_images it can) can.each_once one origin
+    lower_master it.world (supply it can) it.mount_point it.moves it.mounts (serve_images it can) can.each_once one origin
         (part_among it can one c) (tree_among it can origin d) own master group e lacks up near,
   ),
 )

@@ -5,7 +5,7 @@ use Rattle.std.specs.List.{list_any}
 use Rattle.std.proofs.lemmas.Bool.{or_parts}
 use Rattle.vt_spec.proofs.Lists.{Among, among-append_left, among-append_right, among-flat_map, among-from_filter, among-map, none_among, none_from_among, pair-map}
 use Rattle.vt_spec.specs.Machine.Attach.{Copies, Graft, Twig, attached_by, copies_at, copy_at, copy_number, graft_of, parts_of, place_on_copy, pushed_up, receivers_of, takes_part, twig_of}
-use Rattle.vt_spec.specs.Machine.Lists.{first_of_list, folded, holds_of, is_among, rest_of}
+use Rattle.vt_spec.specs.Lists.{first_of_list, folded, holds_of, is_among, rest_of}
 use Rattle.vt_spec.specs.Machine.Mounts.{Location, Mount, group_of, mount_in, same_location, with_mount}
 use Rattle.vt_spec.specs.Machine.World.{World, mount_at, mount_numbered}
 use Rattle.vt_mount_laws.specs.Mounts.Attaching.{KeepsAllButPlace, OneNumberAMount, numbers_of}
@@ -97,24 +97,24 @@ module _ (world : World ℕ) (new : Copies ℕ) (place : Location ℕ) (moves : 
 
   -- where the top of the tree stands
   pub first_place : (part first : Mount ℕ) (rest : List (Mount ℕ)) → mounts ≡ first ∷ rest
-      → (made part first).place ≡ Some (record { mount = part.number; node = place.node })
+      → (made part first).mount_point ≡ Some (record { mount = part.number; node = place.node })
   first_place part first rest e =
       ap
       (λ b. Some (
       if b then record { mount = part.number; node = place.node }
-      else unwrap_or (option_map (place_on_copy nat_eq new tree part.number) first.place) place))
+      else unwrap_or (option_map (place_on_copy nat_eq new tree part.number) first.mount_point) place))
       (ap (λ ms. holds_of (λ (t : Twig ℕ). nat_eq first.number t.origin.number) (first_of_list (map twig ms))) e
       ∙ eq-eqb first.number first.number refl)
 
   pub other_place : (part first origin below : Mount ℕ) (rest : List (Mount ℕ)) (at : Location ℕ)
-      → mounts ≡ first ∷ rest → nat_eq origin.number first.number ≡ false → origin.place ≡ Some at
+      → mounts ≡ first ∷ rest → nat_eq origin.number first.number ≡ false → origin.mount_point ≡ Some at
       → at.mount ≡ below.number
-      → (made part origin).place ≡ Some (record { mount = number part below; node = at.node })
+      → (made part origin).mount_point ≡ Some (record { mount = number part below; node = at.node })
   other_place part first origin below rest at e differ stood on =
       ap
       (λ b. Some (
       if b then record { mount = part.number; node = place.node }
-      else unwrap_or (option_map (place_on_copy nat_eq new tree part.number) origin.place) place))
+      else unwrap_or (option_map (place_on_copy nat_eq new tree part.number) origin.mount_point) place))
       (ap (λ ms. holds_of (λ (t : Twig ℕ). nat_eq origin.number t.origin.number) (first_of_list (map twig ms))) e
       ∙ differ)
       ∙ ap (λ p. Some (unwrap_or (option_map (place_on_copy nat_eq new tree part.number) p) place)) stood

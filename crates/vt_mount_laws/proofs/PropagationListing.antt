@@ -3,12 +3,12 @@ use Rattle.std.proofs.Common.{◌≡◌, refl, sym, ap, ◌∙◌, Bool, List, [
 use Rattle.std.proofs.lemmas.List.Folds.{flat_map-map}
 use Rattle.std.proofs.lemmas.Bool.{false_from_ne_true}
 use Rattle.vt_spec.proofs.Lists.{Among, among-append_left, among-append_right, among-filter, among-from_filter, among-map}
-use Rattle.vt_spec.specs.Machine.FileTree.{path_down}
+use Rattle.vt_spec.specs.FileTree.{path_down}
 use Rattle.vt_spec.specs.Machine.Listing.{groups_shown, mount_line, number_among, place_spot, root_spot, spot_of, type_line}
-use Rattle.vt_spec.specs.Machine.Lists.{Fresh, each_once, evens, holds_of, odds, place_from}
+use Rattle.vt_spec.specs.Lists.{Fresh, each_once, evens, holds_of, odds, place_from}
 use Rattle.vt_spec.specs.Machine.Mounts.{Location, Mount, index_of, numbers_by}
 use Rattle.vt_spec.specs.Machine.Namespaces.{copied_mount, location_on_copy, unshared}
-use Rattle.vt_spec.specs.Machine.Outcomes.{Spot}
+use Rattle.vt_spec.specs.Language.Answers.{Spot}
 use Rattle.vt_spec.specs.Machine.Run.{Serves}
 use Rattle.vt_spec.specs.Machine.World.{Task, World, filesystem_numbered, is_overlay, mount_numbered, mounts_of}
 use Rattle.vt_spec.specs.Machine.WorldLaws.{MountInvariants}
@@ -91,7 +91,7 @@ module _ (world : World ℕ) (fresh : Fresh ℕ) (task : Task ℕ) (serves : Ser
 
   -- the parent of a mount of a namespace is in the namespace
   parent_inside : (namespace : ℕ) (mount : Mount ℕ) → Among mount (mounts_of nat_eq world namespace)
-      → (place : Location ℕ) → mount.place ≡ Some place
+      → (place : Location ℕ) → mount.mount_point ≡ Some place
       → (parent : Mount ℕ) × Among parent (mounts_of nat_eq world namespace) × (parent.number ≡ place.mount)
       × Among parent world.mounts
   parent_inside namespace mount m place e =
@@ -132,11 +132,11 @@ module _ (world : World ℕ) (fresh : Fresh ℕ) (task : Task ℕ) (serves : Ser
       λ i. (number i, shows i)
 
   copied_places : (mount : Mount ℕ) → Among mount copied
-      → option_map (place_cell after (map copy copied)) (copy mount).place
-      ≡ option_map (place_cell world copied) mount.place
-  copied_places mount m = by mount.place refl
+      → option_map (place_cell after (map copy copied)) (copy mount).mount_point
+      ≡ option_map (place_cell world copied) mount.mount_point
+  copied_places mount m = by mount.mount_point refl
     where
-      by : (found : Option (Location ℕ)) → mount.place ≡ found
+      by : (found : Option (Location ℕ)) → mount.mount_point ≡ found
           → option_map (place_cell after (map copy copied)) (option_map (location_on_copy new_number) found)
           ≡ option_map (place_cell world copied) found
       by None e = refl
@@ -153,7 +153,7 @@ module _ (world : World ℕ) (fresh : Fresh ℕ) (task : Task ℕ) (serves : Ser
   copied_line : (mount : Mount ℕ) → Among mount copied
       → mount_line nat_eq after (map copy copied) (copy mount) ≡ mount_line nat_eq world copied mount
   copied_line mount m = λ i. record {
-    place = copied_places mount m i;
+    mount_point = copied_places mount m i;
     overlay = is_overlay (filesystem_numbered nat_eq world mount.filesystem);
     filesystem = number_among nat_eq (each_once nat_eq (same_filesystems i)) mount.filesystem;
     root = root_spot nat_eq world mount;
@@ -162,14 +162,14 @@ module _ (world : World ℕ) (fresh : Fresh ℕ) (task : Task ℕ) (serves : Ser
   }
 
   other_places : (namespace : ℕ) (mount : Mount ℕ) → Among mount (mounts_of nat_eq world namespace)
-      → option_map (place_cell after (mounts_of nat_eq world namespace)) mount.place
-      ≡ option_map (place_cell world (mounts_of nat_eq world namespace)) mount.place
-  other_places namespace mount m = by mount.place refl
+      → option_map (place_cell after (mounts_of nat_eq world namespace)) mount.mount_point
+      ≡ option_map (place_cell world (mounts_of nat_eq world namespace)) mount.mount_point
+  other_places namespace mount m = by mount.mount_point refl
     where
       list : List (Mount ℕ)
       list = mounts_of nat_eq world namespace
 
-      by : (found : Option (Location ℕ)) → mount.place ≡ found
+      by : (found : Option (Location ℕ)) → mount.mount_point ≡ found
           → option_map (place_cell after (mounts_of nat_eq world namespace)) found
           ≡ option_map (place_cell world (mounts_of nat_eq world namespace)) found
       by None e = refl
@@ -187,7 +187,7 @@ module _ (world : World ℕ) (fresh : Fresh ℕ) (task : Task ℕ) (serves : Ser
       → mount_line nat_eq after (mounts_of nat_eq world namespace) mount
       ≡ mount_line nat_eq world (mounts_of nat_eq world namespace) mount
   other_line namespace mount m = λ i. record (mount_line nat_eq world (mounts_of nat_eq world namespace) mount) {
-    place = other_places namespace mount m i;
+    mount_point = other_places namespace mount m i;
   }
 
 pub unshare_lists_the_same : UnshareListsTheSame

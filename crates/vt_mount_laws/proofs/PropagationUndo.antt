@@ -15,7 +15,7 @@ use Rattle.vt_mount_laws.proofs.PropagationUndone.{NoneAtReceivers, copy_is_gone
 use Rattle.vt_mount_laws.proofs.Unsharing.{parent_of}
 
 on_mounts : (world : World ℕ) → MountInvariants nat_eq world → (mount : Mount ℕ) → Among mount world.mounts
-    → (at : Location ℕ) → mount.place ≡ Some at → is_mount world at.mount ≡ true
+    → (at : Location ℕ) → mount.mount_point ≡ Some at → is_mount world at.mount ≡ true
 on_mounts world mounts mount m at e =
     let parent = parent_of world mounts mount m at e in
     subst (λ n. is_mount world n ≡ true) parent.number (is_one_of world.mounts parent.parent parent.there)

@@ -7,7 +7,7 @@ use Rattle.std.specs.List.{list_any}
 use Rattle.vt_spec.proofs.Lists.{Among, among-append, among-append_left, among-from_filter, among-from_flat_map, among-from_map, among_from_contains, among_numbers, any_among, any_from_among, contains_from_among, filter_none, is_among_numbers, none_from_among}
 use Rattle.vt_spec.specs.Machine.Attach.{Copies, copies_from, graft_of, parts_of, receivers_of, takes_part}
 use Rattle.vt_spec.specs.Machine.Detach.{may_go, only_cover, unmounted, going}
-use Rattle.vt_spec.specs.Machine.Lists.{Fresh, holds_of, is_among, rest_of}
+use Rattle.vt_spec.specs.Lists.{Fresh, holds_of, is_among, rest_of}
 use Rattle.vt_spec.specs.Machine.Mounts.{Location, Mount, Propagation, detached, group_of, is_shared, source_of, stands_at, stands_on}
 use Rattle.vt_spec.specs.Machine.Mounts.Propagation.{Private, Shared, Slave, Unbindable}
 use Rattle.vt_spec.specs.Machine.Receives.{has_members, is_member_of, receivers, receives, heir, lost_a_group, regrouped_by}
@@ -40,7 +40,7 @@ use Rattle.vt_mount_laws.proofs.UnmountingGoes.{what_goes_is_named}
 -- the attachment of one mount, of which no copy goes onto another mount
 abbrev pub one_of : World ℕ → Fresh ℕ → Location ℕ → Mount ℕ → Attachment
 one_of world fresh place first =
-    record { world = world; fresh = fresh; place = place; moves = false; mounts = first ∷ [] }
+    record { world = world; fresh = fresh; mount_point = place; moves = false; mounts = first ∷ [] }
 
 -- No mount stands at the node of the place on a mount that receives from the destination's group
 abbrev pub NoneAtReceivers : World ℕ → Location ℕ → Type 0
@@ -51,7 +51,7 @@ NoneAtReceivers world place =
 
 module _ (world : World ℕ) (fresh : Fresh ℕ) (place : Location ℕ) (first : Mount ℕ)
     (can : CanAttach (one_of world fresh place first)) (there : is_mount world place.mount ≡ true)
-    (on_old : (mount : Mount ℕ) → Among mount world.mounts → (at : Location ℕ) → mount.place ≡ Some at
+    (on_old : (mount : Mount ℕ) → Among mount world.mounts → (at : Location ℕ) → mount.mount_point ≡ Some at
     → is_mount world at.mount ≡ true)
     (free : NoneAtReceivers world place) where
   abbrev it : Attachment
@@ -180,7 +180,7 @@ module _ (world : World ℕ) (fresh : Fresh ℕ) (place : Location ℕ) (first :
   copy_new part c = copies_are_new it part first can c of_first refl
 
   copy_stands : (part : Mount ℕ) → IsPart it part
-      → (copy part).place ≡ Some (record { mount = part.number; node = place.node })
+      → (copy part).mount_point ≡ Some (record { mount = part.number; node = place.node })
   copy_stands part c = first_stands_on_its_part it part first [] can c refl
 
   destination_part : IsPart it destination
@@ -301,16 +301,16 @@ module _ (world : World ℕ) (fresh : Fresh ℕ) (place : Location ℕ) (first :
       by Unbindable e = ap (has_its_master undone) e
 
   place_stays : (number : ℕ) → is_mount world number ≡ true
-      → (mount_left after gone number).place ≡ (mount_numbered nat_eq world number).place
-  place_stays number is = by (mount_numbered nat_eq world number).place refl
+      → (mount_left after gone number).mount_point ≡ (mount_numbered nat_eq world number).mount_point
+  place_stays number is = by (mount_numbered nat_eq world number).mount_point refl
     where
-      by : (found : Option (Location ℕ)) → (mount_numbered nat_eq world number).place ≡ found
-          → (mount_left after gone number).place ≡ (mount_numbered nat_eq world number).place
+      by : (found : Option (Location ℕ)) → (mount_numbered nat_eq world number).mount_point ≡ found
+          → (mount_left after gone number).mount_point ≡ (mount_numbered nat_eq world number).mount_point
       by None e =
-          root_mounts_stay after gone number (ap (λ (x : Mount ℕ). x.place) (kept number is) ∙ e) ∙ sym e
+          root_mounts_stay after gone number (ap (λ (x : Mount ℕ). x.mount_point) (kept number is) ∙ e) ∙ sym e
       by (Some at) e =
           what_stays_keeps_its_place after gone number at (stays number is)
-          (ap (λ (x : Mount ℕ). x.place) (kept number is) ∙ e)
+          (ap (λ (x : Mount ℕ). x.mount_point) (kept number is) ∙ e)
           (stays at.mount
           (on_old (mount_numbered nat_eq world number) (found_there world.mounts number is) at e))
           ∙ sym e
@@ -323,7 +323,7 @@ module _ (world : World ℕ) (fresh : Fresh ℕ) (place : Location ℕ) (first :
       λ i. record {
         number = (k.number ∙ ap (λ (x : Mount ℕ). x.number) same) i;
         namespace = (k.namespace ∙ ap (λ (x : Mount ℕ). x.namespace) same) i;
-        place = place_stays number is i;
+        mount_point = place_stays number is i;
         filesystem = (k.filesystem ∙ ap (λ (x : Mount ℕ). x.filesystem) same) i;
         root = (k.root ∙ ap (λ (x : Mount ℕ). x.root) same) i;
         flags = (k.flags ∙ ap (λ (x : Mount ℕ). x.flags) same) i;
@@ -376,7 +376,7 @@ module _ (world : World ℕ) (fresh : Fresh ℕ) (place : Location ℕ) (first :
 
   -- nothing stands on a copy
   off_copy : (part : Mount ℕ) → IsPart it part → (mount : Mount ℕ) → Among mount after.mounts → (at : Location ℕ)
-      → mount.place ≡ Some at → nat_eq (copy part).number at.mount ≡ false
+      → mount.mount_point ≡ Some at → nat_eq (copy part).number at.mount ≡ false
   off_copy part c mount m at e = false_from_ne_true (nat_eq (copy part).number at.mount) (λ same.
       let number : at.mount ≡ new part = sym (eqb-true (copy part).number at.mount same) ∙ copy_number part in
       let no_mount_there : is_mount world at.mount ≡ false = ap (is_mount world) number ∙ copy_new part c in
@@ -385,7 +385,7 @@ module _ (world : World ℕ) (fresh : Fresh ℕ) (place : Location ℕ) (first :
       (λ copied.
       let on : record { mount = copied.0.number; node = place.node } ≡ at =
       same_Some (record { mount = copied.0.number; node = place.node }) at
-      (sym (copy_stands copied.0 copied.1) ∙ ap (λ (x : Mount ℕ). x.place) (sym copied.2) ∙ e) in
+      (sym (copy_stands copied.0 copied.1) ∙ ap (λ (x : Mount ℕ). x.mount_point) (sym copied.2) ∙ e) in
       true≢false
       (sym (is_one_of world.mounts copied.0 (part_old copied.0 copied.1))
       ∙ ap (λ (l : Location ℕ). is_mount world l.mount) on ∙ no_mount_there))
@@ -395,9 +395,9 @@ module _ (world : World ℕ) (fresh : Fresh ℕ) (place : Location ℕ) (first :
   may_leave part c =
       ap (only_cover nat_eq (copy part))
       (filter_none (stands_on nat_eq (copy part).number) after.mounts
-      (none_from_among (stands_on nat_eq (copy part).number) after.mounts (λ mount m. by mount m mount.place refl)))
+      (none_from_among (stands_on nat_eq (copy part).number) after.mounts (λ mount m. by mount m mount.mount_point refl)))
     where
-      by : (mount : Mount ℕ) → Among mount after.mounts → (found : Option (Location ℕ)) → mount.place ≡ found
+      by : (mount : Mount ℕ) → Among mount after.mounts → (found : Option (Location ℕ)) → mount.mount_point ≡ found
           → stands_on nat_eq (copy part).number mount ≡ false
       by mount m None e = ap (holds_of (λ (l : Location ℕ). nat_eq (copy part).number l.mount)) e
       by mount m (Some at) e =

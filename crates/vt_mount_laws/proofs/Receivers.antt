@@ -4,7 +4,7 @@ use Rattle.std.specs.Prelude.{◌↔◌, option_to_list}
 use Rattle.std.specs.List.{list_all}
 use Rattle.std.proofs.lemmas.Bool.{and_parts, not-true}
 use Rattle.std.proofs.lemmas.Option.{same_Some}
-use Rattle.vt_spec.specs.Machine.Lists.{chain, holds_of, is_among, last_or}
+use Rattle.vt_spec.specs.Lists.{chain, holds_of, is_among, last_or}
 use Rattle.vt_spec.specs.Machine.Mounts.{Mount, Propagation, source_of}
 use Rattle.vt_spec.specs.Machine.Mounts.Propagation.{Private, Shared, Slave, Unbindable}
 use Rattle.vt_spec.specs.Machine.Receives.{Receives, groups_up, has_members, receivers, receives}

@@ -7,11 +7,11 @@ use Rattle.std.proofs.lemmas.List.Filters.{length-filter_both}
 use Rattle.std.proofs.lemmas.Option.{same_Some}
 use Rattle.vt_spec.proofs.Lists.{Among, all_from_among, among-filter, among-from_filter, among-from_flat_map, among-map, among_from_all, among_from_list_all, among_numbers, chain_ends, chain_goes_on, last_of_chain, list_all_from_among, none_among, none_from_among, pair-filter}
 use Rattle.vt_spec.specs.Machine.Detach.{depth_of}
-use Rattle.vt_spec.specs.Machine.Lists.{any_pair, chain, holds_of, last_or, same_option}
+use Rattle.vt_spec.specs.Lists.{any_pair, chain, holds_of, last_or, same_option}
 use Rattle.vt_spec.specs.Machine.Mounts.{Location, Mount, children, is_unbindable, no_mount, stands_on, tree_from}
 use Rattle.vt_spec.specs.Machine.Attach.{bind_tree, bindable_children, bindable_tree, bound, stands_under}
 use Rattle.vt_spec.specs.Machine.World.{World, mount_at, mount_numbered}
-use Rattle.vt_spec.specs.Machine.WorldLaws.{Stands, last_below, stands_in_its_namespace}
+use Rattle.vt_spec.specs.Machine.WorldLaws.{Stands, last_parent, stands_in_its_namespace}
 use Rattle.vt_spec.specs.Machine.WorldLaws.Stands.{at_root, on_parent}
 use Rattle.vt_mount_laws.specs.Mounts.Attaching.{OneNumberAMount, numbers_of}
 use Rattle.vt_mount_laws.specs.Mounts.Conditions.{OneNumberEach}
@@ -49,7 +49,7 @@ module _ (world : World ℕ) where
   Stand = Stands nat_eq world
 
   abbrev below : Mount ℕ → Option (Mount ℕ)
-  below mount = option_map (mount_at nat_eq world) mount.place
+  below mount = option_map (mount_at nat_eq world) mount.mount_point
 
   abbrev mount_of : ℕ → Mount ℕ
   mount_of = mount_numbered nat_eq world
@@ -76,12 +76,12 @@ module _ (world : World ℕ) where
   unfolding depth
   same_depth a (at_root it e) b (at_root other f) same = refl
   same_depth a (at_root it e) b (on_parent other place f g y) same =
-      absurd (true≢false (sym (ap is_some f) ∙ sym (ap (λ n. is_some (mount_of n).place) same) ∙ ap is_some e))
+      absurd (true≢false (sym (ap is_some f) ∙ sym (ap (λ n. is_some (mount_of n).mount_point) same) ∙ ap is_some e))
   same_depth a (on_parent it place e f x) b (at_root other g) same =
-      absurd (true≢false (sym (ap is_some e) ∙ ap (λ n. is_some (mount_of n).place) same ∙ ap is_some g))
+      absurd (true≢false (sym (ap is_some e) ∙ ap (λ n. is_some (mount_of n).mount_point) same ∙ ap is_some g))
   same_depth a (on_parent it place e f x) b (on_parent other at g h y) same =
       ap suc (same_depth place.mount x at.mount y
-      (ap (λ (p : Location ℕ). p.mount) (same_Some place at (sym e ∙ ap (λ n. (mount_of n).place) same ∙ g))))
+      (ap (λ (p : Location ℕ). p.mount) (same_Some place at (sym e ∙ ap (λ n. (mount_of n).mount_point) same ∙ g))))
 
   -- what is on the way stands no deeper
   on_way : (number : ℕ) (stands : Stand number) (other : ℕ) → Among other (way number stands)
@@ -132,7 +132,7 @@ module _ (world : World ℕ) where
 
   -- where the places below a mount end, in its namespace
   last_stands : (n number : ℕ) (stands : Stand number) → depth number stands ≤ n
-      → ((last_in n (mount_of number)).place ≡ None)
+      → ((last_in n (mount_of number)).mount_point ≡ None)
       × ((mount_of number).namespace ≡ (last_in n (mount_of number)).namespace)
   unfolding depth
   last_stands zero number (at_root it e) l = (e, refl)
@@ -140,7 +140,7 @@ module _ (world : World ℕ) where
   last_stands (suc n) number (at_root it e) l =
       let end : last_in (suc n) (mount_of it) ≡ mount_of it =
       ap (last_or (mount_of it)) (chain_ends below n (mount_of it) (ap (option_map (mount_at nat_eq world)) e)) in
-      (ap (λ m. m.place) end ∙ e, ap (λ m. m.namespace) (sym end))
+      (ap (λ m. m.mount_point) end ∙ e, ap (λ m. m.namespace) (sym end))
   last_stands (suc n) number (on_parent it place e f stands) l =
       let one = mount_of it in
       let parent = mount_of place.mount in
@@ -148,7 +148,7 @@ module _ (world : World ℕ) where
       ap (last_or one) (chain_goes_on below n one parent (ap (option_map (mount_at nat_eq world)) e))
       ∙ last_of_chain below n parent one in
       let later = last_stands n place.mount stands (omega (arith, l)) in
-      (ap (λ m. m.place) end ∙ later.0, f ∙ later.1 ∙ ap (λ m. m.namespace) (sym end))
+      (ap (λ m. m.mount_point) end ∙ later.0, f ∙ later.1 ∙ ap (λ m. m.namespace) (sym end))
 
   chain_length : (n number : ℕ) (stands : Stand number) → depth number stands ≤ n
       → length (chain n below (mount_of number)) ≡ suc (depth number stands)
@@ -180,11 +180,11 @@ module _ (world : World ℕ) where
       subst (λ x. stands_in_its_namespace nat_eq world x ≡ true) itself
       (and_from _ _ (ap (λ p. not (is_some p)) last.0)
       (same_as_test (mount_of mount.number).namespace
-      (last_below nat_eq world (mount_of mount.number)).namespace last.1)))
+      (last_parent nat_eq world (mount_of mount.number)).namespace last.1)))
 
   -- the other way round
   namespace_below : OneNumberEach world → PlacesEnd world → (number : ℕ) (place : Location ℕ)
-      → (mount_of number).place ≡ Some place → (mount_of number).namespace ≡ (mount_of place.mount).namespace
+      → (mount_of number).mount_point ≡ Some place → (mount_of number).namespace ≡ (mount_of place.mount).namespace
   namespace_below one ends number place e =
       ⊎_elim
       (λ there. same_namespace world ends (mount_of number) place (placed_among world.mounts number place e) e there)
@@ -205,29 +205,29 @@ module _ (world : World ℕ) where
           let x = mount_of number in
           let parent = mount_of place.mount in
           let long = mounts_there world.mounts x (placed_among world.mounts number place e) in
-          let both : (not (is_some (last_below nat_eq world x).place) ≡ true)
-          × (same_option nat_eq x.namespace (last_below nat_eq world x).namespace ≡ true) =
+          let both : (not (is_some (last_parent nat_eq world x).mount_point) ≡ true)
+          × (same_option nat_eq x.namespace (last_parent nat_eq world x).namespace ≡ true) =
           and_parts _ _
           (among_from_list_all (stands_in_its_namespace nat_eq world) world.mounts ends x
           (placed_among world.mounts number place e)) in
-          let end : last_below nat_eq world x ≡ parent =
+          let end : last_parent nat_eq world x ≡ parent =
           ap (λ k. last_in k x) long.1
           ∙ ap (last_or x) (chain_goes_on below long.0 x parent (ap (option_map (mount_at nat_eq world)) e))
           ∙ last_of_chain below long.0 parent x
-          ∙ alone long.0 parent (ap (λ m. option_map (mount_at nat_eq world) m.place) none) in
-          one_namespace x.namespace (last_below nat_eq world x).namespace both.1 ∙ ap (λ m. m.namespace) end
+          ∙ alone long.0 parent (ap (λ m. option_map (mount_at nat_eq world) m.mount_point) none) in
+          one_namespace x.namespace (last_parent nat_eq world x).namespace both.1 ∙ ap (λ m. m.namespace) end
 
   stands_by_test : OneNumberEach world → PlacesEnd world → (n number : ℕ)
-      → is_some (last_in n (mount_of number)).place ≡ false → Stand number
-  stands_by_test one ends zero number h = at_root number (no_place (mount_of number).place h)
+      → is_some (last_in n (mount_of number)).mount_point ≡ false → Stand number
+  stands_by_test one ends zero number h = at_root number (no_place (mount_of number).mount_point h)
     where
       no_place : (place : Option (Location ℕ)) → is_some place ≡ false → place ≡ None
       no_place None e = refl
       no_place (Some place) e = absurd (true≢false e)
-  stands_by_test one ends (suc n) number h = by (mount_of number).place refl (stands_by_test one ends n)
+  stands_by_test one ends (suc n) number h = by (mount_of number).mount_point refl (stands_by_test one ends n)
     where
-      by : (place : Option (Location ℕ)) → (mount_of number).place ≡ place
-          → ((other : ℕ) → is_some (last_in n (mount_of other)).place ≡ false → Stand other)
+      by : (place : Option (Location ℕ)) → (mount_of number).mount_point ≡ place
+          → ((other : ℕ) → is_some (last_in n (mount_of other)).mount_point ≡ false → Stand other)
           → Stand number
       by None e later = at_root number e
       by (Some place) e later =
@@ -235,7 +235,7 @@ module _ (world : World ℕ) where
           let parent = mount_of place.mount in
           on_parent number place e (namespace_below one ends number place e)
           (later place.mount
-          (sym (ap (λ m. is_some m.place)
+          (sym (ap (λ m. is_some m.mount_point)
           (ap (last_or x) (chain_goes_on below n x parent (ap (option_map (mount_at nat_eq world)) e))
           ∙ last_of_chain below n parent x))
           ∙ h))
@@ -244,7 +244,7 @@ module _ (world : World ℕ) where
   standing_by_test one ends = all_from_among (λ (mount : Mount ℕ). Stand mount.number) world.mounts (λ mount m.
       let itself : mount_of mount.number ≡ mount = found_itself world.mounts one mount m in
       stands_by_test one ends (length world.mounts) mount.number
-      (subst (λ x. is_some (last_below nat_eq world x).place ≡ false) (sym itself)
+      (subst (λ x. is_some (last_parent nat_eq world x).mount_point ≡ false) (sym itself)
       (not-true _
       (and_parts _ _ (among_from_list_all (stands_in_its_namespace nat_eq world) world.mounts ends mount m)).0)))
 
@@ -254,7 +254,7 @@ standing_is_computed world one = (test_of_standing world one, standing_by_test w
 -- Trees of mounts: a mount, and each that stands on one of them
 pub data LiesIn (world : World ℕ) : ℕ → ℕ → Type 0 where
   itself : (number : ℕ) → LiesIn world number number
-  under : (above number : ℕ) (place : Location ℕ) → (mount_numbered nat_eq world number).place ≡ Some place
+  under : (above number : ℕ) (place : Location ℕ) → (mount_numbered nat_eq world number).mount_point ≡ Some place
       → LiesIn world above place.mount → LiesIn world above number
 
 module _ (world : World ℕ) where
@@ -275,7 +275,7 @@ module _ (world : World ℕ) (one : OneNumberEach world) (all : AllStand world) 
       (λ there. subst (Stands nat_eq world) (number_found world.mounts number)
       (among_from_all (λ (mount : Mount ℕ). Stands nat_eq world mount.number) world.mounts all
       (mount_numbered nat_eq world number) there))
-      (λ none. at_root number (ap (λ m. m.place) none))
+      (λ none. at_root number (ap (λ m. m.mount_point) none))
       (found_or_none world.mounts number)
 
   pub rank : ℕ → ℕ
@@ -285,7 +285,7 @@ module _ (world : World ℕ) (one : OneNumberEach world) (all : AllStand world) 
   unfolding rank
   rank_bounded number = not_deep world number (stand number)
 
-  pub rank_child : (number : ℕ) (place : Location ℕ) → (mount_numbered nat_eq world number).place ≡ Some place
+  pub rank_child : (number : ℕ) (place : Location ℕ) → (mount_numbered nat_eq world number).mount_point ≡ Some place
       → rank number ≡ suc (rank place.mount)
   unfolding depth rank
   rank_child number place e =
@@ -330,20 +330,20 @@ module _ (world : World ℕ) (one : OneNumberEach world) (all : AllStand world) 
 
   -- a child stands on its parent
   child_lies : (mount child : Mount ℕ) → Among child (children nat_eq world.mounts mount.number)
-      → (place : Location ℕ) × ((mount_numbered nat_eq world child.number).place ≡ Some place)
+      → (place : Location ℕ) × ((mount_numbered nat_eq world child.number).mount_point ≡ Some place)
       × (place.mount ≡ mount.number)
   child_lies mount child m =
       let from = among-from_filter (stands_on nat_eq mount.number) world.mounts child m in
-      by child.place refl from.1 (found_itself world.mounts one child from.0)
+      by child.mount_point refl from.1 (found_itself world.mounts one child from.0)
     where
-      by : (found : Option (Location ℕ)) → child.place ≡ found → stands_on nat_eq mount.number child ≡ true
+      by : (found : Option (Location ℕ)) → child.mount_point ≡ found → stands_on nat_eq mount.number child ≡ true
           → mount_numbered nat_eq world child.number ≡ child
-          → (place : Location ℕ) × ((mount_numbered nat_eq world child.number).place ≡ Some place)
+          → (place : Location ℕ) × ((mount_numbered nat_eq world child.number).mount_point ≡ Some place)
           × (place.mount ≡ mount.number)
       by None e on it = absurd (true≢false (sym on ∙ ap (holds_of (λ p. nat_eq mount.number p.mount)) e))
       by (Some place) e on it = (
         place,
-        ap (λ x. x.place) it ∙ e,
+        ap (λ x. x.mount_point) it ∙ e,
         sym (eqb-true mount.number place.mount (sym (ap (holds_of (λ p. nat_eq mount.number p.mount)) e) ∙ on)),
       )
 

@@ -4,8 +4,8 @@ use Rattle.std.specs.Prelude.{if◌then◌else◌, option_map}
 use Rattle.std.specs.List.{list_any}
 use Rattle.std.proofs.lemmas.List.{length-map}
 use Rattle.std.proofs.lemmas.Bool.{and_parts, not-true}
-use Rattle.vt_spec.specs.Machine.Detach.{after_going, going, is_going, place_below, place_left, taken_away}
-use Rattle.vt_spec.specs.Machine.Lists.{chain, last_or}
+use Rattle.vt_spec.specs.Machine.Detach.{after_going, going, is_going, mount_point_of_parent, mount_point_left, taken_away}
+use Rattle.vt_spec.specs.Lists.{chain, last_or}
 use Rattle.vt_spec.specs.Machine.Mounts.{Location, Mount, Propagation, detached, mount_in, no_mount}
 use Rattle.vt_spec.specs.Machine.Mounts.Propagation.{Private, Shared, Slave, Unbindable}
 use Rattle.vt_spec.specs.Machine.Receives.{groups_up, has_members, inherited, inheriting, lost_a_group, regrouped_by, slave_of_heir}
@@ -21,23 +21,23 @@ module _ (world : World ℕ) (gone : List ℕ) where
   -- one mount after the event
   pub going_is_detached : (mount : Mount ℕ) → is_going nat_eq gone mount.number ≡ true
       → after_going nat_eq world gone mount ≡ detached mount
-  going_is_detached mount e = ap (λ b. if b then detached mount else (record mount { place = option_map (place_left nat_eq world gone) mount.place })) e
+  going_is_detached mount e = ap (λ b. if b then detached mount else (record mount { mount_point = option_map (mount_point_left nat_eq world gone) mount.mount_point })) e
 
   pub staying_is_placed : (mount : Mount ℕ) → is_going nat_eq gone mount.number ≡ false
-      → after_going nat_eq world gone mount ≡ record mount { place = option_map (place_left nat_eq world gone) mount.place }
-  staying_is_placed mount e = ap (λ b. if b then detached mount else (record mount { place = option_map (place_left nat_eq world gone) mount.place })) e
+      → after_going nat_eq world gone mount ≡ record mount { mount_point = option_map (mount_point_left nat_eq world gone) mount.mount_point }
+  staying_is_placed mount e = ap (λ b. if b then detached mount else (record mount { mount_point = option_map (mount_point_left nat_eq world gone) mount.mount_point })) e
 
   pub number_after : (mount : Mount ℕ) → (after_going nat_eq world gone mount).number ≡ mount.number
   number_after mount = by (is_going nat_eq gone mount.number)
     where
-      by : (b : Bool) → (if b then detached mount else (record mount { place = option_map (place_left nat_eq world gone) mount.place })).number ≡ mount.number
+      by : (b : Bool) → (if b then detached mount else (record mount { mount_point = option_map (mount_point_left nat_eq world gone) mount.mount_point })).number ≡ mount.number
       by true = refl
       by false = refl
 
   none_after : (number : ℕ) → after_going nat_eq world gone (no_mount number) ≡ no_mount number
   none_after number = by (is_going nat_eq gone number)
     where
-      by : (b : Bool) → (if b then detached (no_mount number) else (record (no_mount number) { place = option_map (place_left nat_eq world gone) None })) ≡ no_mount number
+      by : (b : Bool) → (if b then detached (no_mount number) else (record (no_mount number) { mount_point = option_map (mount_point_left nat_eq world gone) None })) ≡ no_mount number
       by true = refl
       by false = refl
 
@@ -65,52 +65,52 @@ module _ (world : World ℕ) (gone : List ℕ) where
 
   taken_staying : (number : ℕ) → is_going nat_eq gone (mount_numbered nat_eq world number).number ≡ false
       → mount_numbered nat_eq (taken_away nat_eq world gone) number
-      ≡ inheriting nat_eq middle (record (mount_numbered nat_eq world number) { place = option_map (place_left nat_eq world gone) (mount_numbered nat_eq world number).place })
+      ≡ inheriting nat_eq middle (record (mount_numbered nat_eq world number) { mount_point = option_map (mount_point_left nat_eq world gone) (mount_numbered nat_eq world number).mount_point })
   taken_staying number e = taken number ∙ ap (inheriting nat_eq middle) (staying_is_placed (mount_numbered nat_eq world number) e)
 
   -- Places
 
   -- the place of the mount that a place is on
   abbrev down : Location ℕ → Option (Location ℕ)
-  down place = (mount_at nat_eq world place).place
+  down place = (mount_at nat_eq world place).mount_point
 
   pub left_at_rest : (n : ℕ) (place : Location ℕ) → is_going nat_eq gone place.mount ≡ false
-      → last_or place (chain n (place_below nat_eq world gone) place) ≡ place
+      → last_or place (chain n (mount_point_of_parent nat_eq world gone) place) ≡ place
   left_at_rest zero place e = refl
-  left_at_rest (suc n) place e = ap (last_or place) (chain_ends (place_below nat_eq world gone) n place (ap (λ b. if b then down place else None) e))
+  left_at_rest (suc n) place e = ap (last_or place) (chain_ends (mount_point_of_parent nat_eq world gone) n place (ap (λ b. if b then down place else None) e))
 
   -- the places below a place end within so many steps
   abbrev EndsBelow : ℕ → Location ℕ → Type 0
   EndsBelow n place = is_some (down (last_or place (chain n down place))) ≡ false
 
   falls_to_rest : (n : ℕ) (place rest : Location ℕ) → EndsBelow n place → FallsTo world gone place rest
-      → last_or place (chain n (place_below nat_eq world gone) place) ≡ rest
+      → last_or place (chain n (mount_point_of_parent nat_eq world gone) place) ≡ rest
   falls_to_rest n place rest ends (rests at stays) = left_at_rest n at stays
   falls_to_rest zero place rest ends (falls at below end goes under later) = absurd (true≢false (sym (ap is_some under) ∙ ends))
   falls_to_rest (suc n) place rest ends (falls at below end goes under later) =
-      let next : place_below nat_eq world gone at ≡ Some below = ap (λ b. if b then down at else None) goes ∙ under in
-      ap (last_or at) (chain_goes_on (place_below nat_eq world gone) n at below next)
-      ∙ last_of_chain (place_below nat_eq world gone) n below at
+      let next : mount_point_of_parent nat_eq world gone at ≡ Some below = ap (λ b. if b then down at else None) goes ∙ under in
+      ap (last_or at) (chain_goes_on (mount_point_of_parent nat_eq world gone) n at below next)
+      ∙ last_of_chain (mount_point_of_parent nat_eq world gone) n below at
       ∙ falls_to_rest n below end
       (sym (ap (λ p. is_some (down p)) (ap (last_or at) (chain_goes_on down n at below under) ∙ last_of_chain down n below at)) ∙ ends) later
 
   abbrev below_mount : Mount ℕ → Option (Mount ℕ)
-  below_mount mount = option_map (mount_at nat_eq world) mount.place
+  below_mount mount = option_map (mount_at nat_eq world) mount.mount_point
 
   -- the mounts below the mount of a place are those of the places below it
   same_end : (n : ℕ) (place : Location ℕ)
-      → (last_or (mount_at nat_eq world place) (chain n below_mount (mount_at nat_eq world place))).place ≡ down (last_or place (chain n down place))
+      → (last_or (mount_at nat_eq world place) (chain n below_mount (mount_at nat_eq world place))).mount_point ≡ down (last_or place (chain n down place))
   same_end zero place = refl
   same_end (suc n) place = by (down place) refl (same_end n)
     where
       by : (found : Option (Location ℕ)) → down place ≡ found
-          → ((next : Location ℕ) → (last_or (mount_at nat_eq world next) (chain n below_mount (mount_at nat_eq world next))).place ≡ down (last_or next (chain n down next)))
-          → (last_or (mount_at nat_eq world place) (chain (suc n) below_mount (mount_at nat_eq world place))).place ≡ down (last_or place (chain (suc n) down place))
+          → ((next : Location ℕ) → (last_or (mount_at nat_eq world next) (chain n below_mount (mount_at nat_eq world next))).mount_point ≡ down (last_or next (chain n down next)))
+          → (last_or (mount_at nat_eq world place) (chain (suc n) below_mount (mount_at nat_eq world place))).mount_point ≡ down (last_or place (chain (suc n) down place))
       by None e later =
-          ap (λ ms. (last_or (mount_at nat_eq world place) ms).place) (chain_ends below_mount n (mount_at nat_eq world place) (ap (option_map (mount_at nat_eq world)) e))
+          ap (λ ms. (last_or (mount_at nat_eq world place) ms).mount_point) (chain_ends below_mount n (mount_at nat_eq world place) (ap (option_map (mount_at nat_eq world)) e))
           ∙ sym (ap (λ ps. down (last_or place ps)) (chain_ends down n place e))
       by (Some next) e later =
-          ap (λ m. m.place)
+          ap (λ m. m.mount_point)
           (ap (last_or (mount_at nat_eq world place)) (chain_goes_on below_mount n (mount_at nat_eq world place) (mount_at nat_eq world next) (ap (option_map (mount_at nat_eq world)) e))
           ∙ last_of_chain below_mount n (mount_at nat_eq world next) (mount_at nat_eq world place))
           ∙ later next
@@ -121,10 +121,10 @@ module _ (world : World ℕ) (gone : List ℕ) where
       ap is_some (sym (same_end (length world.mounts) place))
       ∙ ⊎_elim
       (λ m. not-true _ (and_parts _ _ (among_from_list_all (stands_in_its_namespace nat_eq world) world.mounts ends (mount_at nat_eq world place) m)).0)
-      (λ none. ap (λ m. is_some (last_or m (chain (length world.mounts) below_mount m)).place) none ∙ none_ends (length world.mounts) place.mount)
+      (λ none. ap (λ m. is_some (last_or m (chain (length world.mounts) below_mount m)).mount_point) none ∙ none_ends (length world.mounts) place.mount)
       (found_or_none world.mounts place.mount)
     where
-      none_ends : (n number : ℕ) → is_some (last_or (no_mount number) (chain n below_mount (no_mount number))).place ≡ false
+      none_ends : (n number : ℕ) → is_some (last_or (no_mount number) (chain n below_mount (no_mount number))).mount_point ≡ false
       none_ends zero number = refl
       none_ends (suc n) number = refl
 
@@ -152,26 +152,26 @@ module _ (world : World ℕ) (gone : List ℕ) where
         flags = ap (λ m. m.flags) it;
       }
 
-  place_by_number : (number : ℕ) (place : Location ℕ) → is_going nat_eq gone number ≡ false → (before_it number).place ≡ Some place
-      → (left number).place ≡ Some (place_left nat_eq world gone place)
-  place_by_number number place e at = ap (λ m. m.place) (taken_staying number (goes_so number false e)) ∙ ap (option_map (place_left nat_eq world gone)) at
+  place_by_number : (number : ℕ) (place : Location ℕ) → is_going nat_eq gone number ≡ false → (before_it number).mount_point ≡ Some place
+      → (left number).mount_point ≡ Some (mount_point_left nat_eq world gone place)
+  place_by_number number place e at = ap (λ m. m.mount_point) (taken_staying number (goes_so number false e)) ∙ ap (option_map (mount_point_left nat_eq world gone)) at
 
-  pub place_kept : (number : ℕ) (place : Location ℕ) → is_going nat_eq gone number ≡ false → (before_it number).place ≡ Some place
-      → is_going nat_eq gone place.mount ≡ false → (left number).place ≡ Some place
+  pub place_kept : (number : ℕ) (place : Location ℕ) → is_going nat_eq gone number ≡ false → (before_it number).mount_point ≡ Some place
+      → is_going nat_eq gone place.mount ≡ false → (left number).mount_point ≡ Some place
   place_kept number place e at stays = place_by_number number place e at ∙ ap Some (left_at_rest (length world.mounts) place stays)
 
   pub place_fallen : PlacesEnd world → (number : ℕ) (place rest : Location ℕ) → is_going nat_eq gone number ≡ false
-      → (before_it number).place ≡ Some place → FallsTo world gone place rest → (left number).place ≡ Some rest
+      → (before_it number).mount_point ≡ Some place → FallsTo world gone place rest → (left number).mount_point ≡ Some rest
   place_fallen ends number place rest e at fall =
       place_by_number number place e at ∙ ap Some (falls_to_rest (length world.mounts) place rest (ends_below ends place) fall)
 
-  pub root_stays : (number : ℕ) → (before_it number).place ≡ None → (left number).place ≡ None
-  root_stays number at = ap (λ m. m.place) (taken number) ∙ by (is_going nat_eq gone (before_it number).number) refl
+  pub root_stays : (number : ℕ) → (before_it number).mount_point ≡ None → (left number).mount_point ≡ None
+  root_stays number at = ap (λ m. m.mount_point) (taken number) ∙ by (is_going nat_eq gone (before_it number).number) refl
     where
       by : (b : Bool) → is_going nat_eq gone (before_it number).number ≡ b
-          → (after_going nat_eq world gone (before_it number)).place ≡ None
-      by true e = ap (λ m. m.place) (going_is_detached (before_it number) e)
-      by false e = ap (λ m. m.place) (staying_is_placed (before_it number) e) ∙ ap (option_map (place_left nat_eq world gone)) at
+          → (after_going nat_eq world gone (before_it number)).mount_point ≡ None
+      by true e = ap (λ m. m.mount_point) (going_is_detached (before_it number) e)
+      by false e = ap (λ m. m.mount_point) (staying_is_placed (before_it number) e) ∙ ap (option_map (mount_point_left nat_eq world gone)) at
 
   -- Types
   type_by_number : (number : ℕ) → is_going nat_eq gone number ≡ false

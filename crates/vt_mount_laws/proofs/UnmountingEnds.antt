@@ -10,7 +10,7 @@ use Rattle.vt_spec.specs.Machine.Detach.{after_going, deepest_first, goes_at, go
 use Rattle.vt_mount_laws.proofs.Unmounting.{all_but_mounts, detached_by_number, going_is_detached, kept_by_number, middle, place_kept, staying_is_placed, taken, type_kept}
 use Rattle.vt_mount_laws.proofs.UnmountingGoes.{child_goes_so, receivers_of_shared}
 use Rattle.std.specs.Prelude.{filter_map, if◌then◌else◌}
-use Rattle.vt_spec.specs.Machine.Lists.{folded, is_among}
+use Rattle.vt_spec.specs.Lists.{folded, is_among}
 use Rattle.vt_mount_laws.proofs.MountsPlaces.{found_at_its_place}
 use Rattle.vt_mount_laws.proofs.MountsFound.{found_or_none, number_found}
 use Rattle.vt_spec.specs.Machine.Receives.{inheriting, receivers, receives}
@@ -48,7 +48,7 @@ detached_of_kept : (a b : Mount ℕ) → KeepsAllButPlaceAndType a b → detache
 detached_of_kept a b r = λ i. record {
   number = r.number i;
   namespace = None;
-  place = None;
+  mount_point = None;
   filesystem = r.filesystem i;
   root = r.root i;
   flags = r.flags i;
@@ -141,7 +141,7 @@ the_mount_itself_goes world one place one_each at childless = ap (λ ns. is_goin
     may = ap (λ n. only_cover nat_eq itself (children nat_eq world.mounts n)) number ∙ ap (only_cover nat_eq itself) (empty world.mounts childless)
 
     itself_among : Among itself world.mounts
-    itself_among = ⊎_elim (λ m. m) (λ none. absurd (true≢false (sym (ap is_some at) ∙ ap (λ m. is_some m.place) none))) (found_or_none world.mounts one)
+    itself_among = ⊎_elim (λ m. m) (λ none. absurd (true≢false (sym (ap is_some at) ∙ ap (λ m. is_some m.mount_point) none))) (found_or_none world.mounts one)
 
     at_parent : child_at nat_eq world.mounts (record { mount = parent.number; node = place.node }) ≡ Some itself
     at_parent = ap (λ n. child_at nat_eq world.mounts (record { mount = n; node = place.node })) (number_found world.mounts place.mount) ∙ found_at_its_place world.mounts one_each itself itself_among place at

@@ -2,14 +2,14 @@
 use Rattle.std.proofs.Common.{◌≡◌, refl, sym, ap, subst, ◌∙◌, inl, ⊎_elim, ℕ, nat_eq, Bool, true, false, true≢false, List, [], ◌∷◌, map, Option, Some, None, is_some, Ok}
 use Rattle.std.specs.Prelude.{Contains, filter_map, option_map, unwrap_or}
 use Rattle.vt_spec.specs.Machine.Attach.{receivers_of}
-use Rattle.vt_spec.specs.Machine.Calls.Call.{Umount}
+use Rattle.vt_spec.specs.Language.Calls.Call.{Umount}
 use Rattle.vt_spec.specs.Machine.Detach.{going, going_at, going_from, goes_at, is_going, may_go, unmounted}
-use Rattle.vt_spec.specs.Machine.Lists.{then_some, when}
+use Rattle.vt_spec.specs.Lists.{then_some, when}
 use Rattle.vt_spec.specs.Machine.Mounts.{Location, Mount, Propagation, child_at, group_of, is_shared}
 use Rattle.vt_spec.specs.Machine.Mounts.Propagation.{Private, Shared, Slave, Unbindable}
 use Rattle.vt_spec.specs.Machine.Outcome.Mounting.{admin_rules, umount_outcome, umount_rules}
 use Rattle.vt_spec.specs.Machine.Outcomes.{after, granted, judged}
-use Rattle.vt_spec.specs.Machine.Outcomes.Answer.{Done}
+use Rattle.vt_spec.specs.Language.Answers.Answer.{Done}
 use Rattle.vt_spec.specs.Machine.Receives.{Receives, receivers}
 use Rattle.vt_spec.specs.Machine.Walk.{Here, directory_walk, walk_end}
 use Rattle.vt_spec.specs.Machine.World.{Task, World, mount_at, mount_numbered}
@@ -55,7 +55,7 @@ module _ (world : World ℕ) where
 
 module _ (world : World ℕ) (live : GroupsLive world) (mount : Mount ℕ) where
   is_named : (number : ℕ) → is_going nat_eq (going nat_eq world mount) number ≡ true → Goes world mount number
-  is_named number h = by mount.place refl
+  is_named number h = by mount.mount_point refl
     where
       itself : Goes world mount mount.number → Among number (mount.number ∷ []) → Goes world mount number
       itself goes m = subst (Goes world mount) (sym (only_one number mount.number m)) goes
@@ -63,7 +63,7 @@ module _ (world : World ℕ) (live : GroupsLive world) (mount : Mount ℕ) where
       listed : (numbers : List ℕ) → going nat_eq world mount ≡ numbers → Among number numbers
       listed numbers e = among_numbers numbers number (sym (ap (λ ns. is_going nat_eq ns number) e) ∙ h)
 
-      shared : (place : Location ℕ) (group : ℕ) → mount.place ≡ Some place → (mount_at nat_eq world place).propagation ≡ Shared group
+      shared : (place : Location ℕ) (group : ℕ) → mount.mount_point ≡ Some place → (mount_at nat_eq world place).propagation ≡ Shared group
           → Among number (map (λ gone. gone.number) (filter_map (goes_at nat_eq world place.node) (receivers nat_eq world group)))
           → Goes world mount number
       shared place group e f m =
@@ -76,7 +76,7 @@ module _ (world : World ℕ) (live : GroupsLive world) (mount : Mount ℕ) where
           let hears : Contains world.mounts heard.0 × Receives world group heard.0 = (receivers_receive world group heard.0 live).0 (contains_from_among _ heard.0 heard.1) in
           subst (Goes world mount) (sym gone.2) (at_receiver place group heard.0 gone.0 e f hears.0 hears.1 child.0 child.1)
 
-      at_place : (place : Location ℕ) → mount.place ≡ Some place → (kind : Propagation ℕ)
+      at_place : (place : Location ℕ) → mount.mount_point ≡ Some place → (kind : Propagation ℕ)
           → (mount_at nat_eq world place).propagation ≡ kind → Goes world mount number
       at_place place e kind f = on kind f (listed (going_from nat_eq world mount place (is_shared kind)) (ap (going_at nat_eq world mount) e ∙ ap (λ k. going_from nat_eq world mount place (is_shared k)) f))
         where
@@ -87,7 +87,7 @@ module _ (world : World ℕ) (live : GroupsLive world) (mount : Mount ℕ) where
           on Private g m = itself (alone place e (ap is_shared g)) m
           on Unbindable g m = itself (alone place e (ap is_shared g)) m
 
-      by : (place : Option (Location ℕ)) → mount.place ≡ place → Goes world mount number
+      by : (place : Option (Location ℕ)) → mount.mount_point ≡ place → Goes world mount number
       by None e = itself (from_nowhere e) (listed (mount.number ∷ []) (ap (going_at nat_eq world mount) e))
       by (Some place) e = at_place place e (mount_at nat_eq world place).propagation refl
 

@@ -6,11 +6,11 @@ use Rattle.vt_mount_laws.specs.Mounts.Conditions.{EndedNamespacesLeaveOneMountAP
 use Rattle.vt_mount_laws.specs.Mounts.Unmounting.{PlacesEnd}
 use Rattle.vt_spec.specs.Machine.World.{World, mount_at, Namespace}
 use Rattle.std.proofs.lemmas.Bool.{and_parts, not-true}
-use Rattle.vt_spec.specs.Machine.Lists.{chain, holds_of, last_or, same_option}
+use Rattle.vt_spec.specs.Lists.{chain, holds_of, last_or, same_option}
 use Rattle.vt_mount_laws.proofs.UnmountingTrees.{AreClosed, closed_keeps_apart}
 use Rattle.vt_mount_laws.proofs.MountsReplaced.{found_itself}
 use Rattle.vt_spec.specs.Machine.Namespaces.{has_tasks, is_in_ended}
-use Rattle.vt_spec.specs.Machine.WorldLaws.{last_below, stands_in_its_namespace}
+use Rattle.vt_spec.specs.Machine.WorldLaws.{last_parent, stands_in_its_namespace}
 use Rattle.std.specs.List.{list_any}
 
 -- one step more changes no chain that has ended
@@ -42,24 +42,24 @@ not_none (y ∷ ys) x m = (length ys, refl)
 
 module _ (world : World ℕ) (ends : PlacesEnd world) where
   abbrev under : Mount ℕ → Option (Mount ℕ)
-  under mount = option_map (mount_at nat_eq world) mount.place
+  under mount = option_map (mount_at nat_eq world) mount.mount_point
 
-  no_more : (mount : Mount ℕ) → is_some mount.place ≡ false → under mount ≡ None
-  no_more mount e = by mount.place e
+  no_more : (mount : Mount ℕ) → is_some mount.mount_point ≡ false → under mount ≡ None
+  no_more mount e = by mount.mount_point e
     where
       by : (place : Option (Location ℕ)) → is_some place ≡ false → option_map (mount_at nat_eq world) place ≡ None
       by None f = refl
       by (Some place) f = absurd (true≢false f)
 
   parts : (mount : Mount ℕ) → Among mount world.mounts
-      → (is_some (last_below nat_eq world mount).place ≡ false) × (mount.namespace ≡ (last_below nat_eq world mount).namespace)
+      → (is_some (last_parent nat_eq world mount).mount_point ≡ false) × (mount.namespace ≡ (last_parent nat_eq world mount).namespace)
   parts mount m =
-      let both : (not (is_some (last_below nat_eq world mount).place) ≡ true) × (same_option nat_eq mount.namespace (last_below nat_eq world mount).namespace ≡ true) =
+      let both : (not (is_some (last_parent nat_eq world mount).mount_point) ≡ true) × (same_option nat_eq mount.namespace (last_parent nat_eq world mount).namespace ≡ true) =
       and_parts _ _ (among_from_list_all (stands_in_its_namespace nat_eq world) world.mounts ends mount m) in
-      (not-true _ both.0, one_namespace mount.namespace (last_below nat_eq world mount).namespace both.1)
+      (not-true _ both.0, one_namespace mount.namespace (last_parent nat_eq world mount).namespace both.1)
 
   -- a mount is in the namespace of the one that it stands on
-  pub same_namespace : (x : Mount ℕ) (place : Location ℕ) → Among x world.mounts → x.place ≡ Some place
+  pub same_namespace : (x : Mount ℕ) (place : Location ℕ) → Among x world.mounts → x.mount_point ≡ Some place
       → Among (mount_at nat_eq world place) world.mounts
       → x.namespace ≡ (mount_at nat_eq world place).namespace
   same_namespace x place m e n =
@@ -67,12 +67,12 @@ module _ (world : World ℕ) (ends : PlacesEnd world) where
       let size = not_none world.mounts x m in
       let first = parts x m in
       let other = parts on n in
-      let shorter : last_below nat_eq world x ≡ last_or on (chain size.0 under on) =
+      let shorter : last_parent nat_eq world x ≡ last_or on (chain size.0 under on) =
       ap (λ k. last_or x (chain k under x)) size.1
       ∙ ap (last_or x) (chain_goes_on under size.0 x on (ap (option_map (mount_at nat_eq world)) e)) ∙ last_of_chain under size.0 on x in
-      let same : last_below nat_eq world on ≡ last_below nat_eq world x =
+      let same : last_parent nat_eq world on ≡ last_parent nat_eq world x =
       ap (λ k. last_or on (chain k under on)) size.1
-      ∙ last_longer under size.0 on (no_more (last_or on (chain size.0 under on)) (ap (λ l. is_some l.place) (sym shorter) ∙ first.0))
+      ∙ last_longer under size.0 on (no_more (last_or on (chain size.0 under on)) (ap (λ l. is_some l.mount_point) (sym shorter) ∙ first.0))
       ∙ sym shorter in
       first.1 ∙ sym (other.1 ∙ ap (λ l. l.namespace) same)
 

@@ -5,48 +5,48 @@ use Rattle.vt_spec.proofs.Lists.{Among, among-filter, among-flat_map, among-from
 use Rattle.vt_mount_laws.specs.Mounts.Conditions.{AreApart, OneNumberEach, TreesLeaveOneMountAPlace}
 use Rattle.vt_mount_laws.specs.Mounts.Unmounting.{PlacesEnd}
 use Rattle.vt_spec.specs.Machine.World.{World, mount_at, mount_numbered}
-use Rattle.vt_spec.specs.Machine.Detach.{after_going, is_going, place_left, taken_away}
+use Rattle.vt_spec.specs.Machine.Detach.{after_going, is_going, mount_point_left, taken_away}
 use Rattle.std.proofs.lemmas.Bool.{and_parts, false_from_ne_true, not-true}
-use Rattle.vt_spec.specs.Machine.Lists.{any_pair, chain, holds_of, last_or}
+use Rattle.vt_spec.specs.Lists.{any_pair, chain, holds_of, last_or}
 use Rattle.vt_mount_laws.proofs.MountsReplaced.{found_itself}
 use Rattle.vt_mount_laws.proofs.Unmounting.{going_is_detached, left_at_rest, middle, staying_is_placed}
 use Rattle.vt_spec.specs.Machine.Receives.{inheriting}
 use Rattle.vt_mount_laws.proofs.Groups.{mounts-regrouped}
 use Rattle.vt_mount_laws.proofs.MountsPlaces.{one_place_of_two, place_of_both}
-use Rattle.vt_spec.specs.Machine.WorldLaws.{stand_at_one_place, stands_in_its_namespace}
+use Rattle.vt_spec.specs.Machine.WorldLaws.{share_a_mount_point, stands_in_its_namespace}
 use Rattle.vt_mount_laws.proofs.MountsKept.{taking_away_keeps_numbers}
 
 -- what stands on a mount that goes, goes
 abbrev pub AreClosed : World ℕ → List ℕ → Type 0
-AreClosed world gone = (x : Mount ℕ) (place : Location ℕ) → Among x world.mounts → x.place ≡ Some place → is_going nat_eq gone place.mount ≡ true → is_going nat_eq gone x.number ≡ true
+AreClosed world gone = (x : Mount ℕ) (place : Location ℕ) → Among x world.mounts → x.mount_point ≡ Some place → is_going nat_eq gone place.mount ≡ true → is_going nat_eq gone x.number ≡ true
 
 module _ (world : World ℕ) (gone : List ℕ) (closed : AreClosed world gone) where
   -- then what stays stands where it stood
-  stood_there : (a : Mount ℕ) (rest : Location ℕ) → Among a world.mounts → (after_going nat_eq world gone a).place ≡ Some rest
-      → a.place ≡ Some rest
+  stood_there : (a : Mount ℕ) (rest : Location ℕ) → Among a world.mounts → (after_going nat_eq world gone a).mount_point ≡ Some rest
+      → a.mount_point ≡ Some rest
   stood_there a rest m e = by (is_going nat_eq gone a.number) refl
     where
-      on : (place : Location ℕ) (b : Bool) → is_going nat_eq gone place.mount ≡ b → a.place ≡ Some place
+      on : (place : Location ℕ) (b : Bool) → is_going nat_eq gone place.mount ≡ b → a.mount_point ≡ Some place
           → is_going nat_eq gone a.number ≡ false
-          → option_map (place_left nat_eq world gone) (Some place) ≡ Some rest → a.place ≡ Some rest
+          → option_map (mount_point_left nat_eq world gone) (Some place) ≡ Some rest → a.mount_point ≡ Some rest
       on place true goes f stays g = absurd (true≢false (sym (closed a place m f goes) ∙ stays))
       on place false stays_too f stays g = f ∙ ap Some (sym (left_at_rest world gone (length world.mounts) place stays_too)) ∙ g
 
-      at : (place : Option (Location ℕ)) → a.place ≡ place → is_going nat_eq gone a.number ≡ false
-          → option_map (place_left nat_eq world gone) place ≡ Some rest → a.place ≡ Some rest
+      at : (place : Option (Location ℕ)) → a.mount_point ≡ place → is_going nat_eq gone a.number ≡ false
+          → option_map (mount_point_left nat_eq world gone) place ≡ Some rest → a.mount_point ≡ Some rest
       at None f stays g = absurd (true≢false (sym (ap is_some g)))
       at (Some place) f stays g = on place (is_going nat_eq gone place.mount) refl f stays g
 
-      by : (b : Bool) → is_going nat_eq gone a.number ≡ b → a.place ≡ Some rest
-      by true f = absurd (true≢false (sym (ap is_some e) ∙ ap (λ m. is_some m.place) (going_is_detached world gone a f)))
-      by false f = at a.place refl f (sym (ap (λ m. m.place) (staying_is_placed world gone a f)) ∙ e)
+      by : (b : Bool) → is_going nat_eq gone a.number ≡ b → a.mount_point ≡ Some rest
+      by true f = absurd (true≢false (sym (ap is_some e) ∙ ap (λ m. is_some m.mount_point) (going_is_detached world gone a f)))
+      by false f = at a.mount_point refl f (sym (ap (λ m. m.mount_point) (staying_is_placed world gone a f)) ∙ e)
 
   pub closed_keeps_apart : AreApart world → AreApart (taken_away nat_eq world gone)
   closed_keeps_apart both = record {
     by_number = taking_away_keeps_numbers world gone both.by_number;
-    by_place = ap (any_pair (stand_at_one_place nat_eq)) (mounts-regrouped (middle world gone))
-        ∙ pair-map (stand_at_one_place nat_eq) (stand_at_one_place nat_eq) (inheriting nat_eq (middle world gone)) (middle world gone).mounts (λ a b m n e. e)
-        (pair-map (stand_at_one_place nat_eq) (stand_at_one_place nat_eq) (after_going nat_eq world gone) world.mounts
+    by_place = ap (any_pair (share_a_mount_point nat_eq)) (mounts-regrouped (middle world gone))
+        ∙ pair-map (share_a_mount_point nat_eq) (share_a_mount_point nat_eq) (inheriting nat_eq (middle world gone)) (middle world gone).mounts (λ a b m n e. e)
+        (pair-map (share_a_mount_point nat_eq) (share_a_mount_point nat_eq) (after_going nat_eq world gone) world.mounts
         (λ a b m n differ. false_from_ne_true _ (λ together.
         let place = place_of_both (after_going nat_eq world gone a) (after_going nat_eq world gone b) together in
         true≢false (sym (one_place_of_two place.0 a b (stood_there a place.0 m place.1) (stood_there b place.0 n place.2)) ∙ differ)))
@@ -57,26 +57,26 @@ module _ (world : World ℕ) (gone : List ℕ) (closed : AreClosed world gone) w
 
 module _ (world : World ℕ) where
   abbrev mount_below : Mount ℕ → Option (Mount ℕ)
-  mount_below mount = option_map (mount_at nat_eq world) mount.place
+  mount_below mount = option_map (mount_at nat_eq world) mount.mount_point
 
   -- one mount stands so many places above another
   data Reaches : ℕ → Mount ℕ → Mount ℕ → Type 0 where
     arrived : (mount : Mount ℕ) → Reaches zero mount mount
-    down : (n : ℕ) (mount end : Mount ℕ) (place : Location ℕ) → mount.place ≡ Some place → Reaches n (mount_at nat_eq world place) end
+    down : (n : ℕ) (mount end : Mount ℕ) (place : Location ℕ) → mount.mount_point ≡ Some place → Reaches n (mount_at nat_eq world place) end
         → Reaches (suc n) mount end
 
-  one_more : (n : ℕ) (mount end : Mount ℕ) (place : Location ℕ) → Reaches n mount end → end.place ≡ Some place
+  one_more : (n : ℕ) (mount end : Mount ℕ) (place : Location ℕ) → Reaches n mount end → end.mount_point ≡ Some place
       → Reaches (suc n) mount (mount_at nat_eq world place)
   one_more n mount end place (arrived it) e = down zero it (mount_at nat_eq world place) place e (arrived (mount_at nat_eq world place))
   one_more n mount end place (down k it last at f later) e = down (suc k) it (mount_at nat_eq world place) at f (one_more k (mount_at nat_eq world at) last place later e)
 
   -- so its places do not end sooner
   not_ended : (n k : ℕ) (mount end : Mount ℕ) → Reaches k mount end → k ≡ suc n
-      → is_some (last_or mount (chain n mount_below mount)).place ≡ true
+      → is_some (last_or mount (chain n mount_below mount)).mount_point ≡ true
   not_ended n k mount end (arrived it) e = absurd (omega (arith, e))
   not_ended zero k mount end (down j it last at f later) e = ap is_some f
   not_ended (suc n) k mount end (down j it last at f later) e =
-      ap (λ m. is_some m.place)
+      ap (λ m. is_some m.mount_point)
       (ap (last_or it) (chain_goes_on mount_below n it (mount_at nat_eq world at) (ap (option_map (mount_at nat_eq world)) f))
       ∙ last_of_chain mount_below n (mount_at nat_eq world at) it)
       ∙ not_ended n j (mount_at nat_eq world at) last later (omega (arith, e))
@@ -90,7 +90,7 @@ module _ (world : World ℕ) where
 
     -- what stands on a mount of a tree is in it, or lies so deep
     in_tree : (depth : ℕ) (top under x : Mount ℕ) (place : Location ℕ) → Among under (tree_from nat_eq depth world.mounts top)
-        → Among x world.mounts → x.place ≡ Some place → place.mount ≡ under.number
+        → Among x world.mounts → x.mount_point ≡ Some place → place.mount ≡ under.number
         → Among x (tree_from nat_eq depth world.mounts top) ⊎ Reaches (suc depth) x (mount_numbered nat_eq world top.number)
     in_tree zero top under x place m n e same =
         let number : place.mount ≡ top.number = ⊎_elim (λ f. same ∙ ap (λ z. z.number) f) (λ none. absurd none) m in
@@ -117,9 +117,9 @@ module _ (world : World ℕ) where
 
         deeper : (d : ℕ) (z child : Mount ℕ) → Among child world.mounts → stands_on nat_eq top.number child ≡ true
             → Reaches (suc d) z child → Reaches (suc (suc d)) z (mount_numbered nat_eq world top.number)
-        deeper d z child c on r = by child.place refl
+        deeper d z child c on r = by child.mount_point refl
           where
-            by : (found : Option (Location ℕ)) → child.place ≡ found → Reaches (suc (suc d)) z (mount_numbered nat_eq world top.number)
+            by : (found : Option (Location ℕ)) → child.mount_point ≡ found → Reaches (suc (suc d)) z (mount_numbered nat_eq world top.number)
             by None f = absurd (true≢false (sym on ∙ ap (holds_of (λ p. nat_eq top.number p.mount)) f))
             by (Some p) f =
                 let number : top.number ≡ p.mount = eqb-true top.number p.mount (sym (ap (holds_of (λ q. nat_eq top.number q.mount)) f) ∙ on) in

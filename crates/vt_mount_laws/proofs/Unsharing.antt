@@ -3,12 +3,12 @@ use Rattle.std.proofs.Common.{◌≡◌, refl, sym, ap, subst, ◌∙◌, false,
 use Rattle.std.proofs.lemmas.Bool.{false_from_ne_true}
 use Rattle.std.proofs.lemmas.Option.{same_Some}
 use Rattle.vt_spec.proofs.Lists.{Among, all_from_among, among-append, among-append_left, among-append_right, among-filter, among-from_filter, among-from_map, among-map, among_from_all, among_from_list_all, pair-filter, pair-map}
-use Rattle.vt_spec.specs.Machine.Lists.{Fresh, any_pair, evens, holds_of, odds}
+use Rattle.vt_spec.specs.Lists.{Fresh, any_pair, evens, holds_of, odds}
 use Rattle.vt_spec.specs.Machine.Mounts.{Location, Mount, index_of, numbers_by}
 use Rattle.vt_spec.specs.Machine.Namespaces.{copied_mount, location_on_copy, unshared}
 use Rattle.vt_spec.specs.Machine.Run.{Serves}
 use Rattle.vt_spec.specs.Machine.World.{Task, World, mount_numbered, mounts_of}
-use Rattle.vt_spec.specs.Machine.WorldLaws.{MountInvariants, Stands, is_nowhere_or_attached, is_private, stand_at_one_place}
+use Rattle.vt_spec.specs.Machine.WorldLaws.{MountInvariants, Stands, is_nowhere_or_attached, is_private, share_a_mount_point}
 use Rattle.vt_spec.specs.Machine.WorldLaws.Stands.{at_root, on_parent}
 use Rattle.vt_mount_laws.specs.Mounts.Namespaces.{UnshareKeepsMounts}
 use Rattle.vt_mount_laws.proofs.GroupsLiving.{all_live, tested_live}
@@ -35,24 +35,24 @@ module _ (world : World ℕ) (mounts : MountInvariants nat_eq world) where
       among_from_all (λ (other : Mount ℕ). Stands nat_eq world other.number) world.mounts mounts.standing mount m
 
   -- a mount outside every namespace has no place
-  pub placed_inside : (mount : Mount ℕ) → Among mount world.mounts → (place : Location ℕ) → mount.place ≡ Some place
+  pub placed_inside : (mount : Mount ℕ) → Among mount world.mounts → (place : Location ℕ) → mount.mount_point ≡ Some place
       → mount.namespace ≡ None → ⊥
   placed_inside mount m place e none =
       true≢false
       (sym (among_from_list_all is_nowhere_or_attached world.mounts mounts.nowhere mount m)
-      ∙ ap (λ n. is_some n || (not (is_some mount.place) && is_private mount.propagation)) none
+      ∙ ap (λ n. is_some n || (not (is_some mount.mount_point) && is_private mount.propagation)) none
       ∙ ap (λ q. not (is_some q) && is_private mount.propagation) e)
 
-  pub parent_of : (mount : Mount ℕ) → Among mount world.mounts → (place : Location ℕ) → mount.place ≡ Some place
+  pub parent_of : (mount : Mount ℕ) → Among mount world.mounts → (place : Location ℕ) → mount.mount_point ≡ Some place
       → Parent world mount place
   parent_of mount m place e = by (stands_itself mount m) (itself mount m)
     where
       by : Stands nat_eq world mount.number → mount_numbered nat_eq world mount.number ≡ mount
           → Parent world mount place
       by (at_root it f) same =
-          absurd (true≢false (sym (ap is_some e) ∙ ap (λ x. is_some x.place) (sym same) ∙ ap is_some f))
+          absurd (true≢false (sym (ap is_some e) ∙ ap (λ x. is_some x.mount_point) (sym same) ∙ ap is_some f))
       by (on_parent it at f g stands) same =
-          let at_is : at ≡ place = same_Some at place (sym f ∙ ap (λ x. x.place) same ∙ e) in
+          let at_is : at ≡ place = same_Some at place (sym f ∙ ap (λ x. x.mount_point) same ∙ e) in
           let inside : mount.namespace ≡ (mount_numbered nat_eq world place.mount).namespace =
           ap (λ x. x.namespace) (sym same) ∙ g
           ∙ ap (λ (p : Location ℕ). (mount_numbered nat_eq world p.mount).namespace) at_is in
@@ -88,7 +88,7 @@ module _ (world : World ℕ) (fresh : Fresh ℕ) (task : Task ℕ) (serves : Ser
       (among-from_filter (λ (x : Mount ℕ). holds_of (nat_eq task.namespace) x.namespace) world.mounts mount m).0
 
   -- the parent of what is copied is copied
-  copied_parent : (mount : Mount ℕ) → Among mount copied → (place : Location ℕ) → mount.place ≡ Some place
+  copied_parent : (mount : Mount ℕ) → Among mount copied → (place : Location ℕ) → mount.mount_point ≡ Some place
       → (parent : Mount ℕ) × Among parent copied × (parent.number ≡ place.mount)
   copied_parent mount m place e =
       let parent = parent_of world mounts mount (is_copied_from mount m) place e in
@@ -113,19 +113,19 @@ module _ (world : World ℕ) (fresh : Fresh ℕ) (task : Task ℕ) (serves : Ser
       → mount.number ≡ number → Stands nat_eq after number
   old_stands number (at_root it e) mount m same =
       at_root it
-      (ap (λ n. (mount_numbered nat_eq after n).place) (sym same) ∙ ap (λ x. x.place) (old_found mount m)
-      ∙ ap (λ x. x.place) (sym (itself world mounts mount m))
-      ∙ ap (λ n. (mount_numbered nat_eq world n).place) same ∙ e)
+      (ap (λ n. (mount_numbered nat_eq after n).mount_point) (sym same) ∙ ap (λ x. x.mount_point) (old_found mount m)
+      ∙ ap (λ x. x.mount_point) (sym (itself world mounts mount m))
+      ∙ ap (λ n. (mount_numbered nat_eq world n).mount_point) same ∙ e)
   old_stands number (on_parent it place e f stands) mount m same =
       let back : mount_numbered nat_eq world it ≡ mount =
       ap (mount_numbered nat_eq world) (sym same) ∙ itself world mounts mount m in
       let found : mount_numbered nat_eq after it ≡ mount =
       ap (mount_numbered nat_eq after) (sym same) ∙ old_found mount m in
-      let at : mount.place ≡ Some place = ap (λ x. x.place) (sym back) ∙ e in
+      let at : mount.mount_point ≡ Some place = ap (λ x. x.mount_point) (sym back) ∙ e in
       let parent = parent_of world mounts mount m place at in
       let below : mount_numbered nat_eq after place.mount ≡ parent.parent =
       ap (mount_numbered nat_eq after) (sym parent.number) ∙ old_found parent.parent parent.there in
-      on_parent it place (ap (λ x. x.place) found ∙ at)
+      on_parent it place (ap (λ x. x.mount_point) found ∙ at)
       (ap (λ x. x.namespace) found ∙ parent.namespace ∙ ap (λ x. x.namespace) (sym below))
       (old_stands place.mount stands parent.parent parent.there parent.number)
 
@@ -133,20 +133,20 @@ module _ (world : World ℕ) (fresh : Fresh ℕ) (task : Task ℕ) (serves : Ser
       → mount.number ≡ number → Stands nat_eq after (copy mount).number
   copy_stands number (at_root it e) mount m same =
       at_root (copy mount).number
-      (ap (λ x. x.place) (copy_found mount m)
+      (ap (λ x. x.mount_point) (copy_found mount m)
       ∙ ap (option_map (location_on_copy new_number))
-      (ap (λ x. x.place) (sym (itself world mounts mount (is_copied_from mount m)))
-      ∙ ap (λ n. (mount_numbered nat_eq world n).place) same ∙ e))
+      (ap (λ x. x.mount_point) (sym (itself world mounts mount (is_copied_from mount m)))
+      ∙ ap (λ n. (mount_numbered nat_eq world n).mount_point) same ∙ e))
   copy_stands number (on_parent it place e f stands) mount m same =
       let back : mount_numbered nat_eq world it ≡ mount =
       ap (mount_numbered nat_eq world) (sym same) ∙ itself world mounts mount (is_copied_from mount m) in
-      let at : mount.place ≡ Some place = ap (λ x. x.place) (sym back) ∙ e in
+      let at : mount.mount_point ≡ Some place = ap (λ x. x.mount_point) (sym back) ∙ e in
       let parent = copied_parent mount m place at in
       let number_is : (copy parent.0).number ≡ new_number place.mount = ap new_number parent.2 in
       let below : mount_numbered nat_eq after (new_number place.mount) ≡ copy parent.0 =
       ap (mount_numbered nat_eq after) (sym number_is) ∙ copy_found parent.0 parent.1 in
       on_parent (copy mount).number (location_on_copy new_number place)
-      (ap (λ x. x.place) (copy_found mount m) ∙ ap (option_map (location_on_copy new_number)) at)
+      (ap (λ x. x.mount_point) (copy_found mount m) ∙ ap (option_map (location_on_copy new_number)) at)
       (ap (λ x. x.namespace) (copy_found mount m) ∙ ap (λ x. x.namespace) (sym below))
       (subst (Stands nat_eq after) number_is (copy_stands place.mount stands parent.0 parent.1 parent.2))
 
@@ -161,12 +161,12 @@ module _ (world : World ℕ) (fresh : Fresh ℕ) (task : Task ℕ) (serves : Ser
       (among-append world.mounts (map copy copied) mount m)
 
   -- the place of a copy
-  copy_place : (mount : Mount ℕ) (place : Location ℕ) → (copy mount).place ≡ Some place
-      → (origin : Location ℕ) × (mount.place ≡ Some origin) × (location_on_copy new_number origin ≡ place)
-  copy_place mount place e = by mount.place refl
+  copy_place : (mount : Mount ℕ) (place : Location ℕ) → (copy mount).mount_point ≡ Some place
+      → (origin : Location ℕ) × (mount.mount_point ≡ Some origin) × (location_on_copy new_number origin ≡ place)
+  copy_place mount place e = by mount.mount_point refl
     where
-      by : (found : Option (Location ℕ)) → mount.place ≡ found
-          → (origin : Location ℕ) × (mount.place ≡ Some origin) × (location_on_copy new_number origin ≡ place)
+      by : (found : Option (Location ℕ)) → mount.mount_point ≡ found
+          → (origin : Location ℕ) × (mount.mount_point ≡ Some origin) × (location_on_copy new_number origin ≡ place)
       by None f =
           absurd (true≢false (sym (ap is_some e) ∙ ap (λ p. is_some (option_map (location_on_copy new_number) p)) f))
       by (Some origin) f = (
@@ -176,9 +176,9 @@ module _ (world : World ℕ) (fresh : Fresh ℕ) (task : Task ℕ) (serves : Ser
             (sym (ap (option_map (location_on_copy new_number)) f) ∙ e),
       )
 
-  two_copies : (a b : Mount ℕ) → Among a copied → Among b copied → stand_at_one_place nat_eq a b ≡ false
-      → stand_at_one_place nat_eq (copy a) (copy b) ≡ false
-  two_copies a b m n differ = false_from_ne_true (stand_at_one_place nat_eq (copy a) (copy b)) (λ together.
+  two_copies : (a b : Mount ℕ) → Among a copied → Among b copied → share_a_mount_point nat_eq a b ≡ false
+      → share_a_mount_point nat_eq (copy a) (copy b) ≡ false
+  two_copies a b m n differ = false_from_ne_true (share_a_mount_point nat_eq (copy a) (copy b)) (λ together.
       let both = place_of_both (copy a) (copy b) together in
       let p = copy_place a both.0 both.1 in
       let q = copy_place b both.0 both.2 in
@@ -197,8 +197,8 @@ module _ (world : World ℕ) (fresh : Fresh ℕ) (task : Task ℕ) (serves : Ser
       let place_same : p.0 ≡ q.0 = λ i. record { mount = mount_same i; node = node_same i } in
       true≢false (sym (one_place_of_two p.0 a b p.1 (q.1 ∙ ap Some (sym place_same))) ∙ differ))
 
-  old_and_copy : (a b : Mount ℕ) → Among a world.mounts → Among b copied → stand_at_one_place nat_eq a (copy b) ≡ false
-  old_and_copy a b m n = false_from_ne_true (stand_at_one_place nat_eq a (copy b)) (λ together.
+  old_and_copy : (a b : Mount ℕ) → Among a world.mounts → Among b copied → share_a_mount_point nat_eq a (copy b) ≡ false
+  old_and_copy a b m n = false_from_ne_true (share_a_mount_point nat_eq a (copy b)) (λ together.
       let both = place_of_both a (copy b) together in
       let q = copy_place b both.0 both.2 in
       let parent = parent_of world mounts a m both.0 both.1 in
@@ -210,15 +210,15 @@ module _ (world : World ℕ) (fresh : Fresh ℕ) (task : Task ℕ) (serves : Ser
       ∙ number_is_old world fresh serves parent.parent.number
       (among-map (λ (mount : Mount ℕ). mount.number) world.mounts parent.parent parent.there) (2 * index + 1)))
 
-  one_child_after : any_pair (stand_at_one_place nat_eq) after.mounts ≡ false
+  one_child_after : any_pair (share_a_mount_point nat_eq) after.mounts ≡ false
   one_child_after =
-      pair-append (stand_at_one_place nat_eq) world.mounts (map copy copied) mounts.one_child
-      (pair-map (stand_at_one_place nat_eq) (stand_at_one_place nat_eq) copy copied two_copies
-      (pair-filter (stand_at_one_place nat_eq) (λ (x : Mount ℕ). holds_of (nat_eq task.namespace) x.namespace)
+      pair-append (share_a_mount_point nat_eq) world.mounts (map copy copied) mounts.one_child
+      (pair-map (share_a_mount_point nat_eq) (share_a_mount_point nat_eq) copy copied two_copies
+      (pair-filter (share_a_mount_point nat_eq) (λ (x : Mount ℕ). holds_of (nat_eq task.namespace) x.namespace)
       world.mounts mounts.one_child))
       (λ a b m n.
       let from = among-from_map copy copied b n in
-      ap (stand_at_one_place nat_eq a) from.2 ∙ old_and_copy a from.0 m from.1)
+      ap (share_a_mount_point nat_eq a) from.2 ∙ old_and_copy a from.0 m from.1)
 
 pub unshare_keeps_mounts : UnshareKeepsMounts
 unshare_keeps_mounts world fresh task serves mounts = record {

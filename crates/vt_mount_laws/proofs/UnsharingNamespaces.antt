@@ -5,7 +5,7 @@ use Rattle.std.proofs.lemmas.Bool.{and_parts, false_from_ne_true}
 use Rattle.std.proofs.lemmas.List.{append-nil, length-map}
 use Rattle.std.proofs.lemmas.List.Elements.{filter-append}
 use Rattle.vt_spec.proofs.Lists.{Among, among-append_right, among-from_map, among_from_list_all, among_numbers, filter_none, is_among_numbers, none_from_among}
-use Rattle.vt_spec.specs.Machine.Lists.{evens, holds_of, odds}
+use Rattle.vt_spec.specs.Lists.{evens, holds_of, odds}
 use Rattle.vt_spec.specs.Machine.Mounts.{Location, Mount, numbers_by}
 use Rattle.vt_spec.specs.Machine.Namespaces.{copied_mount, location_on_copy}
 use Rattle.vt_spec.specs.Machine.Run.{numbers_in_use, used_by_filesystem, used_by_mount}
@@ -66,7 +66,7 @@ unshare_keeps_counts world fresh task empty =
       mounts = ap length these ∙ length-map copied copy;
       roots = ap (λ l. length (filter (is_root_mount nat_eq) l)) these
           ∙ ap length (filter-map (is_root_mount nat_eq) (is_root_mount nat_eq) copy copied
-          (λ mount m. as_root new_number mount.place))
+          (λ mount m. as_root new_number mount.mount_point))
           ∙ length-map (filter (is_root_mount nat_eq) copied) copy;
     }
   where

@@ -10,7 +10,7 @@ use Rattle.std.specs.FinMap.{nat_cmp-IsAntisymmetric, slice_cmp-IsAntisymmetric}
 use Rattle.std.specs.FinMap.Entries.{by_order, find, is_sorted, same_entries, find-put, find-where_key, is_sorted-put, is_sorted-where_key}
 use Rattle.std.specs.Str.{bytes_eq}
 use Rattle.vt_spec.specs.Tree.{Entries, name_cmp, with_entry}
-use Rattle.vt_spec.specs.Machine.Changes.{without_entry}
+use Rattle.vt_spec.specs.Language.Changes.{without_entry}
 use Rattle.vt_node.specs.Listed.{listed}
 
 -- two names tie only where they are one

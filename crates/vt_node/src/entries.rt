@@ -2,7 +2,7 @@
 ghost use Rattle.std.specs.Prelude.{◌≡◌, [], map, true, IsSome, IsTrue, IsOk, IfOk, ◌↔◌, OnOk, OnErr};
 ghost use Rattle.std.specs.FinMap.Entries.{is_sorted};
 ghost use Rattle.vt_spec.specs.Tree.{name_cmp, entry_named, with_entry};
-ghost use Rattle.vt_spec.specs.Machine.Changes.{without_entry};
+ghost use Rattle.vt_spec.specs.Language.Changes.{without_entry};
 
 use crate::NodeId;
 use crate::copies::copied_names;

@@ -1,6 +1,6 @@
 -- What the definitions see of the code's world.
 use Rattle.std.specs.Prelude.{Some, ℕ, ◌≡◌}
-use Rattle.vt_spec.specs.Machine.World.{TaskName}
+use Rattle.vt_spec.specs.Language.Calls.{TaskName}
 use Rattle.vt_spec.specs.OneTree.World.{Task, World, task_called}
 use Rattle.vt_tree.specs.TreeValue.{inodes_of, next_number}
 use Rattle.vt_ns.specs.declared.world.World.{World as Held}

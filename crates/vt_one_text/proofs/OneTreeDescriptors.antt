@@ -1,9 +1,9 @@
 -- Open, close and exit are answered alike.
 use Rattle.std.proofs.Common.{◌≡◌, ◌≢◌, refl, sym, ap, subst, ◌∙◌, ⊎_elim, ℕ, zero, suc, ◌+◌, ◌≤◌, ◌<◌, nat_eq, nat_lt, eq-eqb, ne_eqb, Bool, true, false, true≢false, cond, not, List, [], ◌∷◌, ◌++◌, map, filter, find, flat_map, Option, Some, None, is_some, arith}
 use Rattle.std.proofs.lemmas.Bool.Decides.{eqb_tells}
-use Rattle.vt_spec.specs.Machine.FileTree.{targets_in}
+use Rattle.vt_spec.specs.FileTree.{targets_in}
 use Rattle.vt_spec.specs.Machine.Outcome.Descriptors as Descriptors
-use Rattle.vt_spec.specs.Machine.World.{TaskName}
+use Rattle.vt_spec.specs.Language.Calls.{TaskName}
 use Rattle.vt_spec.specs.OneTree.Inodes.{Inode, Inodes, tree_of, unpinned, uses_in}
 use Rattle.vt_spec.specs.OneTree.Policy.{without_uses}
 use Rattle.vt_spec.specs.OneTree.World.{Descriptor, Task, World, free_from, inserted, is_called}

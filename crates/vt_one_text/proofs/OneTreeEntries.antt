@@ -7,8 +7,8 @@ use Rattle.std.specs.Ordering.{is_eq, is_lt}
 use Rattle.std.specs.Str.{bytes_eq}
 use Rattle.std.specs.declared.cmp.Ordering.{Ordering}
 use Rattle.std.specs.declared.cmp.Ordering.TheVariants.{Less, Equal, Greater}
-use Rattle.vt_spec.specs.Machine.Changes.{without_entry}
-use Rattle.vt_spec.specs.Machine.FileTree.{targets_in}
+use Rattle.vt_spec.specs.Language.Changes.{without_entry}
+use Rattle.vt_spec.specs.FileTree.{targets_in}
 use Rattle.vt_spec.specs.Tree.{Entries, Node, entry_named, name_cmp, with_entry}
 use Rattle.vt_one_text.specs.OneTree.{times_in}
 use Rattle.vt_one_text.proofs.OneTreeTrees.{times_append}

@@ -2,14 +2,14 @@
 use Rattle.std.proofs.Common.{◌≡◌, ◌≢◌, refl, sym, ap, subst, ◌∙◌, ⊎_elim, inl, inr, ◌⊎◌, ℕ, ◌+◌, ◌≤◌, nat_eq, Bool, true, false, cond, not, List, [], ◌∷◌, ◌++◌, map, find, flat_map, Option, Some, None, option_map, is_ok, length, nat_le, bytes_eq, ◌==◌, ◌&&◌, ◌||◌, Result, Ok, arith}
 use Rattle.vt_spec.specs.declared.errors.Deny.{Deny}
 use Rattle.vt_spec.specs.declared.errors.Rule.TheVariants.{K1, S6}
-use Rattle.vt_spec.specs.Machine.Calls.{CapabilityWord, ForkWords}
-use Rattle.vt_spec.specs.Machine.Calls.Call.{Drop, Fork, Umask}
+use Rattle.vt_spec.specs.Language.Calls.{CapabilityWord, ForkWords, TaskName, same_name}
+use Rattle.vt_spec.specs.Language.Calls.Call.{Drop, Fork, Umask}
 use Rattle.vt_spec.specs.Machine.Outcome.Tasks as Tasks
-use Rattle.vt_spec.specs.Machine.Outcome.Tasks.{capabilities_of, child_credentials, deepest_name, most_forks, permission_bits, with_dropped}
+use Rattle.vt_spec.specs.Machine.Outcome.Tasks.{capabilities_of, child_credentials, permission_bits, with_dropped}
+use Rattle.vt_spec.specs.Language.Limits.{deepest_name, most_forks}
 use Rattle.vt_spec.specs.Machine.Outcomes as Outcomes
-use Rattle.vt_spec.specs.Machine.Outcomes.Answer.{Child, Done}
+use Rattle.vt_spec.specs.Language.Answers.Answer.{Child}
 use Rattle.vt_spec.specs.Machine.World as MachineWorld
-use Rattle.vt_spec.specs.Machine.World.{TaskName, same_name}
 use Rattle.vt_spec.specs.OneTree.Inodes.{tree_of}
 use Rattle.vt_spec.specs.OneTree.Permits.{Permit}
 use Rattle.vt_spec.specs.OneTree.Permits.Permit.{ToFork, ToSetCredentials, ToSetUmask}

@@ -4,9 +4,9 @@ use Rattle.std.specs.Bool.{⊤}
 use Rattle.std.specs.List.{list_any}
 use Rattle.std.specs.Cmp.Lexicographic.{bytes_decides}
 use Rattle.std.specs.Str.{bytes_eq}
-use Rattle.vt_spec.specs.Machine.Calls.{Call, Creation}
-use Rattle.vt_spec.specs.Machine.Lists.{then_some}
-use Rattle.vt_spec.specs.Machine.Script as Script
+use Rattle.vt_spec.specs.Language.Calls.{Call, Creation}
+use Rattle.vt_spec.specs.Lists.{then_some}
+use Rattle.vt_spec.specs.Language.Script as Script
 use Rattle.vt_one_text.specs.OneTree.{FilesAreInLanguage, IsAnsweredAlike}
 use Rattle.vt_one_text.proofs.OneTreeForks.{drops_agree, forks_agree, umasks_agree}
 use Rattle.vt_one_text.proofs.OneTreeLinks.{links_agree, rmdirs_agree, unlinks_agree}
@@ -105,7 +105,7 @@ paths_answered call all words =
     word_answered Script.path_word (λ first. Script.word_then Script.path_word (λ second. Script.no_more (call first second)))
     (λ first rest. word_answered Script.path_word (λ second. Script.no_more (call first second)) (λ second rest. no_more_answered (call first second) (all first second) rest) rest) words
 
-creation_answered : (path : List ℕ) (access : Rattle.vt_spec.specs.Machine.Calls.Access) (o : Option Creation) → Answered (option_map (Call.OpenFile path access) o)
+creation_answered : (path : List ℕ) (access : Rattle.vt_spec.specs.Language.Calls.Access) (o : Option Creation) → Answered (option_map (Call.OpenFile path access) o)
 creation_answered path access None = tt
 creation_answered path access (Some creation) = opens_agree path access creation
 

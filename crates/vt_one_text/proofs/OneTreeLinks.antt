@@ -3,25 +3,25 @@ use Rattle.std.proofs.Common.{◌≡◌, refl, sym, ap, subst, ◌∙◌, inl, i
 use Rattle.vt_spec.specs.declared.errors.Deny.{Deny}
 use Rattle.vt_spec.specs.declared.errors.Rule.TheVariants.{B1, C1, C3, E1, E2, E3, E4, E5, E7, F1, F2, L1, P1, P2, W3, W4, W6}
 use Rattle.vt_spec.specs.Errors.{Rules, and_then, denial, unless}
-use Rattle.vt_spec.specs.Machine.Calls.Call.{LinkTo, Rmdir, Unlink}
-use Rattle.vt_spec.specs.Machine.Changes.Change.{AddName, Remove}
-use Rattle.vt_spec.specs.Machine.FileTree.{link_text, targets_in}
+use Rattle.vt_spec.specs.Language.Calls.Call.{LinkTo, Rmdir, Unlink}
+use Rattle.vt_spec.specs.Language.Changes.Change.{AddName, Remove}
+use Rattle.vt_spec.specs.FileTree.{symlink_text, targets_in}
 use Rattle.vt_spec.specs.Machine.Filesystems.{with_change}
-use Rattle.vt_spec.specs.Machine.Lists.{Fresh, is_empty_list}
+use Rattle.vt_spec.specs.Lists.{Fresh, is_empty_list}
 use Rattle.vt_spec.specs.Machine.Outcome.Making as Making
 use Rattle.vt_spec.specs.Machine.Outcome.Removing as Removing
 use Rattle.vt_spec.specs.Machine.Outcomes as Outcomes
-use Rattle.vt_spec.specs.Machine.Outcomes.Answer.{Done}
+use Rattle.vt_spec.specs.Language.Answers.Answer.{Done}
 use Rattle.vt_spec.specs.Machine.Walk.{LastWord, final_word, is_special, last_word, name_of}
 use Rattle.vt_spec.specs.Machine.Walk.LastWord.{Dot, DotDot, Named, NoWord}
 use Rattle.vt_spec.specs.Machine.World as MachineWorld
-use Rattle.vt_spec.specs.Machine.World.{TaskName}
+use Rattle.vt_spec.specs.Language.Calls.{TaskName}
 use Rattle.vt_spec.specs.OneTree.Inodes.{tree_of}
 use Rattle.vt_spec.specs.OneTree.Permits.{Permit}
 use Rattle.vt_spec.specs.OneTree.Permits.Permit.{ToChange}
-use Rattle.vt_spec.specs.OneTree.Policy.{link_permit, rmdir_permit, unlink_permit}
-use Rattle.vt_spec.specs.OneTree.Rules.{is_filled, is_kept, link_rules, may_not, rmdir_rules, unlink_rules}
-use Rattle.vt_spec.specs.OneTree.Walk.{Follow, Here, Place, follow_rules, followed, front_walked, if_link, is_directory_at, is_directory_there, last_walked, link_start, link_walk, link_walked, may, new_leaf_walk, new_walk, object_walk, old_leaf_walk, old_walk, path_walked, slash_rules, stepped, unfollowed_walk, walk_start, word_walked, words_walked}
+use Rattle.vt_spec.specs.OneTree.Policy.{hard_link_permit, rmdir_permit, unlink_permit}
+use Rattle.vt_spec.specs.OneTree.Rules.{is_filled, is_kept, hard_link_rules, may_not, rmdir_rules, unlink_rules}
+use Rattle.vt_spec.specs.OneTree.Walk.{Follow, Here, Place, follow_rules, followed, front_walked, if_link, is_directory_at, is_directory_there, last_walked, symlink_start, symlink_walk, symlink_walked, may, new_leaf_walk, new_walk, object_walk, old_leaf_walk, old_walk, path_walked, slash_rules, stepped, unfollowed_walk, walk_start, word_walked, words_walked}
 use Rattle.vt_spec.specs.OneTree.World.{Task, World}
 use Rattle.vt_spec.specs.PathText.{ends_in_slash, is_absolute, parsed_path, words}
 use Rattle.vt_spec.specs.Rights.{Credentials, execute_right, write_right}
@@ -89,11 +89,11 @@ module _ (numbers : List ℕ) (world : World ℕ) (fit : IsFit numbers world) (w
       linked from next from_is next_is None = next_is
       linked from next from_is next_is (Some text) = ends from next text from_is next_is
 
-      stepped_there : (reached : Here ℕ) → IsThere reached → (r : Result (Here ℕ) Deny) → IfOk r IsThere → IfOk (and_then r (λ next. if_link next (link_text (tree.node next.node)) (follow reached.node next))) IsThere
-      stepped_there reached reached_is (Ok next) next_is = linked reached.node next reached_is next_is (link_text (tree.node next.node))
+      stepped_there : (reached : Here ℕ) → IsThere reached → (r : Result (Here ℕ) Deny) → IfOk r IsThere → IfOk (and_then r (λ next. if_link next (symlink_text (tree.node next.node)) (follow reached.node next))) IsThere
+      stepped_there reached reached_is (Ok next) next_is = linked reached.node next reached_is next_is (symlink_text (tree.node next.node))
       stepped_there reached reached_is (Err deny) next_is = tt
 
-      by : (r : Result (Here ℕ) Deny) → IfOk r IsThere → IfOk (and_then r (λ reached. and_then (word_walked tree who reached (last_word word)) (λ next. if_link next (link_text (tree.node next.node)) (follow reached.node next)))) IsThere
+      by : (r : Result (Here ℕ) Deny) → IfOk r IsThere → IfOk (and_then r (λ reached. and_then (word_walked tree who reached (last_word word)) (λ next. if_link next (symlink_text (tree.node next.node)) (follow reached.node next)))) IsThere
       by (Ok reached) reached_is = stepped_there reached reached_is (word_walked tree who reached (last_word word)) (word_there reached (last_word word))
       by (Err deny) reached_is = tt
 
@@ -109,12 +109,12 @@ module _ (numbers : List ℕ) (world : World ℕ) (fit : IsFit numbers world) (w
   then_there (Ok here) f is h = h here is
   then_there (Err deny) f is h = tt
 
-  link_there : (depth : ℕ) → EndsThere (λ directory link text. link_walked depth tree who directory link text)
-  link_there zero directory link text from is = tt
-  link_there (suc depth) directory link text from is =
+  symlink_there : (depth : ℕ) → EndsThere (λ directory link text. symlink_walked depth tree who directory link text)
+  symlink_there zero directory link text from is = tt
+  symlink_there (suc depth) directory link text from is =
       ruled (follow_rules link text) _
-      (then_there (words_walked tree who (λ inside next inner. link_walked depth tree who inside next inner) (link_start tree directory link text) (reverse (words text))) _
-      (words_there (λ inside next inner. link_walked depth tree who inside next inner) (link_there depth) (link_start tree directory link text) (start (is_absolute text)) (reverse (words text)))
+      (then_there (words_walked tree who (λ inside next inner. symlink_walked depth tree who inside next inner) (symlink_start tree directory link text) (reverse (words text))) _
+      (words_there (λ inside next inner. symlink_walked depth tree who inside next inner) (symlink_there depth) (symlink_start tree directory link text) (start (is_absolute text)) (reverse (words text)))
       (λ here here_is. ruled (slash_rules tree text here.node) (Ok here) here_is))
     where
       start : (b : Bool) → is_some (world.inodes.inode (cond b world.inodes.root directory)) ≡ true
@@ -124,14 +124,14 @@ module _ (numbers : List ℕ) (world : World ℕ) (fit : IsFit numbers world) (w
   pub object_there : (path : List ℕ) → IfOk (object_walk tree who path) IsThere
   object_there path =
       ifok_then IsThere (parsed_path path) _ (λ text e.
-      then_there (path_walked tree who text) _ (words_there (followed tree who) (link_there 41) (walk_start tree) root_there (reverse (words text))) (λ here here_is. ruled (slash_rules tree text here.node) (Ok here) here_is))
+      then_there (path_walked tree who text) _ (words_there (followed tree who) (symlink_there 41) (walk_start tree) root_there (reverse (words text))) (λ here here_is. ruled (slash_rules tree text here.node) (Ok here) here_is))
 
-  pub link_walk_there : (path : List ℕ) → IfOk (link_walk tree who path) IsThere
+  pub link_walk_there : (path : List ℕ) → IfOk (symlink_walk tree who path) IsThere
   link_walk_there path = by (ends_in_slash path)
     where
       front : (list : List (List ℕ)) → IfOk (front_walked tree who (walk_start tree) list) IsThere
       front [] = root_there
-      front (word ∷ list) = words_there (followed tree who) (link_there 41) (walk_start tree) root_there list
+      front (word ∷ list) = words_there (followed tree who) (symlink_there 41) (walk_start tree) root_there list
 
       last : (here : Here ℕ) → IsThere here → (word : LastWord) → IfOk (last_walked tree who here word) IsThere
       last here is NoWord = is
@@ -171,12 +171,12 @@ module _ (beside : Beside) (world : World ℕ) (name : TaskName) (task : Task �
   -- Link
 
   linked_at : (from : ℕ) (parent : ℕ) (last : LastWord) (object : Option ℕ) (slash : Bool) (steps : Steps) → is_some (world.inodes.inode from) ≡ true → IsPlaceOf tree_here parent object last
-      → Judged (unless (link_rules tree_here who_here from (record { parent = parent; last = last; object = object; slash = slash })) (Ok (ToChange (AddName parent (name_of last) from))))
+      → Judged (unless (hard_link_rules tree_here who_here from (record { parent = parent; last = last; object = object; slash = slash })) (Ok (ToChange (AddName parent (name_of last) from))))
       (Outcomes.judged there ((is_special last, E1) ∷ []) (Outcomes.judged there
-      (Making.link_rules nat_eq there there_task (location_there from) (place_there (record { parent = parent; last = last; object = object; slash = slash }) steps) (AddName parent (name_of last) from))
+      (Making.hard_link_rules nat_eq there there_task (location_there from) (place_there (record { parent = parent; last = last; object = object; slash = slash }) steps) (AddName parent (name_of last) from))
       (Outcomes.granted Done (with_change nat_eq fresh there (location_there parent) (AddName parent (name_of last) from)))))
   linked_at from parent last object slash steps from_is place =
-      subst (Judged (unless (link_rules tree_here who_here from (record { parent = parent; last = last; object = object; slash = slash })) (Ok (ToChange (AddName parent (name_of last) from)))))
+      subst (Judged (unless (hard_link_rules tree_here who_here from (record { parent = parent; last = last; object = object; slash = slash })) (Ok (ToChange (AddName parent (name_of last) from)))))
       (sym (judged_both there ((is_special last, E1) ∷ [])
       ((is_some (option_map location_there object), E1) ∷ (is_directory_at tree_here from, E7) ∷ (false, F1) ∷ (false, F2) ∷ (false, L1) ∷ (false, P2) ∷ (may_not tree_here who_here parent write_right, C1) ∷ (false, B1) ∷ [])
       (Outcomes.granted Done (with_change nat_eq fresh there (location_there parent) (AddName parent (name_of last) from)))))
@@ -201,10 +201,10 @@ module _ (beside : Beside) (world : World ℕ) (name : TaskName) (task : Task �
       (ifok_then (IsPlace tree_here) (new_walk tree_here who_here path) (λ place. unless ((place.slash && not (is_some place.object), W6) ∷ []) (Ok place))
       (λ place e. ifok_unless (IsPlace tree_here) ((place.slash && not (is_some place.object), W6) ∷ []) place (subst (λ r. IfOk r (IsPlace tree_here)) e (new_walk_is beside world (name, task) fit path))))
 
-  link_alike : (old new : List ℕ) → Judged (link_permit tree_here task old new) (Making.link_outcome nat_eq fresh there there_task old new)
-  unfolding link_permit Making.link_outcome
+  link_alike : (old new : List ℕ) → Judged (hard_link_permit tree_here task old new) (Making.hard_link_outcome nat_eq fresh there there_task old new)
+  unfolding hard_link_permit Making.hard_link_outcome
   link_alike old new =
-      after_alike there Judged denied here_there (link_walk tree_here who_here old) _ _ _ (link_walk_alike beside world (name, task) fit old)
+      after_alike there Judged denied here_there (symlink_walk tree_here who_here old) _ _ _ (link_walk_alike beside world (name, task) fit old)
       (λ from steps e. after_alike there Judged denied place_there (new_leaf_walk tree_here who_here new) _ _ _ (new_leaf_walk_alike beside world (name, task) fit new)
       (λ place met f. linked_at from.node place.parent place.last place.object place.slash met
       (subst (λ r. IfOk r (λ (here : Here ℕ). is_some (world.inodes.inode here.node) ≡ true)) e (link_walk_there beside.numbers world fit who_here old)) (place_leaf new place f)))
@@ -279,7 +279,7 @@ module _ (beside : Beside) (world : World ℕ) (name : TaskName) (task : Task �
 pub links_agree : LinksAgree
 links_agree old new beside world name fresh fit vacant =
     policy_alike beside world name fresh (LinkTo old new) fit (λ task is.
-    judged_finished beside world name task fit (link_permit (tree_of world.inodes) task old new) (Making.link_outcome nat_eq fresh (embedded beside world) (task_there beside world.inodes.root (name, task)) old new) (link_alike beside world name task fit fresh old new))
+    judged_finished beside world name task fit (hard_link_permit (tree_of world.inodes) task old new) (Making.hard_link_outcome nat_eq fresh (embedded beside world) (task_there beside world.inodes.root (name, task)) old new) (link_alike beside world name task fit fresh old new))
 
 pub unlinks_agree : UnlinksAgree
 unlinks_agree path beside world name fresh fit vacant =

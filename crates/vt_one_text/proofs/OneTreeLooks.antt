@@ -6,17 +6,17 @@ use Rattle.vt_spec.specs.declared.errors.Rule.TheVariants.{B1, C1, E2, E5, E8, E
 use Rattle.vt_spec.specs.Errors.{denial, and_then}
 use Rattle.vt_spec.specs.Rights.{execute_right, read_right}
 use Rattle.vt_spec.specs.Tree.{Tree}
-use Rattle.vt_spec.specs.Machine.Calls.Call.{Exec, Ls, Lstat, Pread, Read, Readlink, Stat}
+use Rattle.vt_spec.specs.Language.Calls.Call.{Exec, Ls, Lstat, Pread, Read, Readlink, Stat}
 use Rattle.vt_spec.specs.Machine.Outcome.Descriptors as Descriptors
 use Rattle.vt_spec.specs.Machine.Outcome.Looking as Looking
 use Rattle.vt_spec.specs.Machine.Outcomes as Outcomes
 use Rattle.vt_spec.specs.Machine.World as MachineWorld
-use Rattle.vt_spec.specs.Machine.World.{TaskName}
+use Rattle.vt_spec.specs.Language.Calls.{TaskName}
 use Rattle.vt_spec.specs.OneTree.Inodes.{tree_of}
 use Rattle.vt_spec.specs.OneTree.Permits.{Permit}
 use Rattle.vt_spec.specs.OneTree.Policy.{exec_permit, list_permit, lstat_permit, pread_permit, read_permit, readlink_permit, stat_permit}
 use Rattle.vt_spec.specs.OneTree.Rules.{is_kind_at, may_not, descriptor_at}
-use Rattle.vt_spec.specs.OneTree.Walk.{directory_walk, is_directory_at, link_walk, object_walk}
+use Rattle.vt_spec.specs.OneTree.Walk.{directory_walk, is_directory_at, symlink_walk, object_walk}
 use Rattle.vt_spec.specs.OneTree.World.{Descriptor, Task, World}
 use Rattle.vt_one_text.specs.OneTree.{Beside, IsAnsweredAlike, IsFit, LooksAgree, PartialReadsAgree, descriptor_there, embedded, here_there, task_there}
 use Rattle.vt_one_text.proofs.OneTreeJudged.{IsSeen, after_alike, judged_alike, policy_alike, seen_finished, seen_refused}
@@ -88,12 +88,12 @@ module _ (beside : Beside) (world : World ℕ) (name : TaskName) (task : Task �
   lstat_alike : (path : List ℕ) → Seen (lstat_permit tree task path) (Looking.lstat_outcome nat_eq there there_task path)
   unfolding lstat_permit Looking.lstat_outcome
   lstat_alike path =
-      after_alike there Seen denied here_there (link_walk tree who path) _ _ _ (link_walk_alike beside world (name, task) fit path) (λ here steps e. (refl, refl, refl))
+      after_alike there Seen denied here_there (symlink_walk tree who path) _ _ _ (link_walk_alike beside world (name, task) fit path) (λ here steps e. (refl, refl, refl))
 
   readlink_alike : (path : List ℕ) → Seen (readlink_permit tree task path) (Looking.readlink_outcome nat_eq there there_task path)
   unfolding readlink_permit Looking.readlink_outcome
   readlink_alike path =
-      after_alike there Seen denied here_there (link_walk tree who path) _ _ _ (link_walk_alike beside world (name, task) fit path)
+      after_alike there Seen denied here_there (symlink_walk tree who path) _ _ _ (link_walk_alike beside world (name, task) fit path)
       (λ here steps e. judged_alike there Seen denied (inl (not (is_kind_at tree here.node Link), E5) ∷ []) _ _ (refl, refl, refl))
 
   read_alike : (path : List ℕ) → Seen (read_permit tree task path) (Looking.read_outcome nat_eq there there_task path)

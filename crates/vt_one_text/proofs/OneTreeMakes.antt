@@ -3,15 +3,14 @@ use Rattle.std.proofs.Common.{◌≡◌, ◌≢◌, refl, sym, ap, subst, ◌∙
 use Rattle.std.specs.FinMap.Entries.{is_sorted}
 use Rattle.std.proofs.lemmas.Bool.Decides.{eqb_tells}
 use Rattle.vt_spec.specs.Laws.Trees.{IsNewIn}
-use Rattle.vt_spec.specs.Machine.Calls.{Access}
-use Rattle.vt_spec.specs.Machine.Changes.Change.{Make}
-use Rattle.vt_spec.specs.Machine.FileTree.{has_entry_to, targets_in}
+use Rattle.vt_spec.specs.Language.Calls.{Access, TaskName}
+use Rattle.vt_spec.specs.Language.Changes.Change.{Make}
+use Rattle.vt_spec.specs.FileTree.{has_entry_to, targets_in}
 use Rattle.vt_spec.specs.Machine.Filesystems.{with_change}
-use Rattle.vt_spec.specs.Machine.Lists.{Fresh}
+use Rattle.vt_spec.specs.Lists.{Fresh}
 use Rattle.vt_spec.specs.Machine.Outcome.Descriptors as Descriptors
 use Rattle.vt_spec.specs.Machine.Outcomes as Outcomes
-use Rattle.vt_spec.specs.Machine.Outcomes.Answer.{Done}
-use Rattle.vt_spec.specs.Machine.World.{TaskName}
+use Rattle.vt_spec.specs.Language.Answers.Answer.{Done}
 use Rattle.vt_spec.specs.OneTree.Inodes.{Inode, Inodes, inode_with_node, node_in, tree_of, uses_in, with_changed, with_new}
 use Rattle.vt_spec.specs.OneTree.Permits.Permit.{ToChange, ToOpenNew}
 use Rattle.vt_spec.specs.OneTree.World.{Task, World, is_called, with_inodes}

@@ -6,21 +6,22 @@ use Rattle.vt_spec.specs.declared.errors.Rule.{Rule}
 use Rattle.vt_spec.specs.declared.errors.Rule.TheVariants.{B1, C1, E1, E2, E6, E9, F1, F2, L1, S3, W1, W2}
 use Rattle.vt_spec.specs.Errors.{unless}
 use Rattle.vt_spec.specs.Laws.Trees.{IsNewIn}
-use Rattle.vt_spec.specs.Machine.Calls.{Access, Creation}
-use Rattle.vt_spec.specs.Machine.Calls.Call.{Mkdir, OpenFile, SymlinkAt, Write}
-use Rattle.vt_spec.specs.Machine.Calls.Creation.{Exclusive, NoCreation, OrCreate}
-use Rattle.vt_spec.specs.Machine.Changes.Change.{Make, SetBytes}
+use Rattle.vt_spec.specs.Language.Calls.{Access, Creation, TaskName}
+use Rattle.vt_spec.specs.Language.Calls.Call.{Mkdir, OpenFile, SymlinkAt, Write}
+use Rattle.vt_spec.specs.Language.Calls.Creation.{Exclusive, NoCreation, OrCreate}
+use Rattle.vt_spec.specs.Language.Changes.Change.{Make, SetBytes}
 use Rattle.vt_spec.specs.Machine.Filesystems.{with_change}
-use Rattle.vt_spec.specs.Machine.Lists.{Fresh, odds}
+use Rattle.vt_spec.specs.Lists.{Fresh, odds}
 use Rattle.vt_spec.specs.Machine.Outcome.Descriptors as Descriptors
+use Rattle.vt_spec.specs.Language.Limits as DescriptorsLanguage
 use Rattle.vt_spec.specs.Machine.Outcome.Making as Making
-use Rattle.vt_spec.specs.Machine.Outcome.Making.{directory_mode, file_mode, largest_file, link_text_rules}
+use Rattle.vt_spec.specs.Machine.Outcome.Making.{directory_mode, file_mode, link_text_rules}
+use Rattle.vt_spec.specs.Language.Limits.{largest_file, longest_path}
 use Rattle.vt_spec.specs.Machine.Outcomes as Outcomes
-use Rattle.vt_spec.specs.Machine.Outcomes.Answer.{Done}
+use Rattle.vt_spec.specs.Language.Answers.Answer.{Done}
 use Rattle.vt_spec.specs.Machine.Walk.{LastWord, is_special, name_of}
 use Rattle.vt_spec.specs.Machine.Walk.LastWord.{Dot, DotDot, Named, NoWord}
 use Rattle.vt_spec.specs.Machine.World as MachineWorld
-use Rattle.vt_spec.specs.Machine.World.{TaskName}
 use Rattle.vt_spec.specs.OneTree.Inodes.{tree_of}
 use Rattle.vt_spec.specs.OneTree.Permits.{Permit}
 use Rattle.vt_spec.specs.OneTree.Permits.Permit.{ToChange, ToOpenNew}
@@ -28,7 +29,7 @@ use Rattle.vt_spec.specs.OneTree.Policy.{link_attr, mkdir_permit, new_attr, new_
 use Rattle.vt_spec.specs.OneTree.Rules.{is_kind_at, may_not, new_rules}
 use Rattle.vt_spec.specs.OneTree.Walk.{Place, file_walk, is_directory_at, new_leaf_walk, new_walk, object_walk}
 use Rattle.vt_spec.specs.OneTree.World.{Task, World, is_called}
-use Rattle.vt_spec.specs.PathText.{is_empty, longest_path}
+use Rattle.vt_spec.specs.PathText.{is_empty}
 use Rattle.vt_spec.specs.Rights.{Credentials, write_right}
 use Rattle.vt_spec.specs.Tree.{Node, Tree, is_directory_node, new_directory}
 use Rattle.vt_spec.specs.Tree.Content.{Symlink}
@@ -213,9 +214,9 @@ module _ (beside : Beside) (world : World ℕ) (name : TaskName) (task : Task �
   open_alike : (path : List ℕ) (access : Access) (creation : Creation) → Judged (open_permit (fresh 0) tree task path access creation) (Descriptors.open_outcome nat_eq fresh there there_task path access creation)
   unfolding open_permit Descriptors.open_outcome
   open_alike path access creation =
-      subst (λ n. Judged (open_permit (fresh 0) tree task path access creation) (Outcomes.judged there ((Rattle.std.specs.Prelude.nat_le Descriptors.most_descriptors n, S3) ∷ []) (Descriptors.open_by nat_eq fresh there there_task path access creation)))
+      subst (λ n. Judged (open_permit (fresh 0) tree task path access creation) (Outcomes.judged there ((Rattle.std.specs.Prelude.nat_le DescriptorsLanguage.most_descriptors n, S3) ∷ []) (Descriptors.open_by nat_eq fresh there there_task path access creation)))
       (sym (same_length Rattle.vt_one_text.specs.OneTree.descriptor_there task.descriptors))
-      (judged_alike there Judged denied (inl (Rattle.std.specs.Prelude.nat_le Descriptors.most_descriptors (length task.descriptors), S3) ∷ [])
+      (judged_alike there Judged denied (inl (Rattle.std.specs.Prelude.nat_le DescriptorsLanguage.most_descriptors (length task.descriptors), S3) ∷ [])
       (open_by (fresh 0) tree task path access creation) (Descriptors.open_by nat_eq fresh there there_task path access creation) (opened_by_alike path access creation))
 
 pub mkdirs_agree : MkdirsAgree

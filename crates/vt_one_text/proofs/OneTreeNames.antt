@@ -2,15 +2,15 @@
 use Rattle.std.proofs.Common.{◌≡◌, ◌≢◌, refl, sym, ap, subst, ◌∙◌, ⊎_elim, ℕ, zero, suc, ◌+◌, ◌≤◌, nat_eq, eq-eqb, ne_eqb, true, false, true≢false, cond, List, [], ◌∷◌, ◌++◌, map, Option, Some, None, is_some, Ok, arith}
 use Rattle.std.specs.FinMap.Entries.{is_sorted}
 use Rattle.std.proofs.lemmas.Bool.Decides.{eqb_tells}
-use Rattle.vt_spec.specs.Machine.Changes.{content_with_parent, node_with_parent, node_without_entry, without_entry}
-use Rattle.vt_spec.specs.Machine.Changes.Change.{AddName, Remove}
-use Rattle.vt_spec.specs.Machine.FileTree.{has_entry_to, targets_in}
+use Rattle.vt_spec.specs.Language.Changes.{content_with_parent, node_with_parent, node_without_entry, without_entry}
+use Rattle.vt_spec.specs.Language.Changes.Change.{AddName, Remove}
+use Rattle.vt_spec.specs.FileTree.{has_entry_to, targets_in}
 use Rattle.vt_spec.specs.Machine.Filesystems.{with_change}
-use Rattle.vt_spec.specs.Machine.Lists.{Fresh}
+use Rattle.vt_spec.specs.Lists.{Fresh}
 use Rattle.vt_spec.specs.Machine.Outcomes as Outcomes
-use Rattle.vt_spec.specs.Machine.Outcomes.Answer.{Done}
+use Rattle.vt_spec.specs.Language.Answers.Answer.{Done}
 use Rattle.vt_spec.specs.Machine.Settled.{settled}
-use Rattle.vt_spec.specs.Machine.World.{TaskName}
+use Rattle.vt_spec.specs.Language.Calls.{TaskName}
 use Rattle.vt_spec.specs.OneTree.Inodes.{Inode, Inodes, node_in, tree_of, uses_in, with_changed, with_name, without_name}
 use Rattle.vt_spec.specs.OneTree.Permits.Permit.{ToChange}
 use Rattle.vt_spec.specs.OneTree.World.{Task, World, with_inodes}

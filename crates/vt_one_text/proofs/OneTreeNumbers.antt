@@ -1,7 +1,7 @@
 -- Numbers do not matter to the machine of one tree.
 use Rattle.std.proofs.Common.{◌≡◌, refl, Option, Some, None}
 use Rattle.std.specs.Prelude.{option_map}
-use Rattle.vt_spec.specs.Machine.World.{TaskName}
+use Rattle.vt_spec.specs.Language.Calls.{TaskName}
 use Rattle.vt_spec.specs.OneTree.Inodes.{Inode}
 use Rattle.vt_spec.specs.OneTree.Policy.{policy}
 use Rattle.vt_spec.specs.OneTree.World.{Outcome, Task, World}

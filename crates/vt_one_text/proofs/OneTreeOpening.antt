@@ -2,7 +2,8 @@
 use Rattle.std.proofs.Common.{◌≡◌, ◌≢◌, refl, sym, ap, subst, ◌∙◌, ⊎_elim, ◌⊎◌, ℕ, ◌+◌, ◌≤◌, nat_eq, eq-eqb, Bool, true, false, true≢false, cond, [], ◌∷◌, ◌++◌, Option, Some, None, is_some, arith}
 use Rattle.std.specs.FinMap.Entries.{is_sorted}
 use Rattle.std.proofs.lemmas.Bool.Decides.{eqb_tells}
-use Rattle.vt_spec.specs.Machine.World.{TaskName, root_attr}
+use Rattle.vt_spec.specs.Language.Calls.{TaskName}
+use Rattle.vt_spec.specs.Machine.World.{root_attr}
 use Rattle.vt_spec.specs.OneTree.Inodes.{Inode, node_in, uses_in}
 use Rattle.vt_spec.specs.OneTree.World.{Task, first_task, opening, task_called}
 use Rattle.vt_spec.specs.Tree.{entries_in, is_directory_node, name_cmp, new_directory, parent_in}
@@ -48,8 +49,8 @@ opening_is_fit root = record {
     once true = refl
     once false = refl
 
-    no_entries : Rattle.vt_spec.specs.Machine.FileTree.targets_in (node_in (there (nat_eq root root))) ≡ []
-    no_entries = ap (λ b. Rattle.vt_spec.specs.Machine.FileTree.targets_in (node_in (there b))) own
+    no_entries : Rattle.vt_spec.specs.FileTree.targets_in (node_in (there (nat_eq root root))) ≡ []
+    no_entries = ap (λ b. Rattle.vt_spec.specs.FileTree.targets_in (node_in (there b))) own
 
     uses : (n : ℕ) (b : Bool) → uses_in (there b) ≡ cond b 1 0 + 0
     uses n true = refl

@@ -2,21 +2,20 @@
 use Rattle.std.proofs.Common.{◌≡◌, ◌≢◌, refl, sym, ap, subst, ◌∙◌, inl, inr, ℕ, ◌+◌, ◌≤◌, nat_eq, eq-eqb, Bool, true, false, true≢false, cond, not, ◌&&◌, List, [], ◌∷◌, ◌++◌, map, filter, find, flat_map, Option, Some, None, option_map, is_some, is_ok, Ok, arith}
 use Rattle.vt_spec.specs.declared.attributes.Kind.TheVariants.{White}
 use Rattle.vt_spec.specs.declared.errors.Rule.TheVariants.{B1, C1, E2, E9, F1, F2, L1}
-use Rattle.vt_spec.specs.Machine.Calls.{Access}
-use Rattle.vt_spec.specs.Machine.Calls.Call.{Close, Exit}
-use Rattle.vt_spec.specs.Machine.FileTree.{targets_in}
-use Rattle.vt_spec.specs.Machine.Lists.{Fresh}
+use Rattle.vt_spec.specs.Language.Calls.{Access, TaskName}
+use Rattle.vt_spec.specs.Language.Calls.Call.{Close, Exit}
+use Rattle.vt_spec.specs.FileTree.{targets_in}
+use Rattle.vt_spec.specs.Lists.{Fresh}
 use Rattle.vt_spec.specs.Machine.Namespaces.{namespaces_ended}
 use Rattle.vt_spec.specs.Machine.Outcome.Descriptors as Descriptors
 use Rattle.vt_spec.specs.Machine.Outcome.Descriptors.{access_rights}
 use Rattle.vt_spec.specs.Machine.Outcome.Tasks as Tasks
 use Rattle.vt_spec.specs.Machine.Outcomes as Outcomes
-use Rattle.vt_spec.specs.Machine.Outcomes.Answer.{Done, Opened}
+use Rattle.vt_spec.specs.Language.Answers.Answer.{Done, Opened}
 use Rattle.vt_spec.specs.Machine.Policy as Machine
 use Rattle.vt_spec.specs.Machine.Receives as Receives
 use Rattle.vt_spec.specs.Machine.Settled.{settled}
 use Rattle.vt_spec.specs.Machine.World as MachineWorld
-use Rattle.vt_spec.specs.Machine.World.{TaskName}
 use Rattle.vt_spec.specs.OneTree.Inodes.{Inode, Inodes, node_in, pinned, tree_of, unpinned, uses_in}
 use Rattle.vt_spec.specs.OneTree.Permits.Permit.{ToClose, ToOpen}
 use Rattle.vt_spec.specs.OneTree.Policy.{close_permit, closed, descriptor_on, open_file, without_uses, with_opened}

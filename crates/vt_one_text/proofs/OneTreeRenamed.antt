@@ -1,8 +1,8 @@
 -- Renamings that agree on the inodes that are there rename a fit world alike: it has no other numbers.
 use Rattle.std.proofs.Common.{◌≡◌, refl, sym, ap, subst, ◌∙◌, ℕ, ◌+◌, ◌≤◌, eq-eqb, true, true≢false, cond, List, [], ◌∷◌, map, flat_map, Option, Some, None, option_map, is_some, arith}
-use Rattle.vt_spec.specs.Machine.FileTree.{targets_in}
+use Rattle.vt_spec.specs.FileTree.{targets_in}
 use Rattle.vt_spec.specs.Machine.Renaming.{renamed_content, renamed_entry}
-use Rattle.vt_spec.specs.Machine.World.{TaskName}
+use Rattle.vt_spec.specs.Language.Calls.{TaskName}
 use Rattle.vt_spec.specs.OneTree.Inodes.{Inode, node_in, tree_of}
 use Rattle.vt_spec.specs.OneTree.World.{Descriptor, Task, World}
 use Rattle.vt_spec.specs.Rights.{is_directory}

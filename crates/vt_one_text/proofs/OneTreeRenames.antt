@@ -4,20 +4,20 @@ use Rattle.std.proofs.lemmas.Bool.Decides.{eqb_tells}
 use Rattle.vt_spec.specs.declared.errors.Deny.{Deny}
 use Rattle.vt_spec.specs.declared.errors.Rule.TheVariants.{B1, C1, C3, E2, E3, E4, E5, F1, F2, L1, O1, P1, P2, W3}
 use Rattle.vt_spec.specs.Errors.{and_then, denial, unless}
-use Rattle.vt_spec.specs.Machine.Calls.Call.{Rename}
-use Rattle.vt_spec.specs.Machine.Changes.Change.{Move}
-use Rattle.vt_spec.specs.Machine.FileTree as FileTree
-use Rattle.vt_spec.specs.Machine.FileTree.{has_entry_to, named_parent, targets_in}
+use Rattle.vt_spec.specs.Language.Calls.Call.{Rename}
+use Rattle.vt_spec.specs.Language.Changes.Change.{Move}
+use Rattle.vt_spec.specs.FileTree as FileTree
+use Rattle.vt_spec.specs.FileTree.{has_entry_to, named_parent, targets_in}
 use Rattle.vt_spec.specs.Machine.Filesystems.{with_change}
-use Rattle.vt_spec.specs.Machine.Lists.{Fresh, chain, holds_of, is_among, is_empty_list, when}
+use Rattle.vt_spec.specs.Lists.{Fresh, chain, holds_of, is_among, is_empty_list, when}
 use Rattle.vt_spec.specs.Machine.Outcome.Removing as Removing
 use Rattle.vt_spec.specs.Machine.Outcomes as Outcomes
-use Rattle.vt_spec.specs.Machine.Outcomes.Answer.{Done}
+use Rattle.vt_spec.specs.Language.Answers.Answer.{Done}
 use Rattle.vt_spec.specs.Machine.Settled.{settled}
 use Rattle.vt_spec.specs.Machine.Walk.{LastWord, is_special, name_of}
 use Rattle.vt_spec.specs.Machine.Walk.LastWord.{Dot, DotDot, Named, NoWord}
 use Rattle.vt_spec.specs.Machine.World as MachineWorld
-use Rattle.vt_spec.specs.Machine.World.{TaskName}
+use Rattle.vt_spec.specs.Language.Calls.{TaskName}
 use Rattle.vt_spec.specs.OneTree.Inodes.{Inodes, is_directory_under, parent_above, tree_of, with_moved, without_replaced}
 use Rattle.vt_spec.specs.OneTree.Permits.{Permit}
 use Rattle.vt_spec.specs.OneTree.Permits.Permit.{ToChange}
@@ -144,12 +144,12 @@ module _ (beside : Beside) (world : World ℕ) (name : TaskName) (task : Task �
       )
     where
       under : Inodes ℕ
-      under = Rattle.vt_spec.specs.OneTree.Inodes.with_changed nat_eq (Rattle.vt_spec.specs.OneTree.Inodes.with_changed nat_eq (Rattle.vt_spec.specs.OneTree.Inodes.with_changed nat_eq world.inodes from (Rattle.vt_spec.specs.Machine.Changes.node_without_entry old)) to (Rattle.vt_spec.specs.Tree.node_with_entry new object)) object (Rattle.vt_spec.specs.Machine.Changes.node_with_parent to)
+      under = Rattle.vt_spec.specs.OneTree.Inodes.with_changed nat_eq (Rattle.vt_spec.specs.OneTree.Inodes.with_changed nat_eq (Rattle.vt_spec.specs.OneTree.Inodes.with_changed nat_eq world.inodes from (Rattle.vt_spec.specs.Language.Changes.node_without_entry old)) to (Rattle.vt_spec.specs.Tree.node_with_entry new object)) object (Rattle.vt_spec.specs.Language.Changes.node_with_parent to)
 
       machine : Option ℕ → FileTree.FileTree ℕ
-      machine o = Rattle.vt_spec.specs.Machine.Changes.changed_node nat_eq (Rattle.vt_spec.specs.Machine.Changes.with_name nat_eq
-          (Rattle.vt_spec.specs.Machine.Changes.without_name nat_eq (Rattle.vt_spec.specs.Machine.Changes.without_parent nat_eq (record { tree = tree_here; numbers = beside.numbers }) o) from old)
-          to new object) object (Rattle.vt_spec.specs.Machine.Changes.node_with_parent to)
+      machine o = Rattle.vt_spec.specs.Language.Changes.changed_node nat_eq (Rattle.vt_spec.specs.Language.Changes.with_name nat_eq
+          (Rattle.vt_spec.specs.Language.Changes.without_name nat_eq (Rattle.vt_spec.specs.Language.Changes.without_parent nat_eq (record { tree = tree_here; numbers = beside.numbers }) o) from old)
+          to new object) object (Rattle.vt_spec.specs.Language.Changes.node_with_parent to)
 
       moved_files : Option ℕ → FileTree.FileTree ℕ
       moved_files o = record {

@@ -3,20 +3,20 @@ use Rattle.std.proofs.Common.{◌≡◌, refl, inl, inr, ℕ, ◌+◌, nat_eq, n
 use Rattle.vt_spec.specs.declared.attributes.Attr.{Attr}
 use Rattle.vt_spec.specs.declared.errors.Deny.{Deny}
 use Rattle.vt_spec.specs.declared.errors.Rule.TheVariants.{C2, E6, F1, F2, L1}
-use Rattle.vt_spec.specs.Machine.Calls.Call.{Chmod, Chown, Pwrite}
-use Rattle.vt_spec.specs.Machine.Changes.{node_with_attr}
-use Rattle.vt_spec.specs.Machine.Changes.Change.{SetAttr, SetBytes}
+use Rattle.vt_spec.specs.Language.Calls.Call.{Chmod, Chown, Pwrite}
+use Rattle.vt_spec.specs.Language.Changes.{node_with_attr}
+use Rattle.vt_spec.specs.Language.Changes.Change.{SetAttr, SetBytes}
 use Rattle.vt_spec.specs.Machine.Filesystems.{with_change}
-use Rattle.vt_spec.specs.Machine.Lists.{Fresh}
+use Rattle.vt_spec.specs.Lists.{Fresh}
 use Rattle.vt_spec.specs.Machine.Outcome.Attributes as Attributes
 use Rattle.vt_spec.specs.Machine.Outcome.Attributes.{attr_with_mode, attr_with_owner, may_chown}
 use Rattle.vt_spec.specs.Machine.Outcome.Descriptors as Descriptors
 use Rattle.vt_spec.specs.Machine.Outcome.Descriptors.{overwritten}
-use Rattle.vt_spec.specs.Machine.Outcome.Making.{largest_file}
+use Rattle.vt_spec.specs.Language.Limits.{largest_file}
 use Rattle.vt_spec.specs.Machine.Outcomes as Outcomes
-use Rattle.vt_spec.specs.Machine.Outcomes.Answer.{Done}
+use Rattle.vt_spec.specs.Language.Answers.Answer.{Done}
 use Rattle.vt_spec.specs.Machine.World as MachineWorld
-use Rattle.vt_spec.specs.Machine.World.{TaskName}
+use Rattle.vt_spec.specs.Language.Calls.{TaskName}
 use Rattle.vt_spec.specs.OneTree.Inodes.{tree_of}
 use Rattle.vt_spec.specs.OneTree.Permits.{Permit}
 use Rattle.vt_spec.specs.OneTree.Permits.Permit.{ToChange}

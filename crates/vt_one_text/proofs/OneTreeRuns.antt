@@ -6,16 +6,17 @@ use Rattle.std.proofs.lemmas.Bool.Decides.{eqb_tells}
 use Rattle.std.proofs.lemmas.List.Folds.{list_any-append}
 use Rattle.vt_spec.specs.declared.errors.Rule.TheVariants.{S2}
 use Rattle.vt_spec.specs.Errors.{denial}
-use Rattle.vt_spec.specs.Machine.Calls.{Call}
+use Rattle.vt_spec.specs.Language.Calls.{Call, TaskName}
 use Rattle.vt_spec.specs.Machine.Judge.{judge_in}
-use Rattle.vt_spec.specs.Machine.Lists.{Fresh, is_among, then_some}
+use Rattle.vt_spec.specs.Lists.{Fresh, is_among, then_some}
 use Rattle.vt_spec.specs.Machine.Outcomes as Outcomes
 use Rattle.vt_spec.specs.Machine.Policy as MachinePolicy
-use Rattle.vt_spec.specs.Machine.Printed.{reply_line}
+use Rattle.vt_spec.specs.Language.Printed.{reply_line}
 use Rattle.vt_spec.specs.Machine.Run as Machine
-use Rattle.vt_spec.specs.Machine.Script as Script
+use Rattle.vt_spec.specs.Language.Script as Script
+use Rattle.vt_spec.specs.Language.Limits as ScriptLanguage
 use Rattle.vt_spec.specs.Machine.World as MachineWorld
-use Rattle.vt_spec.specs.Machine.World.{TaskName}
+use Rattle.vt_spec.specs.Language.Calls as MachineWorldLanguage
 use Rattle.vt_spec.specs.OneTree.Inodes.{Inode, node_in}
 use Rattle.vt_spec.specs.OneTree.Policy.{judge, policy, spent}
 use Rattle.vt_spec.specs.OneTree.Run as Tree
@@ -103,7 +104,7 @@ nobody_calls : (world : World ℕ) (there : MachineWorld.World ℕ) (name : Task
     → (policy nat_eq world name call number ≡ denied world (denial S2)) × (MachinePolicy.policy nat_eq fresh there name call ≡ Outcomes.denied there (denial S2))
 nobody_calls world there name call number fresh none none_there = (
   ap (λ tasks. after world (ok_or (option_map (λ entry. entry.1) (find (is_called name) tasks)) (denial S2)) (λ task. after world (judge nat_eq number world.inodes name task call) (spent nat_eq world name task))) none,
-  ap (λ tasks. Outcomes.after there (ok_or (find (λ task. MachineWorld.same_name name task.name) tasks) (denial S2)) (λ task. MachinePolicy.finished nat_eq there name call (MachinePolicy.filesystems_changed_by nat_eq there (judge_in nat_eq fresh there task call)) (MachinePolicy.call_outcome nat_eq fresh there task call))) none_there,
+  ap (λ tasks. Outcomes.after there (ok_or (find (λ task. MachineWorldLanguage.same_name name task.name) tasks) (denial S2)) (λ task. MachinePolicy.finished nat_eq there name call (MachinePolicy.filesystems_changed_by nat_eq there (judge_in nat_eq fresh there task call)) (MachinePolicy.call_outcome nat_eq fresh there task call))) none_there,
 )
 
 -- One line
@@ -117,7 +118,7 @@ module _ (world : World ℕ) (there : MachineWorld.World ℕ) (place : ℕ) (lin
   answered outcome other same = (ap (reply_line place) same.0, same.1)
 
   refused_same : IsImage world there → IsSameStep (Tree.line_step nat_eq world line None) (Machine.line_step nat_eq Script.files there line None)
-  refused_same image = by (nat_lt Script.longest_line (length line)) (Script.is_silent line)
+  refused_same image = by (nat_lt ScriptLanguage.longest_line (length line)) (Script.is_silent line)
     where
       by : (long silent : Bool) → IsSameStep (Tree.line_step_by nat_eq long silent world line None) (Machine.line_step_by nat_eq long silent Script.files there line None)
       by true silent = (refl, image)
@@ -128,7 +129,7 @@ module _ (world : World ℕ) (there : MachineWorld.World ℕ) (place : ℕ) (lin
   step_same : (fresh : Fresh ℕ) → Machine.Serves nat_eq there fresh → IsImage world there
       → (number : ℕ) × (world.inodes.inode number ≡ None) × IsSameStep (Tree.line_step nat_eq world line (Some number)) (Machine.line_step nat_eq Script.files there line (Some fresh))
   step_same fresh serves (inl image) =
-      (fresh 0, vacant, by (nat_lt Script.longest_line (length line)) (Script.is_silent line))
+      (fresh 0, vacant, by (nat_lt ScriptLanguage.longest_line (length line)) (Script.is_silent line))
     where
       vacant : world.inodes.inode (fresh 0) ≡ None
       vacant = vacant_there image.0 world image.1 (fresh 0) (subst (λ w. is_among nat_eq (fresh 0) (Machine.numbers_in_use w) ≡ false) image.2 (serves.unused 0))
@@ -144,7 +145,7 @@ module _ (world : World ℕ) (there : MachineWorld.World ℕ) (place : ℕ) (lin
       by false true = (refl, inl image)
       by false false = answered _ _ (asked (Script.request_of Script.files line) (request_answered line))
   step_same fresh serves (inr image) =
-      (number, vacant_if image.2 world image.3 number (not_above number image.2 (omega arith)), by (nat_lt Script.longest_line (length line)) (Script.is_silent line))
+      (number, vacant_if image.2 world image.3 number (not_above number image.2 (omega arith)), by (nat_lt ScriptLanguage.longest_line (length line)) (Script.is_silent line))
     where
       number : ℕ
       number = sum_of image.2 + 1
@@ -193,7 +194,7 @@ files_are_told script refused text tells =
 -- a line that asks for the same in two grammars is answered the same
 step_in_both : (one other : Script.Grammar) (world : MachineWorld.World ℕ) (line : List ℕ) (fresh : Option (Fresh ℕ)) → Script.request_of one line ≡ Script.request_of other line
     → Machine.line_step nat_eq one world line fresh ≡ Machine.line_step nat_eq other world line fresh
-step_in_both one other world line fresh same = by (nat_lt Script.longest_line (length line)) (Script.is_silent line) fresh
+step_in_both one other world line fresh same = by (nat_lt ScriptLanguage.longest_line (length line)) (Script.is_silent line) fresh
   where
     by : (long silent : Bool) (fresh : Option (Fresh ℕ)) → Machine.line_step_by nat_eq long silent one world line fresh ≡ Machine.line_step_by nat_eq long silent other world line fresh
     by true silent fresh = refl

@@ -5,13 +5,13 @@ use Rattle.std.proofs.lemmas.Bool.Decides.{eqb_tells}
 use Rattle.std.proofs.lemmas.List.Folds.{list_any-append}
 use Rattle.vt_spec.specs.Tree.{Node}
 use Rattle.vt_spec.specs.TreeLaws.{IsDirectory}
-use Rattle.vt_spec.specs.Machine.FileTree.{targets_in}
-use Rattle.vt_spec.specs.Machine.Lists.{is_among}
+use Rattle.vt_spec.specs.FileTree.{targets_in}
+use Rattle.vt_spec.specs.Lists.{is_among}
 use Rattle.vt_spec.specs.Machine.Mounts.{Location}
 use Rattle.vt_spec.specs.Machine.Policy as Machine
 use Rattle.vt_spec.specs.Machine.Settled as Settled
 use Rattle.vt_spec.specs.Machine.World as MachineWorld
-use Rattle.vt_spec.specs.Machine.World.{TaskName, same_name}
+use Rattle.vt_spec.specs.Language.Calls.{TaskName, same_name}
 use Rattle.vt_spec.specs.OneTree.Inodes.{Inode, node_in, tree_of, uses_in}
 use Rattle.vt_spec.specs.OneTree.World.{Descriptor, Task, World, task_called}
 use Rattle.vt_one_text.specs.OneTree.{AreApart, AreInOrder, Beside, IsFit, IsWhole, descriptor_there, embedded, files_of, filesystem_there, location_there, mount_there, opened_in, task_there, times_in}

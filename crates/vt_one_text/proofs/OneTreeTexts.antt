@@ -1,8 +1,8 @@
 -- The answers to a script in one tree are one text, whatever unused numbers are handed in.
 use Rattle.std.proofs.Common.{◌≡◌, refl, sym, ap, subst, ◌∙◌, ⊎_elim, ℕ, ◌+◌, ◌<◌, ◌≤◌, nat_eq, nat_lt, lt-ltb, ltb-true, eqb-true, Bool, true, false, true≢false, cond, List, [], ◌∷◌, ◌++◌, length, Option, Some, None, option_map, is_some, arith}
-use Rattle.vt_spec.specs.Machine.Calls.{Call}
-use Rattle.vt_spec.specs.Machine.Script as Script
-use Rattle.vt_spec.specs.Machine.World.{TaskName}
+use Rattle.vt_spec.specs.Language.Calls.{Call, TaskName}
+use Rattle.vt_spec.specs.Language.Script as Script
+use Rattle.vt_spec.specs.Language.Limits as ScriptLanguage
 use Rattle.vt_spec.specs.OneTree.Inodes.{Inode}
 use Rattle.vt_spec.specs.OneTree.Policy.{policy}
 use Rattle.vt_spec.specs.OneTree.Run.{Step, Tells, line_step, line_step_by, requested, script_text, step_text, step_world, text_from}
@@ -102,7 +102,7 @@ fit_called numbers world fit name call number vacant answered =
 
 fit_line : (numbers : List ℕ) (world : World ℕ) → IsFit numbers world → (line : List ℕ) (number : ℕ) → world.inodes.inode number ≡ None
     → (now : List ℕ) × IsFit now (step_world world (line_step nat_eq world line (Some number)))
-fit_line numbers world fit line number vacant = by (nat_lt Script.longest_line (length line)) (Script.is_silent line)
+fit_line numbers world fit line number vacant = by (nat_lt ScriptLanguage.longest_line (length line)) (Script.is_silent line)
   where
     asked : (request : Option Script.Request) → RequestAnswered request → (now : List ℕ) × IsFit now (requested nat_eq world request number).world
     asked None is = (numbers, fit)
@@ -116,7 +116,7 @@ fit_line numbers world fit line number vacant = by (nat_lt Script.longest_line (
 
 -- a line that was refused memory changes nothing
 refused_same : (world : World ℕ) (line : List ℕ) → step_world world (line_step nat_eq world line None) ≡ world
-refused_same world line = by (nat_lt Script.longest_line (length line)) (Script.is_silent line)
+refused_same world line = by (nat_lt ScriptLanguage.longest_line (length line)) (Script.is_silent line)
   where
     by : (long silent : Bool) → step_world world (line_step_by nat_eq long silent world line None) ≡ world
     by true silent = refl

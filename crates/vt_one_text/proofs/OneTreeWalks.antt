@@ -8,17 +8,18 @@ use Rattle.vt_spec.specs.PathText.{parsed_path, words, ends_in_slash, is_absolut
 use Rattle.vt_spec.specs.Rights.{execute_right}
 use Rattle.vt_spec.specs.Tree.{Tree, entry_named, entries_in, parent_in}
 use Rattle.vt_spec.specs.TreeLaws.{entry_at, IsDirectory}
-use Rattle.vt_spec.specs.Machine.FileTree.{link_text}
-use Rattle.vt_spec.specs.Machine.Lists.{last_or}
+use Rattle.vt_spec.specs.FileTree.{symlink_text}
+use Rattle.vt_spec.specs.Lists.{last_or}
 use Rattle.vt_spec.specs.Machine.Mounts.{Location, topmost}
 use Rattle.vt_spec.specs.Machine.Outcome.Removing as Removing
 use Rattle.vt_spec.specs.Machine.Walk as Machine
-use Rattle.vt_spec.specs.Machine.Walk.{LastWord, final_word, last_word, most_links}
+use Rattle.vt_spec.specs.Machine.Walk.{LastWord, final_word, last_word}
+use Rattle.vt_spec.specs.Language.Limits.{most_symlinks}
 use Rattle.vt_spec.specs.Machine.Walk.LastWord.{Dot, DotDot, Named, NoWord}
 use Rattle.vt_spec.specs.Machine.World as MachineWorld
-use Rattle.vt_spec.specs.Machine.World.{TaskName}
+use Rattle.vt_spec.specs.Language.Calls.{TaskName}
 use Rattle.vt_spec.specs.OneTree.Inodes.{tree_of}
-use Rattle.vt_spec.specs.OneTree.Walk.{Follow, Here, Place, directory_walk, file_or_link, file_walk, file_walked, follow_rules, followed, front_walked, if_link, is_directory_at, last_walked, link_of, link_start, link_there, link_walk, link_walked, may, new_leaf_walk, new_walk, object_named, object_walk, old_leaf_walk, old_walk, path_walked, placed, rename_new_walk, search_rules, slash_rules, start_of, stepped, unfollowed_walk, walk_start, word_walked, words_walked, is_directory_there}
+use Rattle.vt_spec.specs.OneTree.Walk.{Follow, Here, Place, directory_walk, file_or_symlink, file_walk, file_walked, follow_rules, followed, front_walked, if_link, is_directory_at, last_walked, symlink_of, symlink_start, symlink_there, symlink_walk, symlink_walked, may, new_leaf_walk, new_walk, object_named, object_walk, old_leaf_walk, old_walk, path_walked, placed, rename_new_walk, search_rules, slash_rules, start_of, stepped, unfollowed_walk, walk_start, word_walked, words_walked, is_directory_there}
 use Rattle.vt_spec.specs.OneTree.World.{Task, World}
 use Rattle.vt_one_text.specs.OneTree.{Beside, EndsAlike, IsFit, Steps, embedded, here_there, location_there, place_there, task_there}
 use Rattle.vt_one_text.proofs.OneTreeTrees.{lies_under, not_removed}
@@ -184,12 +185,12 @@ module _ (beside : Beside) (world : World ℕ) (entry : TaskName × Task ℕ) (f
   words_alike follow other alike start [] steps = (steps, refl)
   words_alike follow other alike start (word ∷ front) steps =
       then_alike here_there here_there (words_walked tree who follow start front) (Machine.words_walked nat_eq there task other (here_there start steps) front)
-      (λ reached. and_then (word_walked tree who reached (last_word word)) (λ next. if_link next (link_text (tree.node next.node)) (follow reached.node next))) _
+      (λ reached. and_then (word_walked tree who reached (last_word word)) (λ next. if_link next (symlink_text (tree.node next.node)) (follow reached.node next))) _
       (words_alike follow other alike start front steps)
       (λ reached on e. then_alike here_there here_there (word_walked tree who reached (last_word word)) (Machine.word_walked nat_eq there task (here_there reached on) (last_word word))
-      (λ next. if_link next (link_text (tree.node next.node)) (follow reached.node next)) _
+      (λ next. if_link next (symlink_text (tree.node next.node)) (follow reached.node next)) _
       (word_alike reached on (last_word word))
-      (λ next after e. by reached.node next after (link_text (tree.node next.node))))
+      (λ next after e. by reached.node next after (symlink_text (tree.node next.node))))
     where
       by : (from : ℕ) (next : Here ℕ) (after : Steps) (text : Option (List ℕ))
           → EndsAlike here_there (if_link next text (follow from next)) (Machine.if_link (here_there next after) text (other (location_there from) (here_there next after)))
@@ -205,13 +206,13 @@ module _ (beside : Beside) (world : World ℕ) (entry : TaskName × Task ℕ) (f
       by false = refl
 
   link_start_alike : (directory : ℕ) (link : Here ℕ) (steps : Steps) (text : List ℕ)
-      → Machine.link_start nat_eq there task (location_there directory) (here_there link steps) text
-      ≡ here_there (link_start tree directory link text) (Machine.link_start nat_eq there task (location_there directory) (here_there link steps) text).steps
+      → Machine.symlink_start nat_eq there task (location_there directory) (here_there link steps) text
+      ≡ here_there (symlink_start tree directory link text) (Machine.symlink_start nat_eq there task (location_there directory) (here_there link steps) text).steps
   link_start_alike directory link steps text =
-      λ i. record { location = start_alike directory text i; left = link.left - 1; steps = (Machine.link_start nat_eq there task (location_there directory) (here_there link steps) text).steps }
+      λ i. record { location = start_alike directory text i; left = link.left - 1; steps = (Machine.symlink_start nat_eq there task (location_there directory) (here_there link steps) text).steps }
 
   walk_start_alike : (text : List ℕ) → Machine.walk_start task text ≡ here_there (walk_start tree) []
-  walk_start_alike text = λ i. record { location = by (is_absolute text) i; left = most_links; steps = [] }
+  walk_start_alike text = λ i. record { location = by (is_absolute text) i; left = most_symlinks; steps = [] }
     where
       by : (b : Bool) → cond b (location_there tree.root) (location_there tree.root) ≡ location_there tree.root
       by true = refl
@@ -232,21 +233,21 @@ module _ (beside : Beside) (world : World ℕ) (entry : TaskName × Task ℕ) (f
       (rules_end here_there steps (slash_rules tree path here.node) here (here_there here steps) steps refl)
 
   -- links are followed alike
-  link_alike : (depth : ℕ) → FollowAlike (λ directory link text. link_walked depth tree who directory link text) (λ directory link text. Machine.link_walked nat_eq depth there task directory link text)
+  link_alike : (depth : ℕ) → FollowAlike (λ directory link text. symlink_walked depth tree who directory link text) (λ directory link text. Machine.symlink_walked nat_eq depth there task directory link text)
   link_alike zero directory link steps text = refl
   link_alike (suc depth) directory link steps text =
       rules_then here_there steps (follow_rules link text)
-      (and_then (words_walked tree who (λ inside next inner. link_walked depth tree who inside next inner) (link_start tree directory link text) (reverse (words text))) (λ reached.
+      (and_then (words_walked tree who (λ inside next inner. symlink_walked depth tree who inside next inner) (symlink_start tree directory link text) (reverse (words text))) (λ reached.
       unless (slash_rules tree text reached.node) (Ok reached)))
-      (Machine.link_start nat_eq there task (location_there directory) (here_there link steps) text) _
+      (Machine.symlink_start nat_eq there task (location_there directory) (here_there link steps) text) _
       (subst (λ start. EndsAlike here_there
-      (and_then (words_walked tree who (λ inside next inner. link_walked depth tree who inside next inner) (link_start tree directory link text) (reverse (words text))) (λ reached.
+      (and_then (words_walked tree who (λ inside next inner. symlink_walked depth tree who inside next inner) (symlink_start tree directory link text) (reverse (words text))) (λ reached.
       unless (slash_rules tree text reached.node) (Ok reached)))
-      (Machine.then_walk (Machine.words_walked nat_eq there task (λ inside next inner. Machine.link_walked nat_eq depth there task inside next inner) start (reverse (words text))) (λ reached.
+      (Machine.then_walk (Machine.words_walked nat_eq there task (λ inside next inner. Machine.symlink_walked nat_eq depth there task inside next inner) start (reverse (words text))) (λ reached.
       Machine.walk_unless reached.steps (Machine.slash_rules nat_eq there text reached.location) reached)))
       (sym (link_start_alike directory link steps text))
       (then_alike here_there here_there _ _ (λ reached. unless (slash_rules tree text reached.node) (Ok reached)) _
-      (words_alike (λ inside next inner. link_walked depth tree who inside next inner) (λ inside next inner. Machine.link_walked nat_eq depth there task inside next inner) (link_alike depth) (link_start tree directory link text) (reverse (words text)) _)
+      (words_alike (λ inside next inner. symlink_walked depth tree who inside next inner) (λ inside next inner. Machine.symlink_walked nat_eq depth there task inside next inner) (link_alike depth) (symlink_start tree directory link text) (reverse (words text)) _)
       (λ reached on e. slash_alike text reached on)))
 
   followed_alike : FollowAlike (followed tree who) (Machine.followed nat_eq there task)
@@ -305,10 +306,10 @@ module _ (beside : Beside) (world : World ℕ) (entry : TaskName × Task ℕ) (f
   last_alike here steps (Named name) = word_alike here steps (Named name)
 
   -- walks to an object or a link end alike
-  pub link_walk_alike : (path : List ℕ) → EndsAlike here_there (link_walk tree who path) (Machine.link_walk nat_eq there task path)
+  pub link_walk_alike : (path : List ℕ) → EndsAlike here_there (symlink_walk tree who path) (Machine.symlink_walk nat_eq there task path)
   link_walk_alike path = by (ends_in_slash path)
     where
-      by : (slash : Bool) → EndsAlike here_there (cond slash (object_walk tree who path) (and_then (parsed_path path) (unfollowed_walk tree who))) (Machine.link_walk_by nat_eq slash there task path)
+      by : (slash : Bool) → EndsAlike here_there (cond slash (object_walk tree who path) (and_then (parsed_path path) (unfollowed_walk tree who))) (Machine.symlink_walk_by nat_eq slash there task path)
       by true = object_walk_alike path
       by false =
           parsed_alike here_there (parsed_path path) (unfollowed_walk tree who) _ (λ text.
@@ -408,7 +409,7 @@ module _ (beside : Beside) (world : World ℕ) (entry : TaskName × Task ℕ) (f
   missing_same None = refl
   missing_same (Some number) = refl
 
-  directory_same : (object : Option ℕ) → Rattle.vt_spec.specs.Machine.Lists.holds_of (MachineWorld.is_directory_at nat_eq there) (option_map location_there object) ≡ Rattle.vt_spec.specs.Machine.Lists.holds_of (is_directory_at tree) object
+  directory_same : (object : Option ℕ) → Rattle.vt_spec.specs.Lists.holds_of (MachineWorld.is_directory_at nat_eq there) (option_map location_there object) ≡ Rattle.vt_spec.specs.Lists.holds_of (is_directory_at tree) object
   directory_same None = refl
   directory_same (Some number) = refl
 
@@ -437,8 +438,8 @@ module _ (beside : Beside) (world : World ℕ) (entry : TaskName × Task ℕ) (f
   -- how the whole machine follows a final link
   abbrev then_followed : ℕ → Bool → Here ℕ → Place ℕ → Steps → List ℕ → Result (Machine.Place ℕ) (Machine.Stop ℕ)
   then_followed depth slash here place met inner =
-      Machine.then_walk (Machine.walk_unless met (Machine.follow_rules nat_eq there (Machine.link_of (here_there here []) (place_there place met)) inner)
-      (Machine.link_start nat_eq there task (location_there here.node) (Machine.link_of (here_there here []) (place_there place met)) inner))
+      Machine.then_walk (Machine.walk_unless met (Machine.follow_rules nat_eq there (Machine.symlink_of (here_there here []) (place_there place met)) inner)
+      (Machine.symlink_start nat_eq there task (location_there here.node) (Machine.symlink_of (here_there here []) (place_there place met)) inner))
       (λ next. Machine.file_walked nat_eq depth there task next inner slash)
 
   file_alike : (depth : ℕ) (start : Here ℕ) (steps : Steps) (text : List ℕ) (slash : Bool)
@@ -446,37 +447,37 @@ module _ (beside : Beside) (world : World ℕ) (entry : TaskName × Task ℕ) (f
   file_alike zero start steps text slash = refl
   file_alike (suc depth) start steps text slash =
       then_alike here_there place_there (front_walked tree who start (reverse (words text))) _
-      (λ here. and_then (placed tree who here.node (final_word (reverse (words text))) (slash || ends_in_slash text)) (λ place. file_or_link place (link_there tree place) (λ inner.
-      unless (follow_rules (link_of here place) inner) (file_walked depth tree who (link_start tree here.node (link_of here place) inner) inner (slash || ends_in_slash text))))) _
+      (λ here. and_then (placed tree who here.node (final_word (reverse (words text))) (slash || ends_in_slash text)) (λ place. file_or_symlink place (symlink_there tree place) (λ inner.
+      unless (follow_rules (symlink_of here place) inner) (file_walked depth tree who (symlink_start tree here.node (symlink_of here place) inner) inner (slash || ends_in_slash text))))) _
       (front_alike start (reverse (words text)) steps)
       (λ here on e. then_alike place_there place_there (placed tree who here.node (final_word (reverse (words text))) (slash || ends_in_slash text)) _
-      (λ place. file_or_link place (link_there tree place) (λ inner.
-      unless (follow_rules (link_of here place) inner) (file_walked depth tree who (link_start tree here.node (link_of here place) inner) inner (slash || ends_in_slash text)))) _
+      (λ place. file_or_symlink place (symlink_there tree place) (λ inner.
+      unless (follow_rules (symlink_of here place) inner) (file_walked depth tree who (symlink_start tree here.node (symlink_of here place) inner) inner (slash || ends_in_slash text)))) _
       (placed_alike here on (final_word (reverse (words text))) (slash || ends_in_slash text))
       (λ place met e. by here place met place.object (λ next way inner. file_alike depth next way inner (slash || ends_in_slash text))))
     where
       by : (here : Here ℕ) (place : Place ℕ) (met : Steps) (object : Option ℕ)
           → ((next : Here ℕ) (way : Steps) (inner : List ℕ) → EndsAlike place_there (file_walked depth tree who next inner (slash || ends_in_slash text)) (Machine.file_walked nat_eq depth there task (here_there next way) inner (slash || ends_in_slash text)))
           → EndsAlike place_there
-          (file_or_link (record place { object = object }) (link_there tree (record place { object = object })) (λ inner.
-          unless (follow_rules (link_of here (record place { object = object })) inner) (file_walked depth tree who (link_start tree here.node (link_of here (record place { object = object })) inner) inner (slash || ends_in_slash text))))
-          (Machine.file_or_link nat_eq there (place_there (record place { object = object }) met) (Machine.link_there nat_eq there (place_there (record place { object = object }) met)) (then_followed depth (slash || ends_in_slash text) here (record place { object = object }) met))
+          (file_or_symlink (record place { object = object }) (symlink_there tree (record place { object = object })) (λ inner.
+          unless (follow_rules (symlink_of here (record place { object = object })) inner) (file_walked depth tree who (symlink_start tree here.node (symlink_of here (record place { object = object })) inner) inner (slash || ends_in_slash text))))
+          (Machine.file_or_symlink nat_eq there (place_there (record place { object = object }) met) (Machine.symlink_there nat_eq there (place_there (record place { object = object }) met)) (then_followed depth (slash || ends_in_slash text) here (record place { object = object }) met))
       by here place met None later = ((Machine.entered nat_eq there (place_there (record place { object = None }) met)).steps, refl)
-      by here place met (Some object) later = inside (link_text (tree.node object))
+      by here place met (Some object) later = inside (symlink_text (tree.node object))
         where
           inside : (found : Option (List ℕ))
               → EndsAlike place_there
-              (file_or_link (record place { object = Some object }) found (λ inner.
-              unless (follow_rules (link_of here (record place { object = Some object })) inner) (file_walked depth tree who (link_start tree here.node (link_of here (record place { object = Some object })) inner) inner (slash || ends_in_slash text))))
-              (Machine.file_or_link nat_eq there (place_there (record place { object = Some object }) met) found (then_followed depth (slash || ends_in_slash text) here (record place { object = Some object }) met))
+              (file_or_symlink (record place { object = Some object }) found (λ inner.
+              unless (follow_rules (symlink_of here (record place { object = Some object })) inner) (file_walked depth tree who (symlink_start tree here.node (symlink_of here (record place { object = Some object })) inner) inner (slash || ends_in_slash text))))
+              (Machine.file_or_symlink nat_eq there (place_there (record place { object = Some object }) met) found (then_followed depth (slash || ends_in_slash text) here (record place { object = Some object }) met))
           inside None = ((Machine.entered nat_eq there (place_there (record place { object = Some object }) met)).steps, refl)
           inside (Some inner) =
               rules_then place_there met (follow_rules (record { node = object; left = here.left }) inner)
-              (file_walked depth tree who (link_start tree here.node (record { node = object; left = here.left }) inner) inner (slash || ends_in_slash text)) _ _
-              (subst (λ start. EndsAlike place_there (file_walked depth tree who (link_start tree here.node (record { node = object; left = here.left }) inner) inner (slash || ends_in_slash text))
+              (file_walked depth tree who (symlink_start tree here.node (record { node = object; left = here.left }) inner) inner (slash || ends_in_slash text)) _ _
+              (subst (λ start. EndsAlike place_there (file_walked depth tree who (symlink_start tree here.node (record { node = object; left = here.left }) inner) inner (slash || ends_in_slash text))
               (Machine.file_walked nat_eq depth there task start inner (slash || ends_in_slash text)))
               (sym (link_start_alike here.node (record { node = object; left = here.left }) met inner))
-              (later (link_start tree here.node (record { node = object; left = here.left }) inner) _ inner))
+              (later (symlink_start tree here.node (record { node = object; left = here.left }) inner) _ inner))
 
   -- it is a place
   file_walked_is : (depth : ℕ) (start : Here ℕ) (text : List ℕ) (slash : Bool) → IfOk (file_walked depth tree who start text slash) (IsPlace tree)
@@ -484,7 +485,7 @@ module _ (beside : Beside) (world : World ℕ) (entry : TaskName × Task ℕ) (f
   file_walked_is (suc depth) start text slash =
       ifok_then (IsPlace tree) (front_walked tree who start (reverse (words text))) _ (λ here e.
       ifok_then (IsPlace tree) (placed tree who here.node (final_word (reverse (words text))) (slash || ends_in_slash text)) _ (λ place e.
-      by here place (link_there tree place) (λ next inner. file_walked_is depth next inner (slash || ends_in_slash text))
+      by here place (symlink_there tree place) (λ next inner. file_walked_is depth next inner (slash || ends_in_slash text))
       (subst (λ r. IfOk r (IsPlace tree)) e (placed_is here.node (final_word (reverse (words text))) (slash || ends_in_slash text)))))
     where
       ruled : (rows : Rules) (r : Result (Place ℕ) Deny) → IfOk r (IsPlace tree) → IfOk (unless rows r) (IsPlace tree)
@@ -493,9 +494,9 @@ module _ (beside : Beside) (world : World ℕ) (entry : TaskName × Task ℕ) (f
       ruled ((false, rule) ∷ rows) r is = ruled rows r is
 
       by : (here : Here ℕ) (place : Place ℕ) (o : Option (List ℕ)) → ((next : Here ℕ) (inner : List ℕ) → IfOk (file_walked depth tree who next inner (slash || ends_in_slash text)) (IsPlace tree)) → IsPlace tree place
-          → IfOk (file_or_link place o (λ inner. unless (follow_rules (link_of here place) inner) (file_walked depth tree who (link_start tree here.node (link_of here place) inner) inner (slash || ends_in_slash text)))) (IsPlace tree)
+          → IfOk (file_or_symlink place o (λ inner. unless (follow_rules (symlink_of here place) inner) (file_walked depth tree who (symlink_start tree here.node (symlink_of here place) inner) inner (slash || ends_in_slash text)))) (IsPlace tree)
       by here place None later is = is
-      by here place (Some inner) later is = ruled (follow_rules (link_of here place) inner) _ (later (link_start tree here.node (link_of here place) inner) inner)
+      by here place (Some inner) later is = ruled (follow_rules (symlink_of here place) inner) _ (later (symlink_start tree here.node (symlink_of here place) inner) inner)
 
   pub file_walk_is : (path : List ℕ) → IfOk (file_walk tree who path) (IsPlace tree)
   file_walk_is path = ifok_then (IsPlace tree) (parsed_path path) _ (λ text e. file_walked_is 41 (walk_start tree) text false)

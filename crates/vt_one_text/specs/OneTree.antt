@@ -4,24 +4,23 @@ use Rattle.std.specs.Prelude.{Err, List, None, Ok, Option, Result, Some, [], fin
 use Rattle.std.specs.FinMap.Entries.{is_sorted}
 use Rattle.std.specs.List.{All}
 use Rattle.vt_spec.specs.declared.errors.Deny.{Deny}
-use Rattle.vt_spec.specs.Machine.FileTree.{has_entry_to, targets_in}
-use Rattle.vt_spec.specs.Machine.Mounts.{Location, Mount, plain_flags}
+use Rattle.vt_spec.specs.FileTree.{has_entry_to, targets_in}
+use Rattle.vt_spec.specs.Machine.Mounts.{Location, Mount}
+use Rattle.vt_spec.specs.Language.Calls.{Access, Call, CapabilityWord, Creation, ForkWords, TaskName, plain_flags}
 use Rattle.vt_spec.specs.Machine.Mounts.Propagation.{Private}
 use Rattle.vt_spec.specs.Machine.Walk as whole_walk
 use Rattle.vt_spec.specs.Machine.Outcome.Removing as whole_removing
 use Rattle.vt_spec.specs.Machine.World as whole_world
-use Rattle.vt_spec.specs.Machine.World.{TaskName}
 use Rattle.vt_spec.specs.OneTree.Inodes.{Inodes, tree_of, uses_in}
-use Rattle.vt_spec.specs.OneTree.Walk.{Here, Place, directory_walk, file_walk, link_walk, new_leaf_walk, new_walk, object_walk, old_leaf_walk, old_walk, rename_new_walk}
+use Rattle.vt_spec.specs.OneTree.Walk.{Here, Place, directory_walk, file_walk, symlink_walk, new_leaf_walk, new_walk, object_walk, old_leaf_walk, old_walk, rename_new_walk}
 use Rattle.vt_spec.specs.OneTree.World.{Descriptor, Outcome, Task, World, is_called, opening, task_called}
 use Rattle.vt_spec.specs.OneTree.Policy.{policy}
-use Rattle.vt_spec.specs.Machine.Calls.{Access, Call, CapabilityWord, Creation, ForkWords}
-use Rattle.vt_spec.specs.Machine.Calls.Call.{Chmod, Chown, Close, Drop, Exec, Exit, Fork, LinkTo, Ls, Lstat, Mkdir, OpenFile, Pread, Pwrite, Read, Readlink, Rename, Rmdir, Stat, SymlinkAt, Umask, Unlink, Write}
-use Rattle.vt_spec.specs.Machine.Lists.{Fresh}
+use Rattle.vt_spec.specs.Language.Calls.Call.{Chmod, Chown, Close, Drop, Exec, Exit, Fork, LinkTo, Ls, Lstat, Mkdir, OpenFile, Pread, Pwrite, Read, Readlink, Rename, Rmdir, Stat, SymlinkAt, Umask, Unlink, Write}
+use Rattle.vt_spec.specs.Lists.{Fresh}
 use Rattle.vt_spec.specs.Machine.Outcomes as whole_outcomes
 use Rattle.vt_spec.specs.Machine.Policy as whole_policy
 use Rattle.vt_spec.specs.Machine.Run as whole_run
-use Rattle.vt_spec.specs.Machine.Script.{Request, Version, files, lines_of, request_of, whole}
+use Rattle.vt_spec.specs.Language.Script.{Request, Version, files, lines_of, request_of, whole}
 use Rattle.vt_spec.specs.OneTree.Run as tree_run
 use Rattle.vt_spec.specs.Rights.{Credentials}
 use Rattle.vt_spec.specs.Tree.{Tree, entries_in, name_cmp, parent_in}
@@ -63,7 +62,7 @@ abbrev pub mount_there : ℕ → Mount ℕ
 mount_there root = record {
   number = 0;
   namespace = Some 1;
-  place = None;
+  mount_point = None;
   filesystem = 2;
   root = root;
   flags = plain_flags;
@@ -197,7 +196,7 @@ abbrev pub DirectoryWalksAgree : Type 0
 DirectoryWalksAgree = WalksAgree here_there directory_walk (whole_walk.directory_walk nat_eq)
 
 abbrev pub LinkWalksAgree : Type 0
-LinkWalksAgree = WalksAgree here_there link_walk (whole_walk.link_walk nat_eq)
+LinkWalksAgree = WalksAgree here_there symlink_walk (whole_walk.symlink_walk nat_eq)
 
 abbrev pub NewWalksAgree : Type 0
 NewWalksAgree = WalksAgree place_there new_walk (whole_walk.new_walk nat_eq)

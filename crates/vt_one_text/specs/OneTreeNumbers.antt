@@ -1,8 +1,7 @@
 -- Worlds of one tree with other numbers: names, bytes, attributes and tasks stay.
 use Rattle.std.specs.Prelude.{map, nat_eq, option_map, ℕ, ◌≡◌}
-use Rattle.vt_spec.specs.Machine.Calls.{Call}
+use Rattle.vt_spec.specs.Language.Calls.{Call, TaskName}
 use Rattle.vt_spec.specs.Machine.Renaming.{renamed_node}
-use Rattle.vt_spec.specs.Machine.World.{TaskName}
 use Rattle.vt_spec.specs.OneTree.Inodes.{Inode, Inodes}
 use Rattle.vt_spec.specs.OneTree.Policy.{policy}
 use Rattle.vt_spec.specs.OneTree.World.{Descriptor, Outcome, Task, World}

@@ -1,7 +1,7 @@
 -- The answers to a script in one tree are one text.
 use Rattle.std.specs.Prelude.{All, Bool, List, None, Some, length, nat_eq, ℕ, ◌≡◌}
 use Rattle.vt_spec.specs.Machine.Run as whole_run
-use Rattle.vt_spec.specs.Machine.Script.{Version, files, lines_of, request_of, whole}
+use Rattle.vt_spec.specs.Language.Script.{Version, files, lines_of, request_of, whole}
 use Rattle.vt_spec.specs.OneTree.Run.{Tells, line_step, script_text, step_world}
 use Rattle.vt_spec.specs.OneTree.World.{World, opening}
 use Rattle.vt_one_text.specs.OneTree.{IsFit}

@@ -3,9 +3,9 @@ use Rattle.std.proofs.Common.{◌≡◌, refl, sym, ap, subst, ◌∙◌, inl, i
 use Rattle.vt_spec.specs.declared.errors.Deny.{Deny}
 use Rattle.vt_spec.specs.declared.errors.Rule.TheVariants.{W3, W4, W6}
 use Rattle.vt_spec.specs.Errors.{Rules, and_then, denial, unless}
-use Rattle.vt_spec.specs.Machine.FileTree.{link_text}
+use Rattle.vt_spec.specs.FileTree.{symlink_text}
 use Rattle.vt_spec.specs.Machine.Walk.{LastWord, last_word}
-use Rattle.vt_spec.specs.OneTree.Walk.{Follow, Here, follow_rules, if_link, is_directory_at, link_start, link_walked, may, object_named, search_rules, slash_rules, stepped, word_walked, words_walked}
+use Rattle.vt_spec.specs.OneTree.Walk.{Follow, Here, follow_rules, if_link, is_directory_at, symlink_start, symlink_walked, may, object_named, search_rules, slash_rules, stepped, word_walked, words_walked}
 use Rattle.vt_spec.specs.PathText.{ends_in_slash, is_absolute, words}
 use Rattle.vt_spec.specs.Rights.{Credentials, execute_right, is_directory}
 use Rattle.vt_spec.specs.Tree.{Content, Node, Tree, is_directory_node, kind_of}
@@ -61,11 +61,11 @@ surely result a (inl e) = e
 surely result a (inr stop) = absurd stop.1
 
 -- a directory is no link
-pub no_link : (o : Option (Node ℕ)) → is_directory_node o ≡ true → link_text o ≡ None
+pub no_link : (o : Option (Node ℕ)) → is_directory_node o ≡ true → symlink_text o ≡ None
 no_link None is = refl
 no_link (Some node) is = by node.content is
   where
-    by : (content : Content ℕ) → is_directory (kind_of content) ≡ true → link_text (Some (record { attr = node.attr; content = content })) ≡ None
+    by : (content : Content ℕ) → is_directory (kind_of content) ≡ true → symlink_text (Some (record { attr = node.attr; content = content })) ≡ None
     by (Directory parent entries opaque) e = refl
     by (Regular bytes) e = refl
     by (Symlink text) e = cc
@@ -81,7 +81,7 @@ pub record LeadsToo (tree later : Tree ℕ) (who reader : Credentials) (Refused 
   pub step : (here : ℕ) (word : LastWord) (next : ℕ) → IsDirectory tree here → object_named tree here word ≡ Some next
       → (object_named later here word ≡ Some next) ⊎ ((object_named later here word ≡ None) × Refused (denial W6))
   pub link : (here : ℕ) (word : LastWord) (next : ℕ) → IsDirectory tree here → object_named tree here word ≡ Some next → object_named later here word ≡ Some next
-      → link_text (later.node next) ≡ link_text (tree.node next)
+      → symlink_text (later.node next) ≡ symlink_text (tree.node next)
 
 -- what a word stands for, where a step found it
 found_there : (o : Option ℕ) (next : ℕ) → ok_or o (denial W6) ≡ Ok next → o ≡ Some next
@@ -160,17 +160,17 @@ module _ (tree later : Tree ℕ) (who reader : Credentials) (Refused : Deny → 
   words_too most follow other follows start (word ∷ front) end less e =
       let fronts = both_gave (words_walked tree who follow start front) _ end e in
       let reached = fronts.0 in
-      let nexts = both_gave (word_walked tree who reached (last_word word)) (λ next. if_link next (link_text (tree.node next.node)) (follow reached.node next)) end fronts.2 in
+      let nexts = both_gave (word_walked tree who reached (last_word word)) (λ next. if_link next (symlink_text (tree.node next.node)) (follow reached.node next)) end fronts.2 in
       let next = nexts.0 in
       let gave = word_gave reached next (last_word word) nexts.1 in
       let before = words_too most follow other follows start front reached less fronts.1 in
       let fewer : reached.left ≤ start.left = before.1 in
       let same : next.left ≡ reached.left = gave.2 in
-      let after = linked reached next end (link_text (tree.node next.node)) (omega arith) nexts.2 in (
+      let after = linked reached next end (symlink_text (tree.node next.node)) (omega arith) nexts.2 in (
         then_too Refused (words_walked later reader other start front) _ reached end before.0
-            (word_too reached next.node (last_word word) (λ next. if_link next (link_text (later.node next.node)) (other reached.node next)) end gave.0
+            (word_too reached next.node (last_word word) (λ next. if_link next (symlink_text (later.node next.node)) (other reached.node next)) end gave.0
             (leads.step reached.node (last_word word) next.node (not_fails _ gave.0.0) gave.1)
-            (λ found. subst (λ h. Ends (if_link h (link_text (later.node h.node)) (other reached.node h)) end) (here_is next reached same)
+            (λ found. subst (λ h. Ends (if_link h (symlink_text (later.node h.node)) (other reached.node h)) end) (here_is next reached same)
             (subst (λ o. Ends (if_link next o (other reached.node next)) end)
             (sym (leads.link reached.node (last_word word) next.node (not_fails _ gave.0.0) gave.1 found)) after.0))),
         (let least : end.left ≤ next.left = after.1 in omega arith),
@@ -194,7 +194,7 @@ module _ (tree later : Tree ℕ) (who reader : Credentials) (Refused : Deny → 
       by true false same e = cc
 
   -- a link's text begins where it began
-  pub link_start_same : (directory : ℕ) (link : Here ℕ) (text : List ℕ) → link_start later directory link text ≡ link_start tree directory link text
+  pub link_start_same : (directory : ℕ) (link : Here ℕ) (text : List ℕ) → symlink_start later directory link text ≡ symlink_start tree directory link text
   link_start_same directory link text = λ i. record { node = by (is_absolute text) i; left = link.left - 1 }
     where
       by : (b : Bool) → Rattle.std.proofs.Common.cond b later.root directory ≡ Rattle.std.proofs.Common.cond b tree.root directory
@@ -203,30 +203,30 @@ module _ (tree later : Tree ℕ) (who reader : Credentials) (Refused : Deny → 
 
   -- Links are followed alike, however deep they may stand in one another, if that is deep enough.
   link_too : (depth other : ℕ) (directory : ℕ) (link : Here ℕ) (text : List ℕ) (end : Here ℕ) → suc link.left ≤ depth → suc link.left ≤ other
-      → link_walked depth tree who directory link text ≡ Ok end → Ends (link_walked other later reader directory link text) end × (end.left ≤ link.left)
+      → symlink_walked depth tree who directory link text ≡ Ok end → Ends (symlink_walked other later reader directory link text) end × (end.left ≤ link.left)
   link_too zero other directory link text end deep deep_too e = absurd (omega arith)
   link_too (suc depth) zero directory link text end deep deep_too e = absurd (omega arith)
   link_too (suc depth) (suc other) directory link text end deep deep_too e =
       let parts = passing (follow_rules link text) _ end e in
       let some : 1 ≤ link.left = positive link.left parts.0.0 in
-      let steps = both_gave (words_walked tree who (λ inside next inner. link_walked depth tree who inside next inner) (link_start tree directory link text) (reverse (words text))) _ end parts.1 in
+      let steps = both_gave (words_walked tree who (λ inside next inner. symlink_walked depth tree who inside next inner) (symlink_start tree directory link text) (reverse (words text))) _ end parts.1 in
       let reached = steps.0 in
       let ends = passing (slash_rules tree text reached.node) (Ok reached) end steps.2 in
-      let walked = words_too (link.left - 1) (λ inside next inner. link_walked depth tree who inside next inner) (λ inside next inner. link_walked other later reader inside next inner)
+      let walked = words_too (link.left - 1) (λ inside next inner. symlink_walked depth tree who inside next inner) (λ inside next inner. symlink_walked other later reader inside next inner)
       (λ inside next inner stop less gives. link_too depth other inside next inner stop (omega arith) (omega arith) gives)
-      (link_start tree directory link text) (reverse (words text)) reached (omega arith) steps.1 in (
+      (symlink_start tree directory link text) (reverse (words text)) reached (omega arith) steps.1 in (
         passed_too Refused (follow_rules link text) _ end parts.0
-            (then_too Refused (words_walked later reader (λ inside next inner. link_walked other later reader inside next inner) (link_start later directory link text) (reverse (words text))) _ reached end
-            (subst (λ start. Ends (words_walked later reader (λ inside next inner. link_walked other later reader inside next inner) start (reverse (words text))) reached) (sym (link_start_same directory link text)) walked.0)
+            (then_too Refused (words_walked later reader (λ inside next inner. symlink_walked other later reader inside next inner) (symlink_start later directory link text) (reverse (words text))) _ reached end
+            (subst (λ start. Ends (words_walked later reader (λ inside next inner. symlink_walked other later reader inside next inner) start (reverse (words text))) reached) (sym (link_start_same directory link text)) walked.0)
             (passed_too Refused (slash_rules later text reached.node) (Ok reached) end (slash_too text reached.node ends.0) (inl ends.1))),
         (let least : reached.left ≤ link.left - 1 = walked.1 in subst (λ h. h.left ≤ link.left) (same_ok reached end ends.1) (omega arith)),
       )
 
   -- Words lead where they led, from where there are fewer links left than may be followed.
   pub words_lead : (depth other : ℕ) (start : Here ℕ) (words : List (List ℕ)) (end : Here ℕ) → suc start.left ≤ depth → suc start.left ≤ other
-      → words_walked tree who (λ inside next inner. link_walked depth tree who inside next inner) start words ≡ Ok end
-      → Ends (words_walked later reader (λ inside next inner. link_walked other later reader inside next inner) start words) end × (end.left ≤ start.left)
+      → words_walked tree who (λ inside next inner. symlink_walked depth tree who inside next inner) start words ≡ Ok end
+      → Ends (words_walked later reader (λ inside next inner. symlink_walked other later reader inside next inner) start words) end × (end.left ≤ start.left)
   words_lead depth other start words end deep deep_too e =
-      words_too start.left (λ inside next inner. link_walked depth tree who inside next inner) (λ inside next inner. link_walked other later reader inside next inner)
+      words_too start.left (λ inside next inner. symlink_walked depth tree who inside next inner) (λ inside next inner. symlink_walked other later reader inside next inner)
       (λ inside next inner stop less gives. link_too depth other inside next inner stop (omega arith) (omega arith) gives)
       start words end (omega arith) e

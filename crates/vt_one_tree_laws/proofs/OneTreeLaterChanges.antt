@@ -9,8 +9,8 @@ use Rattle.vt_spec.specs.declared.attributes.Attr.{Attr}
 use Rattle.vt_spec.specs.declared.errors.Deny.{Deny}
 use Rattle.vt_spec.specs.declared.errors.Rule.TheVariants.{W4, W6}
 use Rattle.vt_spec.specs.Errors.{denial}
-use Rattle.vt_spec.specs.Machine.Changes.{node_with_attr}
-use Rattle.vt_spec.specs.Machine.FileTree.{link_text}
+use Rattle.vt_spec.specs.Language.Changes.{node_with_attr}
+use Rattle.vt_spec.specs.FileTree.{symlink_text}
 use Rattle.vt_spec.specs.Machine.Rightful.{node_allows}
 use Rattle.vt_spec.specs.Machine.Walk.{LastWord}
 use Rattle.vt_spec.specs.Machine.Walk.LastWord.{Dot, DotDot, Named, NoWord}
@@ -72,7 +72,7 @@ pub record WaysStay (tree later : Tree ℕ) (Refused : Deny → Type 0) : Type 0
   pub step : (here : ℕ) (word : LastWord) (next : ℕ) → IsDirectory tree here → object_named tree here word ≡ Some next
       → (object_named later here word ≡ Some next) ⊎ ((object_named later here word ≡ None) × Refused (denial W6))
   pub link : (here : ℕ) (word : LastWord) (next : ℕ) → IsDirectory tree here → object_named tree here word ≡ Some next → object_named later here word ≡ Some next
-      → link_text (later.node next) ≡ link_text (tree.node next)
+      → symlink_text (later.node next) ≡ symlink_text (tree.node next)
 
 module _ (tree later : Tree ℕ) (Refused : Deny → Type 0) (stay : WaysStay tree later Refused) where
   -- by who walked them, where the rights of directories stay
@@ -145,26 +145,26 @@ changed_here inodes number change old new is e =
     by (Some inode) is = ap (λ m. node_in (inode_with_node m (Some inode))) (ap change is ∙ e)
 
 -- what bytes, attributes and an entry more leave of a link
-pub link_with_bytes : (bytes : List ℕ) (o : Option (Node ℕ)) → link_text (node_with_bytes bytes o) ≡ link_text o
+pub link_with_bytes : (bytes : List ℕ) (o : Option (Node ℕ)) → symlink_text (node_with_bytes bytes o) ≡ symlink_text o
 link_with_bytes bytes None = refl
 link_with_bytes bytes (Some node) = by node.content
   where
-    by : (content : Content ℕ) → link_text (Some (record { attr = node.attr; content = with_bytes content bytes })) ≡ link_text (Some (record { attr = node.attr; content = content }))
+    by : (content : Content ℕ) → symlink_text (Some (record { attr = node.attr; content = with_bytes content bytes })) ≡ symlink_text (Some (record { attr = node.attr; content = content }))
     by (Directory parent entries opaque) = refl
     by (Regular old) = refl
     by (Symlink text) = refl
     by Whiteout = refl
 
-pub link_with_attr : (attr : Attr) (o : Option (Node ℕ)) → link_text (node_with_attr attr o) ≡ link_text o
+pub link_with_attr : (attr : Attr) (o : Option (Node ℕ)) → symlink_text (node_with_attr attr o) ≡ symlink_text o
 link_with_attr attr None = refl
 link_with_attr attr (Some node) = refl
 
-pub link_with_entry : (name : List ℕ) (number : ℕ) (o : Option (Node ℕ)) → link_text (node_with_entry name number o) ≡ link_text o
+pub link_with_entry : (name : List ℕ) (number : ℕ) (o : Option (Node ℕ)) → symlink_text (node_with_entry name number o) ≡ symlink_text o
 link_with_entry name number None = refl
 link_with_entry name number (Some node) = by node.content
   where
-    by : (content : Content ℕ) → link_text (Some (record { attr = node.attr; content = with_entries content (with_entry name number (entries_of content)) }))
-        ≡ link_text (Some (record { attr = node.attr; content = content }))
+    by : (content : Content ℕ) → symlink_text (Some (record { attr = node.attr; content = with_entries content (with_entry name number (entries_of content)) }))
+        ≡ symlink_text (Some (record { attr = node.attr; content = content }))
     by (Directory parent entries opaque) = refl
     by (Regular bytes) = refl
     by (Symlink text) = refl
@@ -196,13 +196,13 @@ ways_changed : (inodes : Inodes ℕ) (number : ℕ) (change : Option (Node ℕ) 
     → ((o : Option (Node ℕ)) → is_directory_node (change o) ≡ is_directory_node o)
     → ((o : Option (Node ℕ)) → entries_in (change o) ≡ entries_in o)
     → ((own : ℕ) (o : Option (Node ℕ)) → parent_in own (change o) ≡ parent_in own o)
-    → ((o : Option (Node ℕ)) → link_text (change o) ≡ link_text o)
+    → ((o : Option (Node ℕ)) → symlink_text (change o) ≡ symlink_text o)
     → WaysStay (tree_of inodes) (tree_of (with_changed nat_eq inodes number change)) Refused
 ways_changed inodes number change Refused kinds entries parents links = record {
   root = refl;
   directory = λ here is. changed_part is_directory_node inodes number change kinds here ∙ is;
   step = λ here word next is e. inl (named here word ∙ e);
-  link = λ here word next is e f. changed_part link_text inodes number change links next;
+  link = λ here word next is e f. changed_part symlink_text inodes number change links next;
 }
   where
     named : (here : ℕ) (word : LastWord) → object_named (tree_of (with_changed nat_eq inodes number change)) here word ≡ object_named (tree_of inodes) here word
@@ -273,7 +273,7 @@ module _ (inodes : Inodes ℕ) (directory : ℕ) (name : List ℕ) (object : ℕ
     root = refl;
     directory = λ here is. named_part is_directory_node (directory_with_entry name object) here ∙ is;
     step = λ here word next is e. inl (word_stays here word next e);
-    link = λ here word next is e f. named_part link_text (link_with_entry name object) next;
+    link = λ here word next is e f. named_part symlink_text (link_with_entry name object) next;
   }
 
   pub rights_named : (who : Credentials) (here : ℕ) → may named_tree who here execute_right ≡ may (tree_of inodes) who here execute_right
@@ -334,7 +334,7 @@ module _ (numbers : List ℕ) (world : World ℕ) (fit : IsFit numbers world) wh
       directory = λ here is. ap is_directory_node (made_directory here is) ∙ ways.directory here is;
       step = λ here word next is e. inl (made_word here word is ∙ word_stays world.inodes directory name number in_directory free here word next e);
       link = λ here word next is e f.
-          ap link_text (made_other next (named_there here word next is e)) ∙ ways.link here word next is e (word_stays world.inodes directory name number in_directory free here word next e);
+          ap symlink_text (made_other next (named_there here word next is e)) ∙ ways.link here word next is e (word_stays world.inodes directory name number in_directory free here word next e);
     }
       where
         ways : WaysStay tree (tree_of entered) Refused

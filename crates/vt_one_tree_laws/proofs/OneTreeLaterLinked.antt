@@ -4,18 +4,18 @@ use Rattle.vt_spec.specs.declared.attributes.Attr.{Attr}
 use Rattle.vt_spec.specs.declared.attributes.Kind.TheVariants.{Link}
 use Rattle.vt_spec.specs.declared.errors.Rule.TheVariants.{E5, W6}
 use Rattle.vt_spec.specs.Errors.{and_then, unless}
-use Rattle.vt_spec.specs.Machine.Calls.Call.{Readlink, SymlinkAt}
-use Rattle.vt_spec.specs.Machine.FileTree.{is_kind_in}
+use Rattle.vt_spec.specs.Language.Calls.Call.{Readlink, SymlinkAt}
+use Rattle.vt_spec.specs.FileTree.{is_kind_in}
 use Rattle.vt_spec.specs.Machine.Outcome.Making.{link_text_rules}
-use Rattle.vt_spec.specs.Machine.Outcomes.Answer.{Bytes, Done}
+use Rattle.vt_spec.specs.Language.Answers.Answer.{Bytes, Done}
 use Rattle.vt_spec.specs.Machine.Walk.{final_word, name_of}
-use Rattle.vt_spec.specs.Machine.World.{TaskName}
+use Rattle.vt_spec.specs.Language.Calls.{TaskName}
 use Rattle.vt_spec.specs.OneTree.Inodes.{Inodes, tree_of, with_new}
 use Rattle.vt_spec.specs.OneTree.Permits.{Permit}
 use Rattle.vt_spec.specs.OneTree.Permits.Permit.{ToRead}
 use Rattle.vt_spec.specs.OneTree.Policy.{link_attr, making, readlink_permit, spent, symlink_permit}
 use Rattle.vt_spec.specs.OneTree.Rules.{new_rules, readlink_rules}
-use Rattle.vt_spec.specs.OneTree.Walk.{Here, Place, link_walk, new_leaf_walk, new_walk, object_walk, unfollowed_walk, walk_start}
+use Rattle.vt_spec.specs.OneTree.Walk.{Here, Place, symlink_walk, new_leaf_walk, new_walk, object_walk, unfollowed_walk, walk_start}
 use Rattle.vt_spec.specs.OneTree.World.{Task, World, after, task_called, with_inodes}
 use Rattle.vt_spec.specs.PathText.{ends_in_slash, parsed_path, path_rules, words}
 use Rattle.vt_spec.specs.Rights.{Credentials}
@@ -35,14 +35,14 @@ pub parsed_is : (path text : List ℕ) → parsed_path path ≡ Ok text → path
 parsed_is path text e = same_ok path text (passing (path_rules path) (Ok path) text e).1
 
 -- a walk to a link that no slash follows does not follow it
-pub link_walk_plain : (tree : Tree ℕ) (who : Credentials) (path text : List ℕ) → parsed_path path ≡ Ok text → ends_in_slash text ≡ false → link_walk tree who path ≡ unfollowed_walk tree who text
+pub link_walk_plain : (tree : Tree ℕ) (who : Credentials) (path text : List ℕ) → parsed_path path ≡ Ok text → ends_in_slash text ≡ false → symlink_walk tree who path ≡ unfollowed_walk tree who text
 link_walk_plain tree who path text parsed no_slash =
     ap (λ b. cond b (object_walk tree who path) (and_then (parsed_path path) (unfollowed_walk tree who))) (ap ends_in_slash (parsed_is path text parsed) ∙ no_slash)
     ∙ ap (λ r. and_then r (unfollowed_walk tree who)) parsed
 
 -- the text of a link is told
 readlink_of : (world : World ℕ) (name : TaskName) (task : Task ℕ) (path : List ℕ) (here : Here ℕ) (attr : Attr) (text : List ℕ)
-    → link_walk (tree_of world.inodes) task.credentials path ≡ Ok here → (tree_of world.inodes).node here.node ≡ Some (record { attr = attr; content = Symlink text })
+    → symlink_walk (tree_of world.inodes) task.credentials path ≡ Ok here → (tree_of world.inodes).node here.node ≡ Some (record { attr = attr; content = Symlink text })
     → (after world (readlink_permit (tree_of world.inodes) task path) (spent nat_eq world name task)).answer ≡ Ok (Bytes text)
 unfolding readlink_permit
 readlink_of world name task path here attr text walk is =
@@ -55,7 +55,7 @@ IsTextTold path text later name = IsAnswered later name (Readlink path) (Bytes t
 
 text_told : (world : World ℕ) (inodes : Inodes ℕ) (name : TaskName) (task : Task ℕ) → task_called world name ≡ Some task → (path text : List ℕ) (link : ℕ) (attr : Attr)
     → (tree_of inodes).node link ≡ Some (record { attr = attr; content = Symlink text })
-    → ((reader : Credentials) → MayLook task.credentials reader → (left : ℕ) × (link_walk (tree_of inodes) reader path ≡ Ok (record { node = link; left = left })))
+    → ((reader : Credentials) → MayLook task.credentials reader → (left : ℕ) × (symlink_walk (tree_of inodes) reader path ≡ Ok (record { node = link; left = left })))
     → IsTextTold path text (with_inodes world inodes) name
 text_told world inodes name task called path text link attr is finds = (
   λ number.

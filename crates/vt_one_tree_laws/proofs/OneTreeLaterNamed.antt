@@ -2,19 +2,19 @@
 use Rattle.std.proofs.Common.{◌≡◌, refl, sym, ap, subst, ◌∙◌, true≢false, ⊎_elim, inl, inr, ℕ, nat_eq, true, false, cond, not, ◌&&◌, List, reverse, Option, Some, None, is_some, Ok, IfOk, arith}
 use Rattle.std.proofs.lemmas.Bool.Decides.{eqb_tells}
 use Rattle.vt_spec.specs.Errors.{and_then}
-use Rattle.vt_spec.specs.Machine.Calls.Call.{LinkTo, Lstat}
-use Rattle.vt_spec.specs.Machine.Changes.Change.{AddName}
+use Rattle.vt_spec.specs.Language.Calls.Call.{LinkTo, Lstat}
+use Rattle.vt_spec.specs.Language.Changes.Change.{AddName}
 use Rattle.vt_spec.specs.Machine.Outcome.Looking.{stat_line}
-use Rattle.vt_spec.specs.Machine.Outcomes.{StatLine}
-use Rattle.vt_spec.specs.Machine.Outcomes.Answer.{Done, Told}
+use Rattle.vt_spec.specs.Language.Answers.{StatLine}
+use Rattle.vt_spec.specs.Language.Answers.Answer.{Done, Told}
 use Rattle.vt_spec.specs.Machine.Walk.{final_word, name_of}
-use Rattle.vt_spec.specs.Machine.World.{TaskName}
+use Rattle.vt_spec.specs.Language.Calls.{TaskName}
 use Rattle.vt_spec.specs.OneTree.Inodes.{Inode, Inodes, node_in, pinned, tree_of, used_once_more, with_changed, with_name}
 use Rattle.vt_spec.specs.OneTree.Permits.{Permit}
 use Rattle.vt_spec.specs.OneTree.Permits.Permit.{ToChange, ToTell}
-use Rattle.vt_spec.specs.OneTree.Policy.{link_permit, lstat_permit, spent}
-use Rattle.vt_spec.specs.OneTree.Rules.{link_rules}
-use Rattle.vt_spec.specs.OneTree.Walk.{Here, Place, link_walk, new_leaf_walk, new_walk, walk_start}
+use Rattle.vt_spec.specs.OneTree.Policy.{hard_link_permit, lstat_permit, spent}
+use Rattle.vt_spec.specs.OneTree.Rules.{hard_link_rules}
+use Rattle.vt_spec.specs.OneTree.Walk.{Here, Place, symlink_walk, new_leaf_walk, new_walk, walk_start}
 use Rattle.vt_spec.specs.OneTree.World.{Task, World, after, task_called, with_inodes}
 use Rattle.vt_spec.specs.PathText.{ends_in_slash, words}
 use Rattle.vt_spec.specs.Rights.{Credentials}
@@ -33,7 +33,7 @@ use Rattle.vt_one_text.proofs.OneTreeLinks.{link_walk_there}
 use Rattle.vt_one_text.proofs.OneTreeWalks.{IsPlace, new_walk_is}
 
 -- what lstat tells, where its walk ends
-lstat_of : (world : World ℕ) (name : TaskName) (task : Task ℕ) (path : List ℕ) (here : Here ℕ) (node : Node ℕ) → link_walk (tree_of world.inodes) task.credentials path ≡ Ok here
+lstat_of : (world : World ℕ) (name : TaskName) (task : Task ℕ) (path : List ℕ) (here : Here ℕ) (node : Node ℕ) → symlink_walk (tree_of world.inodes) task.credentials path ≡ Ok here
     → (tree_of world.inodes).node here.node ≡ Some node
     → (after world (lstat_permit (tree_of world.inodes) task path) (spent nat_eq world name task)).answer ≡ Ok (Told (stat_line (Some node)))
 unfolding lstat_permit
@@ -59,18 +59,18 @@ pinned_tree inodes number = λ i. record { root = inodes.root; node = λ n. same
 -- what a granted link was permitted
 record LinkParts (tree : Tree ℕ) (task : Task ℕ) (old new : List ℕ) (permit : Permit ℕ) : Type 0 where
   from : Here ℕ
-  found : link_walk tree task.credentials old ≡ Ok from
+  found : symlink_walk tree task.credentials old ≡ Ok from
   place : Place ℕ
   walked : new_leaf_walk tree task.credentials new ≡ Ok place
-  pass : AllPass (link_rules tree task.credentials from.node place)
+  pass : AllPass (hard_link_rules tree task.credentials from.node place)
   permit_is : permit ≡ ToChange (AddName place.parent (name_of place.last) from.node)
 
-link_parts : (tree : Tree ℕ) (task : Task ℕ) (old new : List ℕ) (permit : Permit ℕ) → link_permit tree task old new ≡ Ok permit → LinkParts tree task old new permit
-unfolding link_permit
+link_parts : (tree : Tree ℕ) (task : Task ℕ) (old new : List ℕ) (permit : Permit ℕ) → hard_link_permit tree task old new ≡ Ok permit → LinkParts tree task old new permit
+unfolding hard_link_permit
 link_parts tree task old new permit e =
-    let olds = both_gave (link_walk tree task.credentials old) _ permit e in
+    let olds = both_gave (symlink_walk tree task.credentials old) _ permit e in
     let news = both_gave (new_leaf_walk tree task.credentials new) _ permit olds.2 in
-    let parts = passing (link_rules tree task.credentials olds.0.node news.0) _ permit news.2 in
+    let parts = passing (hard_link_rules tree task.credentials olds.0.node news.0) _ permit news.2 in
     record { from = olds.0; found = olds.1; place = news.0; walked = news.1; pass = parts.0; permit_is = sym (same_ok _ permit parts.1) }
 
 -- what is to be told of the old name before, and of the new one after
@@ -118,7 +118,7 @@ module _ (numbers : List ℕ) (world : World ℕ) (name : TaskName) (fit : IsFit
       ∙ there.1
 
   -- the walk to the new name leads to it
-  leads_there : (reader : Credentials) → MayLook task.credentials reader → (left : ℕ) × (link_walk (tree_of entered) reader new ≡ Ok (record { node = object; left = left }))
+  leads_there : (reader : Credentials) → MayLook task.credentials reader → (left : ℕ) × (symlink_walk (tree_of entered) reader new ≡ Ok (record { node = object; left = left }))
   leads_there reader looks =
       let parts = new_walk_parts tree task.credentials new place leaf.0 in
       let no_slash = slash_of_place tree task.credentials parts.here.node (final_word (reverse (words parts.text))) (ends_in_slash parts.text) place parts.ends did.pass.0
@@ -137,7 +137,7 @@ module _ (numbers : List ℕ) (world : World ℕ) (name : TaskName) (fit : IsFit
       let same = pinned_tree entered object in
       answered_by (with_inodes world inodes) reader reading (Lstat new) number found
       ∙ lstat_of (with_inodes world inodes) reader reading new (record { node = object; left = walk.0 }) there.0
-      (ap (λ t. link_walk t reading.credentials new) same ∙ walk.1) (ap (λ t. t.node object) same ∙ object_stays)
+      (ap (λ t. symlink_walk t reading.credentials new) same ∙ walk.1) (ap (λ t. t.node object) same ∙ object_stays)
 
   named_too_told : IsNamedToo old new world name (with_inodes world inodes)
   named_too_told = (

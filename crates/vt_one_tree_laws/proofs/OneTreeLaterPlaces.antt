@@ -3,11 +3,11 @@ use Rattle.std.proofs.Common.{◌≡◌, refl, sym, ap, subst, ◌∙◌, true�
 use Rattle.vt_spec.specs.declared.errors.Deny.{Deny}
 use Rattle.vt_spec.specs.declared.errors.Rule.TheVariants.{W3, W4, W6}
 use Rattle.vt_spec.specs.Errors.{and_then, denial, unless}
-use Rattle.vt_spec.specs.Machine.FileTree.{link_text}
-use Rattle.vt_spec.specs.Machine.Lists.{then_some}
+use Rattle.vt_spec.specs.FileTree.{symlink_text}
+use Rattle.vt_spec.specs.Lists.{then_some}
 use Rattle.vt_spec.specs.Machine.Walk.{LastWord, final_word, is_special, last_word}
 use Rattle.vt_spec.specs.Machine.Walk.LastWord.{Dot, DotDot, Named, NoWord}
-use Rattle.vt_spec.specs.OneTree.Walk.{Here, Place, file_or_link, file_walked, follow_rules, followed, front_walked, if_link, is_directory_at, last_walked, link_of, link_start, link_there, link_walked, may, object_named, placed, search_rules, slash_rules, stepped, word_walked, words_walked}
+use Rattle.vt_spec.specs.OneTree.Walk.{Here, Place, file_or_symlink, file_walked, follow_rules, followed, front_walked, if_link, is_directory_at, last_walked, symlink_of, symlink_start, symlink_there, symlink_walked, may, object_named, placed, search_rules, slash_rules, stepped, word_walked, words_walked}
 use Rattle.vt_spec.specs.PathText.{ends_in_slash, is_absolute, words}
 use Rattle.vt_spec.specs.Rights.{Credentials, execute_right}
 use Rattle.vt_spec.specs.Tree.{Tree}
@@ -16,7 +16,7 @@ use Rattle.vt_one_tree_laws.proofs.OneTreeLater.{AllPass, EndsToo, LeadsToo, bot
 
 -- links are followed so deep
 abbrev pub followed_to : ℕ → Tree ℕ → Credentials → ℕ → Here ℕ → List ℕ → Result (Here ℕ) Deny
-followed_to depth tree who inside next inner = link_walked depth tree who inside next inner
+followed_to depth tree who inside next inner = symlink_walked depth tree who inside next inner
 
 -- What a last word that is no special one ended at: searched, and named there.
 pub record IsNamedPlace (tree : Tree ℕ) (who : Credentials) (here : ℕ) (last : LastWord) (slash : Bool) (place : Place ℕ) : Type 0 where
@@ -69,8 +69,8 @@ some_word word e = by _ _ e
     by false false e = cc
 
 -- the link that stands at a place
-linked_there : (tree : Tree ℕ) (object : Option ℕ) (text : List ℕ) → then_some object (λ object. link_text (tree.node object)) ≡ Some text
-    → (link : ℕ) × (object ≡ Some link) × (link_text (tree.node link) ≡ Some text)
+linked_there : (tree : Tree ℕ) (object : Option ℕ) (text : List ℕ) → then_some object (λ object. symlink_text (tree.node object)) ≡ Some text
+    → (link : ℕ) × (object ≡ Some link) × (symlink_text (tree.node link) ≡ Some text)
 linked_there tree None text e = cc
 linked_there tree (Some link) text e = (link, refl, e)
 
@@ -82,7 +82,7 @@ module _ (tree later : Tree ℕ) (who reader : Credentials) (Refused : Deny → 
   pub named_too : (other : ℕ) (start here : Here ℕ) (words : List (List ℕ)) (slash : Bool) (place : Place ℕ) (object : ℕ)
       → suc start.left ≤ 41 → suc start.left ≤ other
       → front_walked tree who start words ≡ Ok here → placed tree who here.node (final_word words) slash ≡ Ok place → is_special place.last ≡ false
-      → object_named later place.parent place.last ≡ Some object → link_text (later.node object) ≡ None
+      → object_named later place.parent place.last ≡ Some object → symlink_text (later.node object) ≡ None
       → Ends (words_walked later reader (followed_to other later reader) start words) (record { node = object; left = here.left })
   named_too other start here [] slash place object few few_too walked ends special found no_text =
       absurd (no_start place.last (ap (λ p. p.last) (sym (same_ok _ place ends))) special)
@@ -96,7 +96,7 @@ module _ (tree later : Tree ℕ) (who reader : Credentials) (Refused : Deny → 
           let there : object_named later here.node (last_word word) ≡ Some object = (λ i. object_named later (named.parent_is i) (named.last_is i)) ∙ found in
           then_too Refused (words_walked later reader (followed_to other later reader) start front) _ here (record { node = object; left = here.left })
           (words_lead tree later who reader Refused leads 41 other start front here few few_too walked).0
-          (word_too tree later who reader Refused leads here object (last_word word) (λ next. if_link next (link_text (later.node next.node)) (followed_to other later reader here.node next)) (record { node = object; left = here.left })
+          (word_too tree later who reader Refused leads here object (last_word word) (λ next. if_link next (symlink_text (later.node next.node)) (followed_to other later reader here.node next)) (record { node = object; left = here.left })
           named.searched (inl there)
           (λ e. inl (ap (λ o. if_link (record { node = object; left = here.left }) o (followed_to other later reader here.node (record { node = object; left = here.left }))) no_text)))
 
@@ -198,7 +198,7 @@ module _ (tree later : Tree ℕ) (who reader : Credentials) (Refused : Deny → 
   no_slash_asks text here e = (ap (λ b. b && not (is_directory_at later here)) e, tt)
 
   -- a link begins in a directory
-  link_start_in : IsDirectory tree tree.root → (directory : ℕ) (link : Here ℕ) (text : List ℕ) → IsDirectory tree directory → IsDirectory tree (link_start tree directory link text).node
+  link_start_in : IsDirectory tree tree.root → (directory : ℕ) (link : Here ℕ) (text : List ℕ) → IsDirectory tree directory → IsDirectory tree (symlink_start tree directory link text).node
   link_start_in root_is directory link text is = by (is_absolute text)
     where
       by : (b : Bool) → IsDirectory tree (cond b tree.root directory)
@@ -209,19 +209,19 @@ module _ (tree later : Tree ℕ) (who reader : Credentials) (Refused : Deny → 
   linked_too : (other : ℕ) (start here end : Here ℕ) (word : List ℕ) (front : List (List ℕ)) (link : ℕ) (inner : List ℕ)
       → suc start.left ≤ 41 → suc start.left ≤ suc other
       → words_walked tree who (followed tree who) start front ≡ Ok here → AllPass (search_rules tree who here.node)
-      → object_named tree here.node (last_word word) ≡ Some link → link_text (tree.node link) ≡ Some inner
+      → object_named tree here.node (last_word word) ≡ Some link → symlink_text (tree.node link) ≡ Some inner
       → AllPass (follow_rules here inner) → ends_in_slash inner ≡ false
-      → Ends (words_walked later reader (followed_to other later reader) (link_start tree here.node here inner) (reverse (words inner))) end
+      → Ends (words_walked later reader (followed_to other later reader) (symlink_start tree here.node here inner) (reverse (words inner))) end
       → Ends (words_walked later reader (followed_to (suc other) later reader) start (word ∷ front)) end
   linked_too other start here end word front link inner few few_too walked searched named text follows no_slash ends =
       then_too Refused (words_walked later reader (followed_to (suc other) later reader) start front) _ here end
       (words_lead tree later who reader Refused leads 41 (suc other) start front here few few_too walked).0
-      (word_too tree later who reader Refused leads here link (last_word word) (λ next. if_link next (link_text (later.node next.node)) (followed_to (suc other) later reader here.node next)) end
+      (word_too tree later who reader Refused leads here link (last_word word) (λ next. if_link next (symlink_text (later.node next.node)) (followed_to (suc other) later reader here.node next)) end
       searched (leads.step here.node (last_word word) link (not_fails _ searched.0) named)
       (λ found. subst (λ o. Ends (if_link (record { node = link; left = here.left }) o (followed_to (suc other) later reader here.node (record { node = link; left = here.left }))) end)
       (sym (leads.link here.node (last_word word) link (not_fails _ searched.0) named found ∙ text))
       (passed_too Refused (follow_rules here inner) _ end follows
-      (then_too Refused (words_walked later reader (followed_to other later reader) (link_start later here.node (record { node = link; left = here.left }) inner) (reverse (words inner))) _ end end
+      (then_too Refused (words_walked later reader (followed_to other later reader) (symlink_start later here.node (record { node = link; left = here.left }) inner) (reverse (words inner))) _ end end
       (subst (λ start. Ends (words_walked later reader (followed_to other later reader) start (reverse (words inner))) end) (sym (link_start_same tree later who reader Refused leads here.node (record { node = link; left = here.left }) inner)) ends)
       (passed_too Refused (slash_rules later inner end.node) (Ok end) end (no_slash_asks inner end.node no_slash) (inl refl))))))
 
@@ -234,16 +234,16 @@ module _ (tree later : Tree ℕ) (who reader : Credentials) (Refused : Deny → 
   -- A file is found by the links that led to its place, also where it was not there.
   pub file_too : (depth : ℕ) (start : Here ℕ) (text : List ℕ) (slash : Bool) (end : Place ℕ) → IsDirectory tree tree.root → IsDirectory tree start.node → suc start.left ≤ 41
       → file_walked depth tree who start text slash ≡ Ok end → is_special end.last ≡ false → end.slash ≡ false
-      → (other : ℕ) → suc start.left ≤ other → (file : ℕ) → object_named later end.parent end.last ≡ Some file → link_text (later.node file) ≡ None
+      → (other : ℕ) → suc start.left ≤ other → (file : ℕ) → object_named later end.parent end.last ≡ Some file → symlink_text (later.node file) ≡ None
       → FindsFile other file start text slash end
   file_too zero start text slash end root_is is few e special no_slash other few_too file found no_text = cc
   file_too (suc depth) start text slash end root_is is few e special no_slash other few_too file found no_text =
       let fronts = both_gave (front_walked tree who start (reverse (words text))) _ end e in
       let here = fronts.0 in
       let places = both_gave (placed tree who here.node (final_word (reverse (words text))) (slash || ends_in_slash text)) (λ place.
-      file_or_link place (link_there tree place) (λ inner. unless (follow_rules (link_of here place) inner)
-      (file_walked depth tree who (link_start tree here.node (link_of here place) inner) inner (slash || ends_in_slash text)))) end fronts.2 in
-      by other few_too (reverse (words text)) here places.0 fronts.1 places.1 (link_there tree places.0) refl places.2
+      file_or_symlink place (symlink_there tree place) (λ inner. unless (follow_rules (symlink_of here place) inner)
+      (file_walked depth tree who (symlink_start tree here.node (symlink_of here place) inner) inner (slash || ends_in_slash text)))) end fronts.2 in
+      by other few_too (reverse (words text)) here places.0 fronts.1 places.1 (symlink_there tree places.0) refl places.2
       (λ other next inner next_is next_few walks deep. file_too depth next inner (slash || ends_in_slash text) end root_is next_is next_few walks special no_slash other deep file found no_text)
     where
       Later : Type 0
@@ -253,8 +253,8 @@ module _ (tree later : Tree ℕ) (who reader : Credentials) (Refused : Deny → 
 
       by : (other : ℕ) → suc start.left ≤ other → (words : List (List ℕ)) (here : Here ℕ) (place : Place ℕ)
           → front_walked tree who start words ≡ Ok here → placed tree who here.node (final_word words) (slash || ends_in_slash text) ≡ Ok place
-          → (link : Option (List ℕ)) → link_there tree place ≡ link
-          → file_or_link place link (λ inner. unless (follow_rules (link_of here place) inner) (file_walked depth tree who (link_start tree here.node (link_of here place) inner) inner (slash || ends_in_slash text))) ≡ Ok end
+          → (link : Option (List ℕ)) → symlink_there tree place ≡ link
+          → file_or_symlink place link (λ inner. unless (follow_rules (symlink_of here place) inner) (file_walked depth tree who (symlink_start tree here.node (symlink_of here place) inner) inner (slash || ends_in_slash text))) ≡ Ok end
           → Later
           → (slash ≡ false) × (ends_in_slash text ≡ false)
           × (left : ℕ) × Ends (words_walked later reader (followed_to other later reader) start words) (record { node = file; left = left })
@@ -267,11 +267,11 @@ module _ (tree later : Tree ℕ) (who reader : Credentials) (Refused : Deny → 
           kept (inl none) = absurd (no_start end.last none.1 special)
           kept (inr named) = named.slash_is ∙ no_slash
       by other few_too [] here place walked ends (Some inner) same e rec =
-          absurd (false_link (ap (λ p. link_there tree p) (same_ok _ place ends) ∙ same))
+          absurd (false_link (ap (λ p. symlink_there tree p) (same_ok _ place ends) ∙ same))
         where
-          false_link : link_text (tree.node here.node) ≡ Some inner → ⊥
+          false_link : symlink_text (tree.node here.node) ≡ Some inner → ⊥
           false_link e =
-              let none : link_text (tree.node here.node) ≡ None = no_link (tree.node here.node) (subst (λ h. IsDirectory tree h.node) (same_ok start here walked) is) in
+              let none : symlink_text (tree.node here.node) ≡ None = no_link (tree.node here.node) (subst (λ h. IsDirectory tree h.node) (same_ok start here walked) is) in
               some_none (sym none ∙ e)
             where
               some_none : Path (Option (List ℕ)) None (Some inner) → ⊥
@@ -285,12 +285,12 @@ module _ (tree later : Tree ℕ) (who reader : Credentials) (Refused : Deny → 
               × (left : ℕ) × Ends (words_walked later reader (followed_to (suc other) later reader) start (word ∷ front)) (record { node = file; left = left })
           inside (inl none) = absurd (some_word word none.0)
           inside (inr named) =
-              let parts = passing (follow_rules (link_of here place) inner) _ end e in
+              let parts = passing (follow_rules (symlink_of here place) inner) _ end e in
               let some : 1 ≤ here.left = positive here.left parts.0.0 in
               let fewer : here.left ≤ start.left = front_left start here (word ∷ front) few walked in
               let link = linked_there tree place.object inner same in
-              let rest = rec other (link_start tree here.node (link_of here place) inner) inner
-              (link_start_in root_is here.node (link_of here place) inner (not_fails _ named.searched.0)) (omega arith) parts.1 (omega arith) in
+              let rest = rec other (symlink_start tree here.node (symlink_of here place) inner) inner
+              (link_start_in root_is here.node (symlink_of here place) inner (not_fails _ named.searched.0)) (omega arith) parts.1 (omega arith) in
               let slashes = either_false slash (ends_in_slash text) rest.0 in (
                 slashes.0,
                 slashes.1,
@@ -300,22 +300,22 @@ module _ (tree later : Tree ℕ) (who reader : Credentials) (Refused : Deny → 
               )
 
 -- where a walk to a file ended, no link is left
-pub file_is_no_link : (tree : Tree ℕ) (who : Credentials) (depth : ℕ) (start : Here ℕ) (text : List ℕ) (slash : Bool) (end : Place ℕ) → file_walked depth tree who start text slash ≡ Ok end → link_there tree end ≡ None
+pub file_is_no_link : (tree : Tree ℕ) (who : Credentials) (depth : ℕ) (start : Here ℕ) (text : List ℕ) (slash : Bool) (end : Place ℕ) → file_walked depth tree who start text slash ≡ Ok end → symlink_there tree end ≡ None
 file_is_no_link tree who zero start text slash end e = cc
 file_is_no_link tree who (suc depth) start text slash end e =
     let fronts = both_gave (front_walked tree who start (reverse (words text))) _ end e in
     let here = fronts.0 in
     let places = both_gave (placed tree who here.node (final_word (reverse (words text))) (slash || ends_in_slash text)) (λ place.
-    file_or_link place (link_there tree place) (λ inner. unless (follow_rules (link_of here place) inner)
-    (file_walked depth tree who (link_start tree here.node (link_of here place) inner) inner (slash || ends_in_slash text)))) end fronts.2 in
-    by here places.0 (link_there tree places.0) refl places.2 (λ next inner. file_is_no_link tree who depth next inner (slash || ends_in_slash text) end)
+    file_or_symlink place (symlink_there tree place) (λ inner. unless (follow_rules (symlink_of here place) inner)
+    (file_walked depth tree who (symlink_start tree here.node (symlink_of here place) inner) inner (slash || ends_in_slash text)))) end fronts.2 in
+    by here places.0 (symlink_there tree places.0) refl places.2 (λ next inner. file_is_no_link tree who depth next inner (slash || ends_in_slash text) end)
   where
-    by : (here : Here ℕ) (place : Place ℕ) (link : Option (List ℕ)) → link_there tree place ≡ link
-        → file_or_link place link (λ inner. unless (follow_rules (link_of here place) inner) (file_walked depth tree who (link_start tree here.node (link_of here place) inner) inner (slash || ends_in_slash text))) ≡ Ok end
-        → ((next : Here ℕ) (inner : List ℕ) → file_walked depth tree who next inner (slash || ends_in_slash text) ≡ Ok end → link_there tree end ≡ None)
-        → link_there tree end ≡ None
-    by here place None same e rec = ap (λ p. link_there tree p) (sym (same_ok place end e)) ∙ same
-    by here place (Some inner) same e rec = rec (link_start tree here.node (link_of here place) inner) inner (passing (follow_rules (link_of here place) inner) _ end e).1
+    by : (here : Here ℕ) (place : Place ℕ) (link : Option (List ℕ)) → symlink_there tree place ≡ link
+        → file_or_symlink place link (λ inner. unless (follow_rules (symlink_of here place) inner) (file_walked depth tree who (symlink_start tree here.node (symlink_of here place) inner) inner (slash || ends_in_slash text))) ≡ Ok end
+        → ((next : Here ℕ) (inner : List ℕ) → file_walked depth tree who next inner (slash || ends_in_slash text) ≡ Ok end → symlink_there tree end ≡ None)
+        → symlink_there tree end ≡ None
+    by here place None same e rec = ap (λ p. symlink_there tree p) (sym (same_ok place end e)) ∙ same
+    by here place (Some inner) same e rec = rec (symlink_start tree here.node (symlink_of here place) inner) inner (passing (follow_rules (symlink_of here place) inner) _ end e).1
 
 -- whether a slash follows a name
 pub slash_of_place : (tree : Tree ℕ) (who : Credentials) (here : ℕ) (last : LastWord) (slash : Bool) (place : Place ℕ) → placed tree who here last slash ≡ Ok place → is_special place.last ≡ false → slash ≡ place.slash

@@ -6,22 +6,22 @@ use Rattle.std.specs.Str.{bytes_eq}
 use Rattle.vt_spec.specs.declared.errors.Deny.{Deny}
 use Rattle.vt_spec.specs.declared.errors.Rule.TheVariants.{W3, W6}
 use Rattle.vt_spec.specs.Errors.{and_then, denial}
-use Rattle.vt_spec.specs.Machine.Calls.Call.{Lstat, Unlink}
-use Rattle.vt_spec.specs.Machine.Changes.{content_with_parent, node_with_parent, node_without_entry, without_entry}
-use Rattle.vt_spec.specs.Machine.Changes.Change.{Remove}
-use Rattle.vt_spec.specs.Machine.FileTree.{link_text}
-use Rattle.vt_spec.specs.Machine.Lists.{holds_of}
-use Rattle.vt_spec.specs.Machine.Outcomes.Answer.{Done}
+use Rattle.vt_spec.specs.Language.Calls.Call.{Lstat, Unlink}
+use Rattle.vt_spec.specs.Language.Changes.{content_with_parent, node_with_parent, node_without_entry, without_entry}
+use Rattle.vt_spec.specs.Language.Changes.Change.{Remove}
+use Rattle.vt_spec.specs.FileTree.{symlink_text}
+use Rattle.vt_spec.specs.Lists.{holds_of}
+use Rattle.vt_spec.specs.Language.Answers.Answer.{Done}
 use Rattle.vt_spec.specs.Machine.Rightful.{node_allows}
 use Rattle.vt_spec.specs.Machine.Walk.{LastWord, final_word, name_of}
 use Rattle.vt_spec.specs.Machine.Walk.LastWord.{Dot, DotDot, Named, NoWord}
-use Rattle.vt_spec.specs.Machine.World.{TaskName}
+use Rattle.vt_spec.specs.Language.Calls.{TaskName}
 use Rattle.vt_spec.specs.OneTree.Inodes.{Inode, Inodes, inode_with_node, node_in, tree_of, used_once_less, with_changed, without_name}
 use Rattle.vt_spec.specs.OneTree.Permits.{Permit}
 use Rattle.vt_spec.specs.OneTree.Permits.Permit.{ToChange, ToTell}
 use Rattle.vt_spec.specs.OneTree.Policy.{lstat_permit, object_there, policy, spent, unlink_permit}
 use Rattle.vt_spec.specs.OneTree.Rules.{unlink_rules}
-use Rattle.vt_spec.specs.OneTree.Walk.{Place, is_directory_at, is_directory_there, link_walk, may, new_walk, object_named, old_leaf_walk, old_walk, walk_start}
+use Rattle.vt_spec.specs.OneTree.Walk.{Place, is_directory_at, is_directory_there, symlink_walk, may, new_walk, object_named, old_leaf_walk, old_walk, walk_start}
 use Rattle.vt_spec.specs.OneTree.World.{Task, World, after, task_called, with_inodes}
 use Rattle.vt_spec.specs.PathText.{ends_in_slash, words}
 use Rattle.vt_spec.specs.Rights.{Credentials, allows, execute_right}
@@ -46,22 +46,22 @@ abbrev Missing : Deny → Type 0
 Missing deny = deny ≡ denial W6
 
 -- what the loss of an entry, and another parent, leave of a link and of rights
-link_without : (name : List ℕ) (o : Option (Node ℕ)) → link_text (node_without_entry name o) ≡ link_text o
+link_without : (name : List ℕ) (o : Option (Node ℕ)) → symlink_text (node_without_entry name o) ≡ symlink_text o
 link_without name None = refl
 link_without name (Some node) = by node.content
   where
-    by : (content : Content ℕ) → link_text (Some (record { attr = node.attr; content = with_entries content (without_entry name (entries_of content)) }))
-        ≡ link_text (Some (record { attr = node.attr; content = content }))
+    by : (content : Content ℕ) → symlink_text (Some (record { attr = node.attr; content = with_entries content (without_entry name (entries_of content)) }))
+        ≡ symlink_text (Some (record { attr = node.attr; content = content }))
     by (Directory parent entries opaque) = refl
     by (Regular bytes) = refl
     by (Symlink text) = refl
     by Whiteout = refl
 
-link_with_parent : (parent : ℕ) (o : Option (Node ℕ)) → link_text (node_with_parent parent o) ≡ link_text o
+link_with_parent : (parent : ℕ) (o : Option (Node ℕ)) → symlink_text (node_with_parent parent o) ≡ symlink_text o
 link_with_parent parent None = refl
 link_with_parent parent (Some node) = by node.content
   where
-    by : (content : Content ℕ) → link_text (Some (record { attr = node.attr; content = content_with_parent parent content })) ≡ link_text (Some (record { attr = node.attr; content = content }))
+    by : (content : Content ℕ) → symlink_text (Some (record { attr = node.attr; content = content_with_parent parent content })) ≡ symlink_text (Some (record { attr = node.attr; content = content }))
     by (Directory old entries opaque) = refl
     by (Regular bytes) = refl
     by (Symlink text) = refl
@@ -113,15 +113,15 @@ module _ (inodes : Inodes ℕ) (directory : ℕ) (name : List ℕ) (object : ℕ
       by true e = cc
       by false e = refl
 
-  removed_link : (n : ℕ) → is_some (removed.inode n) ≡ true → link_text (later.node n) ≡ link_text (tree.node n)
+  removed_link : (n : ℕ) → is_some (removed.inode n) ≡ true → symlink_text (later.node n) ≡ symlink_text (tree.node n)
   removed_link n there =
       ⊎_elim
-      (λ t. ap (λ b. link_text (node_in (cond b (used_once_less (between.inode object)) (between.inode n)))) t.0
-      ∙ ap link_text (used_less (between.inode object) (sym (ap (λ b. is_some (cond b (used_once_less (between.inode object)) (between.inode n))) t.0) ∙ there))
-      ∙ changed_part link_text without object (node_with_parent object) (link_with_parent object) object
-      ∙ changed_part link_text inodes directory (node_without_entry name) (link_without name) object
-      ∙ ap (λ m. link_text (tree.node m)) (sym t.1))
-      (λ t. removed_part link_text (link_without name) n t.1)
+      (λ t. ap (λ b. symlink_text (node_in (cond b (used_once_less (between.inode object)) (between.inode n)))) t.0
+      ∙ ap symlink_text (used_less (between.inode object) (sym (ap (λ b. is_some (cond b (used_once_less (between.inode object)) (between.inode n))) t.0) ∙ there))
+      ∙ changed_part symlink_text without object (node_with_parent object) (link_with_parent object) object
+      ∙ changed_part symlink_text inodes directory (node_without_entry name) (link_without name) object
+      ∙ ap (λ m. symlink_text (tree.node m)) (sym t.1))
+      (λ t. removed_part symlink_text (link_without name) n t.1)
       (eqb_tells n object)
 
   -- the entries of the directory
@@ -179,7 +179,7 @@ module _ (inodes : Inodes ℕ) (directory : ℕ) (name : List ℕ) (object : ℕ
   rights_removed who here is = removed_part (node_allows who execute_right) (allows_without name who execute_right) here (directory_apart here is)
 
 -- lstat is refused where its walk is
-lstat_refused : (world : World ℕ) (name : TaskName) (task : Task ℕ) (path : List ℕ) (deny : Deny) → link_walk (tree_of world.inodes) task.credentials path ≡ Err deny
+lstat_refused : (world : World ℕ) (name : TaskName) (task : Task ℕ) (path : List ℕ) (deny : Deny) → symlink_walk (tree_of world.inodes) task.credentials path ≡ Err deny
     → (after world (lstat_permit (tree_of world.inodes) task path) (spent nat_eq world name task)).answer ≡ Err deny
 unfolding lstat_permit
 lstat_refused world name task path deny walk = ap (λ r. (after world (and_then r (λ here. Ok (ToTell here.node))) (spent nat_eq world name task)).answer) walk
@@ -265,7 +265,7 @@ module _ (numbers : List ℕ) (world : World ℕ) (name : TaskName) (fit : IsFit
           (leads_itself tree_here tree_left Missing stay task.credentials (rights_removed world.inodes place.parent (name_of place.last) object_here did.pass.1.0 task.credentials))
       leads reader (inr all) = leads_all tree_here tree_left Missing stay task.credentials reader all
 
-      stops : (reader : Credentials) → MayLook task.credentials reader → link_walk tree_left reader path ≡ Err (denial W6)
+      stops : (reader : Credentials) → MayLook task.credentials reader → symlink_walk tree_left reader path ≡ Err (denial W6)
       stops reader looks =
           let parts = new_walk_parts tree_here task.credentials path place did.walked in
           let slash = slash_of_place tree_here task.credentials parts.here.node (final_word (reverse (words parts.text))) (ends_in_slash parts.text) place parts.ends did.pass.0 in

@@ -7,11 +7,11 @@ use Rattle.vt_spec.specs.declared.attributes.Attr.{Attr}
 use Rattle.vt_spec.specs.declared.attributes.Kind.TheVariants.{File}
 use Rattle.vt_spec.specs.declared.errors.Rule.TheVariants.{S4}
 use Rattle.vt_spec.specs.Errors.{and_then, denial}
-use Rattle.vt_spec.specs.Machine.Calls.Call.{Pread, Pwrite}
-use Rattle.vt_spec.specs.Machine.FileTree.{is_kind, is_kind_in}
+use Rattle.vt_spec.specs.Language.Calls.Call.{Pread, Pwrite}
+use Rattle.vt_spec.specs.FileTree.{is_kind, is_kind_in}
 use Rattle.vt_spec.specs.Machine.Outcome.Descriptors.{overwritten, padded}
-use Rattle.vt_spec.specs.Machine.Outcomes.Answer.{Bytes, Done}
-use Rattle.vt_spec.specs.Machine.World.{TaskName}
+use Rattle.vt_spec.specs.Language.Answers.Answer.{Bytes, Done}
+use Rattle.vt_spec.specs.Language.Calls.{TaskName}
 use Rattle.vt_spec.specs.OneTree.Inodes.{tree_of}
 use Rattle.vt_spec.specs.OneTree.Permits.{Permit}
 use Rattle.vt_spec.specs.OneTree.Permits.Permit.{ToReadPart}

@@ -4,13 +4,13 @@ use Rattle.vt_spec.specs.declared.attributes.Attr.{Attr}
 use Rattle.vt_spec.specs.declared.errors.Deny.{Deny}
 use Rattle.vt_spec.specs.declared.errors.Rule.TheVariants.{C2, W4}
 use Rattle.vt_spec.specs.Errors.{and_then, denial, unless}
-use Rattle.vt_spec.specs.Machine.Calls.Call.{Chmod, Chown, Stat}
-use Rattle.vt_spec.specs.Machine.Changes.{node_with_attr}
-use Rattle.vt_spec.specs.Machine.Changes.Change.{SetAttr}
+use Rattle.vt_spec.specs.Language.Calls.Call.{Chmod, Chown, Stat}
+use Rattle.vt_spec.specs.Language.Changes.{node_with_attr}
+use Rattle.vt_spec.specs.Language.Changes.Change.{SetAttr}
 use Rattle.vt_spec.specs.Machine.Outcome.Attributes.{attr_with_mode, attr_with_owner, may_chown}
 use Rattle.vt_spec.specs.Machine.Outcome.Looking.{stat_line}
-use Rattle.vt_spec.specs.Machine.Outcomes.Answer.{Done, Told}
-use Rattle.vt_spec.specs.Machine.World.{TaskName}
+use Rattle.vt_spec.specs.Language.Answers.Answer.{Done, Told}
+use Rattle.vt_spec.specs.Language.Calls.{TaskName}
 use Rattle.vt_spec.specs.OneTree.Inodes.{Inode, Inodes, node_in, tree_of, with_changed}
 use Rattle.vt_spec.specs.OneTree.Permits.{Permit}
 use Rattle.vt_spec.specs.OneTree.Permits.Permit.{ToChange, ToTell}
@@ -62,7 +62,7 @@ Hidden deny = deny ≡ denial W4
 -- what is to be told before and after attributes are set
 abbrev IsToldSet : List ℕ → (Attr → Attr) → World ℕ → TaskName → World ℕ → Type 0
 IsToldSet path set world name later =
-    (line : Rattle.vt_spec.specs.Machine.Outcomes.StatLine) × IsAnswered world name (Stat path) (Told line)
+    (line : Rattle.vt_spec.specs.Language.Answers.StatLine) × IsAnswered world name (Stat path) (Told line)
     × IsAnsweredUnless W4 later name (Stat path) (Told (record line { attr = set line.attr }))
     × IsSeenByAll later (Stat path) (Told (record line { attr = set line.attr }))
 
@@ -110,7 +110,7 @@ attr_told numbers world name fit task called path here set walk = (
     now : (tree_of inodes).node here.node ≡ Some changed
     now =
         changed_here world.inodes here.node (node_with_attr (set (attr_at (tree_of world.inodes) here.node))) node _ is refl
-        ∙ ap (λ o. Some (record { attr = set (Rattle.vt_spec.specs.Machine.FileTree.attr_in o); content = node.content })) is
+        ∙ ap (λ o. Some (record { attr = set (Rattle.vt_spec.specs.FileTree.attr_in o); content = node.content })) is
 
     either : (number : ℕ) → EndsToo Hidden (object_walk later task.credentials path) here
         → ((policy nat_eq (with_inodes world inodes) name (Stat path) number).answer ≡ Ok (Told (record (stat_line (Some node)) { attr = set node.attr })))

@@ -5,14 +5,14 @@ use Rattle.vt_spec.specs.declared.attributes.Kind.TheVariants.{White}
 use Rattle.vt_spec.specs.declared.errors.Deny.{Deny}
 use Rattle.vt_spec.specs.declared.errors.Rule.TheVariants.{C1}
 use Rattle.vt_spec.specs.Errors.{denial}
-use Rattle.vt_spec.specs.Machine.Calls.Call.{Ls, Mkdir, Read, Write}
-use Rattle.vt_spec.specs.Machine.Changes.Change.{SetBytes}
-use Rattle.vt_spec.specs.Machine.FileTree.{is_kind_in, link_text}
+use Rattle.vt_spec.specs.Language.Calls.Call.{Ls, Mkdir, Read, Write}
+use Rattle.vt_spec.specs.Language.Changes.Change.{SetBytes}
+use Rattle.vt_spec.specs.FileTree.{is_kind_in, symlink_text}
 use Rattle.vt_spec.specs.Machine.Outcome.Making.{directory_mode, file_mode}
-use Rattle.vt_spec.specs.Machine.Outcomes.Answer.{Bytes, Done, Names}
+use Rattle.vt_spec.specs.Language.Answers.Answer.{Bytes, Done, Names}
 use Rattle.vt_spec.specs.Machine.Rightful.{node_allows}
 use Rattle.vt_spec.specs.Machine.Walk.{final_word, is_special, name_of}
-use Rattle.vt_spec.specs.Machine.World.{TaskName}
+use Rattle.vt_spec.specs.Language.Calls.{TaskName}
 use Rattle.vt_spec.specs.OneTree.Inodes.{Inodes, tree_of, with_changed, with_new}
 use Rattle.vt_spec.specs.OneTree.Permits.{Permit}
 use Rattle.vt_spec.specs.OneTree.Permits.Permit.{ToChange}
@@ -48,13 +48,13 @@ leads_who tree later who reader stay same (inl is) = subst (λ r. LeadsToo tree 
 leads_who tree later who reader stay same (inr all) = leads_all tree later Never stay who reader all
 
 -- what is there, and neither a directory nor a link nor a whiteout, is a regular file
-regular_of : (who : Credentials) (wanted : ℕ) (o : Option (Node ℕ)) → node_allows who wanted o ≡ true → is_directory_node o ≡ false → is_kind_in White o ≡ false → link_text o ≡ None
+regular_of : (who : Credentials) (wanted : ℕ) (o : Option (Node ℕ)) → node_allows who wanted o ≡ true → is_directory_node o ≡ false → is_kind_in White o ≡ false → symlink_text o ≡ None
     → (attr : Attr) × (old : List ℕ) × (o ≡ Some (record { attr = attr; content = Regular old }))
 regular_of who wanted None there no_directory no_whiteout no_link = cc
 regular_of who wanted (Some node) there no_directory no_whiteout no_link = by node.content refl no_directory no_whiteout no_link
   where
     by : (content : Content ℕ) → node.content ≡ content → is_directory (kind_of content) ≡ false → is_kind_in White (Some (record { attr = node.attr; content = content })) ≡ false
-        → link_text (Some (record { attr = node.attr; content = content })) ≡ None
+        → symlink_text (Some (record { attr = node.attr; content = content })) ≡ None
         → (attr : Attr) × (old : List ℕ) × (Some node ≡ Some (record { attr = attr; content = Regular old }))
     by (Directory parent entries opaque) e no_directory no_whiteout no_link = cc
     by (Regular bytes) e no_directory no_whiteout no_link = (node.attr, bytes, λ i. Some (record { attr = node.attr; content = e i }))
@@ -101,7 +101,7 @@ module _ (numbers : List ℕ) (world : World ℕ) (name : TaskName) (number : �
 
   -- the file at a place is found
   finds_file : (later : Tree ℕ) (path : List ℕ) (place : Place ℕ) → file_walk tree who path ≡ Ok place → is_special place.last ≡ false → place.slash ≡ false
-      → (file : ℕ) → entry_at later place.parent (name_of place.last) ≡ Some file → link_text (later.node file) ≡ None
+      → (file : ℕ) → entry_at later place.parent (name_of place.last) ≡ Some file → symlink_text (later.node file) ≡ None
       → (reader : Credentials) → LeadsToo tree later who reader Never → (left : ℕ) × (object_walk later reader path ≡ Ok (record { node = file; left = left }))
   finds_file later path place walk special no_slash file entry no_text reader leads =
       let texts = both_gave (parsed_path path) (λ text. file_walked 41 tree who (walk_start tree) text false) place walk in
@@ -117,13 +117,13 @@ module _ (numbers : List ℕ) (world : World ℕ) (name : TaskName) (number : �
       let inodes = with_changed nat_eq world.inodes file (node_with_bytes bytes) in
       let at = name_at_place tree place.parent place.object place.last special (subst (λ r. IfOk r (IsPlace tree)) walk (file_walk_is (beside_of numbers) world (name, task) fit path)) in
       let texts = both_gave (parsed_path path) (λ text. file_walked 41 tree who (walk_start tree) text false) place walk in
-      let no_link = ap (λ o. Rattle.vt_spec.specs.Machine.Lists.then_some o (λ object. link_text (tree.node object))) (sym there) ∙ file_is_no_link tree who 41 (walk_start tree) texts.0 false place texts.2 in
+      let no_link = ap (λ o. Rattle.vt_spec.specs.Lists.then_some o (λ object. symlink_text (tree.node object))) (sym there) ∙ file_is_no_link tree who 41 (walk_start tree) texts.0 false place texts.2 in
       let old = regular_of who write_right (tree.node file) (not_fails _ pass.1.1.1.0) pass.0 pass.1.1.0 no_link in
       let is = changed_here world.inodes file (node_with_bytes bytes) (record { attr = old.0; content = Regular old.1 }) (record { attr = old.0; content = Regular bytes }) old.2 refl in
       read_back world inodes name task called path bytes file old.0 is (λ reader looks.
       finds_file (tree_of inodes) path place walk special no_slash file
       (ap (Rattle.vt_spec.specs.Tree.entry_named (name_of place.last)) (changed_part Rattle.vt_spec.specs.Tree.entries_in world.inodes file (node_with_bytes bytes) (Rattle.vt_one_text.proofs.OneTreeRewrites.bytes_kept bytes).entries place.parent) ∙ at.1 ∙ there)
-      (ap link_text is) reader
+      (ap symlink_text is) reader
       (leads_who tree (tree_of inodes) who reader (ways_with_bytes world.inodes file bytes Never)
       (λ here is. changed_part (node_allows who execute_right) world.inodes file (node_with_bytes bytes) (allows_with_bytes bytes who execute_right) here) looks))
 
@@ -138,7 +138,7 @@ module _ (numbers : List ℕ) (world : World ℕ) (name : TaskName) (number : �
       let is = made_here numbers world fit place.parent (name_of place.last) number new at.0 free vacant in
       read_back world inodes name task called path bytes number (new_attr task file_mode) is (λ reader looks.
       finds_file (tree_of inodes) path place walk special no_slash number
-      (made_entry numbers world fit place.parent (name_of place.last) number new at.0 free vacant) (ap link_text is) reader
+      (made_entry numbers world fit place.parent (name_of place.last) number new at.0 free vacant) (ap symlink_text is) reader
       (leads_who tree (tree_of inodes) who reader (ways_made numbers world fit place.parent (name_of place.last) number new at.0 free vacant Never)
       (rights_made numbers world fit place.parent (name_of place.last) number new at.0 free vacant who) looks))
 
@@ -230,7 +230,7 @@ module _ (numbers : List ℕ) (world : World ℕ) (name : TaskName) (number : �
         parts.here.left,
         surely _ _ (directory_walk_too tree_here (tree_of inodes) task.credentials reader Never leads path parts.text parts.parsed (record { node = number; left = parts.here.left }) (ap is_directory_node is)
             (named_too tree_here (tree_of inodes) task.credentials reader Never leads 41 (walk_start tree_here) parts.here (reverse (words parts.text)) (ends_in_slash parts.text) place number (omega arith) (omega arith)
-            parts.walked parts.ends pass.0 (object_of_name (tree_of inodes) place.parent place.last (Some number) pass.0 entry) (ap link_text is))),
+            parts.walked parts.ends pass.0 (object_of_name (tree_of inodes) place.parent place.last (Some number) pass.0 entry) (ap symlink_text is))),
       ))
 
 pub mkdir_then_list : MkdirThenList

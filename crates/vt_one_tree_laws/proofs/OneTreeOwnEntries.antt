@@ -4,13 +4,12 @@ use Rattle.std.specs.Cmp.Lexicographic.{bytes_decides}
 use Rattle.std.specs.Ordering.{eq_by_cmp}
 use Rattle.std.specs.Str.{bytes_eq}
 use Rattle.vt_spec.specs.declared.attributes.Attr.{Attr}
-use Rattle.vt_spec.specs.Machine.Calls.{Access, Call, Creation}
-use Rattle.vt_spec.specs.Machine.Calls.Call.{Chmod, Chown, Close, Drop, Exec, Exit, Fork, LinkTo, Ls, Lstat, Mkdir, OpenFile, Pread, Pwrite, Read, Readlink, Rename, Rmdir, Stat, SymlinkAt, Umask, Unlink, Write}
-use Rattle.vt_spec.specs.Machine.Calls.Creation.{Exclusive, NoCreation, OrCreate}
-use Rattle.vt_spec.specs.Machine.Changes.{content_with_parent, node_with_attr, node_with_parent, node_without_entry, without_entry}
-use Rattle.vt_spec.specs.Machine.Changes.Change.{AddName, Make, Move, Remove, SetAttr, SetBytes}
-use Rattle.vt_spec.specs.Machine.Lists.{is_among}
-use Rattle.vt_spec.specs.Machine.World.{TaskName}
+use Rattle.vt_spec.specs.Language.Calls.{Access, Call, Creation, TaskName}
+use Rattle.vt_spec.specs.Language.Calls.Call.{Chmod, Chown, Close, Drop, Exec, Exit, Fork, LinkTo, Ls, Lstat, Mkdir, OpenFile, Pread, Pwrite, Read, Readlink, Rename, Rmdir, Stat, SymlinkAt, Umask, Unlink, Write}
+use Rattle.vt_spec.specs.Language.Calls.Creation.{Exclusive, NoCreation, OrCreate}
+use Rattle.vt_spec.specs.Language.Changes.{content_with_parent, node_with_attr, node_with_parent, node_without_entry, without_entry}
+use Rattle.vt_spec.specs.Language.Changes.Change.{AddName, Make, Move, Remove, SetAttr, SetBytes}
+use Rattle.vt_spec.specs.Lists.{is_among}
 use Rattle.vt_spec.specs.OneTree.Inodes.{Inode, Inodes, with_changed}
 use Rattle.vt_spec.specs.OneTree.Permits.{Permit}
 use Rattle.vt_spec.specs.OneTree.Permits.Permit.{ToChange, ToOpen, ToOpenNew}

@@ -1,9 +1,8 @@
 -- Calls of one tree that look leave the world.
 use Rattle.std.proofs.Common.{◌≡◌, refl, ℕ, nat_eq, true}
-use Rattle.vt_spec.specs.Machine.Calls.{Call}
-use Rattle.vt_spec.specs.Machine.Calls.Call.{Exec, ListMounts, Ls, Lstat, Pread, Read, Readlink, Stat}
+use Rattle.vt_spec.specs.Language.Calls.{Call, TaskName}
+use Rattle.vt_spec.specs.Language.Calls.Call.{Exec, ListMounts, Ls, Lstat, Pread, Read, Readlink, Stat}
 use Rattle.vt_spec.specs.Machine.Policy.{only_looks}
-use Rattle.vt_spec.specs.Machine.World.{TaskName}
 use Rattle.vt_spec.specs.OneTree.Policy.{spent}
 use Rattle.vt_spec.specs.OneTree.World.{Task, World}
 use Rattle.vt_one_tree_laws.specs.OneTreeCalls.{LookingCallChangesNothing}

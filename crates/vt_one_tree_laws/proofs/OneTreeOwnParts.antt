@@ -3,14 +3,13 @@ use Rattle.std.proofs.Common.{◌≡◌, ◌≢◌, refl, sym, subst, ◌∙◌,
 use Rattle.std.proofs.lemmas.Bool.Decides.{eqb_tells}
 use Rattle.vt_spec.specs.declared.attributes.Attr.{Attr}
 use Rattle.vt_spec.specs.declared.attributes.Kind.TheVariants.{Link}
-use Rattle.vt_spec.specs.Machine.Calls.{Access, Call, Creation}
-use Rattle.vt_spec.specs.Machine.Calls.Call.{Chmod, Chown, Close, Drop, Exec, Exit, Fork, LinkTo, Ls, Lstat, Mkdir, OpenFile, Pread, Pwrite, Read, Readlink, Rename, Rmdir, Stat, SymlinkAt, Umask, Unlink, Write}
-use Rattle.vt_spec.specs.Machine.Calls.Creation.{Exclusive, NoCreation, OrCreate}
-use Rattle.vt_spec.specs.Machine.Changes.{content_with_parent, node_with_attr, node_with_parent, node_without_entry}
-use Rattle.vt_spec.specs.Machine.FileTree.{attr_in, is_kind}
-use Rattle.vt_spec.specs.Machine.Lists.{when}
+use Rattle.vt_spec.specs.Language.Calls.{Access, Call, Creation, TaskName}
+use Rattle.vt_spec.specs.Language.Calls.Call.{Chmod, Chown, Close, Drop, Exec, Exit, Fork, LinkTo, Ls, Lstat, Mkdir, OpenFile, Pread, Pwrite, Read, Readlink, Rename, Rmdir, Stat, SymlinkAt, Umask, Unlink, Write}
+use Rattle.vt_spec.specs.Language.Calls.Creation.{Exclusive, NoCreation, OrCreate}
+use Rattle.vt_spec.specs.Language.Changes.{content_with_parent, node_with_attr, node_with_parent, node_without_entry}
+use Rattle.vt_spec.specs.FileTree.{attr_in, is_kind}
+use Rattle.vt_spec.specs.Lists.{when}
 use Rattle.vt_spec.specs.Machine.Outcome.Attributes.{attr_with_mode, attr_with_owner}
-use Rattle.vt_spec.specs.Machine.World.{TaskName}
 use Rattle.vt_spec.specs.OneTree.Inodes.{Inode, Inodes, inode_with_node, node_in, pinned, tree_of, unpinned, used_once_less, used_once_more, with_changed, with_inode, with_moved, with_name, with_new, without_name, without_replaced}
 use Rattle.vt_spec.specs.OneTree.Policy.{closed, policy, spent, without_uses}
 use Rattle.vt_spec.specs.OneTree.World.{Descriptor, Task, World, descriptor_numbered}

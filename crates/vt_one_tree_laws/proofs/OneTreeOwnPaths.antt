@@ -3,22 +3,21 @@ use Rattle.std.proofs.Common.{◌≡◌, refl, sym, ap, subst, ◌∙◌, ℕ, n
 use Rattle.vt_spec.specs.declared.errors.Deny.{Deny}
 use Rattle.vt_spec.specs.declared.errors.Rule.TheVariants.{C2, P1, S1, S4, W3, W6}
 use Rattle.vt_spec.specs.Errors.{Rules, and_then, denial, unless}
-use Rattle.vt_spec.specs.Machine.Calls.{Access, Call, Creation}
-use Rattle.vt_spec.specs.Machine.Calls.Call.{Chmod, Chown, Close, Drop, Exec, Exit, Fork, LinkTo, Ls, Lstat, Mkdir, OpenFile, Pread, Pwrite, Read, Readlink, Rename, Rmdir, Stat, SymlinkAt, Umask, Unlink, Write}
-use Rattle.vt_spec.specs.Machine.Calls.Creation.{Exclusive, NoCreation, OrCreate}
-use Rattle.vt_spec.specs.Machine.Changes.Change.{AddName, Move, Remove, SetAttr, SetBytes}
-use Rattle.vt_spec.specs.Machine.Lists.{is_among}
+use Rattle.vt_spec.specs.Language.Calls.{Access, Call, Creation, TaskName}
+use Rattle.vt_spec.specs.Language.Calls.Call.{Chmod, Chown, Close, Drop, Exec, Exit, Fork, LinkTo, Ls, Lstat, Mkdir, OpenFile, Pread, Pwrite, Read, Readlink, Rename, Rmdir, Stat, SymlinkAt, Umask, Unlink, Write}
+use Rattle.vt_spec.specs.Language.Calls.Creation.{Exclusive, NoCreation, OrCreate}
+use Rattle.vt_spec.specs.Language.Changes.Change.{AddName, Move, Remove, SetAttr, SetBytes}
+use Rattle.vt_spec.specs.Lists.{is_among}
 use Rattle.vt_spec.specs.Machine.Outcome.Attributes.{attr_with_mode, attr_with_owner, may_chown}
 use Rattle.vt_spec.specs.Machine.Outcome.Making.{file_mode, link_text_rules}
 use Rattle.vt_spec.specs.Machine.Walk.{LastWord, final_word, is_special, name_of}
 use Rattle.vt_spec.specs.Machine.Walk.LastWord.{Dot, DotDot, Named, NoWord}
-use Rattle.vt_spec.specs.Machine.World.{TaskName}
 use Rattle.vt_spec.specs.OneTree.Inodes.{Inodes, tree_of}
 use Rattle.vt_spec.specs.OneTree.Permits.{Permit}
 use Rattle.vt_spec.specs.OneTree.Permits.Permit.{Allowed, ToChange, ToClose, ToExit, ToList, ToOpen, ToRead, ToReadPart, ToTell}
-use Rattle.vt_spec.specs.OneTree.Policy.{chmod_permit, chown_permit, judge, link_permit, making, mkdir_permit, new_file, object_there, open_by, open_permit, opened_or_made, opening_new, pwrite_permit, pwriting, rename_permit, renamed_by, rmdir_permit, symlink_permit, unlink_permit, write_permit, written}
-use Rattle.vt_spec.specs.OneTree.Rules.{attr_at, chmod_rules, descriptor_at, descriptor_rules, exclusive_rules, file_word_rules, is_one_object, link_rules, new_rules, open_new_rules, open_rules, pwrite_rules, rename_rules, rewrite_rules, rmdir_rules, unlink_rules, write_new_rules}
-use Rattle.vt_spec.specs.OneTree.Walk.{Place, file_walk, front_walked, is_directory_there, link_walk, new_leaf_walk, new_walk, object_walk, old_leaf_walk, old_walk, placed, rename_new_walk, search_rules, walk_start}
+use Rattle.vt_spec.specs.OneTree.Policy.{chmod_permit, chown_permit, judge, hard_link_permit, making, mkdir_permit, new_file, object_there, open_by, open_permit, opened_or_made, opening_new, pwrite_permit, pwriting, rename_permit, renamed_by, rmdir_permit, symlink_permit, unlink_permit, write_permit, written}
+use Rattle.vt_spec.specs.OneTree.Rules.{attr_at, chmod_rules, descriptor_at, descriptor_rules, exclusive_rules, file_word_rules, is_one_object, hard_link_rules, new_rules, open_new_rules, open_rules, pwrite_rules, rename_rules, rewrite_rules, rmdir_rules, unlink_rules, write_new_rules}
+use Rattle.vt_spec.specs.OneTree.Walk.{Place, file_walk, front_walked, is_directory_there, symlink_walk, new_leaf_walk, new_walk, object_walk, old_leaf_walk, old_walk, placed, rename_new_walk, search_rules, walk_start}
 use Rattle.vt_spec.specs.OneTree.World.{Descriptor, Task, descriptor_numbered}
 use Rattle.vt_spec.specs.PathText.{ends_in_slash, parsed_path, words}
 use Rattle.vt_spec.specs.Rights.{Credentials}
@@ -186,7 +185,7 @@ module _ (other : ℕ) where
     by_permits = judged_holds number inodes name task R refused
 
     judged_far : (call : Call) → Far (reached_by number tree task call) → R (judge nat_eq number inodes name task call)
-    unfolding mkdir_permit symlink_permit link_permit write_permit unlink_permit rmdir_permit chmod_permit chown_permit open_permit
+    unfolding mkdir_permit symlink_permit hard_link_permit write_permit unlink_permit rmdir_permit chmod_permit chown_permit open_permit
         pwrite_permit rename_permit
     judged_far (Ls path) far = by_permits (Ls path) (λ directory. allowed (ToList directory) refl)
     judged_far (Stat path) far = by_permits (Stat path) (λ object. allowed (ToTell object) refl)
@@ -205,10 +204,10 @@ module _ (other : ℕ) where
         next_when (new_leaf_walk tree who path) _ (λ place e.
         unless_then R refused (new_rules tree who place) _ (λ pass. made_far place _ (subst (λ walk. Far (number ∷ directory_at walk)) (new_leaf_is tree who path place e) far))))
     judged_far (LinkTo old new) far =
-        next_when (link_walk tree who old) _ (λ from e.
+        next_when (symlink_walk tree who old) _ (λ from e.
         next_when (new_leaf_walk tree who new) _ (λ place f.
-        unless_then R refused (link_rules tree who from.node place) _ (λ pass.
-        let both = far_append (object_at (link_walk tree who old)) (directory_at (new_walk tree who new)) far in
+        unless_then R refused (hard_link_rules tree who from.node place) _ (λ pass.
+        let both = far_append (object_at (symlink_walk tree who old)) (directory_at (new_walk tree who new)) far in
         let parent : Far (place.parent ∷ []) = subst (λ walk. Far (directory_at walk)) (new_leaf_is tree who new place f) both.1 in
         allowed (ToChange (AddName place.parent (name_of place.last) from.node))
         (far_both place.parent (from.node ∷ []) (far_first place.parent [] parent) (subst (λ walk. Far (object_at walk)) e both.0)))))

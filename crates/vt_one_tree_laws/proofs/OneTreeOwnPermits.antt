@@ -3,22 +3,21 @@ use Rattle.std.proofs.Common.{◌≡◌, refl, subst, ℕ, nat_eq, Bool, true, f
 use Rattle.vt_spec.specs.declared.errors.Deny.{Deny}
 use Rattle.vt_spec.specs.declared.errors.Rule.TheVariants.{C2, P1, S1}
 use Rattle.vt_spec.specs.Errors.{Rules, and_then, denial, unless}
-use Rattle.vt_spec.specs.Machine.Calls.{Access, Call, Creation}
-use Rattle.vt_spec.specs.Machine.Calls.Call.{Chmod, Chown, Close, Drop, Exec, Exit, Fork, LinkTo, Ls, Lstat, Mkdir, OpenFile, Pread, Pwrite, Read, Readlink, Rename, Rmdir, Stat, SymlinkAt, Umask, Unlink, Write}
-use Rattle.vt_spec.specs.Machine.Calls.Creation.{Exclusive, NoCreation, OrCreate}
-use Rattle.vt_spec.specs.Machine.Changes.Change.{AddName, Make, Move, Remove, SetAttr, SetBytes}
+use Rattle.vt_spec.specs.Language.Calls.{Access, Call, Creation, TaskName}
+use Rattle.vt_spec.specs.Language.Calls.Call.{Chmod, Chown, Close, Drop, Exec, Exit, Fork, LinkTo, Ls, Lstat, Mkdir, OpenFile, Pread, Pwrite, Read, Readlink, Rename, Rmdir, Stat, SymlinkAt, Umask, Unlink, Write}
+use Rattle.vt_spec.specs.Language.Calls.Creation.{Exclusive, NoCreation, OrCreate}
+use Rattle.vt_spec.specs.Language.Changes.Change.{AddName, Make, Move, Remove, SetAttr, SetBytes}
 use Rattle.vt_spec.specs.Machine.Outcome.Attributes.{attr_with_mode, attr_with_owner, may_chown}
 use Rattle.vt_spec.specs.Machine.Outcome.Descriptors.{overwritten}
 use Rattle.vt_spec.specs.Machine.Outcome.Making.{file_mode, link_text_rules}
 use Rattle.vt_spec.specs.Machine.Outcome.Tasks.{capabilities_of, child_credentials, permission_bits, with_dropped}
 use Rattle.vt_spec.specs.Machine.Walk.{is_special, name_of}
-use Rattle.vt_spec.specs.Machine.World.{TaskName}
 use Rattle.vt_spec.specs.OneTree.Inodes.{Inodes, tree_of}
 use Rattle.vt_spec.specs.OneTree.Permits.{Permit}
 use Rattle.vt_spec.specs.OneTree.Permits.Permit.{Allowed, ToChange, ToClose, ToExit, ToFork, ToList, ToOpen, ToOpenNew, ToRead, ToReadPart, ToSetCredentials, ToSetUmask, ToTell}
-use Rattle.vt_spec.specs.OneTree.Policy.{chmod_permit, chown_permit, close_permit, exec_permit, fork_permit, judge, link_permit, list_permit, lstat_permit, making, mkdir_permit, new_file, object_there, open_by, open_permit, opened_or_made, policy, pread_permit, pwrite_permit, pwriting, read_permit, readlink_permit, rename_permit, renamed_by, rmdir_permit, spent, stat_permit, symlink_permit, unlink_permit, write_permit, written}
-use Rattle.vt_spec.specs.OneTree.Rules.{attr_at, chmod_rules, descriptor_at, descriptor_rules, exclusive_rules, exec_rules, file_word_rules, fork_rules, is_one_object, link_rules, list_rules, new_rules, open_new_rules, open_rules, pwrite_rules, read_rules, readlink_rules, rename_rules, rewrite_rules, rmdir_rules, unlink_rules, write_new_rules}
-use Rattle.vt_spec.specs.OneTree.Walk.{Place, directory_walk, file_walk, is_directory_there, link_walk, new_leaf_walk, new_walk, object_walk, old_leaf_walk, old_walk, rename_new_walk}
+use Rattle.vt_spec.specs.OneTree.Policy.{chmod_permit, chown_permit, close_permit, exec_permit, fork_permit, judge, hard_link_permit, list_permit, lstat_permit, making, mkdir_permit, new_file, object_there, open_by, open_permit, opened_or_made, policy, pread_permit, pwrite_permit, pwriting, read_permit, readlink_permit, rename_permit, renamed_by, rmdir_permit, spent, stat_permit, symlink_permit, unlink_permit, write_permit, written}
+use Rattle.vt_spec.specs.OneTree.Rules.{attr_at, chmod_rules, descriptor_at, descriptor_rules, exclusive_rules, exec_rules, file_word_rules, fork_rules, is_one_object, hard_link_rules, list_rules, new_rules, open_new_rules, open_rules, pwrite_rules, read_rules, readlink_rules, rename_rules, rewrite_rules, rmdir_rules, unlink_rules, write_new_rules}
+use Rattle.vt_spec.specs.OneTree.Walk.{Place, directory_walk, file_walk, is_directory_there, symlink_walk, new_leaf_walk, new_walk, object_walk, old_leaf_walk, old_walk, rename_new_walk}
 use Rattle.vt_spec.specs.OneTree.World.{Task, World, task_called}
 use Rattle.vt_spec.specs.Rights.{Credentials}
 use Rattle.vt_spec.specs.Tree.{Node, Tree, bytes_in}
@@ -134,13 +133,13 @@ module _ (number : ℕ) (inodes : Inodes ℕ) (name : TaskName) (task : Task ℕ
 
     -- then it holds of the permit that the call is given
     pub judged_holds : (call : Call) → HoldsOf P call → R (judge nat_eq number inodes name task call)
-    unfolding list_permit stat_permit lstat_permit readlink_permit read_permit exec_permit mkdir_permit symlink_permit link_permit
+    unfolding list_permit stat_permit lstat_permit readlink_permit read_permit exec_permit mkdir_permit symlink_permit hard_link_permit
         write_permit unlink_permit rmdir_permit chmod_permit chown_permit open_permit pread_permit pwrite_permit close_permit
         fork_permit rename_permit
     judged_holds (Ls path) h = next_then R refused (directory_walk tree who path) _ (λ here. unless_then R refused (list_rules tree who here.node) _ (λ pass. h here.node))
     judged_holds (Stat path) h = next_then R refused (object_walk tree who path) _ (λ here. h here.node)
-    judged_holds (Lstat path) h = next_then R refused (link_walk tree who path) _ (λ here. h here.node)
-    judged_holds (Readlink path) h = next_then R refused (link_walk tree who path) _ (λ here. unless_then R refused (readlink_rules tree here.node) _ (λ pass. h here.node))
+    judged_holds (Lstat path) h = next_then R refused (symlink_walk tree who path) _ (λ here. h here.node)
+    judged_holds (Readlink path) h = next_then R refused (symlink_walk tree who path) _ (λ here. unless_then R refused (readlink_rules tree here.node) _ (λ pass. h here.node))
     judged_holds (Read path) h = next_then R refused (object_walk tree who path) _ (λ here. unless_then R refused (read_rules tree who here.node) _ (λ pass. h here.node))
     judged_holds (Write path bytes) h =
         next_then R refused (file_walk tree who path) _ (λ place. unless_then R refused (file_word_rules place) _ (λ pass. written_holds place bytes place.object h))
@@ -151,9 +150,9 @@ module _ (number : ℕ) (inodes : Inodes ℕ) (name : TaskName) (task : Task ℕ
         unless_then R refused (link_text_rules text) _ (λ fits.
         next_then R refused (new_leaf_walk tree who path) _ (λ place. unless_then R refused (new_rules tree who place) _ (λ pass. made_holds place _ h)))
     judged_holds (LinkTo old new) h =
-        next_then R refused (link_walk tree who old) _ (λ from.
+        next_then R refused (symlink_walk tree who old) _ (λ from.
         next_then R refused (new_leaf_walk tree who new) _ (λ place.
-        unless_then R refused (link_rules tree who from.node place) _ (λ pass. h place.parent (name_of place.last) from.node)))
+        unless_then R refused (hard_link_rules tree who from.node place) _ (λ pass. h place.parent (name_of place.last) from.node)))
     judged_holds (Unlink path) h =
         next_then R refused (old_leaf_walk tree who path) _ (λ place. unless_then R refused (unlink_rules tree who place (object_there place)) _ (λ pass. removed_holds place h))
     judged_holds (Rmdir path) h =

@@ -2,21 +2,20 @@
 use Rattle.std.specs.Prelude.{Bool, Contains, Err, List, None, Ok, Option, Some, [], false, if◌then◌else◌, is_some, map, nat_eq, nat_le, option_to_list, Result, suc, true, zero, ℕ, ⊤, ◌&&◌, ◌+◌, ◌++◌, ◌-◌, ◌∷◌, ◌≡◌, ◌≢◌, ◌⊎◌}
 use Rattle.std.specs.Str.{bytes_eq}
 use Rattle.vt_spec.specs.declared.errors.Deny.{Deny}
-use Rattle.vt_spec.specs.Machine.Calls.{Access, Call, CapabilityWord, Creation, ForkWords}
-use Rattle.vt_spec.specs.Machine.Calls.Call.{Chmod, Chown, Close, Drop, Exit, Fork, LinkTo, Mkdir, OpenFile, Pwrite, Rename, Rmdir, SymlinkAt, Umask, Unlink, Write}
-use Rattle.vt_spec.specs.Machine.Calls.Creation.{Exclusive, NoCreation, OrCreate}
-use Rattle.vt_spec.specs.Machine.Changes.{Change}
-use Rattle.vt_spec.specs.Machine.Changes.Change.{AddName, CopyUp, Make, Move, Remove, SetAttr, SetBytes, SetMark}
-use Rattle.vt_spec.specs.Machine.FileTree.{link_text}
-use Rattle.vt_spec.specs.Machine.Lists.{is_among}
+use Rattle.vt_spec.specs.Language.Calls.{Access, Call, CapabilityWord, Creation, ForkWords, TaskName}
+use Rattle.vt_spec.specs.Language.Calls.Call.{Chmod, Chown, Close, Drop, Exit, Fork, LinkTo, Mkdir, OpenFile, Pwrite, Rename, Rmdir, SymlinkAt, Umask, Unlink, Write}
+use Rattle.vt_spec.specs.Language.Calls.Creation.{Exclusive, NoCreation, OrCreate}
+use Rattle.vt_spec.specs.Language.Changes.{Change}
+use Rattle.vt_spec.specs.Language.Changes.Change.{AddName, CopyUp, Make, Move, Remove, SetAttr, SetBytes, SetMark}
+use Rattle.vt_spec.specs.FileTree.{symlink_text}
+use Rattle.vt_spec.specs.Lists.{is_among}
 use Rattle.vt_spec.specs.Machine.Outcome.Tasks.{child_credentials}
 use Rattle.vt_spec.specs.Machine.Policy.{only_looks}
-use Rattle.vt_spec.specs.Machine.World.{TaskName}
 use Rattle.vt_spec.specs.OneTree.Inodes.{Inode, Inodes, tree_of}
 use Rattle.vt_spec.specs.OneTree.Permits.{Permit}
 use Rattle.vt_spec.specs.OneTree.Permits.Permit.{ToChange, ToClose, ToExit, ToOpen, ToOpenNew}
 use Rattle.vt_spec.specs.OneTree.Policy.{child_name, child_of, judge, policy}
-use Rattle.vt_spec.specs.OneTree.Walk.{Here, Place, file_walk, link_walk, new_walk, object_walk}
+use Rattle.vt_spec.specs.OneTree.Walk.{Here, Place, file_walk, symlink_walk, new_walk, object_walk}
 use Rattle.vt_spec.specs.OneTree.World.{Descriptor, Task, World, descriptor_numbered, task_called}
 use Rattle.vt_spec.specs.Rights.{Credentials, cap_setgid, cap_setuid, has_all}
 use Rattle.vt_spec.specs.Tree.{Node, Tree, bytes_of, entries_of, entry_named, kind_of}
@@ -175,7 +174,7 @@ reached_by number tree task (Write path bytes) = file_or_new_at number (file_wal
 reached_by number tree task (Mkdir path mode) = number ∷ directory_at (new_walk tree task.credentials path)
 reached_by number tree task (SymlinkAt text path) = number ∷ directory_at (new_walk tree task.credentials path)
 reached_by number tree task (LinkTo old new) =
-    object_at (link_walk tree task.credentials old) ++ directory_at (new_walk tree task.credentials new)
+    object_at (symlink_walk tree task.credentials old) ++ directory_at (new_walk tree task.credentials new)
 reached_by number tree task (Unlink path) = directory_and_object_at (new_walk tree task.credentials path)
 reached_by number tree task (Rmdir path) = directory_and_object_at (new_walk tree task.credentials path)
 reached_by number tree task (Rename old new) =
@@ -294,7 +293,7 @@ abbrev pub KindsStay : Type 0
 KindsStay = OnlyTheseChange (λ call. false) (λ node. kind_of node.content)
 
 abbrev pub LinkTextsStay : Type 0
-LinkTextsStay = OnlyTheseChange (λ call. false) (λ node. link_text (Some node))
+LinkTextsStay = OnlyTheseChange (λ call. false) (λ node. symlink_text (Some node))
 
 -- unlink(2), rmdir(2), rename(2), close(2), _exit(2)
 abbrev pub takes_uses : Call → Bool

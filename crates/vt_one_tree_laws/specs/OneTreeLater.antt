@@ -5,12 +5,11 @@ use Rattle.vt_spec.specs.declared.attributes.Kind.TheVariants.{File}
 use Rattle.vt_spec.specs.declared.errors.Rule.{Rule}
 use Rattle.vt_spec.specs.declared.errors.Rule.TheVariants.{C1, W4, W6}
 use Rattle.vt_spec.specs.Errors.{denial}
-use Rattle.vt_spec.specs.Machine.Calls.{Call}
-use Rattle.vt_spec.specs.Machine.Calls.Call.{Chmod, Chown, LinkTo, Ls, Lstat, Mkdir, Pread, Pwrite, Read, Readlink, Stat, SymlinkAt, Unlink, Write}
+use Rattle.vt_spec.specs.Language.Calls.{Call, TaskName}
+use Rattle.vt_spec.specs.Language.Calls.Call.{Chmod, Chown, LinkTo, Ls, Lstat, Mkdir, Pread, Pwrite, Read, Readlink, Stat, SymlinkAt, Unlink, Write}
 use Rattle.vt_spec.specs.Machine.Outcome.Attributes.{attr_with_mode, attr_with_owner}
-use Rattle.vt_spec.specs.Machine.Outcomes.{Answer, StatLine}
-use Rattle.vt_spec.specs.Machine.Outcomes.Answer.{Bytes, Done, Names, Told}
-use Rattle.vt_spec.specs.Machine.World.{TaskName}
+use Rattle.vt_spec.specs.Language.Answers.{Answer, StatLine}
+use Rattle.vt_spec.specs.Language.Answers.Answer.{Bytes, Done, Names, Told}
 use Rattle.vt_spec.specs.OneTree.Inodes.{tree_of}
 use Rattle.vt_spec.specs.OneTree.Policy.{policy}
 use Rattle.vt_spec.specs.OneTree.Rules.{is_kind_at}

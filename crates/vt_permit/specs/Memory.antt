@@ -1,9 +1,9 @@
 -- What may be refused memory, ENOMEM. The rest only looks, goes, or puts what is already there in place.
 use Rattle.std.specs.Prelude.{⊤, ℕ}
-use Rattle.vt_spec.specs.Machine.Calls.{Call}
-use Rattle.vt_spec.specs.Machine.Calls.Call.{Fork, LinkTo, Ls, Mkdir, OpenFile, Pread, Pwrite, Read, Readlink, Rename, Rmdir, SymlinkAt, Unlink, Write}
-use Rattle.vt_spec.specs.Machine.Changes.{Change}
-use Rattle.vt_spec.specs.Machine.Changes.Change.{AddName, CopyUp, Make, Move, Remove, SetAttr, SetBytes, SetMark}
+use Rattle.vt_spec.specs.Language.Calls.{Call}
+use Rattle.vt_spec.specs.Language.Calls.Call.{Fork, LinkTo, Ls, Mkdir, OpenFile, Pread, Pwrite, Read, Readlink, Rename, Rmdir, SymlinkAt, Unlink, Write}
+use Rattle.vt_spec.specs.Language.Changes.{Change}
+use Rattle.vt_spec.specs.Language.Changes.Change.{AddName, CopyUp, Make, Move, Remove, SetAttr, SetBytes, SetMark}
 use Rattle.vt_spec.specs.OneTree.Permits.{Permit}
 use Rattle.vt_spec.specs.OneTree.Permits.Permit.{Allowed, ToChange, ToClose, ToExit, ToFork, ToList, ToOpen, ToOpenNew, ToRead, ToReadPart, ToSetCredentials, ToSetUmask, ToTell}
 

@@ -3,11 +3,11 @@ use Rattle.std.specs.Prelude.{◌≡◌, ◌⊎◌, ◌≤◌, ◌+◌, ⊤, ℕ
 use Rattle.vt_spec.specs.declared.errors.Deny.{Deny}
 use Rattle.vt_spec.specs.declared.errors.Rule.TheVariants.{S5}
 use Rattle.vt_spec.specs.Errors.{denial}
-use Rattle.vt_spec.specs.Machine.Calls.{Call}
-use Rattle.vt_spec.specs.Machine.Calls.Call.{Fork, LinkTo, Mkdir, OpenFile, Rename, Rmdir, SymlinkAt, Unlink, Write}
-use Rattle.vt_spec.specs.Machine.Changes as meant
+use Rattle.vt_spec.specs.Language.Calls.{Call}
+use Rattle.vt_spec.specs.Language.Calls.Call.{Fork, LinkTo, Mkdir, OpenFile, Rename, Rmdir, SymlinkAt, Unlink, Write}
+use Rattle.vt_spec.specs.Language.Changes as meant
 use Rattle.vt_spec.specs.Machine.Outcome.Descriptors.{overwritten}
-use Rattle.vt_spec.specs.Machine.Outcome.Making.{largest_file}
+use Rattle.vt_spec.specs.Language.Limits.{largest_file}
 use Rattle.vt_spec.specs.Machine.Outcome.Tasks.{with_dropped}
 use Rattle.vt_spec.specs.OneTree.Fits.{Fits, FitsPermit}
 use Rattle.vt_spec.specs.OneTree.Permits as granted

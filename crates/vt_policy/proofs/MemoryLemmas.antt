@@ -4,16 +4,17 @@ use Rattle.vt_spec.specs.declared.errors.Deny.{Deny}
 use Rattle.vt_spec.specs.declared.errors.Rule.{Rule}
 use Rattle.vt_spec.specs.declared.errors.Rule.TheVariants.{C2, S4, S5, W3, W6}
 use Rattle.vt_spec.specs.Errors.{Rules, and_then, denial, unless}
-use Rattle.vt_spec.specs.Machine.Walk.{LastWord, final_word, last_word, most_links}
+use Rattle.vt_spec.specs.Machine.Walk.{LastWord, final_word, last_word}
+use Rattle.vt_spec.specs.Language.Limits.{most_symlinks}
 use Rattle.vt_spec.specs.Machine.Walk.LastWord.{Dot, DotDot, Named, NoWord}
-use Rattle.vt_spec.specs.Machine.FileTree.{link_text}
-use Rattle.vt_spec.specs.Machine.Changes.Change.{SetAttr}
+use Rattle.vt_spec.specs.FileTree.{symlink_text}
+use Rattle.vt_spec.specs.Language.Changes.Change.{SetAttr}
 use Rattle.vt_spec.specs.Machine.Outcome.Attributes.{attr_with_mode, attr_with_owner, may_chown}
 use Rattle.vt_spec.specs.OneTree.Permits.{Permit}
 use Rattle.vt_spec.specs.OneTree.Permits.Permit.{Allowed, ToChange, ToList, ToRead}
 use Rattle.vt_spec.specs.OneTree.Policy.{chmod_permit, chown_permit, close_permit, exec_permit, list_permit, lstat_permit, pread_permit, pwrite_permit, pwriting, read_permit, readlink_permit, stat_permit}
 use Rattle.vt_spec.specs.OneTree.Rules.{attr_at, chmod_rules, descriptor_at, exec_rules, list_rules, pwrite_rules, read_rules, readlink_rules}
-use Rattle.vt_spec.specs.OneTree.Walk.{Follow, Here, directory_walk, follow_rules, followed, front_walked, if_link, is_directory_at, last_walked, link_start, link_walk, link_walked, object_named, object_walk, path_walked, search_rules, slash_rules, stepped, unfollowed_walk, walk_start, word_walked, words_walked}
+use Rattle.vt_spec.specs.OneTree.Walk.{Follow, Here, directory_walk, follow_rules, followed, front_walked, if_link, is_directory_at, last_walked, symlink_start, symlink_walk, symlink_walked, object_named, object_walk, path_walked, search_rules, slash_rules, stepped, unfollowed_walk, walk_start, word_walked, words_walked}
 use Rattle.vt_spec.specs.OneTree.World.{Descriptor, Task}
 use Rattle.vt_spec.specs.PathText.{ends_in_slash, parsed_path, path_rules, words}
 use Rattle.vt_spec.specs.Rights.{Credentials}
@@ -78,19 +79,19 @@ module _ (tree : Tree ℕ) (who : Credentials) where
   words-memory follow so here (word ∷ front) =
       after-step (words_walked tree who follow here front) _ (words-memory follow so here front)
       (λ reached. after-step (word_walked tree who reached (last_word word)) _ (word-memory reached (last_word word))
-      (λ next. linked next (link_text (tree.node next.node)) (follow reached.node next) (so reached.node next)))
+      (λ next. linked next (symlink_text (tree.node next.node)) (follow reached.node next) (so reached.node next)))
 
-  link-memory : (depth : ℕ) (directory : ℕ) (link : Here ℕ) (text : List ℕ) → HasMemory (link_walked depth tree who directory link text)
+  link-memory : (depth : ℕ) (directory : ℕ) (link : Here ℕ) (text : List ℕ) → HasMemory (symlink_walked depth tree who directory link text)
   link-memory zero directory link text = refl
   link-memory (suc depth) directory link text =
-      let walked = words_walked tree who (λ inside next inner. link_walked depth tree who inside next inner) (link_start tree directory link text) (reverse (words text)) in
+      let walked = words_walked tree who (λ inside next inner. symlink_walked depth tree who inside next inner) (symlink_start tree directory link text) (reverse (words text)) in
       after-rules (follow_rules link text) (and_then walked (λ reached. unless (slash_rules tree text reached.node) (Ok reached))) refl
       (after-step walked (λ reached. unless (slash_rules tree text reached.node) (Ok reached))
-      (words-memory (λ inside next inner. link_walked depth tree who inside next inner) (λ inside next inner. link-memory depth inside next inner) (link_start tree directory link text) (reverse (words text)))
+      (words-memory (λ inside next inner. symlink_walked depth tree who inside next inner) (λ inside next inner. link-memory depth inside next inner) (symlink_start tree directory link text) (reverse (words text)))
       (λ reached. after-rules (slash_rules tree text reached.node) (Ok reached) refl tt))
 
   path-memory : (text : List ℕ) → HasMemory (path_walked tree who text)
-  path-memory text = words-memory (followed tree who) (link-memory (most_links + 1)) (walk_start tree) (reverse (words text))
+  path-memory text = words-memory (followed tree who) (link-memory (most_symlinks + 1)) (walk_start tree) (reverse (words text))
 
   parsed-memory : (path : List ℕ) → HasMemory (parsed_path path)
   parsed-memory path = after-rules (path_rules path) (Ok path) refl tt
@@ -107,7 +108,7 @@ module _ (tree : Tree ℕ) (who : Credentials) where
 
   front-memory : (here : Here ℕ) (front : List (List ℕ)) → HasMemory (front_walked tree who here front)
   front-memory here [] = tt
-  front-memory here (word ∷ front) = words-memory (followed tree who) (link-memory (most_links + 1)) here front
+  front-memory here (word ∷ front) = words-memory (followed tree who) (link-memory (most_symlinks + 1)) here front
 
   last-memory : (here : Here ℕ) (word : LastWord) → HasMemory (last_walked tree who here word)
   last-memory here NoWord = tt
@@ -115,7 +116,7 @@ module _ (tree : Tree ℕ) (who : Credentials) where
   last-memory here DotDot = word-memory here DotDot
   last-memory here (Named name) = word-memory here (Named name)
 
-  leaf-memory : (path : List ℕ) → HasMemory (link_walk tree who path)
+  leaf-memory : (path : List ℕ) → HasMemory (symlink_walk tree who path)
   leaf-memory path =
       either (ends_in_slash path) (object_walk tree who path) (and_then (parsed_path path) (unfollowed_walk tree who)) (object-memory path)
       (after-step (parsed_path path) (unfollowed_walk tree who) (parsed-memory path)
@@ -147,12 +148,12 @@ module _ (tree : Tree ℕ) (task : Task ℕ) where
 
   pub lstat-memory : (path : List ℕ) → HasMemory (lstat_permit tree task path)
   unfolding lstat_permit
-  lstat-memory path = after-step (link_walk tree task.credentials path) _ (leaf-memory tree task.credentials path) (λ here. tt)
+  lstat-memory path = after-step (symlink_walk tree task.credentials path) _ (leaf-memory tree task.credentials path) (λ here. tt)
 
   pub readlink-memory : (path : List ℕ) → HasMemory (readlink_permit tree task path)
   unfolding readlink_permit
   readlink-memory path =
-      after-step (link_walk tree task.credentials path) _ (leaf-memory tree task.credentials path)
+      after-step (symlink_walk tree task.credentials path) _ (leaf-memory tree task.credentials path)
       (λ here. after-rules (readlink_rules tree here.node) (Ok (ToRead here.node)) refl tt)
 
   pub read-memory : (path : List ℕ) → HasMemory (read_permit tree task path)

@@ -4,8 +4,8 @@ use Rattle.vt_spec.specs.declared.errors.Deny.{Deny}
 use Rattle.vt_spec.specs.declared.errors.Rule.{Rule}
 use Rattle.vt_spec.specs.declared.errors.Rule.TheVariants.{P1}
 use Rattle.vt_spec.specs.Errors.{and_then, unless}
-use Rattle.vt_spec.specs.Machine.Changes.Change.{Move}
-use Rattle.vt_spec.specs.Machine.Lists.{holds_of}
+use Rattle.vt_spec.specs.Language.Changes.Change.{Move}
+use Rattle.vt_spec.specs.Lists.{holds_of}
 use Rattle.vt_spec.specs.Machine.Walk.{is_special, name_of}
 use Rattle.vt_spec.specs.OneTree.Inodes.{Inodes, tree_of}
 use Rattle.vt_spec.specs.OneTree.Permits.{Permit}

@@ -3,8 +3,7 @@ use Rattle.std.specs.Prelude.{Err, Ok, Result, Some, nat_eq, ℕ, ◌≡◌, ◌
 use Rattle.vt_spec.specs.declared.errors.Deny.{Deny}
 use Rattle.vt_spec.specs.declared.errors.Rule.TheVariants.{S5}
 use Rattle.vt_spec.specs.Errors.{denial}
-use Rattle.vt_spec.specs.Machine.Calls.{Call}
-use Rattle.vt_spec.specs.Machine.World.{TaskName}
+use Rattle.vt_spec.specs.Language.Calls.{Call, TaskName}
 use Rattle.vt_spec.specs.OneTree.Policy.{judge, policy}
 use Rattle.vt_spec.specs.OneTree.World.{Task, task_called}
 use Rattle.vt_permit.specs.declared.permit.Permit.{Permit}

@@ -1,7 +1,7 @@
 //! Calls on open files: open(2), pread(2), pwrite(2), close(2).
 ghost use Rattle.std.specs.Prelude.{◌≡◌, None, Ok, true, false};
 ghost use Rattle.vt_spec.specs.Errors.{unless};
-ghost use Rattle.vt_spec.specs.Machine.Calls.Creation.{Exclusive, OrCreate};
+ghost use Rattle.vt_spec.specs.Language.Calls.Creation.{Exclusive, OrCreate};
 ghost use Rattle.vt_spec.specs.Machine.Outcome.Descriptors.{access_rights};
 ghost use Rattle.vt_spec.specs.Machine.Walk.{is_special};
 ghost use Rattle.vt_spec.specs.OneTree.Policy.{close_permit, open_by, open_file, open_permit, opening_new, pread_permit, pwrite_permit};

@@ -1,10 +1,10 @@
 //! Calls that make a name, and write: mkdir(2), symlink(2), link(2), write(2).
 ghost use Rattle.std.specs.Prelude.{◌≡◌, None, Ok, false};
 ghost use Rattle.vt_spec.specs.Errors.{unless};
-ghost use Rattle.vt_spec.specs.Machine.Changes.Change.{SetBytes};
+ghost use Rattle.vt_spec.specs.Language.Changes.Change.{SetBytes};
 ghost use Rattle.vt_spec.specs.Machine.Walk.{is_special};
 ghost use Rattle.vt_spec.specs.OneTree.Permits.Permit.{ToChange};
-ghost use Rattle.vt_spec.specs.OneTree.Policy.{link_permit, mkdir_permit, symlink_permit, write_permit, written};
+ghost use Rattle.vt_spec.specs.OneTree.Policy.{hard_link_permit, mkdir_permit, symlink_permit, write_permit, written};
 ghost use Rattle.vt_spec.specs.OneTree.Rules.{rewrite_rules};
 ghost use Rattle.vt_permit.specs.PermitValue.{Judges};
 ghost use Rattle.vt_tasks.specs.TasksValue.{task_of};
@@ -98,7 +98,7 @@ pub(crate) fn symlink(
 }
 
 /// After the rules of both walks: E1 (EEXIST), E7 (EPERM), C1 (EACCES).
-#[tactic(auto, unfolding(vt_spec::specs::OneTree::Policy::link_permit))]
+#[tactic(auto, unfolding(vt_spec::specs::OneTree::Policy::hard_link_permit))]
 pub(crate) fn link(
     alloc: Global,
     tree: &Tree,
@@ -106,7 +106,7 @@ pub(crate) fn link(
     old: &[u8],
     new: &[u8],
 ) -> Result<Permit, Deny>
-    ensures { Judges tree.now (task_of task.now) (link_permit (tree_of tree.now) (task_of task.now) old.now new.now) result }
+    ensures { Judges tree.now (task_of task.now) (hard_link_permit (tree_of tree.now) (task_of task.now) old.now new.now) result }
 {
     let object = link_at(tree, &task.cred, old)?;
     let place = match new_leaf_place(tree, &task.cred, new) {

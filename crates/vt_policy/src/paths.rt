@@ -1,6 +1,6 @@
 //! Where paths as bytes lead: path_resolution(7).
 ghost use Rattle.std.specs.Prelude.{◌≡◌, Ok, Err, ℕ, IfOk, IfErr, is_some, true};
-ghost use Rattle.vt_spec.specs.OneTree.Walk.{directory_walk, file_walk, is_directory_at, link_walk, new_leaf_walk, new_walk, object_walk, old_leaf_walk, old_walk, rename_new_walk};
+ghost use Rattle.vt_spec.specs.OneTree.Walk.{directory_walk, file_walk, is_directory_at, symlink_walk, new_leaf_walk, new_walk, object_walk, old_leaf_walk, old_walk, rename_new_walk};
 ghost use Rattle.vt_policy.specs.Ends.{EndsAt};
 ghost use Rattle.vt_tree.specs.TreeValue.{tree_of};
 ghost use Rattle.vt_walk.specs.WalkValue.{IsPlace, place_result};
@@ -31,10 +31,10 @@ pub(crate) fn directory_at(tree: &Tree, who: &Cred, path: &[u8]) -> Result<NodeI
 
 /// The object that a path leads to, a final link itself unless a slash follows.
 pub(crate) fn link_at(tree: &Tree, who: &Cred, path: &[u8]) -> Result<NodeId, Deny>
-    ensures ok { IfOk result (λ object. EndsAt (link_walk (tree_of tree.now) who.now path.now) object) }
-    ensures err { IfErr result (λ deny. link_walk (tree_of tree.now) who.now path.now ≡ Err deny) }
+    ensures ok { IfOk result (λ object. EndsAt (symlink_walk (tree_of tree.now) who.now path.now) object) }
+    ensures err { IfErr result (λ deny. symlink_walk (tree_of tree.now) who.now path.now ≡ Err deny) }
 {
-    vt_walk::link_walk(tree, who, &PathText::parse(path)?)
+    vt_walk::symlink_walk(tree, who, &PathText::parse(path)?)
 }
 
 /// The parent that a path leads to, and what its last word names there.

@@ -1,6 +1,6 @@
 -- What calls answer, in the policy's words, free of capacities.
 use Rattle.std.specs.Prelude.{map, Result, Ok, Err}
-use Rattle.vt_spec.specs.Machine.Outcomes as spec
+use Rattle.vt_spec.specs.Language.Answers as spec
 use Rattle.vt_spec.specs.declared.errors.Deny.{Deny}
 use Rattle.vt_request.specs.declared.answer.StatLine.{StatLine}
 use Rattle.vt_request.specs.declared.answer.Answer.{Answer}

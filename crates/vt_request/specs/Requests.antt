@@ -1,5 +1,5 @@
 -- What requests ask for, in the policy's words, free of capacities.
-use Rattle.vt_spec.specs.Machine.Calls as spec
+use Rattle.vt_spec.specs.Language.Calls as spec
 use Rattle.vt_cred.specs.Caps.{capability_bits}
 use Rattle.std.specs.Prelude.{false, option_map, true}
 use Rattle.vt_request.specs.declared.request.CapsWord.{CapsWord}

@@ -5,11 +5,11 @@ use Rattle.std.proofs.lemmas.List.{take_all}
 use Rattle.vt_spec.specs.declared.errors.Deny.{Deny}
 use Rattle.vt_spec.specs.declared.errors.Rule.TheVariants.{S1, S5}
 use Rattle.vt_spec.specs.Errors.{denial}
-use Rattle.vt_spec.specs.Machine.Calls.{Call}
-use Rattle.vt_spec.specs.Machine.Printed.{reply_line}
-use Rattle.vt_spec.specs.Machine.Script.{Request, files, longest_line, is_silent, request_of}
-use Rattle.vt_spec.specs.Machine.Script.Request.{Calling}
-use Rattle.vt_spec.specs.Machine.World.{TaskName}
+use Rattle.vt_spec.specs.Language.Calls.{Call, TaskName}
+use Rattle.vt_spec.specs.Language.Printed.{reply_line}
+use Rattle.vt_spec.specs.Language.Script.{Request, files, is_silent, request_of}
+use Rattle.vt_spec.specs.Language.Limits.{longest_line}
+use Rattle.vt_spec.specs.Language.Script.Request.{Calling}
 use Rattle.vt_spec.specs.OneTree.Inodes.{Inode, node_in}
 use Rattle.vt_spec.specs.OneTree.World.{World, denied}
 use Rattle.vt_spec.specs.OneTree.Policy.{policy}

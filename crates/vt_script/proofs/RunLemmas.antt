@@ -3,7 +3,7 @@ use Rattle.std.proofs.Common.{◌≡◌, ◌≢◌, ◌<◌, ◌-◌, ℕ, zero,
 use Rattle.std.proofs.lemmas.Bool.Decides.{nat_tests}
 use Rattle.std.proofs.lemmas.List.{append-nil, drop_more, get_or-take, take-append-drop, take_rest}
 use Rattle.vt_spec.specs.OneTree.World.{World}
-use Rattle.vt_spec.specs.Machine.Script.{lines_of, with_line_byte}
+use Rattle.vt_spec.specs.Language.Script.{lines_of, with_line_byte}
 use Rattle.vt_spec.specs.OneTree.Run.{Tells, line_step, step_text, step_world, text_from, handed, later}
 use Rattle.vt_script.specs.Progress.{Moment, Runs, HasNoNewline, after_line, whole_lines, whole_with}
 

@@ -6,7 +6,7 @@ use Rattle.vt_io.specs.LineBuffer.{Holds}
 use Rattle.vt_io.proofs.Printing.{Wrote-nothing, Wrote-append, WroteFront-append}
 use Rattle.vt_spec.specs.OneTree.World.{World}
 use Rattle.vt_spec.specs.OneTree.Run.{Tells, line_step, step_text}
-use Rattle.vt_spec.specs.Machine.Script.{lines_of}
+use Rattle.vt_spec.specs.Language.Script.{lines_of}
 use Rattle.vt_script.specs.Progress.{Moment, Runs, HasNoNewline, after_line}
 use Rattle.vt_script.specs.Session.{State, moment, IsReading, IsHanded, Fed, Feeds, Broke, begun, lines_begun, IsLast, Closed, BrokeLast, Closes, Replied, BrokeReply, Replies}
 use Rattle.vt_script.proofs.RunLemmas.{stays, runs_then, runs_bytes, runs_refused, runs_spoken, lines_of-last, HasNoNewline-append}

@@ -4,7 +4,7 @@ use Rattle.std.proofs.Math.Seq.{take-append-add}
 use Rattle.std.proofs.lemmas.List.{length-map, take-append-drop}
 use Rattle.std.specs.Io.{StartsWith}
 use Rattle.vt_spec.specs.OneTree.World.{opening}
-use Rattle.vt_spec.specs.Machine.Script.{lines_of}
+use Rattle.vt_spec.specs.Language.Script.{lines_of}
 use Rattle.vt_spec.specs.OneTree.Run.{Tells, text_from, script_text}
 use Rattle.std.specs.Prelude.{OnOk, IsErrOf}
 use Rattle.vt_one_text.proofs.OneTreeTexts.{one_tree_has_one_text}

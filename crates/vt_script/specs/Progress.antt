@@ -1,7 +1,7 @@
 -- How far a run has come: what was read and written between two moments of it.
 use Rattle.std.specs.Prelude.{◌≡◌, ℕ, ◌+◌, ◌==◌, nat_eq, Bool, true, false, List, [], ◌∷◌, ◌++◌, length}
 use Rattle.vt_spec.specs.OneTree.World.{World, opening}
-use Rattle.vt_spec.specs.Machine.Script.{lines_of}
+use Rattle.vt_spec.specs.Language.Script.{lines_of}
 use Rattle.vt_spec.specs.OneTree.Run.{Tells, Step, step_world}
 
 -- a text up to its last newline

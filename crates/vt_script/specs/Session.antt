@@ -4,7 +4,7 @@ use Rattle.vt_io.specs.declared.output.Sink.{Ghosts}
 use Rattle.vt_io.specs.Sink.{Wrote, WroteFront}
 use Rattle.vt_io.specs.LineBuffer.{LineSoFar, Holds}
 use Rattle.vt_spec.specs.OneTree.World.{World}
-use Rattle.vt_spec.specs.Machine.Script.{lines_of}
+use Rattle.vt_spec.specs.Language.Script.{lines_of}
 use Rattle.vt_spec.specs.OneTree.Run.{Tells, line_step, step_text, step_world, script_text}
 use Rattle.vt_script.specs.Progress.{Moment, Runs, HasNoNewline, whole_lines}
 

@@ -4,7 +4,7 @@ use Rattle.std.specs.Prelude.{All, Contains}
 use Rattle.std.specs.List.{cons_option, filter_map, list_all, list_any}
 use Rattle.std.proofs.lemmas.Bool.{and_parts, or_cases, or_parts}
 use Rattle.std.proofs.lemmas.List.Elements.{All-nil, All-cons, All-head, All-tail}
-use Rattle.vt_spec.specs.Machine.Lists.{chain, is_among, last_or, any_pair}
+use Rattle.vt_spec.specs.Lists.{chain, is_among, last_or, any_pair}
 
 -- x stands in a list
 abbrev pub Among : {A : Type 0} → A → List A → Type 0

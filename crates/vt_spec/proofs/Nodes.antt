@@ -5,7 +5,7 @@ use Rattle.std.specs.Ordering.{eq_by_cmp, is_eq}
 use Rattle.std.specs.Cmp.Lexicographic.{nat_list_cmp_total, texts_ties, bytes_decides}
 use Rattle.std.specs.Str.{bytes_eq}
 use Rattle.std.specs.FinMap.Entries.{find-put, find-where_key}
-use Rattle.vt_spec.specs.Machine.Changes.{without_entry}
+use Rattle.vt_spec.specs.Language.Changes.{without_entry}
 use Rattle.vt_spec.specs.Rights.{is_directory}
 use Rattle.vt_spec.specs.Tree.{Tree, Node, Content, Entries, name_cmp, kind_of, entry_named, with_entry, entries_of, with_entries, with_bytes, is_directory_node, entries_in, parent_of, parent_in, node_with_entry, node_with_bytes, with_node}
 use Rattle.vt_spec.specs.Tree.Content.{Directory, Regular, Symlink, Whiteout}

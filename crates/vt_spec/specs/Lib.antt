@@ -3,6 +3,9 @@ pub mod Rights
 pub mod PathText
 pub mod Tree
 pub mod TreeLaws
+pub mod Lists
+pub mod FileTree
+pub mod Language
 pub mod Machine
 pub mod OneTree
 pub mod Laws

@@ -1,11 +1,7 @@
 -- The definitions of the whole machine.
-pub mod Lists
-pub mod FileTree
-pub mod Changes
 pub mod Layers
 pub mod Mounts
 pub mod World
-pub mod Calls
 pub mod Outcomes
 pub mod Rightful
 pub mod Looks
@@ -32,8 +28,6 @@ pub mod Judge
 pub mod Policy
 pub mod SameWorlds
 pub mod Sealed
-pub mod Script
-pub mod Printed
 pub mod Run
 pub mod Turns
 pub mod WorldLaws

@@ -1,6 +1,7 @@
 -- A path is its words: path_resolution(7), and limits.h for PATH_MAX and NAME_MAX.
 use Rattle.std.specs.Prelude.{ℕ, ◌==◌, nat_lt, Bool, true, false, not, ◌||◌, List, [], ◌∷◌, length, filter, slice_index, Result, Ok}
 use Rattle.std.specs.List.{list_any}
+use Rattle.vt_spec.specs.Language.Limits.{longest_name, longest_path}
 use Rattle.vt_spec.specs.declared.errors.Deny.{Deny}
 use Rattle.vt_spec.specs.declared.errors.Rule.TheVariants.{W1, W2}
 use Rattle.vt_spec.specs.Errors.{Rules, unless}
@@ -36,13 +37,6 @@ abbrev pub ends_in_slash : List ℕ → Bool
 ends_in_slash [] = false
 ends_in_slash (byte ∷ []) = byte == 47
 ends_in_slash (byte ∷ next ∷ bytes) = ends_in_slash (next ∷ bytes)
-
--- PATH_MAX without its final zero byte, and NAME_MAX: limits.h
-abbrev pub longest_path : ℕ
-longest_path = 4095
-
-abbrev pub longest_name : ℕ
-longest_name = 255
 
 -- W1 and W2
 abbrev pub path_rules : List ℕ → Rules

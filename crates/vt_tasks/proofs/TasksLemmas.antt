@@ -8,7 +8,7 @@ use Rattle.std.specs.List.{AllByRecursion, IsDistinct}
 use Rattle.std.proofs.lemmas.Map.Keys.{IsDistinct-head, IsDistinct-tail}
 use Rattle.std.specs.Map.{keys_of, lookup, remove_entry, set_value}
 use Rattle.indexmap.specs.IndexMap.{IndexMap, IsUnique, WritesThrough, get_by}
-use Rattle.vt_spec.specs.OneTree.World.{Task, changed_if_called, is_called}
+use Rattle.vt_spec.specs.OneTree.World.{Descriptor, Task, changed_if_called, inserted, is_called}
 use Rattle.vt_tasks.specs.declared.task.Task.{Task as Held}
 use Rattle.std.specs.Prelude.{nat_le}
 use Rattle.std.proofs.lemmas.Bool.{lt-leb}
@@ -17,10 +17,8 @@ use Rattle.indexmap.specs.IndexMap.{insert_entry}
 use Rattle.vt_spec.specs.declared.errors.Deny.{Deny}
 use Rattle.vt_spec.specs.declared.errors.Rule.TheVariants.{S3, S5, S6}
 use Rattle.vt_spec.specs.Errors.{denial}
-use Rattle.vt_spec.specs.Machine.Outcome.Descriptors.{most_descriptors}
-use Rattle.vt_spec.specs.Machine.Outcome.Tasks.{deepest_name, most_forks}
+use Rattle.vt_spec.specs.Language.Limits.{deepest_name, most_descriptors, most_forks}
 use Rattle.vt_spec.specs.OneTree.Policy.{child_name, child_of}
-use Rattle.vt_spec.specs.OneTree.World.{Descriptor, inserted}
 use Rattle.vt_spec.specs.Rights.{Credentials}
 use Rattle.vt_tasks.specs.declared.descriptors.OpenFile.{OpenFile}
 use Rattle.vt_tasks.specs.Open.{numbered}

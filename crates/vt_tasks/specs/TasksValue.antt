@@ -5,8 +5,7 @@ use Rattle.std.specs.declared.vec.Vec.{Vec}
 use Rattle.vt_spec.specs.declared.errors.Deny.{Deny}
 use Rattle.vt_spec.specs.declared.errors.Rule.TheVariants.{S2, S3, S5, S6}
 use Rattle.vt_spec.specs.Errors.{denial}
-use Rattle.vt_spec.specs.Machine.Outcome.Descriptors.{most_descriptors}
-use Rattle.vt_spec.specs.Machine.Outcome.Tasks.{deepest_name, most_forks}
+use Rattle.vt_spec.specs.Language.Limits.{deepest_name, most_descriptors, most_forks}
 use Rattle.vt_spec.specs.OneTree.Policy.{child_name, child_of}
 use Rattle.vt_spec.specs.OneTree.World.{Task, changed_if_called, free_number, is_called, with_descriptor}
 use Rattle.vt_spec.specs.Rights.{Credentials}

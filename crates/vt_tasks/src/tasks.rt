@@ -1,7 +1,8 @@
 //! The tasks that there are, by their names.
 ghost use Rattle.std.specs.Prelude.{◌≡◌, ◌<◌, [], ◌∷◌, length, Some, IfOk, IfErr, OnOk, OnErr, option_map, option_copied};
 ghost use Rattle.std.specs.Option.{option_and_then};
-ghost use Rattle.vt_spec.specs.Machine.Outcome.Tasks.{deepest_name, with_dropped};
+ghost use Rattle.vt_spec.specs.Language.Limits.{deepest_name};
+ghost use Rattle.vt_spec.specs.Machine.Outcome.Tasks.{with_dropped};
 ghost use Rattle.vt_spec.specs.OneTree.Policy.{child_name};
 ghost use Rattle.vt_spec.specs.OneTree.World.{first_task, descriptor_numbered, free_number, without_descriptor};
 ghost use Rattle.vt_spec.specs.declared.errors.Rule.TheVariants.{S5};

@@ -6,7 +6,8 @@ use Rattle.std.proofs.lemmas.Bool.{le-ltb, lt-ltb, ltb-true, ne_eqb, or_cases}
 use Rattle.std.proofs.lemmas.List.Elements.{All-weaker, All-head, All-tail, All-from_get_or}
 use Rattle.std.proofs.lemmas.List.{drop_more, length-append}
 use Rattle.std.proofs.lemmas.List.Folds.{Any-from_list_any, list_any_none, list_any-append}
-use Rattle.vt_spec.specs.PathText.{words, parts, with_byte, is_empty, longest_path, longest_name}
+use Rattle.vt_spec.specs.PathText.{words, parts, with_byte, is_empty}
+use Rattle.vt_spec.specs.Language.Limits.{longest_path, longest_name}
 use Rattle.vt_text.proofs.PathWords.{words_between_within, words_between-append, parts_some}
 use Rattle.vt_text.specs.Walkable.{IsTooLong, IsWalkable}
 

@@ -1,6 +1,7 @@
 -- The rules W1 and W2 of `Rattle.vt_spec.specs.PathText`, in words.
 use Rattle.std.specs.Prelude.{◌≢◌, ℕ, ◌<◌, ◌≤◌, ◌⊎◌, List, [], length, All, Any}
-use Rattle.vt_spec.specs.PathText.{words, longest_path, longest_name}
+use Rattle.vt_spec.specs.PathText.{words}
+use Rattle.vt_spec.specs.Language.Limits.{longest_path, longest_name}
 
 -- the path, or one of its words, is too long
 abbrev pub IsTooLong : List ℕ → Type 0

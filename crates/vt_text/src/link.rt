@@ -1,7 +1,8 @@
 //! The text of a symbolic link is walked as a path is, but no limit is known of it: symlink(7).
 ghost use Rattle.std.specs.Prelude.{◌≡◌, ◌++◌, ◌∷◌, [], length, MatchOption, nat_lt};
 ghost use Rattle.std.specs.List.{list_any};
-ghost use Rattle.vt_spec.specs.PathText.{words as words_in, is_absolute as begins_at_root, ends_in_slash as asks_for_directory, longest_name};
+ghost use Rattle.vt_spec.specs.PathText.{words as words_in, is_absolute as begins_at_root, ends_in_slash as asks_for_directory};
+ghost use Rattle.vt_spec.specs.Language.Limits.{longest_name};
 
 use crate::path::{self, Words};
 

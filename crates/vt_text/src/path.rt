@@ -4,7 +4,8 @@ ghost use Rattle.std.specs.Iterator.{item_count, YieldsFirstRef};
 ghost use Rattle.std.specs.List.{list_any};
 ghost use Rattle.vt_spec.specs.declared.errors.Rule.TheVariants.{W1, W2};
 ghost use Rattle.vt_spec.specs.Errors.{denial};
-ghost use Rattle.vt_spec.specs.PathText.{words, ends_in_slash, parsed_path, longest_path, longest_name};
+ghost use Rattle.vt_spec.specs.PathText.{words, ends_in_slash, parsed_path};
+ghost use Rattle.vt_spec.specs.Language.Limits.{longest_path, longest_name};
 ghost use Rattle.vt_text.specs.Walkable.{IsTooLong, IsWalkable};
 
 use crate::{Deny, Rule};

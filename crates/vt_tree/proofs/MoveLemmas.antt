@@ -6,8 +6,8 @@ use Rattle.std.specs.Str.{bytes_eq}
 use Rattle.std.specs.Cmp.Lexicographic.{bytes_decides, nat_list_cmp_total}
 use Rattle.std.specs.FinMap.Entries.{find-where_key, is_sorted, is_sorted-put, is_sorted-where_key, same_entries}
 use Rattle.std.specs.Ordering.{eq_by_cmp, is_eq}
-use Rattle.vt_spec.specs.Machine.Changes.{node_with_parent, node_without_entry, without_entry}
-use Rattle.vt_spec.specs.Machine.Lists.{holds_of}
+use Rattle.vt_spec.specs.Language.Changes.{node_with_parent, node_without_entry, without_entry}
+use Rattle.vt_spec.specs.Lists.{holds_of}
 use Rattle.vt_spec.specs.OneTree.Fits.{MayReplace}
 use Rattle.vt_spec.specs.OneTree.Inodes.{Inode, Inodes, inode_with_node, node_in, tree_of, with_changed}
 use Rattle.vt_spec.specs.TreeLaws.{entry_at}

@@ -3,8 +3,8 @@ use Rattle.std.specs.Prelude.{Bool, Err, List, MatchResult, Ok, Option, Result, 
 use Rattle.vt_spec.specs.declared.errors.Deny.{Deny}
 use Rattle.vt_spec.specs.declared.errors.Rule.TheVariants.{E1, E2, E3, E4, E5, E6, E7, S5, W6}
 use Rattle.vt_spec.specs.Errors.{Rules, denial, unless}
-use Rattle.vt_spec.specs.Machine.Lists.{holds_of}
-use Rattle.vt_spec.specs.Machine.Outcome.Making.{largest_file}
+use Rattle.vt_spec.specs.Lists.{holds_of}
+use Rattle.vt_spec.specs.Language.Limits.{largest_file}
 use Rattle.vt_spec.specs.OneTree.Inodes.{Inodes, is_directory_under, tree_of}
 use Rattle.vt_spec.specs.OneTree.Rules.{is_filled}
 use Rattle.vt_spec.specs.OneTree.Walk.{is_directory_at}
@@ -34,8 +34,8 @@ make_rules inodes directory name =
     ∷ []
 
 -- a name more: ENOTDIR, EEXIST and EPERM of link(2)
-abbrev pub link_rules : Inodes ℕ → ℕ → List ℕ → ℕ → Rules
-link_rules inodes directory name object =
+abbrev pub hard_link_rules : Inodes ℕ → ℕ → List ℕ → ℕ → Rules
+hard_link_rules inodes directory name object =
     make_rules inodes directory name
     ++ (is_directory_at (tree_of inodes) object, E7)
     ∷ []

@@ -4,14 +4,14 @@ ghost use Rattle.vt_spec.specs.Errors.{denial};
 ghost use Rattle.vt_spec.specs.declared.attributes.Kind.TheVariants.{File};
 ghost use Rattle.vt_spec.specs.declared.errors.Rule.TheVariants.{S5, E2};
 ghost use Rattle.vt_spec.specs.Laws.Trees.{IsNewIn};
-ghost use Rattle.vt_spec.specs.Machine.Changes.Change.{AddName, Make, Move, Remove, SetAttr, SetBytes};
+ghost use Rattle.vt_spec.specs.Language.Changes.Change.{AddName, Make, Move, Remove, SetAttr, SetBytes};
 ghost use Rattle.vt_spec.specs.Machine.Outcome.Descriptors.{overwritten};
 ghost use Rattle.vt_spec.specs.OneTree.Fits.{Fits};
 ghost use Rattle.vt_spec.specs.OneTree.Inodes.{changed, is_directory_under, one_directory, pinned, unpinned, uses_in};
 ghost use Rattle.vt_spec.specs.OneTree.Rules.{is_filled, is_kind_at};
 ghost use Rattle.vt_spec.specs.Tree.{is_directory_node, parent_in, entries_in, names_in, bytes_in};
 ghost use Rattle.vt_spec.specs.TreeLaws.{entry_at};
-ghost use Rattle.vt_tree.specs.TreeRules.{AnswersBy, leads_to, link_rules, make_rules, rename_rules, ruling, unlink_rules, write_rules};
+ghost use Rattle.vt_tree.specs.TreeRules.{AnswersBy, leads_to, hard_link_rules, make_rules, rename_rules, ruling, unlink_rules, write_rules};
 ghost use Rattle.vt_tree.specs.TreeValue.{inodes_of, tree_of, next_number};
 ghost use Rattle.vt_slots.specs.Slots.{most_uses};
 
@@ -230,7 +230,7 @@ impl Tree {
     pub fn link(&mut self, directory: NodeId, name: Vec<u8>, object: NodeId) -> Result<(), Deny>
         ensures ok { OnOk result
             (inodes_of self.new ≡ changed nat_eq (inodes_of self.old) (AddName directory name.items object)) }
-        ensures answer { AnswersBy (link_rules (inodes_of self.old) directory name.items object) result }
+        ensures answer { AnswersBy (hard_link_rules (inodes_of self.old) directory name.items object) result }
         ensures fits { Fits (inodes_of self.old) (AddName directory name.items object) → IsOkUnless result (denial S5) }
         ensures err { OnErr result (self.new ≡ self.old) }
     {

@@ -6,16 +6,16 @@ use Rattle.std.proofs.lemmas.List.Elements.{All-append, All-cons, All-filter, Al
 use Rattle.vt_spec.specs.declared.errors.Rule.TheVariants.{S2}
 use Rattle.vt_spec.specs.Errors.{denial}
 use Rattle.vt_spec.specs.Tree.{Node, is_directory_node, new_directory, parent_in}
-use Rattle.vt_spec.specs.Machine.Calls.{Call}
-use Rattle.vt_spec.specs.Machine.Calls.Call.{Bind, Chdir, Chmod, Chown, Chroot, Close, Drop, Exec, Exit, Fork, Lazy, LinkTo, ListMounts, Ls, Lstat, MakeWhiteout, Mkdir, MountOverlay, MountPlain, MoveMount, Opaque, OpenFile, PivotRoot, Pread, Pwrite, Read, Readlink, Remount, Rename, Rmdir, SetType, Setns, Stat, SymlinkAt, Umask, Umount, Unlink, Unshare, Write}
+use Rattle.vt_spec.specs.Language.Calls.{Call, TaskName}
+use Rattle.vt_spec.specs.Language.Calls.Call.{Bind, Chdir, Chmod, Chown, Chroot, Close, Drop, Exec, Exit, Fork, Lazy, LinkTo, ListMounts, Ls, Lstat, MakeWhiteout, Mkdir, MountOverlay, MountPlain, MoveMount, Opaque, OpenFile, PivotRoot, Pread, Pwrite, Read, Readlink, Remount, Rename, Rmdir, SetType, Setns, Stat, SymlinkAt, Umask, Umount, Unlink, Unshare, Write}
 use Rattle.vt_spec.specs.Machine.Filesystems.{filesystems_raised}
-use Rattle.vt_spec.specs.Machine.Lists.{Fresh, evens}
+use Rattle.vt_spec.specs.Lists.{Fresh, evens}
 use Rattle.vt_spec.specs.Machine.Mounts.{Location, Mount, mount_in, no_mount, root_of}
 use Rattle.vt_spec.specs.Machine.Outcome.Mounting.{plain_filesystem}
 use Rattle.vt_spec.specs.Machine.Outcomes.{Outcome}
 use Rattle.vt_spec.specs.Machine.Policy.{call_outcome, finished_by}
 use Rattle.vt_spec.specs.Machine.Settled.{filesystem_lives, only_used, only_used_by, real_among, settled, used_in, without_dead_filesystems, without_dead_in, without_dead_mounts}
-use Rattle.vt_spec.specs.Machine.World.{Filesystem, Overlay, Task, TaskName, World, first_mount, is_directory_at, is_overlay, new_plain, new_tree, no_filesystem, opening, root_attr, task_called}
+use Rattle.vt_spec.specs.Machine.World.{Filesystem, Overlay, Task, World, first_mount, is_directory_at, is_overlay, new_plain, new_tree, no_filesystem, opening, root_attr, task_called}
 use Rattle.vt_spec.proofs.Nodes.{none_is_not}
 use Rattle.vt_spec.proofs.Trees.{is_tree-tree_of_root}
 use Rattle.vt_tree_laws.specs.Trees.{IsFileTree}
@@ -164,7 +164,7 @@ opening_has_trees fresh = (
     HasRoot mount = is_directory_at nat_eq (opening nat_eq fresh) (root_of mount) ≡ true
 
     HasPlace : Mount ℕ → Type 0
-    HasPlace mount = (place : Location ℕ) → mount.place ≡ Some place → is_directory_at nat_eq (opening nat_eq fresh) place ≡ true
+    HasPlace mount = (place : Location ℕ) → mount.mount_point ≡ Some place → is_directory_at nat_eq (opening nat_eq fresh) place ≡ true
 
     the_mount : mount_in nat_eq (first_mount nat_eq fresh ∷ []) (fresh 0) ≡ first_mount nat_eq fresh
     the_mount = ap (λ b. unwrap_or (cond b (Some (first_mount nat_eq fresh)) None) (no_mount (fresh 0))) (eq-eqb (fresh 0) (fresh 0) refl)

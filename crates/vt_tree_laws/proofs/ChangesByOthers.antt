@@ -3,22 +3,22 @@ use Rattle.std.proofs.Common.{map, ◌≡◌, refl, ◌∙◌, ℕ, nat_eq, Bool
 use Rattle.vt_spec.specs.declared.errors.Rule.TheVariants.{K1, S2}
 use Rattle.vt_spec.specs.Errors.{denial}
 use Rattle.vt_spec.specs.Rights.{cap_sys_admin, cap_sys_chroot}
-use Rattle.vt_spec.specs.Machine.Calls.{CapabilityWord, ForkWords, TypeWord}
+use Rattle.vt_spec.specs.Language.Calls.{CapabilityWord, ForkWords, MountFlags, TaskName, TypeWord}
 use Rattle.vt_spec.specs.Machine.Detach.{deepest_first, lazily_unmounted, unmounted, unmounted_if_there}
 use Rattle.vt_spec.specs.Machine.Listing.{mounts_outcome}
-use Rattle.vt_spec.specs.Machine.Lists.{Fresh, folded, odds}
-use Rattle.vt_spec.specs.Machine.Mounts.{Mount, MountFlags, mount_tree, numbers_by}
+use Rattle.vt_spec.specs.Lists.{Fresh, folded, odds}
+use Rattle.vt_spec.specs.Machine.Mounts.{Mount, mount_tree, numbers_by}
 use Rattle.vt_spec.specs.Machine.Namespaces.{namespace_entered, namespaces_ended, pivoted, unshared}
 use Rattle.vt_spec.specs.Machine.Outcome.Descriptors.{close_outcome, descriptor_at, pread_outcome, without_descriptor}
 use Rattle.vt_spec.specs.Machine.Outcome.Looking.{exec_outcome, exec_rules, list_outcome, list_rules, lstat_outcome, read_outcome, read_rules, readlink_outcome, readlink_rules, stat_outcome}
 use Rattle.vt_spec.specs.Machine.Outcome.Mounting.{admin_rules, bind_outcome, bind_rules, bound_at, destination_walk, lazy_outcome, lazy_rules, mount_plain_outcome, mounted, move_outcome, move_rules, moved_to, new_mount_rules, pivot_outcome, pivot_rules, plain_filesystem, remount_outcome, remount_rules, source_walk, type_outcome, type_rules, umount_outcome, umount_rules, with_flags}
 use Rattle.vt_spec.specs.Machine.Outcome.Tasks.{chdir_outcome, child_credentials, child_of, chroot_outcome, drop_outcome, enter_rules, exit_outcome, fork_outcome, fork_rules, setns_outcome, umask_outcome, unshare_outcome, with_child}
 use Rattle.vt_spec.specs.Machine.Outcomes.{granted}
-use Rattle.vt_spec.specs.Machine.Outcomes.Answer.{Done}
+use Rattle.vt_spec.specs.Language.Answers.Answer.{Done}
 use Rattle.vt_spec.specs.Machine.Rows.{lacks}
 use Rattle.vt_spec.specs.Machine.Types.{named_mounts, retyped_mount, with_new_groups, with_type}
-use Rattle.vt_spec.specs.Machine.Walk.{directory_walk, link_walk, object_walk}
-use Rattle.vt_spec.specs.Machine.World.{Task, TaskName, World, mount_at, mount_numbered, task_called, with_task, without_task}
+use Rattle.vt_spec.specs.Machine.Walk.{directory_walk, symlink_walk, object_walk}
+use Rattle.vt_spec.specs.Machine.World.{Task, World, mount_at, mount_numbered, task_called, with_task, without_task}
 use Rattle.vt_tree_laws.proofs.TreesOfWorlds.{regrouped_filesystems, taken_filesystems}
 use Rattle.vt_tree_laws.proofs.TreesWalked.{after_any, after_holds, judged_holds}
 
@@ -59,11 +59,11 @@ module _ (P : World ℕ → Type 0) (alike : (a b : World ℕ) → a.filesystems
 
   pub lstat_keeps : (path : List ℕ) → P (lstat_outcome nat_eq world task path).world
   unfolding lstat_outcome
-  lstat_keeps path = after_any P world (link_walk nat_eq world task path) _ conditions (λ here. conditions)
+  lstat_keeps path = after_any P world (symlink_walk nat_eq world task path) _ conditions (λ here. conditions)
 
   pub readlink_keeps : (path : List ℕ) → P (readlink_outcome nat_eq world task path).world
   unfolding readlink_outcome
-  readlink_keeps path = after_any P world (link_walk nat_eq world task path) _ conditions (λ here. judged_holds P world (readlink_rules nat_eq world here.location) _ conditions (λ passed. conditions))
+  readlink_keeps path = after_any P world (symlink_walk nat_eq world task path) _ conditions (λ here. judged_holds P world (readlink_rules nat_eq world here.location) _ conditions (λ passed. conditions))
 
   pub read_keeps : (path : List ℕ) → P (read_outcome nat_eq world task path).world
   unfolding read_outcome

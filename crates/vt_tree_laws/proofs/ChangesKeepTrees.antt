@@ -3,10 +3,10 @@ use Rattle.std.proofs.Common.{eqb-true, ◌≡◌, ◌≢◌, refl, sym, ap, sub
 use Rattle.std.proofs.lemmas.Bool.Decides.{eqb_tells}
 use Rattle.vt_spec.specs.Tree.{Tree, Node, is_directory_node, node_with_bytes, node_with_entry, with_object}
 use Rattle.vt_spec.specs.TreeLaws.{entry_at, IsTree}
-use Rattle.vt_spec.specs.Machine.Changes.{changed, changed_node, node_with_attr, node_with_mark, node_with_parent, node_without_entry, with_inode, with_name, without_name, without_parent}
-use Rattle.vt_spec.specs.Machine.Changes.Change.{AddName, CopyUp, Make, Move, Remove, SetAttr, SetBytes, SetMark}
-use Rattle.vt_spec.specs.Machine.FileTree.{FileTree}
-use Rattle.vt_spec.specs.Machine.Lists.{is_among}
+use Rattle.vt_spec.specs.Language.Changes.{changed, changed_node, node_with_attr, node_with_mark, node_with_parent, node_without_entry, with_inode, with_name, without_name, without_parent}
+use Rattle.vt_spec.specs.Language.Changes.Change.{AddName, CopyUp, Make, Move, Remove, SetAttr, SetBytes, SetMark}
+use Rattle.vt_spec.specs.FileTree.{FileTree}
+use Rattle.vt_spec.specs.Lists.{is_among}
 use Rattle.vt_spec.specs.Machine.WorldLaws.{ListsNumbers}
 use Rattle.vt_spec.proofs.Nodes.{directory_used, entries-node_with_bytes, is_directory-node_with_bytes, is_directory-node_with_entry, is_some-node_with_bytes, is_some-node_with_entry, parent-node_with_bytes}
 use Rattle.vt_spec.proofs.Trees.{entry_kept, entry_new, is_tree-with_object, kept_beside, parent_beside, used_differs}

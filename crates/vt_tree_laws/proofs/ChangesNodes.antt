@@ -4,8 +4,8 @@ use Rattle.vt_spec.specs.declared.attributes.Attr.{Attr}
 use Rattle.vt_spec.specs.Rights.{is_directory}
 use Rattle.vt_spec.specs.Tree.{Node, Content, kind_of, entries_of, with_entries, is_directory_node, entries_in, parent_of, parent_in}
 use Rattle.vt_spec.specs.Tree.Content.{Directory, Regular, Symlink, Whiteout}
-use Rattle.vt_spec.specs.Machine.Changes.{changed_node, content_with_mark, content_with_parent, node_with_attr, node_with_mark, node_with_parent, node_without_entry, without_entry}
-use Rattle.vt_spec.specs.Machine.FileTree.{FileTree}
+use Rattle.vt_spec.specs.Language.Changes.{changed_node, content_with_mark, content_with_parent, node_with_attr, node_with_mark, node_with_parent, node_without_entry, without_entry}
+use Rattle.vt_spec.specs.FileTree.{FileTree}
 use Rattle.vt_spec.proofs.Nodes.{node_other, node_set, part_kept}
 
 -- a change of a node that keeps its kind, entries and parent, and that it is there

@@ -6,17 +6,18 @@ use Rattle.vt_spec.specs.declared.errors.Rule.TheVariants.{E6, K1}
 use Rattle.vt_spec.specs.Laws.Trees.{IsNewIn}
 use Rattle.vt_spec.specs.Tree.{Node, entries_in, entry_named, new_directory}
 use Rattle.vt_spec.specs.Tree.Content.{Symlink, Whiteout}
-use Rattle.vt_spec.specs.Machine.Calls.{Access, Creation}
-use Rattle.vt_spec.specs.Machine.Calls.Creation.{Exclusive, NoCreation, OrCreate}
-use Rattle.vt_spec.specs.Machine.Changes.Change.{CopyUp, SetAttr, SetBytes, SetMark}
+use Rattle.vt_spec.specs.Language.Calls.{Access, Creation}
+use Rattle.vt_spec.specs.Language.Calls.Creation.{Exclusive, NoCreation, OrCreate}
+use Rattle.vt_spec.specs.Language.Changes.Change.{CopyUp, SetAttr, SetBytes, SetMark}
 use Rattle.vt_spec.specs.Machine.Filesystems.{with_change}
-use Rattle.vt_spec.specs.Machine.Lists.{Fresh, evens, odds}
+use Rattle.vt_spec.specs.Lists.{Fresh, evens, odds}
 use Rattle.vt_spec.specs.Machine.Mounts.{Location}
 use Rattle.vt_spec.specs.Machine.Outcome.Attributes.{attr_at, attr_rules, attr_set, attr_with_mode, attr_with_owner, chmod_outcome, chown_outcome, may_chown, opaque_outcome, opaque_rules}
 use Rattle.vt_spec.specs.Machine.Outcome.Descriptors.{create_file, descriptor_at, descriptor_rules, exclusive_word_rules, is_copied_up, open_by, open_file, open_outcome, open_rules, opened, opened_or_created, pwrite_outcome, pwrite_rules, pwritten, with_copy, with_descriptor}
-use Rattle.vt_spec.specs.Machine.Outcome.Making.{directory_mode, file_mode, file_word_rules, largest_file, link_mode, link_text_rules, made_at, make_rules, mkdir_outcome, new_file, new_rules, rewrite_rules, symlink_outcome, whiteout_outcome, whiteout_rules, with_new, write_outcome, written}
+use Rattle.vt_spec.specs.Machine.Outcome.Making.{directory_mode, file_mode, file_word_rules, symlink_mode, link_text_rules, made_at, make_rules, mkdir_outcome, new_file, new_rules, rewrite_rules, symlink_outcome, whiteout_outcome, whiteout_rules, with_new, write_outcome, written}
+use Rattle.vt_spec.specs.Language.Limits.{largest_file}
 use Rattle.vt_spec.specs.Machine.Outcomes.{granted}
-use Rattle.vt_spec.specs.Machine.Outcomes.Answer.{Done}
+use Rattle.vt_spec.specs.Language.Answers.Answer.{Done}
 use Rattle.vt_spec.specs.Machine.Rows.{exact_attr, lacks, making, new_attr}
 use Rattle.vt_spec.specs.Machine.Walk.{Place, directory_walk, file_walk, is_special, name_of, new_leaf_walk, new_name_rules, new_walk, object_walk}
 use Rattle.vt_spec.specs.Machine.World.{Task, World, files_at, is_removed_at, node_at, with_task}
@@ -82,8 +83,8 @@ module _ (fresh : Fresh ℕ) (world : World ℕ) (task : Task ℕ) (conditions :
   symlink_keeps text path =
       judged_holds IsWorldOfTrees world (link_text_rules text) _ conditions (λ passed.
       after_ends (IsNewPlace world task) IsWorldOfTrees world (new_leaf_walk nat_eq world task path)
-      (λ place. made_at nat_eq fresh world task place (record { attr = exact_attr task link_mode; content = Symlink text })) conditions (ends_new_leaf_walk world task path)
-      (λ place is. made_keeps place (record { attr = exact_attr task link_mode; content = Symlink text }) (inr refl) is))
+      (λ place. made_at nat_eq fresh world task place (record { attr = exact_attr task symlink_mode; content = Symlink text })) conditions (ends_new_leaf_walk world task path)
+      (λ place is. made_keeps place (record { attr = exact_attr task symlink_mode; content = Symlink text }) (inr refl) is))
 
   pub whiteout_keeps : (path : List ℕ) → IsWorldOfTrees (whiteout_outcome nat_eq fresh world task path).world
   unfolding whiteout_outcome

@@ -4,8 +4,8 @@ use Rattle.std.proofs.lemmas.Bool.Decides.{eqb_tells}
 use Rattle.std.specs.FinMap.Entries.{is_sorted}
 use Rattle.vt_spec.specs.Tree.{Tree, Node, name_cmp, entry_named, is_directory_node, entries_in, node_with_entry, parent_in}
 use Rattle.vt_spec.specs.TreeLaws.{entry_at, IsDirectory, IsReached, IsTree}
-use Rattle.vt_spec.specs.Machine.Changes.{changed_node, node_with_parent, node_without_entry, with_name, without_name, without_parent}
-use Rattle.vt_spec.specs.Machine.FileTree.{FileTree}
+use Rattle.vt_spec.specs.Language.Changes.{changed_node, node_with_parent, node_without_entry, with_name, without_name, without_parent}
+use Rattle.vt_spec.specs.FileTree.{FileTree}
 use Rattle.vt_spec.proofs.Nodes.{is_directory-node_with_entry, is_some-node_with_entry, none_is_not, parent-node_with_entry}
 use Rattle.vt_tree_laws.specs.Trees.{MayAddName, MayRemove}
 use Rattle.vt_tree_laws.proofs.ChangesNodes.{KeepsPlace, elsewhere, entries-node_with_parent, kind-node_with_parent, kind-node_without_entry, own_parent-node_with_parent, parent-node_without_entry, part_stays, there, used-node_with_parent, used-node_without_entry}

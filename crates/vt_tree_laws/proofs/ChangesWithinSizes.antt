@@ -8,31 +8,32 @@ use Rattle.std.proofs.lemmas.List.Sums.{AllPass-from_list_all, list_all-from_All
 use Rattle.vt_spec.specs.declared.attributes.Attr.{Attr}
 use Rattle.vt_spec.specs.declared.errors.Rule.TheVariants.{E1, E2, E6, K1, S2, W3}
 use Rattle.vt_spec.specs.Errors.{denial}
-use Rattle.vt_spec.specs.PathText.{is_empty, longest_path}
+use Rattle.vt_spec.specs.PathText.{is_empty}
+use Rattle.vt_spec.specs.Language.Limits.{largest_file, longest_path}
 use Rattle.vt_spec.specs.Rights.{cap_sys_admin, owns}
 use Rattle.vt_spec.specs.Tree.{Content, Node, bytes_in, new_directory, node_with_bytes}
 use Rattle.vt_spec.specs.Tree.Content.{Directory, Regular, Symlink, Whiteout}
-use Rattle.vt_spec.specs.Machine.Calls.{Access, Call, Creation}
-use Rattle.vt_spec.specs.Machine.Calls.Call.{Bind, Chdir, Chmod, Chown, Chroot, Close, Drop, Exec, Exit, Fork, Lazy, LinkTo, ListMounts, Ls, Lstat, MakeWhiteout, Mkdir, MountOverlay, MountPlain, MoveMount, Opaque, OpenFile, PivotRoot, Pread, Pwrite, Read, Readlink, Remount, Rename, Rmdir, SetType, Setns, Stat, SymlinkAt, Umask, Umount, Unlink, Unshare, Write}
-use Rattle.vt_spec.specs.Machine.Calls.Creation.{Exclusive, NoCreation, OrCreate}
-use Rattle.vt_spec.specs.Machine.Changes.{Change, changed}
-use Rattle.vt_spec.specs.Machine.Changes.Change.{CopyUp, SetAttr, SetBytes, SetMark}
+use Rattle.vt_spec.specs.Language.Calls.{Access, Call, Creation, TaskName}
+use Rattle.vt_spec.specs.Language.Calls.Call.{Bind, Chdir, Chmod, Chown, Chroot, Close, Drop, Exec, Exit, Fork, Lazy, LinkTo, ListMounts, Ls, Lstat, MakeWhiteout, Mkdir, MountOverlay, MountPlain, MoveMount, Opaque, OpenFile, PivotRoot, Pread, Pwrite, Read, Readlink, Remount, Rename, Rmdir, SetType, Setns, Stat, SymlinkAt, Umask, Umount, Unlink, Unshare, Write}
+use Rattle.vt_spec.specs.Language.Calls.Creation.{Exclusive, NoCreation, OrCreate}
+use Rattle.vt_spec.specs.Language.Changes.{Change, changed}
+use Rattle.vt_spec.specs.Language.Changes.Change.{CopyUp, SetAttr, SetBytes, SetMark}
 use Rattle.vt_spec.specs.Machine.Detach.{without_mounts_on}
 use Rattle.vt_spec.specs.Machine.Filesystems.{filesystem_changed, filesystems_raised, raised, raised_if_changed, with_change, with_files}
-use Rattle.vt_spec.specs.Machine.Lists.{Fresh, evens, odds}
+use Rattle.vt_spec.specs.Lists.{Fresh, evens, odds}
 use Rattle.vt_spec.specs.Machine.Mounts.{Location}
 use Rattle.vt_spec.specs.Machine.Outcome.Attributes.{attr_at, attr_rules, attr_set, attr_with_mode, attr_with_owner, chmod_outcome, chown_outcome, may_chown, opaque_outcome, opaque_rules}
 use Rattle.vt_spec.specs.Machine.Outcome.Descriptors.{create_file, descriptor_at, descriptor_rules, exclusive_word_rules, is_copied_up, open_by, open_file, open_outcome, open_rules, opened, opened_or_created, overwritten, padded, pwrite_outcome, pwrite_rules, pwritten, with_copy, with_descriptor}
-use Rattle.vt_spec.specs.Machine.Outcome.Making.{directory_mode, file_mode, file_word_rules, largest_file, link_mode, link_outcome, link_rules, link_text_rules, linking, made_at, make_rules, mkdir_outcome, new_file, new_rules, rewrite_rules, symlink_outcome, whiteout_outcome, whiteout_rules, with_new, write_outcome, written}
+use Rattle.vt_spec.specs.Machine.Outcome.Making.{directory_mode, file_mode, file_word_rules, symlink_mode, hard_link_outcome, hard_link_rules, link_text_rules, linking, made_at, make_rules, mkdir_outcome, new_file, new_rules, rewrite_rules, symlink_outcome, whiteout_outcome, whiteout_rules, with_new, write_outcome, written}
 use Rattle.vt_spec.specs.Machine.Outcome.Mounting.{plain_filesystem}
 use Rattle.vt_spec.specs.Machine.Outcome.Removing.{is_one_object, moving, object_there, old_word_rules, removing, rename_new_walk, rename_outcome, rename_rules, renamed_by, rmdir_outcome, rmdir_rules, rmdir_word_rules, same_object_rules, unlink_outcome, unlink_rules, without_replaced}
 use Rattle.vt_spec.specs.Machine.Outcomes.{Outcome, granted}
-use Rattle.vt_spec.specs.Machine.Outcomes.Answer.{Done}
+use Rattle.vt_spec.specs.Language.Answers.Answer.{Done}
 use Rattle.vt_spec.specs.Machine.Policy.{call_outcome, finished_by}
 use Rattle.vt_spec.specs.Machine.Rows.{exact_attr, lacks, making, new_attr}
 use Rattle.vt_spec.specs.Machine.Settled.{filesystem_lives, settled, without_dead_filesystems, without_dead_in, without_dead_mounts}
-use Rattle.vt_spec.specs.Machine.Walk.{Place, directory_walk, file_walk, is_directory_there, is_special, link_walk, new_leaf_walk, new_walk, object_walk, old_leaf_walk, old_walk}
-use Rattle.vt_spec.specs.Machine.World.{Filesystem, Task, TaskName, World, files_at, filesystem_at, is_overlay, mount_at, new_plain, node_at, root_attr, task_called, with_filesystem, with_task}
+use Rattle.vt_spec.specs.Machine.Walk.{Place, directory_walk, file_walk, is_directory_there, is_special, symlink_walk, new_leaf_walk, new_walk, object_walk, old_leaf_walk, old_walk}
+use Rattle.vt_spec.specs.Machine.World.{Filesystem, Task, World, files_at, filesystem_at, is_overlay, mount_at, new_plain, node_at, root_attr, task_called, with_filesystem, with_task}
 use Rattle.vt_spec.specs.Machine.WorldLaws.{is_fit_filesystem}
 use Rattle.vt_tree_laws.specs.Trees.Calls.{mounts_overlay}
 use Rattle.vt_tree_laws.specs.Trees.Sizes.{CallsKeepSizes, IsFitChange, IsFitWorld, OpeningIsFit, is_fit_node, is_fit_tree}
@@ -148,8 +149,8 @@ module _ (fresh : Fresh ℕ) (world : World ℕ) (task : Task ℕ) (conditions :
   fit_symlink text path =
       judged_holds IsFitWorld world (link_text_rules text) _ conditions (λ passed.
       after_ends (HasFitLast world task) IsFitWorld world (new_leaf_walk nat_eq world task path)
-      (λ place. made_at nat_eq fresh world task place (record { attr = exact_attr task link_mode; content = Symlink text })) conditions (fit_new_leaf_walk world task path)
-      (λ place last. fit_made place (record { attr = exact_attr task link_mode; content = Symlink text }) last
+      (λ place. made_at nat_eq fresh world task place (record { attr = exact_attr task symlink_mode; content = Symlink text })) conditions (fit_new_leaf_walk world task path)
+      (λ place last. fit_made place (record { attr = exact_attr task symlink_mode; content = Symlink text }) last
       (ap (λ b. b && true) (both (not (is_empty text)) (nat_le (length text) longest_path) (ap not passed.0) (no_longer longest_path text passed.1.0)))))
 
   fit_whiteout : (path : List ℕ) → IsFitWorld (whiteout_outcome nat_eq fresh world task path).world
@@ -159,13 +160,13 @@ module _ (fresh : Fresh ℕ) (world : World ℕ) (task : Task ℕ) (conditions :
       judged_holds IsFitWorld world (whiteout_rules nat_eq world task place) (granted Done (with_new nat_eq fresh world place (record { attr = exact_attr task 0; content = Whiteout }))) conditions
       (λ passed. fit_new place (record { attr = exact_attr task 0; content = Whiteout }) last passed.0 refl))
 
-  fit_link : (before after_call : List ℕ) → IsFitWorld (link_outcome nat_eq fresh world task before after_call).world
-  unfolding link_outcome
+  fit_link : (before after_call : List ℕ) → IsFitWorld (hard_link_outcome nat_eq fresh world task before after_call).world
+  unfolding hard_link_outcome
   fit_link before after_call =
-      after_any IsFitWorld world (link_walk nat_eq world task before) _ conditions (λ from.
+      after_any IsFitWorld world (symlink_walk nat_eq world task before) _ conditions (λ from.
       after_ends (HasFitLast world task) IsFitWorld world (new_leaf_walk nat_eq world task after_call) _ conditions (fit_new_leaf_walk world task after_call) (λ place last.
       judged_holds IsFitWorld world ((is_special place.last, E1) ∷ []) _ conditions (λ plain.
-      judged_holds IsFitWorld world (link_rules nat_eq world task from.location place (linking from.location place)) (granted Done (with_change nat_eq fresh world place.parent (linking from.location place))) conditions
+      judged_holds IsFitWorld world (hard_link_rules nat_eq world task from.location place (linking from.location place)) (granted Done (with_change nat_eq fresh world place.parent (linking from.location place))) conditions
       (λ passed. fit_change fresh place.parent (linking from.location place) (fit_name_of place.last plain.0 last)))))
 
   fit_unlink : (path : List ℕ) → IsFitWorld (unlink_outcome nat_eq fresh world task path).world

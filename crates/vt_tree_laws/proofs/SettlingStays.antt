@@ -6,7 +6,7 @@ use Rattle.std.proofs.lemmas.List.Elements.{All-filter}
 use Rattle.std.proofs.lemmas.List.Folds.{list_any-append}
 use Rattle.vt_spec.specs.Tree.{entries_in, entry_named}
 use Rattle.vt_spec.specs.TreeLaws.{HasName, entry_at}
-use Rattle.vt_spec.specs.Machine.Lists.{is_among}
+use Rattle.vt_spec.specs.Lists.{is_among}
 use Rattle.vt_spec.specs.Machine.Mounts.{Location, Mount, mount_in, no_mount, root_of, same_location}
 use Rattle.vt_spec.specs.Machine.Settled.{filesystem_lives, has_layer_on, is_located, is_mounted, located_in, mount_lives, only_used, only_used_by, settled, used_in, without_dead_filesystems, without_dead_in, without_dead_mounts}
 use Rattle.vt_spec.specs.Machine.World.{Filesystem, World, all_locations, filesystem_numbered, is_overlay, mount_at, no_filesystem, node_at}
@@ -259,9 +259,9 @@ module _ (world : World ℕ) (location : Location ℕ) (located : list_any (same
       among_located (record (mounted_world world) { filesystems = filesystems }) (numbered shown_filesystem filesystems) location.node
       (ap (λ n. is_among nat_eq location.node (located_in nat_eq (record (mounted_world world) { filesystems = filesystems }) n)) (number_numbered shown_filesystem filesystems)
       ∙ listed_node (λ l. nat_eq shown_filesystem (mount_at nat_eq (mounted_world world) l).filesystem)
-      (all_locations world ++ map root_of (mounted_world world).mounts ++ filter_map (λ mount. mount.place) (mounted_world world).mounts) location
-      (list_any-append (same_location nat_eq location) (all_locations world ++ map root_of (mounted_world world).mounts) (filter_map (λ mount. mount.place) (mounted_world world).mounts)
-      ∙ ap (λ b. b || list_any (same_location nat_eq location) (filter_map (λ mount. mount.place) (mounted_world world).mounts))
+      (all_locations world ++ map root_of (mounted_world world).mounts ++ filter_map (λ mount. mount.mount_point) (mounted_world world).mounts) location
+      (list_any-append (same_location nat_eq location) (all_locations world ++ map root_of (mounted_world world).mounts) (filter_map (λ mount. mount.mount_point) (mounted_world world).mounts)
+      ∙ ap (λ b. b || list_any (same_location nat_eq location) (filter_map (λ mount. mount.mount_point) (mounted_world world).mounts))
       (list_any-append (same_location nat_eq location) (all_locations world) (map root_of (mounted_world world).mounts)
       ∙ ap (λ b. b || list_any (same_location nat_eq location) (map root_of (mounted_world world).mounts)) located))
       (eq-eqb shown_filesystem shown_filesystem refl))

@@ -8,8 +8,8 @@ use Rattle.vt_spec.specs.Rights.{is_directory}
 use Rattle.vt_spec.specs.Tree.{Content, Node, Tree, entries_in, entries_of, is_directory_node, kind_of, parent_in}
 use Rattle.vt_spec.specs.Tree.Content.{Directory, Regular, Symlink, Whiteout}
 use Rattle.vt_spec.specs.TreeLaws.{entry_at, led, IsDirectory, IsReached, IsTree}
-use Rattle.vt_spec.specs.Machine.FileTree.{FileTree, has_entry_to, is_directory_under, named_parent, targets_in}
-use Rattle.vt_spec.specs.Machine.Lists.{chain, is_among, when}
+use Rattle.vt_spec.specs.FileTree.{FileTree, has_entry_to, is_directory_under, named_parent, targets_in}
+use Rattle.vt_spec.specs.Lists.{chain, is_among, when}
 use Rattle.vt_spec.proofs.Nodes.{directory_used, none_is_not}
 use Rattle.vt_spec.proofs.Trees.{found}
 use Rattle.vt_tree_laws.specs.Trees.{IsFileTree}

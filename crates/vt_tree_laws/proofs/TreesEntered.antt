@@ -10,9 +10,9 @@ use Rattle.vt_spec.specs.declared.errors.Rule.TheVariants.{W6, W8}
 use Rattle.vt_spec.specs.Errors.{denial, unless}
 use Rattle.vt_spec.specs.PathText.{ends_in_slash, is_empty, parts, path_rules, with_byte, words}
 use Rattle.vt_spec.specs.Tree.{entries_in, entry_named, is_directory_node}
-use Rattle.vt_spec.specs.Machine.Lists.{chain, last_or}
+use Rattle.vt_spec.specs.Lists.{chain, last_or}
 use Rattle.vt_spec.specs.Machine.Mounts.{Location, Mount, child_at, mount_in, no_mount, root_of, same_location, stands_at, topmost}
-use Rattle.vt_spec.specs.Machine.Walk.{Here, LastWord, Stop, entry_location, final_word, followed, front_walked, hop, hops, is_lost, is_no_word, is_top, last_walked, last_word, link_walk, link_walk_by, parent_location, path_text, path_walked, search_rules, slash_rules, stepped, steps_with, then_walk, up_from, walk_start, walk_unless, word_walked}
+use Rattle.vt_spec.specs.Machine.Walk.{Here, LastWord, Stop, entry_location, final_word, followed, front_walked, hop, hops, is_lost, is_no_word, is_top, last_walked, last_word, symlink_walk, symlink_walk_by, parent_location, path_text, path_walked, search_rules, slash_rules, stepped, steps_with, then_walk, up_from, walk_start, walk_unless, word_walked}
 use Rattle.vt_spec.specs.Machine.Walk.LastWord.{Dot, DotDot, Named, NoWord}
 use Rattle.vt_spec.specs.Machine.World.{Filesystem, Task, World, files_at, is_directory_at, mount_at, node_at}
 use Rattle.vt_spec.proofs.Nodes.{directory_used, none_is_not}
@@ -109,20 +109,20 @@ module _ (world : World ℕ) (conditions : IsWorldOfTrees world) (standing : IsS
       (λ a b there e. directory_there b (child_there a b e)) (length world.mounts) location location is
 
   -- the place of a mount
-  place_there : (number : ℕ) (place : Location ℕ) → (mount_in nat_eq world.mounts number).place ≡ Some place → IsDirectoryThere place
+  place_there : (number : ℕ) (place : Location ℕ) → (mount_in nat_eq world.mounts number).mount_point ≡ Some place → IsDirectoryThere place
   place_there number place e = by (find (λ mount. nat_eq number mount.number) world.mounts) refl e
     where
       by : (o : Option (Mount ℕ)) → find (λ mount. nat_eq number mount.number) world.mounts ≡ o
-          → (unwrap_or o (no_mount number)).place ≡ Some place → IsDirectoryThere place
+          → (unwrap_or o (no_mount number)).mount_point ≡ Some place → IsDirectoryThere place
       by None is h = none_is_not None place refl h
       by (Some mount) is h =
-          found_all (λ m. (at : Location ℕ) → m.place ≡ Some at → is_directory_at nat_eq world at ≡ true) (λ m. nat_eq number m.number) world.mounts mount standing.places is place h
+          found_all (λ m. (at : Location ℕ) → m.mount_point ≡ Some at → is_directory_at nat_eq world at ≡ true) (λ m. nat_eq number m.number) world.mounts mount standing.places is place h
 
   module _ (task : Task ℕ) where
     hop_there : (a b : Location ℕ) → IsDirectoryThere a → hop nat_eq world task a ≡ Some b → IsDirectoryThere b
     hop_there a b is e = by (same_location nat_eq a task.root) (nat_eq a.node (mount_at nat_eq world a).root) e
       where
-        by : (p q : Bool) → cond p None (cond q (mount_at nat_eq world a).place None) ≡ Some b → IsDirectoryThere b
+        by : (p q : Bool) → cond p None (cond q (mount_at nat_eq world a).mount_point None) ≡ Some b → IsDirectoryThere b
         by true q h = none_is_not None b refl h
         by false true h = place_there a.mount b h
         by false false h = none_is_not None b refl h
@@ -195,7 +195,7 @@ module _ (world : World ℕ) (conditions : IsWorldOfTrees world) (standing : IsS
     words_there here (word ∷ front) e = last_there here (last_word word) (is_some_word word)
 
     -- a walk that does not follow its last link
-    link_there_by : (path : List ℕ) (b : Bool) → ends_in_slash path ≡ b → EndsThere (link_walk_by nat_eq b world task path)
+    link_there_by : (path : List ℕ) (b : Bool) → ends_in_slash path ≡ b → EndsThere (symlink_walk_by nat_eq b world task path)
     link_there_by path true slash =
         ends_next (λ here. is_some (node_at nat_eq world here.location) ≡ true) (path_walked nat_eq world task path) (λ here. walk_unless here.steps (slash_rules nat_eq world path here.location) here)
         (λ here. ends_unless (λ h. is_some (node_at nat_eq world h.location) ≡ true) here.steps (slash_rules nat_eq world path here.location) here
@@ -215,5 +215,5 @@ module _ (world : World ℕ) (conditions : IsWorldOfTrees world) (standing : IsS
         some_words text full none =
             true≢false (sym (no_words text (nil_from_length (words text) (sym (length-reverse (words text)) ∙ ap length none)) full.1) ∙ full.0)
 
-    pub ends_link_walk : (path : List ℕ) → EndsThere (link_walk nat_eq world task path)
+    pub ends_link_walk : (path : List ℕ) → EndsThere (symlink_walk nat_eq world task path)
     ends_link_walk path = link_there_by path (ends_in_slash path) refl

@@ -8,8 +8,8 @@ use Rattle.std.specs.FinMap.Entries.{is_sorted}
 use Rattle.std.specs.Ordering.{eq_by_cmp}
 use Rattle.vt_spec.specs.Tree.{Tree, Node, Entries, name_cmp, entry_named, is_directory_node, entries_in, parent_in}
 use Rattle.vt_spec.specs.TreeLaws.{entry_at, IsDirectory, HasName, IsTree}
-use Rattle.vt_spec.specs.Machine.FileTree.{FileTree, targets_in}
-use Rattle.vt_spec.specs.Machine.Lists.{is_among}
+use Rattle.vt_spec.specs.FileTree.{FileTree, targets_in}
+use Rattle.vt_spec.specs.Lists.{is_among}
 use Rattle.vt_spec.specs.Machine.Settled.{filesystem_lives, layers_in, located_in, named_in, objects_of_overlay, only_among, only_used, only_used_by, only_used_of, used_in, without_dead_filesystems, without_dead_in, without_dead_mounts}
 use Rattle.vt_spec.specs.Machine.World.{Filesystem, World, is_overlay}
 use Rattle.vt_spec.proofs.Nodes.{directory_used, none_is_not}

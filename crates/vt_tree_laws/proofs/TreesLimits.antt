@@ -9,32 +9,33 @@ use Rattle.vt_spec.specs.Errors.{denial}
 use Rattle.vt_spec.specs.Rights.{cap_sys_admin, cap_sys_chroot, owns}
 use Rattle.vt_spec.specs.Tree.{Node, new_directory}
 use Rattle.vt_spec.specs.Tree.Content.{Symlink, Whiteout}
-use Rattle.vt_spec.specs.Machine.Calls.{Access, Call, CapabilityWord, Creation, ForkWords, OverlayWords, TypeWord}
-use Rattle.vt_spec.specs.Machine.Calls.Call.{Bind, Chdir, Chmod, Chown, Chroot, Close, Drop, Exec, Exit, Fork, Lazy, LinkTo, ListMounts, Ls, Lstat, MakeWhiteout, Mkdir, MountOverlay, MountPlain, MoveMount, Opaque, OpenFile, PivotRoot, Pread, Pwrite, Read, Readlink, Remount, Rename, Rmdir, SetType, Setns, Stat, SymlinkAt, Umask, Umount, Unlink, Unshare, Write}
-use Rattle.vt_spec.specs.Machine.Calls.Creation.{Exclusive, NoCreation, OrCreate}
-use Rattle.vt_spec.specs.Machine.Changes.{Change}
-use Rattle.vt_spec.specs.Machine.Changes.Change.{CopyUp, SetAttr, SetBytes, SetMark}
+use Rattle.vt_spec.specs.Language.Calls.{Access, Call, CapabilityWord, Creation, ForkWords, MountFlags, OverlayWords, TaskName, TypeWord, same_name}
+use Rattle.vt_spec.specs.Language.Calls.Call.{Bind, Chdir, Chmod, Chown, Chroot, Close, Drop, Exec, Exit, Fork, Lazy, LinkTo, ListMounts, Ls, Lstat, MakeWhiteout, Mkdir, MountOverlay, MountPlain, MoveMount, Opaque, OpenFile, PivotRoot, Pread, Pwrite, Read, Readlink, Remount, Rename, Rmdir, SetType, Setns, Stat, SymlinkAt, Umask, Umount, Unlink, Unshare, Write}
+use Rattle.vt_spec.specs.Language.Calls.Creation.{Exclusive, NoCreation, OrCreate}
+use Rattle.vt_spec.specs.Language.Changes.{Change}
+use Rattle.vt_spec.specs.Language.Changes.Change.{CopyUp, SetAttr, SetBytes, SetMark}
 use Rattle.vt_spec.specs.Machine.Detach.{after_going, deepest_first, lazily_unmounted, taken_away, unmounted, unmounted_if_there, without_mounts_on}
 use Rattle.vt_spec.specs.Machine.Filesystems.{raised, filesystem_changed, overlay_changed, with_change}
 use Rattle.vt_spec.specs.Machine.Listing.{mounts_outcome}
-use Rattle.vt_spec.specs.Machine.Lists.{Fresh, evens, folded, odds}
-use Rattle.vt_spec.specs.Machine.Mounts.{Location, Mount, MountFlags, mount_tree, numbers_by}
+use Rattle.vt_spec.specs.Lists.{Fresh, evens, folded, odds}
+use Rattle.vt_spec.specs.Machine.Mounts.{Location, Mount, mount_tree, numbers_by}
 use Rattle.vt_spec.specs.Machine.Namespaces.{namespace_entered, namespaces_ended, pivoted, pivoted_location, pivoted_task, unshared}
 use Rattle.vt_spec.specs.Machine.Outcome.Attributes.{attr_at, attr_rules, attr_set, attr_with_mode, attr_with_owner, chmod_outcome, chown_outcome, may_chown, opaque_outcome, opaque_rules}
-use Rattle.vt_spec.specs.Machine.Outcome.Descriptors.{close_outcome, create_file, descriptor_at, descriptor_rules, exclusive_word_rules, is_copied_up, most_descriptors, open_by, open_file, open_outcome, open_rules, opened, opened_or_created, pread_outcome, pwrite_outcome, pwrite_rules, pwritten, with_copy, with_descriptor, without_descriptor}
+use Rattle.vt_spec.specs.Machine.Outcome.Descriptors.{close_outcome, create_file, descriptor_at, descriptor_rules, exclusive_word_rules, is_copied_up, open_by, open_file, open_outcome, open_rules, opened, opened_or_created, pread_outcome, pwrite_outcome, pwrite_rules, pwritten, with_copy, with_descriptor, without_descriptor}
+use Rattle.vt_spec.specs.Language.Limits.{deepest_name, largest_file, most_descriptors, most_forks}
 use Rattle.vt_spec.specs.Machine.Outcome.Looking.{exec_outcome, exec_rules, list_outcome, list_rules, lstat_outcome, read_outcome, read_rules, readlink_outcome, readlink_rules, stat_outcome}
-use Rattle.vt_spec.specs.Machine.Outcome.Making.{directory_mode, file_mode, file_word_rules, largest_file, link_mode, link_outcome, link_rules, link_text_rules, linking, made_at, make_rules, mkdir_outcome, new_file, new_rules, rewrite_rules, symlink_outcome, whiteout_outcome, whiteout_rules, with_new, write_outcome, written}
+use Rattle.vt_spec.specs.Machine.Outcome.Making.{directory_mode, file_mode, file_word_rules, symlink_mode, hard_link_outcome, hard_link_rules, link_text_rules, linking, made_at, make_rules, mkdir_outcome, new_file, new_rules, rewrite_rules, symlink_outcome, whiteout_outcome, whiteout_rules, with_new, write_outcome, written}
 use Rattle.vt_spec.specs.Machine.Outcome.Mounting.{admin_rules, bind_outcome, bind_rules, bound_at, destination_walk, layer_rules, layers_walked, lazy_outcome, lazy_rules, mount_overlay_outcome, mount_plain_outcome, mounted, move_outcome, move_rules, moved_to, new_mount_rules, overlay_at, overlay_by, overlay_mounted, pivot_outcome, pivot_rules, plain_filesystem, remount_outcome, remount_rules, source_walk, type_outcome, type_rules, umount_outcome, umount_rules, with_flags}
 use Rattle.vt_spec.specs.Machine.Outcome.Removing.{is_one_object, moving, object_there, old_word_rules, removing, rename_new_walk, rename_outcome, rename_rules, renamed_by, rmdir_outcome, rmdir_rules, rmdir_word_rules, same_object_rules, unlink_outcome, unlink_rules, without_replaced}
-use Rattle.vt_spec.specs.Machine.Outcome.Tasks.{chdir_outcome, child_credentials, child_of, chroot_outcome, drop_outcome, enter_rules, exit_outcome, deepest_name, fork_outcome, fork_rules, most_forks, setns_outcome, umask_outcome, unshare_outcome}
+use Rattle.vt_spec.specs.Machine.Outcome.Tasks.{chdir_outcome, child_credentials, child_of, chroot_outcome, drop_outcome, enter_rules, exit_outcome, fork_outcome, fork_rules, setns_outcome, umask_outcome, unshare_outcome}
 use Rattle.vt_spec.specs.Machine.Outcomes.{Outcome, granted}
-use Rattle.vt_spec.specs.Machine.Outcomes.Answer.{Done}
+use Rattle.vt_spec.specs.Language.Answers.Answer.{Done}
 use Rattle.vt_spec.specs.Machine.Policy.{call_outcome, finished_by, raised_task}
 use Rattle.vt_spec.specs.Machine.Receives.{regrouped, regrouped_by}
 use Rattle.vt_spec.specs.Machine.Rows.{exact_attr, lacks, making, new_attr}
 use Rattle.vt_spec.specs.Machine.Types.{named_mounts, retyped_mount, with_new_groups, with_type}
-use Rattle.vt_spec.specs.Machine.Walk.{Place, directory_walk, file_walk, is_directory_there, is_special, link_walk, new_leaf_walk, new_walk, object_walk, old_leaf_walk, old_walk}
-use Rattle.vt_spec.specs.Machine.World.{Layer, Overlay, Task, TaskName, World, filesystem_at, mount_at, mount_numbered, replaced_if_called, same_name, task_called, with_mounts, with_task, without_task}
+use Rattle.vt_spec.specs.Machine.Walk.{Place, directory_walk, file_walk, is_directory_there, is_special, symlink_walk, new_leaf_walk, new_walk, object_walk, old_leaf_walk, old_walk}
+use Rattle.vt_spec.specs.Machine.World.{Layer, Overlay, Task, World, filesystem_at, mount_at, mount_numbered, replaced_if_called, task_called, with_mounts, with_task, without_task}
 use Rattle.vt_spec.specs.Machine.WorldLaws.{is_within_limits}
 use Rattle.vt_spec.proofs.Nodes.{none_is_not}
 use Rattle.vt_tree_laws.specs.Trees.Limits.{CallsKeepSmallTasks, HasSmallTasks, OpeningHasSmallTasks, names_few_groups}
@@ -132,12 +133,12 @@ module _ (fresh : Fresh ℕ) (world : World ℕ) (task : Task ℕ) (small : HasS
   lstat_small : (path : List ℕ) → HasSmallTasks (lstat_outcome nat_eq world task path).world
   unfolding lstat_outcome
   lstat_small path =
-      after_any HasSmallTasks world (link_walk nat_eq world task path) _ small (λ here. small)
+      after_any HasSmallTasks world (symlink_walk nat_eq world task path) _ small (λ here. small)
 
   readlink_small : (path : List ℕ) → HasSmallTasks (readlink_outcome nat_eq world task path).world
   unfolding readlink_outcome
   readlink_small path =
-      after_any HasSmallTasks world (link_walk nat_eq world task path) _ small (λ here. judged_holds HasSmallTasks world (readlink_rules nat_eq world here.location) _ small (λ passed. small))
+      after_any HasSmallTasks world (symlink_walk nat_eq world task path) _ small (λ here. judged_holds HasSmallTasks world (readlink_rules nat_eq world here.location) _ small (λ passed. small))
 
   read_small : (path : List ℕ) → HasSmallTasks (read_outcome nat_eq world task path).world
   unfolding read_outcome
@@ -170,8 +171,8 @@ module _ (fresh : Fresh ℕ) (world : World ℕ) (task : Task ℕ) (small : HasS
   unfolding symlink_outcome
   symlink_small text path =
       judged_holds HasSmallTasks world (link_text_rules text) _ small (λ passed.
-      after_any HasSmallTasks world (new_leaf_walk nat_eq world task path) (λ place. made_at nat_eq fresh world task place (record { attr = exact_attr task link_mode; content = Symlink text })) small
-      (λ place. made_small place (record { attr = exact_attr task link_mode; content = Symlink text })))
+      after_any HasSmallTasks world (new_leaf_walk nat_eq world task path) (λ place. made_at nat_eq fresh world task place (record { attr = exact_attr task symlink_mode; content = Symlink text })) small
+      (λ place. made_small place (record { attr = exact_attr task symlink_mode; content = Symlink text })))
 
   whiteout_small : (path : List ℕ) → HasSmallTasks (whiteout_outcome nat_eq fresh world task path).world
   unfolding whiteout_outcome
@@ -180,13 +181,13 @@ module _ (fresh : Fresh ℕ) (world : World ℕ) (task : Task ℕ) (small : HasS
       judged_holds HasSmallTasks world (whiteout_rules nat_eq world task place) (granted Done (with_new nat_eq fresh world place (record { attr = exact_attr task 0; content = Whiteout }))) small
       (λ passed. new_small place (record { attr = exact_attr task 0; content = Whiteout })))
 
-  link_small : (old new : List ℕ) → HasSmallTasks (link_outcome nat_eq fresh world task old new).world
-  unfolding link_outcome
+  link_small : (old new : List ℕ) → HasSmallTasks (hard_link_outcome nat_eq fresh world task old new).world
+  unfolding hard_link_outcome
   link_small old new =
-      after_any HasSmallTasks world (link_walk nat_eq world task old) _ small (λ from.
+      after_any HasSmallTasks world (symlink_walk nat_eq world task old) _ small (λ from.
       after_any HasSmallTasks world (new_leaf_walk nat_eq world task new) _ small (λ place.
       judged_holds HasSmallTasks world ((is_special place.last, E1) ∷ []) _ small (λ plain.
-      judged_holds HasSmallTasks world (link_rules nat_eq world task from.location place (linking from.location place)) (granted Done (with_change nat_eq fresh world place.parent (linking from.location place))) small
+      judged_holds HasSmallTasks world (hard_link_rules nat_eq world task from.location place (linking from.location place)) (granted Done (with_change nat_eq fresh world place.parent (linking from.location place))) small
       (λ passed. change_small fresh world refl place.parent (linking from.location place)))))
 
   unlink_small : (path : List ℕ) → HasSmallTasks (unlink_outcome nat_eq fresh world task path).world

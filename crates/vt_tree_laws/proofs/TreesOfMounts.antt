@@ -6,7 +6,7 @@ use Rattle.std.specs.List.{All, find, list_all, list_any}
 use Rattle.std.proofs.lemmas.List.Elements.{All-cons, All-nil}
 use Rattle.std.proofs.lemmas.List.Sums.{AllPass-from_list_all}
 use Rattle.vt_spec.specs.Tree.{is_directory_node}
-use Rattle.vt_spec.specs.Machine.Lists.{any_pair}
+use Rattle.vt_spec.specs.Lists.{any_pair}
 use Rattle.vt_spec.specs.Machine.Mounts.{Location, Mount, mount_in, no_mount, root_of}
 use Rattle.vt_spec.specs.Machine.World.{filesystem_numbered, is_directory_at}
 use Rattle.vt_spec.specs.Machine.WorldLaws.{has_its_root}
@@ -63,8 +63,8 @@ worlds_are_standing world conditions =
         → is_directory_at nat_eq world (root_of mount) ≡ true
     root mount has found =
         ap (λ (m : Mount ℕ). is_directory_node ((filesystem_numbered nat_eq world m.filesystem).files.tree.node mount.root)) found
-        ∙ both_first (is_directory_node ((filesystem_numbered nat_eq world mount.filesystem).files.tree.node mount.root)) (list_all (is_directory_at nat_eq world) (option_to_list mount.place)) has
+        ∙ both_first (is_directory_node ((filesystem_numbered nat_eq world mount.filesystem).files.tree.node mount.root)) (list_all (is_directory_at nat_eq world) (option_to_list mount.mount_point)) has
 
-    place : (mount : Mount ℕ) → has_its_root nat_eq world mount ≡ true → (at : Location ℕ) → mount.place ≡ Some at
+    place : (mount : Mount ℕ) → has_its_root nat_eq world mount ≡ true → (at : Location ℕ) → mount.mount_point ≡ Some at
         → is_directory_at nat_eq world at ≡ true
-    place mount has at e = listed_place (is_directory_at nat_eq world) mount.place at (both_second (is_directory_node ((filesystem_numbered nat_eq world mount.filesystem).files.tree.node mount.root)) (list_all (is_directory_at nat_eq world) (option_to_list mount.place)) has) e
+    place mount has at e = listed_place (is_directory_at nat_eq world) mount.mount_point at (both_second (is_directory_node ((filesystem_numbered nat_eq world mount.filesystem).files.tree.node mount.root)) (list_all (is_directory_at nat_eq world) (option_to_list mount.mount_point)) has) e

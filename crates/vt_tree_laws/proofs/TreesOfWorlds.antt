@@ -3,10 +3,10 @@ use Rattle.std.proofs.Common.{eqb-true, ◌≡◌, refl, sym, ap, subst, ◌∙�
 use Rattle.std.specs.Prelude.{unwrap_or}
 use Rattle.std.specs.List.{All, find, list_any}
 use Rattle.std.proofs.lemmas.List.Elements.{All-cons, All-head, All-nil, All-tail}
-use Rattle.vt_spec.specs.Machine.Changes.{Change, changed}
-use Rattle.vt_spec.specs.Machine.Detach.{after_going, place_left, taken_away}
+use Rattle.vt_spec.specs.Language.Changes.{Change, changed}
+use Rattle.vt_spec.specs.Machine.Detach.{after_going, mount_point_left, taken_away}
 use Rattle.vt_spec.specs.Machine.Filesystems.{filesystem_changed, filesystems_raised, raised, raised_if_changed, with_change, with_files}
-use Rattle.vt_spec.specs.Machine.Lists.{Fresh}
+use Rattle.vt_spec.specs.Lists.{Fresh}
 use Rattle.vt_spec.specs.Machine.Mounts.{Location, Mount, detached, mount_in, no_mount}
 use Rattle.vt_spec.specs.Machine.Receives.{inheriting, regrouped, regrouped_by}
 use Rattle.vt_spec.specs.Machine.World.{Filesystem, World, files_at, filesystem_at, is_overlay, mount_at, no_filesystem, replaced_if_numbered, with_filesystem, with_mounts}
@@ -133,7 +133,7 @@ going_number : (world : World ℕ) (gone : List ℕ) (mount : Mount ℕ) → (af
 going_number world gone mount = by _
   where
     by : (b : Bool)
-        → (cond b (detached mount) (record mount { place = option_map (place_left nat_eq world gone) mount.place })).number ≡ mount.number
+        → (cond b (detached mount) (record mount { mount_point = option_map (mount_point_left nat_eq world gone) mount.mount_point })).number ≡ mount.number
     by true = refl
     by false = refl
 
@@ -141,7 +141,7 @@ going_filesystem : (world : World ℕ) (gone : List ℕ) (mount : Mount ℕ) →
 going_filesystem world gone mount = by _
   where
     by : (b : Bool)
-        → (cond b (detached mount) (record mount { place = option_map (place_left nat_eq world gone) mount.place })).filesystem ≡ mount.filesystem
+        → (cond b (detached mount) (record mount { mount_point = option_map (mount_point_left nat_eq world gone) mount.mount_point })).filesystem ≡ mount.filesystem
     by true = refl
     by false = refl
 

@@ -5,8 +5,9 @@ use Rattle.std.specs.List.{filter, list_all, list_any}
 use Rattle.std.specs.Str.{bytes_eq}
 use mathlib.Core.List.{reverse_aux}
 use Rattle.vt_spec.specs.declared.errors.Rule.TheVariants.{W6}
-use Rattle.vt_spec.specs.PathText.{ends_in_slash, is_empty, longest_name, longest_path, parts, path_rules, words}
-use Rattle.vt_spec.specs.Machine.Walk.{Here, LastWord, Place, Stop, file_or_link, file_walk, file_walked, final_word, follow_rules, followed, front_walked, is_special, link_of, link_start, link_there, most_links, name_of, new_leaf_walk, new_name_rules, new_walk, object_named, path_text, place_walk, placed, search_rules, steps_at, then_walk, walk_start, walk_unless}
+use Rattle.vt_spec.specs.PathText.{ends_in_slash, is_empty, parts, path_rules, words}
+use Rattle.vt_spec.specs.Language.Limits.{longest_name, longest_path, most_symlinks}
+use Rattle.vt_spec.specs.Machine.Walk.{Here, LastWord, Place, Stop, file_or_symlink, file_walk, file_walked, final_word, follow_rules, followed, front_walked, is_special, symlink_of, symlink_start, symlink_there, name_of, new_leaf_walk, new_name_rules, new_walk, object_named, path_text, place_walk, placed, search_rules, steps_at, then_walk, walk_start, walk_unless}
 use Rattle.vt_spec.specs.Machine.Walk.LastWord.{Dot, DotDot, Named, NoWord}
 use Rattle.vt_spec.specs.Machine.World.{Task, World}
 use Rattle.vt_tree_laws.specs.Trees.Sizes.{is_fit_name}
@@ -111,12 +112,12 @@ module _ (world : World ℕ) (task : Task ℕ) where
   -- files: each link's text has been looked at too
   abbrev linked_file : ℕ → List ℕ → Bool → Here ℕ → Place ℕ → List ℕ → Result (Place ℕ) (Stop ℕ)
   linked_file depth text slash here place inner =
-      then_walk (walk_unless place.steps (follow_rules nat_eq world (link_of here place) inner) (link_start nat_eq world task here.location (link_of here place) inner))
+      then_walk (walk_unless place.steps (follow_rules nat_eq world (symlink_of here place) inner) (symlink_start nat_eq world task here.location (symlink_of here place) inner))
       (λ next. file_walked nat_eq depth world task next inner (slash || ends_in_slash text))
 
   fit_file_or_link : (place : Place ℕ) (text : Option (List ℕ)) (follow : List ℕ → Result (Place ℕ) (Stop ℕ)) → HasFitLast place
       → ((inner : List ℕ) → Ends HasFitLast (follow inner))
-      → Ends HasFitLast (file_or_link nat_eq world place text follow)
+      → Ends HasFitLast (file_or_symlink nat_eq world place text follow)
   fit_file_or_link place None follow fit rest = fit
   fit_file_or_link place (Some text) follow fit rest = rest text
 
@@ -126,21 +127,21 @@ module _ (world : World ℕ) (task : Task ℕ) where
   fit_file_walked (suc depth) start text slash fit =
       ends_next HasFitLast (front_walked nat_eq world task (followed nat_eq world task) start (reverse (words text)))
       (λ here. then_walk (placed nat_eq world task here (final_word (reverse (words text))) (slash || ends_in_slash text))
-      (λ place. file_or_link nat_eq world place (link_there nat_eq world place) (linked_file depth text slash here place))) (λ here.
+      (λ place. file_or_symlink nat_eq world place (symlink_there nat_eq world place) (linked_file depth text slash here place))) (λ here.
       ends_then HasFitLast HasFitLast (placed nat_eq world task here (final_word (reverse (words text))) (slash || ends_in_slash text))
-      (λ place. file_or_link nat_eq world place (link_there nat_eq world place) (linked_file depth text slash here place))
+      (λ place. file_or_symlink nat_eq world place (symlink_there nat_eq world place) (linked_file depth text slash here place))
       (fit_placed here (final_word (reverse (words text))) (slash || ends_in_slash text) (last_fits text fit)) (λ place last.
-      fit_file_or_link place (link_there nat_eq world place) (linked_file depth text slash here place) last (λ inner.
+      fit_file_or_link place (symlink_there nat_eq world place) (linked_file depth text slash here place) last (λ inner.
       ends_then (λ next. HasFitWords inner) HasFitLast
-      (walk_unless place.steps (follow_rules nat_eq world (link_of here place) inner) (link_start nat_eq world task here.location (link_of here place) inner))
+      (walk_unless place.steps (follow_rules nat_eq world (symlink_of here place) inner) (symlink_start nat_eq world task here.location (symlink_of here place) inner))
       (λ next. file_walked nat_eq depth world task next inner (slash || ends_in_slash text))
-      (ends_unless (λ next. HasFitWords inner) place.steps (follow_rules nat_eq world (link_of here place) inner) (link_start nat_eq world task here.location (link_of here place) inner)
+      (ends_unless (λ next. HasFitWords inner) place.steps (follow_rules nat_eq world (symlink_of here place) inner) (symlink_start nat_eq world task here.location (symlink_of here place) inner)
       (λ passed. passed.1.1.0))
       (λ next inside. fit_file_walked depth next inner (slash || ends_in_slash text) inside))))
 
   pub fit_file_walk : (path : List ℕ) → Ends HasFitLast (file_walk nat_eq world task path)
   fit_file_walk path =
       ends_then HasFitWords HasFitLast (path_text path) _ (fit_text path) (λ text fit.
-      ends_then HasFitLast HasFitLast (file_walked nat_eq (most_links + 1) world task (walk_start task text) text false) _
-      (fit_file_walked (most_links + 1) (walk_start task text) text false fit) (λ place last.
+      ends_then HasFitLast HasFitLast (file_walked nat_eq (most_symlinks + 1) world task (walk_start task text) text false) _
+      (fit_file_walked (most_symlinks + 1) (walk_start task text) text false fit) (λ place last.
       ends_unless HasFitLast place.steps (new_name_rules nat_eq world place) place (λ passed. last)))

@@ -3,11 +3,12 @@ use Rattle.std.proofs.Common.{◌≡◌, ◌≢◌, refl, sym, ap, ◌∙◌, tr
 use Rattle.std.proofs.Math.Nat.{mod-lt}
 use Rattle.std.proofs.lemmas.List.{length-append}
 use Rattle.std.specs.List.{filter, list_all}
-use Rattle.vt_spec.specs.Machine.Calls.{Access, ForkWords}
+use Rattle.vt_spec.specs.Language.Calls.{Access, ForkWords, same_name}
 use Rattle.vt_spec.specs.Machine.Mounts.{Location}
-use Rattle.vt_spec.specs.Machine.Outcome.Descriptors.{free_from, free_number, inserted, most_descriptors, with_descriptor, without_descriptor}
-use Rattle.vt_spec.specs.Machine.Outcome.Tasks.{child_credentials, child_name, child_of, deepest_name, most_forks, permission_bits}
-use Rattle.vt_spec.specs.Machine.World.{Descriptor, Task, replaced_if_called, same_name}
+use Rattle.vt_spec.specs.Machine.Outcome.Descriptors.{free_from, free_number, inserted, with_descriptor, without_descriptor}
+use Rattle.vt_spec.specs.Language.Limits.{deepest_name, most_descriptors, most_forks}
+use Rattle.vt_spec.specs.Machine.Outcome.Tasks.{child_credentials, child_name, child_of, permission_bits}
+use Rattle.vt_spec.specs.Machine.World.{Descriptor, Task, replaced_if_called}
 use Rattle.vt_spec.specs.Machine.WorldLaws.{are_ascending_from, is_within_limits}
 
 pub both_first : (a b : Bool) → (a && b) ≡ true → a ≡ true

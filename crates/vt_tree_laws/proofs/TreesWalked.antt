@@ -6,7 +6,8 @@ use Rattle.vt_spec.specs.declared.errors.Rule.TheVariants.{W3, W6}
 use Rattle.vt_spec.specs.Errors.{Rules, and_then, unless}
 use Rattle.vt_spec.specs.Machine.Mounts.{Location, topmost}
 use Rattle.vt_spec.specs.Machine.Outcomes.{Outcome, after, judged}
-use Rattle.vt_spec.specs.Machine.Walk.{Here, LastWord, Place, Stop, entry_location, file_or_link, file_walk, file_walked, final_word, followed, follow_rules, front_walked, is_directory_there, is_special, link_of, link_start, link_there, most_links, name_of, new_leaf_walk, new_name_rules, new_walk, object_named, old_leaf_walk, old_walk, path_text, place_walk, placed, search_rules, steps_at, stopped_by, then_walk, walk_end, walk_start, walk_unless}
+use Rattle.vt_spec.specs.Machine.Walk.{Here, LastWord, Place, Stop, entry_location, file_or_symlink, file_walk, file_walked, final_word, followed, follow_rules, front_walked, is_directory_there, is_special, symlink_of, symlink_start, symlink_there, name_of, new_leaf_walk, new_name_rules, new_walk, object_named, old_leaf_walk, old_walk, path_text, place_walk, placed, search_rules, steps_at, stopped_by, then_walk, walk_end, walk_start, walk_unless}
+use Rattle.vt_spec.specs.Language.Limits.{most_symlinks}
 use Rattle.vt_spec.specs.Machine.Walk.LastWord.{Dot, DotDot, Named, NoWord}
 use Rattle.vt_spec.specs.Machine.World.{Task, World, is_directory_at}
 use Rattle.vt_spec.specs.PathText.{ends_in_slash, words}
@@ -200,20 +201,20 @@ module _ (world : World ℕ) (task : Task ℕ) where
 
   ends_file_or_link : (place : Place ℕ) (text : Option (List ℕ)) (follow : List ℕ → Result (Place ℕ) (Stop ℕ)) → IsPlace world place
       → ((inner : List ℕ) → Ends (IsFilePlace world) (follow inner))
-      → Ends (IsFilePlace world) (file_or_link nat_eq world place text follow)
+      → Ends (IsFilePlace world) (file_or_symlink nat_eq world place text follow)
   ends_file_or_link place None follow is rest = entered_file place.parent place.last place.object is
   ends_file_or_link place (Some text) follow is rest = rest text
 
   -- where a link stands there, its text is walked
   abbrev linked_file : ℕ → List ℕ → Bool → Here ℕ → Place ℕ → List ℕ → Result (Place ℕ) (Stop ℕ)
   linked_file depth text slash here place inner =
-      then_walk (walk_unless place.steps (follow_rules nat_eq world (link_of here place) inner) (link_start nat_eq world task here.location (link_of here place) inner))
+      then_walk (walk_unless place.steps (follow_rules nat_eq world (symlink_of here place) inner) (symlink_start nat_eq world task here.location (symlink_of here place) inner))
       (λ next. file_walked nat_eq depth world task next inner (slash || ends_in_slash text))
 
   abbrev file_from : ℕ → List ℕ → Bool → Here ℕ → Result (Place ℕ) (Stop ℕ)
   file_from depth text slash here =
       then_walk (placed nat_eq world task here (final_word (reverse (words text))) (slash || ends_in_slash text))
-      (λ place. file_or_link nat_eq world place (link_there nat_eq world place) (linked_file depth text slash here place))
+      (λ place. file_or_symlink nat_eq world place (symlink_there nat_eq world place) (linked_file depth text slash here place))
 
   ends_file_walked : (depth : ℕ) (start : Here ℕ) (text : List ℕ) (slash : Bool)
       → Ends (IsFilePlace world) (file_walked nat_eq depth world task start text slash)
@@ -222,10 +223,10 @@ module _ (world : World ℕ) (task : Task ℕ) where
       ends_next (IsFilePlace world) (front_walked nat_eq world task (followed nat_eq world task) start (reverse (words text)))
       (λ here. file_from depth text slash here) (λ here.
       ends_then (IsPlace world) (IsFilePlace world) (placed nat_eq world task here (final_word (reverse (words text))) (slash || ends_in_slash text))
-      (λ place. file_or_link nat_eq world place (link_there nat_eq world place) (linked_file depth text slash here place))
+      (λ place. file_or_symlink nat_eq world place (symlink_there nat_eq world place) (linked_file depth text slash here place))
       (ends_placed here (final_word (reverse (words text))) (slash || ends_in_slash text)) (λ place is.
-      ends_file_or_link place (link_there nat_eq world place) (linked_file depth text slash here place) is (λ inner.
-      ends_next (IsFilePlace world) (walk_unless place.steps (follow_rules nat_eq world (link_of here place) inner) (link_start nat_eq world task here.location (link_of here place) inner))
+      ends_file_or_link place (symlink_there nat_eq world place) (linked_file depth text slash here place) is (λ inner.
+      ends_next (IsFilePlace world) (walk_unless place.steps (follow_rules nat_eq world (symlink_of here place) inner) (symlink_start nat_eq world task here.location (symlink_of here place) inner))
       (λ next. file_walked nat_eq depth world task next inner (slash || ends_in_slash text))
       (λ next. ends_file_walked depth next inner (slash || ends_in_slash text)))))
 
@@ -235,6 +236,6 @@ module _ (world : World ℕ) (task : Task ℕ) where
   pub ends_file_walk : (path : List ℕ) → Ends IsNewFilePlace (file_walk nat_eq world task path)
   ends_file_walk path =
       ends_next IsNewFilePlace (path_text path) _ (λ text.
-      ends_then (IsFilePlace world) IsNewFilePlace (file_walked nat_eq (most_links + 1) world task (walk_start task text) text false) _
-      (ends_file_walked (most_links + 1) (walk_start task text) text false) (λ place is.
+      ends_then (IsFilePlace world) IsNewFilePlace (file_walked nat_eq (most_symlinks + 1) world task (walk_start task text) text false) _
+      (ends_file_walked (most_symlinks + 1) (walk_start task text) text false) (λ place is.
       ends_unless IsNewFilePlace place.steps (new_name_rules nat_eq world place) place (λ passed. (is, passed))))

@@ -5,9 +5,9 @@ pub mod Limits
 pub mod Sizes
 use Rattle.std.specs.Prelude.{List, None, Some, [], false, is_some, nat_eq, true, ℕ, ⊤, ◌≡◌, ◌≢◌}
 use Rattle.vt_spec.specs.Laws.Trees.{IsNewIn}
-use Rattle.vt_spec.specs.Machine.Changes.{Change, changed}
-use Rattle.vt_spec.specs.Machine.Changes.Change.{AddName, CopyUp, Make, Move, Remove, SetAttr, SetBytes, SetMark}
-use Rattle.vt_spec.specs.Machine.FileTree.{FileTree}
+use Rattle.vt_spec.specs.Language.Changes.{Change, changed}
+use Rattle.vt_spec.specs.Language.Changes.Change.{AddName, CopyUp, Make, Move, Remove, SetAttr, SetBytes, SetMark}
+use Rattle.vt_spec.specs.FileTree.{FileTree}
 use Rattle.vt_spec.specs.Machine.WorldLaws.{ListsNumbers}
 use Rattle.vt_spec.specs.Tree.{Node, Tree, entries_in, is_directory_node, parent_in}
 pub use Rattle.vt_spec.specs.TreeLaws.{HasOwnParents}

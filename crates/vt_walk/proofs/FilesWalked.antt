@@ -3,9 +3,9 @@ use Rattle.std.proofs.Common.{◌≡◌, ℕ, suc, ◌+◌, ◌-◌, ◌<◌, �
 use Rattle.vt_spec.specs.declared.errors.Deny.{Deny}
 use Rattle.vt_spec.specs.declared.errors.Rule.TheVariants.{W7}
 use Rattle.vt_spec.specs.Errors.{and_then, denial, unless}
-use Rattle.vt_spec.specs.Machine.Lists.{rest_of}
+use Rattle.vt_spec.specs.Lists.{rest_of}
 use Rattle.vt_spec.specs.Machine.Walk.{LastWord, final_word}
-use Rattle.vt_spec.specs.OneTree.Walk.{Here, Place, file_or_link, file_walk, file_walked, follow_rules, front_walked, link_of, link_start, link_there, placed, walk_start}
+use Rattle.vt_spec.specs.OneTree.Walk.{Here, Place, file_or_symlink, file_walk, file_walked, follow_rules, front_walked, symlink_of, symlink_start, symlink_there, placed, walk_start}
 use Rattle.vt_spec.specs.PathText.{ends_in_slash, words}
 use Rattle.vt_spec.specs.Rights.{Credentials}
 use Rattle.vt_spec.specs.Tree.{Tree}
@@ -17,9 +17,9 @@ module _ (tree : Tree ℕ) (who : Credentials) where
   -- what is done at a place: a link there is followed
   abbrev pub linked : ℕ → Here ℕ → Bool → Place ℕ → Result (Place ℕ) Deny
   linked depth here slash place =
-      file_or_link place (link_there tree place) (λ inner.
-      unless (follow_rules (link_of here place) inner)
-      (file_walked depth tree who (link_start tree here.node (link_of here place) inner) inner slash))
+      file_or_symlink place (symlink_there tree place) (λ inner.
+      unless (follow_rules (symlink_of here place) inner)
+      (file_walked depth tree who (symlink_start tree here.node (symlink_of here place) inner) inner slash))
 
   abbrev pub last_put : ℕ → Bool → LastWord → Here ℕ → Result (Place ℕ) Deny
   last_put depth slash last here = and_then (placed tree who here.node last slash) (linked depth here slash)
@@ -62,32 +62,32 @@ module _ (tree : Tree ℕ) (who : Credentials) where
               e ∙ ap (λ p. and_then p (linked (41 - (turn + 1)) here wanted)) put ∙ file_walked-by (Ok here) walked
 
           -- no link stands there
-          pub place-ended : None ≡ link_there tree place → Ok place ≡ file_walked (41 - turn) tree who start text slash
+          pub place-ended : None ≡ symlink_there tree place → Ok place ≡ file_walked (41 - turn) tree who start text slash
           place-ended none =
-              at_place (Ok place) (ap (λ t. file_or_link place t (λ inner.
-              unless (follow_rules (link_of here place) inner)
-              (file_walked (41 - (turn + 1)) tree who (link_start tree here.node (link_of here place) inner) inner wanted))) none)
+              at_place (Ok place) (ap (λ t. file_or_symlink place t (λ inner.
+              unless (follow_rules (symlink_of here place) inner)
+              (file_walked (41 - (turn + 1)) tree who (symlink_start tree here.node (symlink_of here place) inner) inner wanted))) none)
 
           -- a link stands there
-          module _ (inner : List ℕ) (link : Here ℕ) (linked_there : Some inner ≡ link_there tree place) (link-same : link ≡ link_of here place) where
+          module _ (inner : List ℕ) (link : Here ℕ) (linked_there : Some inner ≡ symlink_there tree place) (link-same : link ≡ symlink_of here place) where
             through : (answer : Result (Place ℕ) Deny)
-                → answer ≡ unless (follow_rules link inner) (file_walked (41 - (turn + 1)) tree who (link_start tree here.node link inner) inner wanted)
+                → answer ≡ unless (follow_rules link inner) (file_walked (41 - (turn + 1)) tree who (symlink_start tree here.node link inner) inner wanted)
                 → answer ≡ file_walked (41 - turn) tree who start text slash
             through answer e =
                 at_place answer (e
-                ∙ ap (λ l. unless (follow_rules l inner) (file_walked (41 - (turn + 1)) tree who (link_start tree here.node l inner) inner wanted)) link-same
-                ∙ ap (λ t. file_or_link place t (λ inner.
-                unless (follow_rules (link_of here place) inner)
-                (file_walked (41 - (turn + 1)) tree who (link_start tree here.node (link_of here place) inner) inner wanted))) linked_there)
+                ∙ ap (λ l. unless (follow_rules l inner) (file_walked (41 - (turn + 1)) tree who (symlink_start tree here.node l inner) inner wanted)) link-same
+                ∙ ap (λ t. file_or_symlink place t (λ inner.
+                unless (follow_rules (symlink_of here place) inner)
+                (file_walked (41 - (turn + 1)) tree who (symlink_start tree here.node (symlink_of here place) inner) inner wanted))) linked_there)
 
-            pub link-refused : (deny : Deny) → Err deny ≡ unless (follow_rules link inner) (Ok (link_start tree here.node link inner))
+            pub link-refused : (deny : Deny) → Err deny ≡ unless (follow_rules link inner) (Ok (symlink_start tree here.node link inner))
                 → Err deny ≡ file_walked (41 - turn) tree who start text slash
             link-refused deny e =
-                through (Err deny) (sym (unless-refused (follow_rules link inner) (link_start tree here.node link inner) _ deny (sym e)))
+                through (Err deny) (sym (unless-refused (follow_rules link inner) (symlink_start tree here.node link inner) _ deny (sym e)))
 
-            pub next-turn : (next : Here ℕ) → Ok next ≡ unless (follow_rules link inner) (Ok (link_start tree here.node link inner))
+            pub next-turn : (next : Here ℕ) → Ok next ≡ unless (follow_rules link inner) (Ok (symlink_start tree here.node link inner))
                 → file_walked (41 - (turn + 1)) tree who next inner wanted ≡ file_walked (41 - turn) tree who start text slash
             next-turn next e =
                 through (file_walked (41 - (turn + 1)) tree who next inner wanted)
-                (ap (λ s. file_walked (41 - (turn + 1)) tree who s inner wanted) (sym (unless-answer (follow_rules link inner) (link_start tree here.node link inner) next (sym e)))
-                ∙ sym (unless-passed (follow_rules link inner) (link_start tree here.node link inner) next _ (sym e)))
+                (ap (λ s. file_walked (41 - (turn + 1)) tree who s inner wanted) (sym (unless-answer (follow_rules link inner) (symlink_start tree here.node link inner) next (sym e)))
+                ∙ sym (unless-passed (follow_rules link inner) (symlink_start tree here.node link inner) next _ (sym e)))

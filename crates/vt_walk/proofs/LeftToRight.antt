@@ -3,7 +3,7 @@ use Rattle.std.proofs.Common.{◌≡◌, ℕ, List, None, Some, [], ◌∷◌, �
 use Rattle.std.proofs.lemmas.List.{append-nil, reverse-append}
 use Rattle.vt_spec.specs.declared.errors.Deny.{Deny}
 use Rattle.vt_spec.specs.Errors.{and_then}
-use Rattle.vt_spec.specs.Machine.FileTree.{link_text}
+use Rattle.vt_spec.specs.FileTree.{symlink_text}
 use Rattle.vt_spec.specs.Machine.Walk.{LastWord, last_word}
 use Rattle.vt_spec.specs.OneTree.Walk.{Here, Follow, if_link, search_rules, stepped, word_walked, words_walked}
 use Rattle.vt_spec.specs.Rights.{Credentials}
@@ -14,7 +14,7 @@ use Rattle.vt_walk.proofs.RefusalLemmas.{and_then-ok, and_then-and_then, and_the
 abbrev pub step : Tree ℕ → Credentials → Follow ℕ → Here ℕ → List ℕ → Result (Here ℕ) Deny
 step tree who follow here word =
     and_then (word_walked tree who here (last_word word)) (λ next.
-    if_link next (link_text (tree.node next.node)) (follow here.node next))
+    if_link next (symlink_text (tree.node next.node)) (follow here.node next))
 
 -- the walk by the words, of which the first comes first
 abbrev pub walked_on : Tree ℕ → Credentials → Follow ℕ → Here ℕ → List (List ℕ) → Result (Here ℕ) Deny
@@ -49,24 +49,24 @@ module _ (tree : Tree ℕ) (who : Credentials) (follow : Follow ℕ) where
       -- a word that is refused ends the walk
       pub word-refused : (deny : Deny) → Err deny ≡ word_walked tree who here (last_word word) → Err deny ≡ words_walked tree who follow start (reverse words)
       word-refused deny refused =
-          by-word (Err deny) (ap (λ r. and_then (and_then r (λ next. if_link next (link_text (tree.node next.node)) (follow here.node next))) (λ there. walked_on tree who follow there rest)) refused)
+          by-word (Err deny) (ap (λ r. and_then (and_then r (λ next. if_link next (symlink_text (tree.node next.node)) (follow here.node next))) (λ there. walked_on tree who follow there rest)) refused)
           ∙ sym (words_walked-reverse start words)
 
       module _ (next : Here ℕ) (walked : Ok next ≡ word_walked tree who here (last_word word)) where
         by-place : (answer : Result (Here ℕ) Deny)
-            → answer ≡ and_then (if_link next (link_text (tree.node next.node)) (follow here.node next)) (λ there. walked_on tree who follow there rest)
+            → answer ≡ and_then (if_link next (symlink_text (tree.node next.node)) (follow here.node next)) (λ there. walked_on tree who follow there rest)
             → answer ≡ walked_on tree who follow start words
         by-place answer e =
-            by-word answer (e ∙ ap (λ r. and_then (and_then r (λ next. if_link next (link_text (tree.node next.node)) (follow here.node next))) (λ there. walked_on tree who follow there rest)) walked)
+            by-word answer (e ∙ ap (λ r. and_then (and_then r (λ next. if_link next (symlink_text (tree.node next.node)) (follow here.node next))) (λ there. walked_on tree who follow there rest)) walked)
 
         -- a word that leads to no link
-        pub no-link : None ≡ link_text (tree.node next.node) → walked_on tree who follow next rest ≡ walked_on tree who follow start words
+        pub no-link : None ≡ symlink_text (tree.node next.node) → walked_on tree who follow next rest ≡ walked_on tree who follow start words
         no-link none =
             by-place (walked_on tree who follow next rest)
             (ap (λ t. and_then (if_link next t (follow here.node next)) (λ there. walked_on tree who follow there rest)) none)
 
         -- a word that leads to a link
-        pub link-met : (text : List ℕ) → Some text ≡ link_text (tree.node next.node)
+        pub link-met : (text : List ℕ) → Some text ≡ symlink_text (tree.node next.node)
             → and_then (follow here.node next text) (λ there. words_walked tree who follow there (reverse rest)) ≡ words_walked tree who follow start (reverse words)
         link-met text link =
             (λ i. and_then (follow here.node next text) (λ there. words_walked-reverse there rest i))

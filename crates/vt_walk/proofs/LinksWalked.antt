@@ -4,7 +4,7 @@ use Rattle.std.specs.Prelude.{◌==◌}
 use Rattle.vt_spec.specs.declared.errors.Deny.{Deny}
 use Rattle.vt_spec.specs.declared.errors.Rule.TheVariants.{W7}
 use Rattle.vt_spec.specs.Errors.{Rules, and_then, unless}
-use Rattle.vt_spec.specs.OneTree.Walk.{Here, follow_rules, link_start, link_walked, slash_rules, words_walked}
+use Rattle.vt_spec.specs.OneTree.Walk.{Here, follow_rules, symlink_start, symlink_walked, slash_rules, words_walked}
 use Rattle.vt_spec.specs.PathText.{words}
 use Rattle.vt_spec.specs.Rights.{Credentials}
 use Rattle.vt_spec.specs.Tree.{Tree}
@@ -16,11 +16,11 @@ some-left : (left : ℕ) (rows : Rules) (start next : Here ℕ) → Ok next ≡ 
 some-left zero rows start next e = absurd cc
 some-left (suc left) rows start next e = omega arith
 
-pub begun-left : (tree : Tree ℕ) (directory : ℕ) (link next : Here ℕ) (text : List ℕ) → Ok next ≡ unless (follow_rules link text) (Ok (link_start tree directory link text))
+pub begun-left : (tree : Tree ℕ) (directory : ℕ) (link next : Here ℕ) (text : List ℕ) → Ok next ≡ unless (follow_rules link text) (Ok (symlink_start tree directory link text))
     → next.left + 1 ≡ link.left
 begun-left tree directory link next text e =
-    let some = some-left link.left _ (link_start tree directory link text) next e in
-    let less : link.left - 1 ≡ next.left = ap (λ here. here.left) (unless-answer (follow_rules link text) (link_start tree directory link text) next (sym e)) in
+    let some = some-left link.left _ (symlink_start tree directory link text) next e in
+    let less : link.left - 1 ≡ next.left = ap (λ here. here.left) (unless-answer (follow_rules link text) (symlink_start tree directory link text) next (sym e)) in
     omega arith
 
 module _ (tree : Tree ℕ) (who : Credentials) where
@@ -35,30 +35,30 @@ module _ (tree : Tree ℕ) (who : Credentials) where
   abbrev pub link_followed : ℕ → ℕ → Here ℕ → List ℕ → Result (Here ℕ) Deny
   link_followed depth directory link text =
       unless (follow_rules link text)
-      (and_then (inside_walked depth (link_start tree directory link text) (words text)) (slash_checked text))
+      (and_then (inside_walked depth (symlink_start tree directory link text) (words text)) (slash_checked text))
 
-  pub link_walked-deep : (depth directory : ℕ) (link : Here ℕ) (text : List ℕ) → depth ≢ 0 →
-      link_walked depth tree who directory link text ≡ link_followed (depth - 1) directory link text
-  link_walked-deep zero directory link text deep = absurd (deep refl)
-  link_walked-deep (suc depth) directory link text deep =
+  pub symlink_walked-deep : (depth directory : ℕ) (link : Here ℕ) (text : List ℕ) → depth ≢ 0 →
+      symlink_walked depth tree who directory link text ≡ link_followed (depth - 1) directory link text
+  symlink_walked-deep zero directory link text deep = absurd (deep refl)
+  symlink_walked-deep (suc depth) directory link text deep =
       ap (λ d. link_followed d directory link text) (omega arith)
 
   module _ (depth directory : ℕ) (link : Here ℕ) (text : List ℕ) (deep : depth ≢ 0) where
     pub follow-refused : (deny : Deny) →
-        Err deny ≡ unless (follow_rules link text) (Ok (link_start tree directory link text))
-        → Err deny ≡ link_walked depth tree who directory link text
+        Err deny ≡ unless (follow_rules link text) (Ok (symlink_start tree directory link text))
+        → Err deny ≡ symlink_walked depth tree who directory link text
     follow-refused deny refused =
-        sym (unless-refused (follow_rules link text) (link_start tree directory link text) _ deny (sym refused))
-        ∙ sym (link_walked-deep depth directory link text deep)
+        sym (unless-refused (follow_rules link text) (symlink_start tree directory link text) _ deny (sym refused))
+        ∙ sym (symlink_walked-deep depth directory link text deep)
 
     pub follow-begun : (start : Here ℕ) →
-        Ok start ≡ unless (follow_rules link text) (Ok (link_start tree directory link text))
-        → and_then (inside_walked (depth - 1) start (words text)) (slash_checked text) ≡ link_walked depth tree who directory link text
+        Ok start ≡ unless (follow_rules link text) (Ok (symlink_start tree directory link text))
+        → and_then (inside_walked (depth - 1) start (words text)) (slash_checked text) ≡ symlink_walked depth tree who directory link text
     follow-begun start begun =
         ap (λ s. and_then (inside_walked (depth - 1) s (words text)) (slash_checked text))
-        (sym (unless-answer (follow_rules link text) (link_start tree directory link text) start (sym begun)))
-        ∙ sym (unless-passed (follow_rules link text) (link_start tree directory link text) start _ (sym begun))
-        ∙ sym (link_walked-deep depth directory link text deep)
+        (sym (unless-answer (follow_rules link text) (symlink_start tree directory link text) start (sym begun)))
+        ∙ sym (unless-passed (follow_rules link text) (symlink_start tree directory link text) start _ (sym begun))
+        ∙ sym (symlink_walked-deep depth directory link text deep)
 
     -- the words behind the link
     abbrev pub behind_walked : List (List ℕ) → Here ℕ → Result (Here ℕ) Deny
@@ -66,11 +66,11 @@ module _ (tree : Tree ℕ) (who : Credentials) where
 
     -- a link that is followed, then the words behind it, and then what comes after them
     pub begun-walked : (start : Here ℕ) →
-        Ok start ≡ unless (follow_rules link text) (Ok (link_start tree directory link text))
+        Ok start ≡ unless (follow_rules link text) (Ok (symlink_start tree directory link text))
         → (behind : List (List ℕ)) (after : Here ℕ → Result (Here ℕ) Deny)
         → and_then (inside_walked (depth - 1) start (words text)) (λ reached.
         unless (slash_rules tree text reached.node) (and_then (behind_walked behind reached) after))
-        ≡ and_then (link_walked depth tree who directory link text) (λ next. and_then (behind_walked behind next) after)
+        ≡ and_then (symlink_walked depth tree who directory link text) (λ next. and_then (behind_walked behind next) after)
     begun-walked start begun behind after =
         let rest : Here ℕ → Result (Here ℕ) Deny = λ next. and_then (behind_walked behind next) after in
         (λ i. and_then (inside_walked (depth - 1) start (words text))

@@ -3,7 +3,7 @@ use Rattle.std.proofs.Common.{◌≡◌, ◌≢◌, ℕ, ◌-◌, ◌<◌, List,
 use Rattle.std.proofs.lemmas.List.{length-reverse, reverse-append}
 use Rattle.vt_spec.specs.declared.errors.Deny.{Deny}
 use Rattle.vt_spec.specs.Errors.{and_then, unless}
-use Rattle.vt_spec.specs.OneTree.Walk.{Follow, Here, follow_rules, link_start, link_walked, slash_rules, words_walked}
+use Rattle.vt_spec.specs.OneTree.Walk.{Follow, Here, follow_rules, symlink_start, symlink_walked, slash_rules, words_walked}
 use Rattle.vt_spec.specs.PathText.{words}
 use Rattle.vt_spec.specs.Rights.{Credentials}
 use Rattle.vt_spec.specs.Tree.{Tree}
@@ -24,11 +24,11 @@ link_passed-as tree who follow here link as_met walked same e = ap (link_passed 
 -- a link that is met while nothing waits: its text stands above the words behind it
 pub first-begun : (tree : Tree ℕ) (who : Credentials) (directory : ℕ) (link : Here ℕ) (inner : List ℕ)
     (behind : List (List ℕ)) (next : Here ℕ)
-    → Ok next ≡ unless (follow_rules link inner) (Ok (link_start tree directory link inner))
+    → Ok next ≡ unless (follow_rules link inner) (Ok (symlink_start tree directory link inner))
     → (left above : Pending) (once twice : List Pending) → once ≡ [] ++ left ∷ [] → twice ≡ once ++ above ∷ []
     → left.text.now ≡ [] → left.words ≡ behind → above.text.now ≡ inner → above.words ≡ words inner
     → texts_walked tree who next (reverse twice)
-    ≡ and_then (link_walked 41 tree who directory link inner)
+    ≡ and_then (symlink_walked 41 tree who directory link inner)
     (λ there. words_walked tree who (links_within 41 tree who) there (reverse behind))
 first-begun tree who directory link inner behind next begun left above once twice first second text rest inside all =
     ap (texts_walked tree who next)
@@ -38,14 +38,14 @@ first-begun tree who directory link inner behind next begun left above once twic
     (and_then (words_walked tree who (links_within 41 tree who) reached (reverse (rest i)))
     (λ there. unless (slash_rules tree (text i) there.node) (Ok there)))))
     ∙ begun-walked tree who 41 directory link inner (omega arith) next begun behind (λ there. Ok there)
-    ∙ (λ i. and_then (link_walked 41 tree who directory link inner)
+    ∙ (λ i. and_then (symlink_walked 41 tree who directory link inner)
     (λ there. and_then-ok (words_walked tree who (links_within 41 tree who) there (reverse behind)) i))
 
 -- and where it is not followed
 pub first-denied : (tree : Tree ℕ) (who : Credentials) (directory : ℕ) (link : Here ℕ) (inner : List ℕ)
     (behind : List (List ℕ)) (deny : Deny)
-    → Err deny ≡ unless (follow_rules link inner) (Ok (link_start tree directory link inner))
-    → Err deny ≡ and_then (link_walked 41 tree who directory link inner)
+    → Err deny ≡ unless (follow_rules link inner) (Ok (symlink_start tree directory link inner))
+    → Err deny ≡ and_then (symlink_walked 41 tree who directory link inner)
     (λ there. words_walked tree who (links_within 41 tree who) there (reverse behind))
 first-denied tree who directory link inner behind deny refused =
     ap (λ r. and_then r (λ there. words_walked tree who (links_within 41 tree who) there (reverse behind)))
@@ -89,23 +89,23 @@ module _ (tree : Tree ℕ) (who : Credentials) (whole : Result (Here ℕ) Deny) 
       abbrev pub behind_walked : Here ℕ → Result (Here ℕ) Deny
       behind_walked next = words_walked tree who (links_within (41 - length (reverse others)) tree who) next (reverse behind)
 
-      module _ (met : and_then (link_walked (41 - length (reverse others)) tree who directory link inner) behind_walked ≡ top_walked) where
+      module _ (met : and_then (symlink_walked (41 - length (reverse others)) tree who directory link inner) behind_walked ≡ top_walked) where
         deep : 41 - length (reverse others) ≢ 0
         deep = let same = length-reverse others in omega arith
 
         by-link : (answer : Result (Here ℕ) Deny)
-            → answer ≡ and_then (link_walked (41 - length (reverse others)) tree who directory link inner) (λ next. and_then (behind_walked next) others_walked)
+            → answer ≡ and_then (symlink_walked (41 - length (reverse others)) tree who directory link inner) (λ next. and_then (behind_walked next) others_walked)
             → answer ≡ whole
         by-link answer e =
-            e ∙ sym (and_then-and_then (link_walked (41 - length (reverse others)) tree who directory link inner) behind_walked others_walked)
+            e ∙ sym (and_then-and_then (symlink_walked (41 - length (reverse others)) tree who directory link inner) behind_walked others_walked)
             ∙ ap (λ r. and_then r others_walked) met ∙ by-top
 
-        pub link-denied : (deny : Deny) → Err deny ≡ unless (follow_rules link inner) (Ok (link_start tree directory link inner)) → Err deny ≡ whole
+        pub link-denied : (deny : Deny) → Err deny ≡ unless (follow_rules link inner) (Ok (symlink_start tree directory link inner)) → Err deny ≡ whole
         link-denied deny refused =
             by-link (Err deny) (ap (λ r. and_then r (λ next. and_then (behind_walked next) others_walked))
             (follow-refused tree who (41 - length (reverse others)) directory link inner deep deny refused))
 
-        pub link-begun : (next : Here ℕ) → Ok next ≡ unless (follow_rules link inner) (Ok (link_start tree directory link inner))
+        pub link-begun : (next : Here ℕ) → Ok next ≡ unless (follow_rules link inner) (Ok (symlink_start tree directory link inner))
             → (left above : Pending) → left.text.now ≡ top.text.now → left.words ≡ behind → above.text.now ≡ inner → above.words ≡ words inner
             → (once twice : List Pending) → once ≡ others ++ left ∷ [] → twice ≡ once ++ above ∷ []
             → texts_walked tree who next (reverse twice) ≡ whole

@@ -5,11 +5,12 @@ use Rattle.std.specs.List.{list_any}
 use Rattle.vt_spec.specs.declared.errors.Deny.{Deny}
 use Rattle.vt_spec.specs.declared.errors.Rule.TheVariants.{W3}
 use Rattle.vt_spec.specs.Errors.{and_then, denial, unless}
-use Rattle.vt_spec.specs.Machine.Lists.{rest_of}
+use Rattle.vt_spec.specs.Lists.{rest_of}
 use Rattle.vt_spec.specs.Machine.Walk.{LastWord, final_word, is_no_word}
 use Rattle.vt_spec.specs.Machine.Walk.LastWord.{NoWord, Dot, DotDot, Named}
-use Rattle.vt_spec.specs.OneTree.Walk.{Here, directory_walk, followed, front_walked, is_directory_at, last_walked, link_walk, new_walk, object_named, object_walk, path_walked, placed, slash_rules, unfollowed_walk, walk_start, words_walked}
-use Rattle.vt_spec.specs.PathText.{ends_in_slash, is_empty, longest_name, longest_path, parsed_path, words}
+use Rattle.vt_spec.specs.OneTree.Walk.{Here, directory_walk, followed, front_walked, is_directory_at, last_walked, symlink_walk, new_walk, object_named, object_walk, path_walked, placed, slash_rules, unfollowed_walk, walk_start, words_walked}
+use Rattle.vt_spec.specs.PathText.{ends_in_slash, is_empty, parsed_path, words}
+use Rattle.vt_spec.specs.Language.Limits.{longest_name, longest_path}
 use Rattle.vt_spec.specs.Rights.{Credentials}
 use Rattle.vt_spec.specs.Tree.{Tree}
 use Rattle.vt_text.proofs.Limits.{IsTooLong-from_test, not_walkable}
@@ -91,8 +92,8 @@ module _ (tree : Tree ℕ) (who : Credentials) where
       last-by : last ≡ final_word (reverse (words path))
       last-by = ends ∙ ap (λ text. final_word (reverse (words text))) same
 
-      pub link_walk-by : ends_in_slash path ≡ false → node_result (and_then r (λ here. last_walked tree who here last)) ≡ node_result (link_walk tree who path)
-      link_walk-by no_slash =
+      pub symlink_walk-by : ends_in_slash path ≡ false → node_result (and_then r (λ here. last_walked tree who here last)) ≡ node_result (symlink_walk tree who path)
+      symlink_walk-by no_slash =
           (λ i. node_result (and_then (front_walked-by i) (λ here. last_walked tree who here (last-by i))))
           ∙ sym (ap (λ r. node_result (and_then r (unfollowed_walk tree who))) (parsed-walkable path walkable))
           ∙ sym (ap (λ b. node_result (if b then object_walk tree who path else and_then (parsed_path path) (unfollowed_walk tree who))) no_slash)
@@ -103,8 +104,8 @@ module _ (tree : Tree ℕ) (who : Credentials) where
           ∙ sym (ap (λ r. and_then r (λ text. and_then (front_walked tree who (walk_start tree) (reverse (words text))) (λ here.
           placed tree who here.node (final_word (reverse (words text))) (ends_in_slash text)))) (parsed-walkable path walkable))
 
-  pub link_walk-slash : (path : List ℕ) → ends_in_slash path ≡ true → node_result (object_walk tree who path) ≡ node_result (link_walk tree who path)
-  link_walk-slash path slash =
+  pub symlink_walk-slash : (path : List ℕ) → ends_in_slash path ≡ true → node_result (object_walk tree who path) ≡ node_result (symlink_walk tree who path)
+  symlink_walk-slash path slash =
       sym (ap (λ b. node_result (if b then object_walk tree who path else and_then (parsed_path path) (unfollowed_walk tree who))) slash)
 
   -- a place, with what was asked of its directory

@@ -4,10 +4,10 @@ use Rattle.std.specs.Prelude.{IfOk, not, ok_or}
 use Rattle.vt_spec.specs.declared.errors.Deny.{Deny}
 use Rattle.vt_spec.specs.Errors.{Rules, and_then, denial, unless}
 use Rattle.vt_spec.specs.declared.errors.Rule.TheVariants.{W3, W4, W6}
-use Rattle.vt_spec.specs.Machine.FileTree.{link_text}
+use Rattle.vt_spec.specs.FileTree.{symlink_text}
 use Rattle.vt_spec.specs.Machine.Walk.{LastWord, is_special, last_word}
 use Rattle.vt_spec.specs.Machine.Walk.LastWord.{NoWord, Dot, DotDot, Named}
-use Rattle.vt_spec.specs.OneTree.Walk.{Follow, Here, follow_rules, followed, if_link, is_directory_at, last_walked, link_start, link_walked, may, object_named, search_rules, slash_rules, start_of, word_walked, words_walked}
+use Rattle.vt_spec.specs.OneTree.Walk.{Follow, Here, follow_rules, followed, if_link, is_directory_at, last_walked, symlink_start, symlink_walked, may, object_named, search_rules, slash_rules, start_of, word_walked, words_walked}
 use Rattle.vt_spec.specs.PathText.{is_absolute, words}
 use Rattle.vt_spec.specs.Rights.{Credentials, execute_right}
 use Rattle.vt_spec.specs.Tree.{Content, Node, Tree, is_directory_node, parent_in, parent_of}
@@ -91,24 +91,24 @@ module _ (tree : Tree ℕ) (whole : IsTree tree) where
         let before = and_then-inverted (words_walked tree who follow start front) _ reached e in
         let next = and_then-inverted (word_walked tree who before.0 (last_word word)) _ reached before.2 in
         let before_there = words-there follow start before.0 front leads there before.1 in
-        link-there follow before.0.node next.0 reached (link_text (tree.node next.0.node)) leads before_there
+        link-there follow before.0.node next.0 reached (symlink_text (tree.node next.0.node)) leads before_there
         (word-there before.0 next.0 (last_word word) before_there next.1) next.2
 
-    link_walked-there : (depth : ℕ) (inside : ℕ) (next reached : Here ℕ) (text : List ℕ) → IsThere tree inside → IsThere tree next.node
-        → link_walked depth tree who inside next text ≡ Ok reached → IsThere tree reached.node
-    link_walked-there zero inside next reached text inside_there there e =
+    symlink_walked-there : (depth : ℕ) (inside : ℕ) (next reached : Here ℕ) (text : List ℕ) → IsThere tree inside → IsThere tree next.node
+        → symlink_walked depth tree who inside next text ≡ Ok reached → IsThere tree reached.node
+    symlink_walked-there zero inside next reached text inside_there there e =
         let same : next ≡ reached = cc in
         subst (λ here. IsThere tree here.node) same there
-    link_walked-there (suc depth) inside next reached text inside_there there e =
-        let start = link_start tree inside next text in
+    symlink_walked-there (suc depth) inside next reached text inside_there there e =
+        let start = symlink_start tree inside next text in
         let walked = and_then-inverted (words_walked tree who (links_within depth tree who) start (reverse (words text)))
         (λ here. unless (slash_rules tree text here.node) (Ok here)) reached (unless-inverted (follow_rules next text) _ reached e) in
         subst (λ here. IsThere tree here.node) (unless-answer (slash_rules tree text walked.0.node) walked.0 reached walked.2)
-        (words-there (links_within depth tree who) start walked.0 (reverse (words text)) (link_walked-there depth) (start-there inside text inside_there) walked.1)
+        (words-there (links_within depth tree who) start walked.0 (reverse (words text)) (symlink_walked-there depth) (start-there inside text inside_there) walked.1)
 
     pub walked-there : (start : Here ℕ) (words : List (List ℕ)) (result : Result HereSeen Deny) → IsThere tree start.node
         → here_result result ≡ words_walked tree who (followed tree who) start words → IfOk result (λ here. IsThere tree here.node)
-    walked-there start words (Ok here) there e = words-there (followed tree who) start (here_of here) words (link_walked-there 41) there (sym e)
+    walked-there start words (Ok here) there e = words-there (followed tree who) start (here_of here) words (symlink_walked-there 41) there (sym e)
     walked-there start words (Err deny) there e = tt
 
     pub last-there : (here next : Here ℕ) (word : LastWord) → IsThere tree here.node → Ok next ≡ last_walked tree who here word → IsThere tree next.node

@@ -2,8 +2,8 @@
 use Rattle.std.specs.Prelude.{ℕ, ◌+◌, ◌-◌, List, [], ◌∷◌, Option, None, Some, Result, Ok, length, reverse}
 use Rattle.vt_spec.specs.declared.errors.Deny.{Deny}
 use Rattle.vt_spec.specs.Errors.{and_then, unless}
-use Rattle.vt_spec.specs.Machine.Walk.{most_links}
-use Rattle.vt_spec.specs.OneTree.Walk.{Follow, Here, link_walked, slash_rules, words_walked}
+use Rattle.vt_spec.specs.Language.Limits.{most_symlinks}
+use Rattle.vt_spec.specs.OneTree.Walk.{Follow, Here, symlink_walked, slash_rules, words_walked}
 use Rattle.vt_spec.specs.Rights.{Credentials}
 use Rattle.vt_spec.specs.Tree.{Tree}
 use Rattle.vt_walk.specs.declared.steps.LinkMet.{LinkMet}
@@ -23,12 +23,12 @@ walked_on_from tree who follow reached = link_passed tree who follow (here_of re
 
 -- how links are followed in one another's texts no deeper than this
 abbrev pub links_within : ℕ → Tree ℕ → Credentials → Follow ℕ
-links_within depth tree who inside next inner = link_walked depth tree who inside next inner
+links_within depth tree who inside next inner = symlink_walked depth tree who inside next inner
 
 -- Pending texts walked one after another, the last that was met first: the words that are left of it, then the directory that
 -- a slash at its end asks for, and from there the others.
 abbrev pub texts_walked : Tree ℕ → Credentials → Here ℕ → List Pending → Result (Here ℕ) Deny
 texts_walked tree who here [] = Ok here
 texts_walked tree who here (pending ∷ others) =
-    and_then (words_walked tree who (links_within (most_links + 1 - length others) tree who) here (reverse pending.words)) (λ reached.
+    and_then (words_walked tree who (links_within (most_symlinks + 1 - length others) tree who) here (reverse pending.words)) (λ reached.
     unless (slash_rules tree pending.text.now reached.node) (texts_walked tree who reached others))

@@ -1,6 +1,6 @@
 //! Where a walk stands.
 ghost use Rattle.std.specs.Prelude.{◌≤◌};
-ghost use Rattle.vt_spec.specs.Machine.Walk.{most_links};
+ghost use Rattle.vt_spec.specs.Language.Limits.{most_symlinks};
 
 use vt_node::NodeId;
 use vt_tree::Tree;
@@ -16,7 +16,7 @@ pub(crate) const MOST_TEXTS: usize = MOST_LINKS + 1;
 pub(crate) struct Here {
     pub(crate) node: NodeId,
     pub(crate) left: usize,
-    ghost few: { left ≤ most_links },
+    ghost few: { left ≤ most_symlinks },
 }
 
 impl Here {

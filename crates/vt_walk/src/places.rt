@@ -1,13 +1,13 @@
 //! Walks to a parent, and what the last word names there.
 ghost use Rattle.std.specs.Prelude.{◌≡◌, true, false, is_some, ◌||◌, option_copied, IfOk, Ok};
 ghost use Rattle.vt_spec.specs.Machine.Walk.{is_special};
-ghost use Rattle.vt_spec.specs.OneTree.Walk.{is_directory_there, placed, new_walk, new_leaf_walk, old_walk, old_leaf_walk, rename_new_walk, link_there, link_of, file_walk};
+ghost use Rattle.vt_spec.specs.OneTree.Walk.{is_directory_there, placed, new_walk, new_leaf_walk, old_walk, old_leaf_walk, rename_new_walk, symlink_there, symlink_of, file_walk};
 ghost use Rattle.vt_spec.specs.PathText.{ends_in_slash};
 ghost use Rattle.vt_tree.specs.TreeValue.{tree_of};
 ghost use Rattle.vt_walk.specs.WalkValue.{last_of, here_of, place_of, place_result, IsPlace};
 
 use crate::here::{Here, MOST_LINKS};
-use crate::steps::{link_begun, link_text, object_named, searched_for, words_walked};
+use crate::steps::{link_begun, object_named, searched_for, symlink_text, words_walked};
 use crate::words::{LastWord, Place, front_and_last};
 use vt_cred::Cred;
 use vt_node::NodeId;
@@ -123,15 +123,15 @@ fn asks_for_directory(slash: bool, text: &[u8]) -> bool
 }
 
 // The text of the link that stands in a place, if one does.
-fn link_there<'a>(tree: &'a Tree, place: &Place) -> Option<&'a [u8]>
-    ensures { option_copied result ≡ link_there (tree_of tree.now) (place_of place.now) }
+fn symlink_there<'a>(tree: &'a Tree, place: &Place) -> Option<&'a [u8]>
+    ensures { option_copied result ≡ symlink_there (tree_of tree.now) (place_of place.now) }
 {
-    link_text(tree, place.object?)
+    symlink_text(tree, place.object?)
 }
 
 // Where a walk stands that came to the link in a place.
-fn link_of(here: Here, place: &Place) -> Here
-    ensures { here_of result ≡ link_of (here_of here) (place_of place.now) }
+fn symlink_of(here: Here, place: &Place) -> Here
+    ensures { here_of result ≡ symlink_of (here_of here) (place_of place.now) }
 {
     here.moved(place.object.unwrap_or(place.parent))
 }
@@ -154,10 +154,10 @@ pub fn file_walk<'a>(tree: &'a Tree, who: &Cred, path: &PathText<'a>) -> Result<
             Ok(place) => place,
             Err(deny) => return Err(deny),
         };
-        let Some(inner) = link_there(tree, &place) else {
+        let Some(inner) = symlink_there(tree, &place) else {
             return Ok(place);
         };
-        start = link_begun(tree, here.node, link_of(here, &place), inner)?;
+        start = link_begun(tree, here.node, symlink_of(here, &place), inner)?;
         text = inner;
     }
     Err(Rule::W7.denial())

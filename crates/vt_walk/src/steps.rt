@@ -1,8 +1,8 @@
 //! Words walked one after the other, and links followed.
 ghost use Rattle.std.specs.Prelude.{◌≡◌, ℕ, reverse, option_copied, Ok, Some, true, OnOk, IfOk};
 ghost use Rattle.vt_spec.specs.Errors.{and_then, unless};
-ghost use Rattle.vt_spec.specs.Machine.FileTree.{link_text};
-ghost use Rattle.vt_spec.specs.OneTree.Walk.{Follow, is_directory_at, search_rules, object_named, word_walked, last_walked, follow_rules, slash_rules, link_start, words_walked, followed};
+ghost use Rattle.vt_spec.specs.FileTree.{symlink_text};
+ghost use Rattle.vt_spec.specs.OneTree.Walk.{Follow, is_directory_at, search_rules, object_named, word_walked, last_walked, follow_rules, slash_rules, symlink_start, words_walked, followed};
 ghost use Rattle.vt_spec.specs.PathText.{words};
 ghost use Rattle.vt_spec.specs.TreeLaws.{IsTree};
 ghost use Rattle.vt_tree.specs.TreeValue.{tree_of};
@@ -84,8 +84,8 @@ pub(crate) fn last_walked(tree: &Tree, who: &Cred, here: Here, last: LastWord) -
 }
 
 // The text of a link; what is no link has none.
-pub(crate) fn link_text(tree: &Tree, id: NodeId) -> Option<&[u8]>
-    ensures { option_copied result ≡ link_text ((tree_of tree.now).node id) }
+pub(crate) fn symlink_text(tree: &Tree, id: NodeId) -> Option<&[u8]>
+    ensures { option_copied result ≡ symlink_text ((tree_of tree.now).node id) }
 {
     let node = tree.node(id)?;
     if node.kind() == Kind::Link {
@@ -103,7 +103,7 @@ pub(crate) fn link_begun(
     text: &[u8],
 ) -> Result<Here, Deny>
     ensures value { here_result result ≡ unless (follow_rules (here_of link) text.now)
-        (Ok (link_start (tree_of tree.now) directory (here_of link) text.now)) }
+        (Ok (symlink_start (tree_of tree.now) directory (here_of link) text.now)) }
 {
     if link.left == 0 {
         return Err(Rule::W7.denial());
@@ -152,7 +152,7 @@ fn walked_to_link<'a>(
     while let Some(word) = words.next() {
         let directory = here.node;
         here = word_walked(tree, who, here, LastWord::of(word))?;
-        if let Some(text) = link_text(tree, here.node) {
+        if let Some(text) = symlink_text(tree, here.node) {
             let link = LinkMet {
                 directory,
                 text,
@@ -218,14 +218,19 @@ pub(crate) fn words_walked<'a>(
 {
     let Reached { here, link } = walked_to_link(tree, who, start, words)?;
     match link {
-        Some(link) => link_walked(tree, who, here, link),
+        Some(link) => symlink_walked(tree, who, here, link),
         None => Ok(here),
     }
 }
 
 // The place that a link and the words behind it lead to, every link followed. What is left behind a link waits on
 // a stack while the link's text is walked; a walk that comes to no link needs no stack.
-fn link_walked<'a>(tree: &'a Tree, who: &Cred, met: Here, link: LinkMet<'a>) -> Result<Here, Deny>
+fn symlink_walked<'a>(
+    tree: &'a Tree,
+    who: &Cred,
+    met: Here,
+    link: LinkMet<'a>,
+) -> Result<Here, Deny>
     ensures { here_result result ≡ link_passed (tree_of tree.now) who.now
         (followed (tree_of tree.now) who.now) (here_of met) (Some link.entry) }
 {

@@ -81,7 +81,7 @@ fn walks_to_objects(rt: HostRuntime) -> Result<(), Fail> {
     ] {
         let path = PathText::parse(path)?;
         assert_eq!(rt; object_walk(tree, who, &path), wanted);
-        assert_eq!(rt; link_walk(tree, who, &path), wanted);
+        assert_eq!(rt; symlink_walk(tree, who, &path), wanted);
     }
     let path = PathText::parse(b"d/f")?;
     assert_eq!(rt; directory_walk(tree, who, &path), Err(Rule::W3.denial()));
@@ -126,7 +126,7 @@ fn follows_links_to_objects(rt: HostRuntime) -> Result<(), Fail> {
     ] {
         let path = PathText::parse(path)?;
         assert_eq!(rt; object_walk(tree, &world.who, &path), object);
-        assert_eq!(rt; link_walk(tree, &world.who, &path), unfollowed);
+        assert_eq!(rt; symlink_walk(tree, &world.who, &path), unfollowed);
     }
     Ok(())
 }

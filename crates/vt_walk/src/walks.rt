@@ -1,6 +1,6 @@
 //! Walks to an object.
 ghost use Rattle.std.specs.Prelude.{◌≡◌, reverse, true, is_some, IfOk, Ok};
-ghost use Rattle.vt_spec.specs.OneTree.Walk.{is_directory_at, path_walked, object_walk, directory_walk, link_walk, unfollowed_walk};
+ghost use Rattle.vt_spec.specs.OneTree.Walk.{is_directory_at, path_walked, object_walk, directory_walk, symlink_walk, unfollowed_walk};
 ghost use Rattle.vt_tree.specs.TreeValue.{tree_of};
 ghost use Rattle.vt_spec.specs.TreeLaws.{IsTree};
 ghost use Rattle.vt_walk.specs.WalkValue.{node_result, IsThere};
@@ -46,8 +46,8 @@ pub fn directory_walk(tree: &Tree, who: &Cred, path: &PathText) -> Result<NodeId
 ///
 /// W2 (ENAMETOOLONG): a word of a link's text. W3 (ENOTDIR): what is no directory. W4 (EACCES): no search right. W6
 /// (ENOENT): a missing name. W7 (ELOOP): the 41st link.
-pub fn link_walk(tree: &Tree, who: &Cred, path: &PathText) -> Result<NodeId, Deny>
-    ensures value { result ≡ node_result (link_walk (tree_of tree.now) who.now path.now) }
+pub fn symlink_walk(tree: &Tree, who: &Cred, path: &PathText) -> Result<NodeId, Deny>
+    ensures value { result ≡ node_result (symlink_walk (tree_of tree.now) who.now path.now) }
     ensures there { IsTree (tree_of tree.now) → IfOk result (λ object. IsThere (tree_of tree.now) object) }
 {
     if path.ends_in_slash() {

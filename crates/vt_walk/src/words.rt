@@ -1,6 +1,6 @@
 //! The last words of paths, and the places that they name.
 ghost use Rattle.std.specs.Prelude.{◌≡◌, reverse};
-ghost use Rattle.vt_spec.specs.Machine.Lists.{rest_of};
+ghost use Rattle.vt_spec.specs.Lists.{rest_of};
 ghost use Rattle.vt_spec.specs.Machine.Walk.{last_word, final_word, is_no_word, is_special, name_of};
 ghost use Rattle.vt_spec.specs.PathText.{words};
 ghost use Rattle.vt_walk.specs.WalkValue.{last_of};

@@ -6,15 +6,16 @@ use Rattle.vt_spec.specs.declared.errors.Deny.{Deny}
 use Rattle.vt_spec.specs.declared.errors.Rule.TheVariants.{S2}
 use Rattle.vt_spec.specs.Errors.{denial}
 use Rattle.vt_spec.specs.Machine.Apply.{apply}
-use Rattle.vt_spec.specs.Machine.Calls.{Call}
+use Rattle.vt_spec.specs.Language.Calls.{Call, TaskName, same_name}
 use Rattle.vt_spec.specs.Machine.Judge.{Judgement, judge_in}
-use Rattle.vt_spec.specs.Machine.Lists.{Fresh, is_among}
-use Rattle.vt_spec.specs.Machine.Outcomes.{Answer, Outcome, after}
+use Rattle.vt_spec.specs.Lists.{Fresh, is_among}
+use Rattle.vt_spec.specs.Language.Answers.{Answer}
+use Rattle.vt_spec.specs.Machine.Outcomes.{Outcome, after}
 use Rattle.vt_spec.specs.Machine.Permits.{Permit}
 use Rattle.vt_spec.specs.Machine.Policy.{call_outcome, filesystems_changed_by, finished, finished_by, only_looks, policy}
 use Rattle.vt_spec.specs.Machine.Run.{Serves, numbers_in_use, used_by_filesystem, used_by_mount}
 use Rattle.vt_spec.specs.Machine.Settled.{settled}
-use Rattle.vt_spec.specs.Machine.World.{Filesystem, Task, TaskName, World, same_name, task_called}
+use Rattle.vt_spec.specs.Machine.World.{Filesystem, Task, World, task_called}
 use Rattle.vt_spec.specs.Machine.WorldLaws.{ForksAreCounted, IsWorld, ListsNumbers, MountInvariants, NamespaceInvariants, is_within_limits}
 use Rattle.vt_spec.specs.TreeLaws.{HasOwnParents, IsTree}
 use Rattle.vt_laws.proofs.CallsJudged.{call_is_judged_then_applied}

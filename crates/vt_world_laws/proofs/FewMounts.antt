@@ -2,11 +2,12 @@
 use Rattle.std.proofs.Common.{◌≡◌, refl, sym, ap, subst, ◌∙◌, true≢false, arith, inl, inr, ⊎_elim, ◌⊎◌, ℕ, nat_eq, nat_lt, Bool, true, false, cond, List, [], ◌∷◌, ◌≤◌, filter, map, length, Option, Some, None, option_map}
 use Rattle.std.specs.List.{list_any}
 use Rattle.std.proofs.lemmas.Bool.{le-ltb, ltb-false}
-use Rattle.vt_spec.specs.Machine.Attach.{has_too_many, most_mounts}
-use Rattle.vt_spec.specs.Machine.Changes.{Change}
-use Rattle.vt_spec.specs.Machine.Detach.{after_going, deepest_first, is_going, lazily_unmounted, place_left, taken_away, unmounted, unmounted_if_there}
+use Rattle.vt_spec.specs.Machine.Attach.{has_too_many}
+use Rattle.vt_spec.specs.Language.Limits.{most_mounts}
+use Rattle.vt_spec.specs.Language.Changes.{Change}
+use Rattle.vt_spec.specs.Machine.Detach.{after_going, deepest_first, is_going, lazily_unmounted, mount_point_left, taken_away, unmounted, unmounted_if_there}
 use Rattle.vt_spec.specs.Machine.Filesystems.{filesystem_changed, overlay_changed, with_change}
-use Rattle.vt_spec.specs.Machine.Lists.{Fresh, folded, holds_of}
+use Rattle.vt_spec.specs.Lists.{Fresh, folded, holds_of}
 use Rattle.vt_spec.specs.Machine.Mounts.{Location, Mount, detached, mount_tree}
 use Rattle.vt_spec.specs.Machine.Namespaces.{has_tasks, is_in_ended, namespaces_ended}
 use Rattle.vt_spec.specs.Machine.Receives.{inheriting, lost_a_group, regrouped, regrouped_by}
@@ -133,12 +134,12 @@ gone_stays world gone mount = by (is_going nat_eq gone mount.number)
   where
     by : (b : Bool)
         → ((cond b (detached mount) (record mount {
-          place = option_map
-              (place_left nat_eq world gone) mount.place;
+          mount_point = option_map
+              (mount_point_left nat_eq world gone) mount.mount_point;
         })).namespace ≡ mount.namespace)
         ⊎ ((cond b (detached mount) (record mount {
-          place = option_map
-              (place_left nat_eq world gone) mount.place;
+          mount_point = option_map
+              (mount_point_left nat_eq world gone) mount.mount_point;
         })).namespace ≡ None)
     by true = inr refl
     by false = inl refl

@@ -5,12 +5,13 @@ use Rattle.std.specs.List.{list_all, list_any}
 use Rattle.std.proofs.lemmas.List.{length-append, length-map}
 use Rattle.std.proofs.lemmas.List.Elements.{filter-append}
 use Rattle.vt_spec.specs.Machine.Apply.{apply}
-use Rattle.vt_spec.specs.Machine.Attach.{has_too_many, most_mounts}
-use Rattle.vt_spec.specs.Machine.Calls.{TypeWord}
-use Rattle.vt_spec.specs.Machine.Changes.Change.{CopyUp}
+use Rattle.vt_spec.specs.Machine.Attach.{has_too_many}
+use Rattle.vt_spec.specs.Language.Limits.{most_mounts}
+use Rattle.vt_spec.specs.Language.Calls.{MountFlags, TypeWord}
+use Rattle.vt_spec.specs.Language.Changes.Change.{CopyUp}
 use Rattle.vt_spec.specs.Machine.Detach.{without_mounts_on}
-use Rattle.vt_spec.specs.Machine.Lists.{Fresh, evens, holds_of, is_among, odds}
-use Rattle.vt_spec.specs.Machine.Mounts.{Location, Mount, MountFlags, numbers_by, replaced_if_same}
+use Rattle.vt_spec.specs.Lists.{Fresh, evens, holds_of, is_among, odds}
+use Rattle.vt_spec.specs.Machine.Mounts.{Location, Mount, numbers_by, replaced_if_same}
 use Rattle.vt_spec.specs.Machine.Namespaces.{copied_mount, namespace_entered, pivoted_mount, unshared}
 use Rattle.vt_spec.specs.Machine.Outcome.Descriptors.{is_copied_up, pwritten, with_copy}
 use Rattle.vt_spec.specs.Machine.Outcome.Removing.{without_replaced}
@@ -78,9 +79,9 @@ module _ (world : World ℕ) where
   pivot_stays root new put mount = by (nat_eq mount.number new.number) (nat_eq mount.number root.number)
     where
       by : (b c : Bool)
-          → ((cond b (record mount { place = root.place }) (cond c (record mount { place = Some put })
+          → ((cond b (record mount { mount_point = root.mount_point }) (cond c (record mount { mount_point = Some put })
           mount)).namespace ≡ mount.namespace)
-          ⊎ ((cond b (record mount { place = root.place }) (cond c (record mount { place = Some put })
+          ⊎ ((cond b (record mount { mount_point = root.mount_point }) (cond c (record mount { mount_point = Some put })
           mount)).namespace ≡ None)
       by true c = inl refl
       by false true = inl refl

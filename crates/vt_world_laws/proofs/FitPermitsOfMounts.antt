@@ -4,11 +4,11 @@ use Rattle.std.specs.Prelude.{⊤}
 use Rattle.std.specs.List.{list_any}
 use Rattle.std.proofs.lemmas.Bool.{or_parts}
 use Rattle.vt_spec.specs.Machine.Apply.{overfills}
-use Rattle.vt_spec.specs.Machine.Calls.{TypeWord}
+use Rattle.vt_spec.specs.Language.Calls.{MountFlags, TypeWord}
 use Rattle.vt_spec.specs.Machine.Judge.{Judgement, bind_permit, lazy_permit, mount_plain_permit, move_permit, pivot_permit, remount_permit, type_permit, umount_permit}
-use Rattle.vt_spec.specs.Machine.Lists.{Fresh, chain, holds_of, rest_of}
+use Rattle.vt_spec.specs.Lists.{Fresh, chain, holds_of, rest_of}
 use Rattle.vt_spec.specs.Machine.Looks.{Looks, looks_of}
-use Rattle.vt_spec.specs.Machine.Mounts.{Location, MountFlags, child_at, is_shared}
+use Rattle.vt_spec.specs.Machine.Mounts.{Location, child_at, is_shared}
 use Rattle.vt_spec.specs.Machine.Permits.{Permit}
 use Rattle.vt_spec.specs.Machine.Permits.Permit.{ToBind, ToMountPlain, ToMove, ToPivot, ToSetFlags, ToSetType, ToUnmount, ToUnmountLazily}
 use Rattle.vt_spec.specs.Machine.Rules.Conditions.{is_elsewhere, is_no_root}
@@ -124,10 +124,10 @@ module _ (fresh : Fresh ℕ) (world : World ℕ) (whole : IsWorld nat_eq world) 
         record {
           destination = destination here is own.1;
           own = own_if from.location own.0;
-          placed = not_true (is_some (mount_at nat_eq world from.location).place) passed.1.1.1.1.1.1.0;
+          placed = not_true (is_some (mount_at nat_eq world from.location).mount_point) passed.1.1.1.1.1.1.0;
           unshared_parent =
               any_of_option (λ (at : Location ℕ). is_shared (mount_at nat_eq world at).propagation)
-              (mount_at nat_eq world from.location).place
+              (mount_at nat_eq world from.location).mount_point
               ∙ passed.1.0;
           no_unbindable = passed.1.1.0;
           not_inside = passed.1.1.1.0;
@@ -144,7 +144,7 @@ module _ (fresh : Fresh ℕ) (world : World ℕ) (whole : IsWorld nat_eq world) 
       permits_unless fresh world task (umount_rules nat_eq looks task here.location) _ (λ passed.
       permitted fresh world task (ToUnmount here.location.mount) refl (
         own_if here.location passed.0,
-        not_true (is_some (mount_at nat_eq world here.location).place) passed.1.1.1.0,
+        not_true (is_some (mount_at nat_eq world here.location).mount_point) passed.1.1.1.0,
         passed.1.1.0,
       ))))
 
@@ -156,7 +156,7 @@ module _ (fresh : Fresh ℕ) (world : World ℕ) (whole : IsWorld nat_eq world) 
       (ends_anyhow (directory_walk nat_eq looks task path)) (λ here any.
       permits_unless fresh world task (lazy_rules nat_eq looks task here.location) _ (λ passed.
       permitted fresh world task (ToUnmountLazily here.location.mount) refl
-      (own_if here.location passed.0, not_true (is_some (mount_at nat_eq world here.location).place) passed.1.1.0))))
+      (own_if here.location passed.0, not_true (is_some (mount_at nat_eq world here.location).mount_point) passed.1.1.0))))
 
   pub remount_fits : (path : List ℕ) (flags : MountFlags) → Fit (remount_permit nat_eq looks task path flags)
   unfolding remount_permit
@@ -182,7 +182,7 @@ module _ (fresh : Fresh ℕ) (world : World ℕ) (whole : IsWorld nat_eq world) 
       → is_below_mount nat_eq looks task.root.mount (record { mount = new.mount; node = node }) ≡ true
   below_at new h node =
       ap (list_any (λ (place : Location ℕ). nat_eq task.root.mount place.mount))
-      (rest_same (length world.mounts) (λ (place : Location ℕ). (mount_at nat_eq world place).place)
+      (rest_same (length world.mounts) (λ (place : Location ℕ). (mount_at nat_eq world place).mount_point)
       (record { mount = new.mount; node = node }) new refl)
       ∙ h
 

@@ -4,24 +4,25 @@ use Rattle.std.specs.Prelude.{⊤, unwrap_or}
 use Rattle.vt_spec.specs.declared.attributes.Attr.{Attr}
 use Rattle.vt_spec.specs.declared.attributes.Kind.TheVariants.{File, White}
 use Rattle.vt_spec.specs.declared.errors.Rule.TheVariants.{E1, E2, E6}
-use Rattle.vt_spec.specs.Machine.Changes.Change.{SetAttr, SetBytes, SetMark}
-use Rattle.vt_spec.specs.Machine.Judge.{Judgement, attr_permit, chmod_permit, chown_permit, exec_permit, link_permit, list_permit, lstat_permit, made_permit, make_permit, mkdir_permit, opaque_permit, read_permit, readlink_permit, rename_permit, renamed_permit, rmdir_permit, stat_permit, symlink_permit, unlink_permit, unnumbered, whiteout_permit, write_permit, written_permit}
-use Rattle.vt_spec.specs.Machine.FileTree.{is_kind_in}
-use Rattle.vt_spec.specs.Machine.Lists.{Fresh}
+use Rattle.vt_spec.specs.Language.Changes.Change.{SetAttr, SetBytes, SetMark}
+use Rattle.vt_spec.specs.Machine.Judge.{Judgement, attr_permit, chmod_permit, chown_permit, exec_permit, hard_link_permit, list_permit, lstat_permit, made_permit, make_permit, mkdir_permit, opaque_permit, read_permit, readlink_permit, rename_permit, renamed_permit, rmdir_permit, stat_permit, symlink_permit, unlink_permit, unnumbered, whiteout_permit, write_permit, written_permit}
+use Rattle.vt_spec.specs.FileTree.{is_kind_in}
+use Rattle.vt_spec.specs.Lists.{Fresh}
 use Rattle.vt_spec.specs.Machine.Looks.{Looks, looks_of}
 use Rattle.vt_spec.specs.Machine.Mounts.{Location}
 use Rattle.vt_spec.specs.Machine.Outcome.Attributes.{attr_with_mode, attr_with_owner, may_chown}
-use Rattle.vt_spec.specs.Machine.Outcome.Making.{directory_mode, file_mode, link_mode, linking, new_file}
+use Rattle.vt_spec.specs.Machine.Outcome.Making.{directory_mode, file_mode, symlink_mode, linking, new_file}
 use Rattle.vt_spec.specs.Machine.Permits.Permit.{Allowed, ToChange, ToList, ToRead, ToRemoveDirectory, ToRename, ToStat}
 use Rattle.vt_spec.specs.Machine.Rows.{exact_attr, new_attr}
 use Rattle.vt_spec.specs.Machine.Rules.Attributes.{attr_at, attr_rules, opaque_rules}
 use Rattle.vt_spec.specs.Machine.Rules.Looking.{exec_rules, list_rules, read_rules, readlink_rules}
-use Rattle.vt_spec.specs.Machine.Rules.Making.{file_word_rules, largest_file, link_rules, link_text_rules, make_rules, new_word_rules, rewrite_rules, whiteout_rules}
+use Rattle.vt_spec.specs.Machine.Rules.Making.{file_word_rules, hard_link_rules, link_text_rules, make_rules, new_word_rules, rewrite_rules, whiteout_rules}
+use Rattle.vt_spec.specs.Language.Limits.{largest_file}
 use Rattle.vt_spec.specs.Machine.Rules.Mounting.{admin_rules}
 use Rattle.vt_spec.specs.Machine.Rules.Removing.{is_one_object, object_there, old_word_rules, removing, rename_new_walk, rename_rules, rmdir_rules, rmdir_word_rules, same_object_rules, unlink_rules}
 use Rattle.vt_spec.specs.Machine.Walk.{Here, LastWord, Place, is_dot, is_dot_dot, is_no_word, is_special, name_of}
 use Rattle.vt_spec.specs.Machine.Walk.LastWord.{Dot, DotDot, Named, NoWord}
-use Rattle.vt_spec.specs.Machine.Walking.{directory_walk, file_walk, is_directory_there, link_walk, new_leaf_walk, new_walk, object_walk, old_leaf_walk, old_walk}
+use Rattle.vt_spec.specs.Machine.Walking.{directory_walk, file_walk, is_directory_there, symlink_walk, new_leaf_walk, new_walk, object_walk, old_leaf_walk, old_walk}
 use Rattle.vt_spec.specs.Machine.World.{Task, World, is_directory_at, node_at, task_called}
 use Rattle.vt_spec.specs.Machine.WorldLaws.{IsWorld}
 use Rattle.vt_spec.specs.Rights.{owns}
@@ -88,15 +89,15 @@ module _ (fresh : Fresh ℕ) (world : World ℕ) (whole : IsWorld nat_eq world) 
   pub lstat_fits : (path : List ℕ) → Fit (lstat_permit nat_eq looks task path)
   unfolding lstat_permit
   lstat_fits path =
-      permits_walk fresh world task (λ here. ⊤) (link_walk nat_eq looks task path) _
-      (ends_anyhow (link_walk nat_eq looks task path)) (λ here any.
+      permits_walk fresh world task (λ here. ⊤) (symlink_walk nat_eq looks task path) _
+      (ends_anyhow (symlink_walk nat_eq looks task path)) (λ here any.
       permitted fresh world task (ToStat here.location) refl tt)
 
   pub readlink_fits : (path : List ℕ) → Fit (readlink_permit nat_eq looks task path)
   unfolding readlink_permit
   readlink_fits path =
-      permits_walk fresh world task (λ here. ⊤) (link_walk nat_eq looks task path) _
-      (ends_anyhow (link_walk nat_eq looks task path)) (λ here any.
+      permits_walk fresh world task (λ here. ⊤) (symlink_walk nat_eq looks task path) _
+      (ends_anyhow (symlink_walk nat_eq looks task path)) (λ here any.
       permits_unless fresh world task (readlink_rules looks here.location) _
       (λ passed. permitted fresh world task (ToRead here.location) refl tt))
 
@@ -144,7 +145,7 @@ module _ (fresh : Fresh ℕ) (world : World ℕ) (whole : IsWorld nat_eq world) 
       permits_unless fresh world task (link_text_rules text) _ (λ passed.
       permits_walk fresh world task FoundPlace (new_leaf_walk nat_eq looks task path) _
       (new_leaf_walk_found world whole task called path) (λ place is.
-      made_fits place (record { attr = exact_attr task link_mode; content = Symlink text }) is))
+      made_fits place (record { attr = exact_attr task symlink_mode; content = Symlink text }) is))
 
   pub whiteout_fits : (path : List ℕ) → Fit (whiteout_permit nat_eq looks task path)
   unfolding whiteout_permit
@@ -155,15 +156,15 @@ module _ (fresh : Fresh ℕ) (world : World ℕ) (whole : IsWorld nat_eq world) 
       permitted fresh world task (make_permit place (record { attr = exact_attr task 0; content = Whiteout })) refl
       (parent_directory place is passed.0)))
 
-  pub link_fits : (old new : List ℕ) → Fit (link_permit nat_eq looks task old new)
-  unfolding link_permit
+  pub link_fits : (old new : List ℕ) → Fit (hard_link_permit nat_eq looks task old new)
+  unfolding hard_link_permit
   link_fits old new =
-      permits_walk fresh world task FoundHere (link_walk nat_eq looks task old) _
+      permits_walk fresh world task FoundHere (symlink_walk nat_eq looks task old) _
       (link_walk_found world whole task called old) (λ from found.
       permits_walk fresh world task FoundPlace (new_leaf_walk nat_eq looks task new) _
       (new_leaf_walk_found world whole task called new) (λ place is.
       permits_unless fresh world task ((is_special place.last, E1) ∷ []) _ (λ plain.
-      permits_unless fresh world task (link_rules nat_eq looks task from.location place
+      permits_unless fresh world task (hard_link_rules nat_eq looks task from.location place
       (linking from.location place)) _ (λ passed.
       permitted fresh world task (ToChange place.parent (linking from.location place)) refl
       (is_reached world whole task place.parent is.0, tt)))))

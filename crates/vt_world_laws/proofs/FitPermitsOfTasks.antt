@@ -6,11 +6,11 @@ use Rattle.vt_spec.specs.declared.attributes.Kind.TheVariants.{File}
 use Rattle.vt_spec.specs.declared.errors.Deny.{Deny}
 use Rattle.vt_spec.specs.declared.errors.Rule.TheVariants.{K1, S2, S4}
 use Rattle.vt_spec.specs.Errors.{denial}
-use Rattle.vt_spec.specs.Machine.Calls.{Access, Creation, ForkWords}
-use Rattle.vt_spec.specs.Machine.Calls.Creation.{Exclusive, NoCreation, OrCreate}
-use Rattle.vt_spec.specs.Machine.FileTree.{is_kind_in}
+use Rattle.vt_spec.specs.Language.Calls.{Access, Creation, ForkWords, TaskName, same_name}
+use Rattle.vt_spec.specs.Language.Calls.Creation.{Exclusive, NoCreation, OrCreate}
+use Rattle.vt_spec.specs.FileTree.{is_kind_in}
 use Rattle.vt_spec.specs.Machine.Judge.{Judgement, chdir_permit, chroot_permit, close_permit, create_file_permit, fork_permit, open_by_permit, open_file_permit, open_new_permit, open_permit, opened_or_created_permit, pread_permit, pwrite_permit, setns_permit, unnumbered, unshare_permit}
-use Rattle.vt_spec.specs.Machine.Lists.{Fresh}
+use Rattle.vt_spec.specs.Lists.{Fresh}
 use Rattle.vt_spec.specs.Machine.Looks.{Looks, looks_of}
 use Rattle.vt_spec.specs.Machine.Mounts.{Location}
 use Rattle.vt_spec.specs.Machine.Outcome.Making.{new_file}
@@ -23,7 +23,7 @@ use Rattle.vt_spec.specs.Machine.Rules.Mounting.{admin_rules}
 use Rattle.vt_spec.specs.Machine.Rules.Tasks.{enter_rules, fork_rules}
 use Rattle.vt_spec.specs.Machine.Walk.{Here, Place, is_special}
 use Rattle.vt_spec.specs.Machine.Walking.{directory_walk, file_walk, new_walk, object_walk}
-use Rattle.vt_spec.specs.Machine.World.{Descriptor, Task, TaskName, World, node_at, same_name, task_called}
+use Rattle.vt_spec.specs.Machine.World.{Descriptor, Task, World, node_at, task_called}
 use Rattle.vt_spec.specs.Machine.WorldLaws.{IsWorld, has_regular_files_open, is_listed}
 use Rattle.vt_spec.specs.Rights.{cap_sys_admin, cap_sys_chroot}
 use Rattle.std.proofs.lemmas.Option.{same_Some}

@@ -1,9 +1,9 @@
 -- Worlds with the same mounts and masters, as changes of files and of tasks leave them.
 use Rattle.std.proofs.Common.{◌≡◌, refl, ap, subst, ◌∙◌, sym, true, false, nat_eq, ℕ, Bool, List, None, Option, Some, [], ◌∷◌}
-use Rattle.vt_spec.specs.Machine.Changes.{Change}
-use Rattle.vt_spec.specs.Machine.Changes.Change.{CopyUp, SetBytes}
+use Rattle.vt_spec.specs.Language.Changes.{Change}
+use Rattle.vt_spec.specs.Language.Changes.Change.{CopyUp, SetBytes}
 use Rattle.vt_spec.specs.Machine.Filesystems.{filesystem_changed, overlay_changed, with_change}
-use Rattle.vt_spec.specs.Machine.Lists.{Fresh}
+use Rattle.vt_spec.specs.Lists.{Fresh}
 use Rattle.vt_spec.specs.Machine.Mounts.{Location, Mount, mount_in}
 use Rattle.vt_spec.specs.Machine.Outcome.Descriptors.{overwritten, pwritten, with_copy}
 use Rattle.vt_spec.specs.Machine.World.{Filesystem, Layer, Overlay, World, filesystem_at, node_at}
@@ -15,9 +15,9 @@ use Rattle.vt_spec.proofs.Lists.{all_from_among, among_from_all}
 -- Standing is of the mounts alone.
 stands_alike : (a b : World ℕ) → a.mounts ≡ b.mounts → (number : ℕ) → Stands nat_eq a number → Stands nat_eq b number
 stands_alike a b same number (at_root it e) =
-    at_root it (ap (λ (mounts : List (Mount ℕ)). (mount_in nat_eq mounts it).place) (sym same) ∙ e)
+    at_root it (ap (λ (mounts : List (Mount ℕ)). (mount_in nat_eq mounts it).mount_point) (sym same) ∙ e)
 stands_alike a b same number (on_parent it place e f stands) =
-    on_parent it place (ap (λ (mounts : List (Mount ℕ)). (mount_in nat_eq mounts it).place) (sym same) ∙ e)
+    on_parent it place (ap (λ (mounts : List (Mount ℕ)). (mount_in nat_eq mounts it).mount_point) (sym same) ∙ e)
     (ap (λ (mounts : List (Mount ℕ)). (mount_in nat_eq mounts it).namespace) (sym same) ∙ f
     ∙ ap (λ (mounts : List (Mount ℕ)). (mount_in nat_eq mounts place.mount).namespace) same)
     (stands_alike a b same place.mount stands)

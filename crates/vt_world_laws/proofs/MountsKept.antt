@@ -2,9 +2,9 @@
 use Rattle.std.proofs.Common.{◌≡◌, refl, sym, ap, nat_eq, ℕ, is_some}
 use Rattle.std.proofs.lemmas.Bool.{or_parts}
 use Rattle.vt_spec.specs.Machine.Apply.{apply}
-use Rattle.vt_spec.specs.Machine.Changes.Change.{Make, Move, Remove}
+use Rattle.vt_spec.specs.Language.Changes.Change.{Make, Move, Remove}
 use Rattle.vt_spec.specs.Machine.Detach.{going, has_child, is_used, without_mounts_on}
-use Rattle.vt_spec.specs.Machine.Lists.{Fresh, evens, odds}
+use Rattle.vt_spec.specs.Lists.{Fresh, evens, odds}
 use Rattle.vt_spec.specs.Machine.Mounts.{Location}
 use Rattle.vt_spec.specs.Machine.Namespaces.{namespace_entered, unshared}
 use Rattle.vt_spec.specs.Machine.Outcome.Descriptors.{is_copied_up}

@@ -1,8 +1,9 @@
 -- What is attached in a namespace of a task keeps the invariants of mounts: binds, new mounts and moves.
 use Rattle.std.proofs.Common.{◌≡◌, ap, subst, ◌∙◌, sym, true, nat_eq, ℕ, Bool, List, [], inl, inr, ◌⊎◌, ◌∷◌, ◌++◌, arith, eq-eqb, flat_map, is_some, map, true≢false, ⊎_elim, ◌*◌, ◌+◌}
 use Rattle.std.proofs.lemmas.Bool.{and_parts, false_from_ne_true}
-use Rattle.vt_spec.specs.Machine.Lists.{Fresh, is_among, odds}
-use Rattle.vt_spec.specs.Machine.Mounts.{Location, Mount, MountFlags}
+use Rattle.vt_spec.specs.Lists.{Fresh, is_among, odds}
+use Rattle.vt_spec.specs.Machine.Mounts.{Location, Mount}
+use Rattle.vt_spec.specs.Language.Calls.{MountFlags}
 use Rattle.vt_spec.specs.Machine.Outcome.Mounting.{bound_at, mounted, moved_to, plain_filesystem, with_new_filesystem}
 use Rattle.vt_spec.specs.Machine.Run.{Serves, numbers_in_use, used_by_filesystem, used_by_mount}
 use Rattle.vt_spec.specs.Machine.World.{Filesystem, Namespace, Task, World, mount_at, mount_numbered}

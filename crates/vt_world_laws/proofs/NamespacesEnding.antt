@@ -5,12 +5,13 @@ use Rattle.std.specs.Prelude.{unwrap_or}
 use Rattle.std.proofs.lemmas.Bool.{and_parts, false_from_ne_true, not-false}
 use Rattle.std.proofs.lemmas.Option.{same_Some}
 use Rattle.vt_spec.specs.Machine.Detach.{after_going, is_going}
-use Rattle.vt_spec.specs.Machine.Lists.{Fresh, evens, holds_of, odds}
+use Rattle.vt_spec.specs.Lists.{Fresh, evens, holds_of, odds}
 use Rattle.vt_spec.specs.Machine.Mounts.{Mount, numbers_by}
 use Rattle.vt_spec.specs.Machine.Namespaces.{copied_mount, entered_at, has_tasks, is_in_ended, namespace_entered, namespace_root, namespaces_ended, unshared, unshared_task}
 use Rattle.vt_spec.specs.Machine.Receives.{inheriting}
 use Rattle.vt_spec.specs.Machine.Run.{Serves, numbers_in_use, used_by_filesystem, used_by_mount}
-use Rattle.vt_spec.specs.Machine.World.{Namespace, Task, World, mounts_of, same_name, without_task}
+use Rattle.vt_spec.specs.Machine.World.{Namespace, Task, World, mounts_of, without_task}
+use Rattle.vt_spec.specs.Language.Calls.{same_name}
 use Rattle.vt_spec.specs.Machine.WorldLaws.{NamespaceInvariants, is_root_mount}
 use Rattle.vt_spec.proofs.Lists.{Among, among-append, among-append_left, among-append_right, among-filter, among-from_filter, among-from_map, among-map, any_among, contains_from_among, is_among_numbers, pair-filter}
 use Rattle.vt_mount_laws.specs.Mounts.Conditions.{OneNumberEach}

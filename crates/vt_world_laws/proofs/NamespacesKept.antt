@@ -1,9 +1,9 @@
 -- Each permit that fits keeps the invariants of namespaces.
 use Rattle.std.proofs.Common.{◌≡◌, refl, sym, ap, subst, None, Option, Some, filter, flat_map, length, map, nat_eq, ℕ, ◌+◌}
 use Rattle.vt_spec.specs.Machine.Apply.{apply}
-use Rattle.vt_spec.specs.Machine.Changes.Change.{Make, Move, Remove}
+use Rattle.vt_spec.specs.Language.Changes.Change.{Make, Move, Remove}
 use Rattle.vt_spec.specs.Machine.Detach.{mounts_on, without_mounts_on}
-use Rattle.vt_spec.specs.Machine.Lists.{Fresh, evens, holds_of, odds}
+use Rattle.vt_spec.specs.Lists.{Fresh, evens, holds_of, odds}
 use Rattle.vt_spec.specs.Machine.Mounts.{Location, Mount, mount_tree}
 use Rattle.vt_spec.specs.Machine.Outcome.Descriptors.{is_copied_up, with_descriptor, without_descriptor}
 use Rattle.vt_spec.specs.Machine.Outcome.Mounting.{plain_filesystem}

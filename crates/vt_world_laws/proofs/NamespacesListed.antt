@@ -4,7 +4,7 @@ use Rattle.std.specs.Prelude.{Contains, option_to_list}
 use Rattle.std.specs.List.{list_all}
 use Rattle.std.proofs.lemmas.Bool.{and_parts}
 use Rattle.vt_spec.specs.Machine.Attach.{has_too_many}
-use Rattle.vt_spec.specs.Machine.Lists.{any_pair, holds_of}
+use Rattle.vt_spec.specs.Lists.{any_pair, holds_of}
 use Rattle.vt_spec.specs.Machine.Mounts.{Mount}
 use Rattle.vt_spec.specs.Machine.Namespaces.{has_tasks}
 use Rattle.vt_spec.specs.Machine.World.{Namespace, Task, World, mounts_of}

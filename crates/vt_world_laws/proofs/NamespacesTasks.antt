@@ -4,10 +4,11 @@ use Rattle.std.specs.List.{list_any}
 use Rattle.std.specs.Cmp.Lexicographic.{bytes_decides}
 use Rattle.std.proofs.lemmas.Bool.{or_parts}
 use Rattle.std.proofs.lemmas.Option.{same_Some}
-use Rattle.vt_spec.specs.Machine.Lists.{any_pair}
+use Rattle.vt_spec.specs.Lists.{any_pair}
 use Rattle.vt_spec.specs.Machine.Mounts.{Mount}
 use Rattle.vt_spec.specs.Machine.Namespaces.{pivoted_location, pivoted_task}
-use Rattle.vt_spec.specs.Machine.World.{Namespace, Task, TaskName, World, replaced_if_called, same_name}
+use Rattle.vt_spec.specs.Machine.World.{Namespace, Task, World, replaced_if_called}
+use Rattle.vt_spec.specs.Language.Calls.{TaskName, same_name}
 use Rattle.vt_spec.proofs.Lists.{Among, among-append, among-append_left, among-from_map, none_among}
 use Rattle.vt_world_laws.proofs.NamespacesListed.{IsListedIn, TasksStay, mapped_tasks_stay}
 

@@ -4,8 +4,8 @@ use Rattle.std.specs.Prelude.{length, nat_lt, option_to_list, unwrap_or, ◌==�
 use Rattle.std.specs.List.{list_all, list_any}
 use Rattle.std.proofs.lemmas.Bool.{and_from}
 use Rattle.std.proofs.lemmas.List.Elements.{All-cons, All-head, All-nil, All-weaker}
-use Rattle.vt_spec.specs.Machine.Attach.{most_mounts}
-use Rattle.vt_spec.specs.Machine.Lists.{Fresh}
+use Rattle.vt_spec.specs.Language.Limits.{most_mounts}
+use Rattle.vt_spec.specs.Lists.{Fresh}
 use Rattle.vt_spec.specs.Machine.Mounts.{Mount, no_mount, root_of}
 use Rattle.vt_spec.specs.Machine.Settled.{has_layer_on, is_mounted}
 use Rattle.vt_spec.specs.Machine.World.{Filesystem, World, filesystem_numbered, first_mount, first_place, is_directory_at, mount_at, mount_numbered, new_plain, node_at, opening}
@@ -75,7 +75,7 @@ module _ (fresh : Fresh ℕ) where
     one_number = refl;
     one_child = refl;
     standing = All-cons (λ (mount : Mount ℕ). Stands nat_eq first_world mount.number) the_mount []
-        (at_root (fresh 0) (ap (λ (m : Mount ℕ). m.place) found_mount))
+        (at_root (fresh 0) (ap (λ (m : Mount ℕ). m.mount_point) found_mount))
         (All-nil (λ (mount : Mount ℕ). Stands nat_eq first_world mount.number));
     nowhere = refl;
     groups = all_live first_world refl;

@@ -4,13 +4,13 @@ use Rattle.std.specs.Prelude.{unwrap_or, ◌==◌, ◌+◌}
 use Rattle.std.proofs.lemmas.Bool.{and_from, and_parts}
 use Rattle.vt_spec.specs.declared.attributes.Kind.TheVariants.{File}
 use Rattle.vt_spec.specs.Machine.Apply.{apply}
-use Rattle.vt_spec.specs.Machine.Calls.{Access}
-use Rattle.vt_spec.specs.Machine.Changes.{Change}
-use Rattle.vt_spec.specs.Machine.Changes.Change.{CopyUp, Make, Move, Remove}
+use Rattle.vt_spec.specs.Language.Calls.{Access, same_name}
+use Rattle.vt_spec.specs.Language.Changes.{Change}
+use Rattle.vt_spec.specs.Language.Changes.Change.{CopyUp, Make, Move, Remove}
 use Rattle.vt_spec.specs.Machine.Detach.{going, without_mounts_on}
 use Rattle.vt_spec.specs.Machine.Filesystems.{with_change}
-use Rattle.vt_spec.specs.Machine.FileTree.{is_kind}
-use Rattle.vt_spec.specs.Machine.Lists.{Fresh, evens, holds_of, odds}
+use Rattle.vt_spec.specs.FileTree.{is_kind}
+use Rattle.vt_spec.specs.Lists.{Fresh, evens, holds_of, odds}
 use Rattle.vt_spec.specs.Machine.Mounts.{Location, numbers_by}
 use Rattle.vt_spec.specs.Machine.Namespaces.{entered_at, namespace_entered, namespace_root, namespaces_ended, pivoted_task, unshared, unshared_task}
 use Rattle.vt_spec.specs.Machine.Outcome.Descriptors.{is_copied_up, pwritten, with_copy, with_descriptor, without_descriptor}
@@ -19,7 +19,7 @@ use Rattle.vt_spec.specs.Machine.Outcome.Tasks.{child_of}
 use Rattle.vt_spec.specs.Machine.Permits.{Permit}
 use Rattle.vt_spec.specs.Machine.Permits.Permit.{Allowed, ToBind, ToChange, ToClose, ToEnterNamespace, ToExit, ToFork, ToList, ToListMounts, ToMake, ToMountOverlay, ToMountPlain, ToMove, ToOpen, ToOpenNew, ToPivot, ToRead, ToReadPart, ToRemoveDirectory, ToRename, ToSetCredentials, ToSetDirectory, ToSetFlags, ToSetRoot, ToSetType, ToSetUmask, ToStat, ToUnmount, ToUnmountLazily, ToUnshare, ToWritePart}
 use Rattle.vt_spec.specs.Machine.Run.{Serves}
-use Rattle.vt_spec.specs.Machine.World.{Descriptor, Filesystem, Task, World, filesystem_at, is_directory_at, mount_at, mount_numbered, mounts_of, node_at, replaced_if_called, same_name, task_called, with_filesystem, without_task}
+use Rattle.vt_spec.specs.Machine.World.{Descriptor, Filesystem, Task, World, filesystem_at, is_directory_at, mount_at, mount_numbered, mounts_of, node_at, replaced_if_called, task_called, with_filesystem, without_task}
 use Rattle.vt_spec.specs.Machine.WorldLaws.{IsWorld}
 use Rattle.vt_spec.specs.Tree.{Node, is_directory_node, kind_of}
 use Rattle.vt_spec.proofs.Lists.{Among, among-append, among-from_filter, among-from_map}

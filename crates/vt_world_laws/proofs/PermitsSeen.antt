@@ -3,10 +3,10 @@ use Rattle.std.proofs.Common.{◌≡◌, refl, sym, subst, ◌∙◌, ℕ, nat_e
 use Rattle.std.specs.Prelude.{All}
 use Rattle.vt_spec.specs.Machine.Apply.{apply}
 use Rattle.vt_spec.specs.Machine.Attach.{bind_tree}
-use Rattle.vt_spec.specs.Machine.Changes.{Change}
-use Rattle.vt_spec.specs.Machine.Changes.Change.{AddName, CopyUp, Make, Move, Remove, SetAttr, SetBytes, SetMark}
+use Rattle.vt_spec.specs.Language.Changes.{Change}
+use Rattle.vt_spec.specs.Language.Changes.Change.{AddName, CopyUp, Make, Move, Remove, SetAttr, SetBytes, SetMark}
 use Rattle.vt_spec.specs.Machine.Detach.{going, taken_away, mounts_on, without_mounts_on}
-use Rattle.vt_spec.specs.Machine.Lists.{Fresh, evens, odds}
+use Rattle.vt_spec.specs.Lists.{Fresh, evens, odds}
 use Rattle.vt_spec.specs.Machine.Mounts.{Location, Mount, mount_tree, numbers_by}
 use Rattle.vt_spec.specs.Machine.Namespaces.{copied_mount, is_in_ended, namespace_entered, namespaces_ended, unshared}
 use Rattle.vt_spec.specs.Machine.Outcome.Descriptors.{is_copied_up, pwritten, with_copy}

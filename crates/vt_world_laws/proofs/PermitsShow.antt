@@ -2,11 +2,11 @@
 use Rattle.std.proofs.Common.{◌≡◌, refl, ℕ, nat_eq, Bool, true, false, List, [], ◌∷◌, Option, Some, None, is_some}
 use Rattle.std.proofs.lemmas.Bool.{and_parts}
 use Rattle.vt_spec.specs.Machine.Apply.{apply}
-use Rattle.vt_spec.specs.Machine.Changes.Change.{CopyUp, Make, Move, Remove}
-use Rattle.vt_spec.specs.Machine.Changes.{Change}
+use Rattle.vt_spec.specs.Language.Changes.Change.{CopyUp, Make, Move, Remove}
+use Rattle.vt_spec.specs.Language.Changes.{Change}
 use Rattle.vt_spec.specs.Machine.Detach.{going, without_mounts_on}
 use Rattle.vt_spec.specs.Machine.Filesystems.{with_change}
-use Rattle.vt_spec.specs.Machine.Lists.{Fresh, evens, odds}
+use Rattle.vt_spec.specs.Lists.{Fresh, evens, odds}
 use Rattle.vt_spec.specs.Machine.Mounts.{Location}
 use Rattle.vt_spec.specs.Machine.Namespaces.{namespace_entered, unshared}
 use Rattle.vt_spec.specs.Machine.Outcome.Descriptors.{is_copied_up, pwritten, with_copy}

@@ -3,11 +3,12 @@ use Rattle.std.proofs.Common.{◌≡◌, refl, sym, ap, subst, ◌∙◌, ◌≤
 use Rattle.std.specs.Prelude.{Option, is_some, nat_lt, length, option_to_list, unwrap_or, ◌&&◌}
 use Rattle.std.specs.List.{list_all, list_any}
 use Rattle.std.proofs.lemmas.List.Elements.{All-map, All-weaker}
-use Rattle.vt_spec.specs.Machine.Attach.{most_mounts}
-use Rattle.vt_spec.specs.Machine.FileTree.{FileTree, is_kind_in}
-use Rattle.vt_spec.specs.Machine.Lists.{is_among}
+use Rattle.vt_spec.specs.Language.Limits.{most_mounts}
+use Rattle.vt_spec.specs.FileTree.{FileTree, is_kind_in}
+use Rattle.vt_spec.specs.Lists.{is_among}
 use Rattle.vt_spec.specs.Machine.Mounts.{Location, Mount}
-use Rattle.vt_spec.specs.Machine.World.{Descriptor, Filesystem, Namespace, Task, World, all_locations, filesystem_numbered, is_overlay, locations_of, mount_at, mount_numbered, mounts_of, no_filesystem, same_name}
+use Rattle.vt_spec.specs.Machine.World.{Descriptor, Filesystem, Namespace, Task, World, all_locations, filesystem_numbered, is_overlay, locations_of, mount_at, mount_numbered, mounts_of, no_filesystem}
+use Rattle.vt_spec.specs.Language.Calls.{same_name}
 use Rattle.vt_spec.specs.Machine.WorldLaws.{ForksAreCounted, ListsNumbers, MountInvariants, NamespaceInvariants, Stands, TaskInvariants, TreeInvariants, has_one_root, is_fit_filesystem, is_listed, is_within_limits}
 use Rattle.vt_spec.specs.Machine.WorldLaws.Stands.{at_root, on_parent}
 use Rattle.vt_spec.specs.Tree.{Node, is_directory_node}
@@ -21,9 +22,9 @@ use Rattle.vt_world_laws.specs.Worlds.Kept.{IsPlain, IsWorldButForUse, MountsSho
 pub stands_alike : (before later : World ℕ)
     → ((number : ℕ) → mount_numbered nat_eq later number ≡ mount_numbered nat_eq before number)
     → (number : ℕ) → Stands nat_eq before number → Stands nat_eq later number
-stands_alike before later same number (at_root it e) = at_root it (ap (λ (m : Mount ℕ). m.place) (same it) ∙ e)
+stands_alike before later same number (at_root it e) = at_root it (ap (λ (m : Mount ℕ). m.mount_point) (same it) ∙ e)
 stands_alike before later same number (on_parent it place e f stands) =
-    on_parent it place (ap (λ (m : Mount ℕ). m.place) (same it) ∙ e)
+    on_parent it place (ap (λ (m : Mount ℕ). m.mount_point) (same it) ∙ e)
     (ap (λ (m : Mount ℕ). m.namespace) (same it) ∙ f ∙ ap (λ (m : Mount ℕ). m.namespace) (sym (same place.mount)))
     (stands_alike before later same place.mount stands)
 
@@ -155,7 +156,7 @@ module _ (of_filesystem : Filesystem ℕ → ℕ) (of_namespace : Namespace ℕ 
   abbrev has_root_by : FilesBy → Mount ℕ → Bool
   has_root_by files mount =
       is_directory_node ((files mount.filesystem).tree.node mount.root)
-      && list_all (λ place. is_directory_node (node_by files place)) (option_to_list mount.place)
+      && list_all (λ place. is_directory_node (node_by files place)) (option_to_list mount.mount_point)
 
   forks_counted : ForksAreCounted world → ForksAreCounted counted
   forks_counted is task other number rest m n e =

@@ -8,7 +8,8 @@ use Rattle.vt_spec.specs.Machine.Locked.{of_overlay}
 use Rattle.vt_spec.specs.Machine.Mounts.{Location, Mount, root_of}
 use Rattle.vt_spec.specs.Machine.Policy.{numbers_raised, raised_namespace, raised_task, same_mounts_in}
 use Rattle.vt_spec.specs.Machine.Settled.{filesystem_lives, has_layer_on, is_mounted, named_in, objects_of_overlay, settled, used_in}
-use Rattle.vt_spec.specs.Machine.World.{Filesystem, Layer, Namespace, Task, TaskName, World, all_locations, layers_of, mount_at, same_name}
+use Rattle.vt_spec.specs.Machine.World.{Filesystem, Layer, Namespace, Task, World, all_locations, layers_of, mount_at}
+use Rattle.vt_spec.specs.Language.Calls.{TaskName, same_name}
 use Rattle.vt_spec.specs.Machine.WorldLaws.{IsWorld}
 use Rattle.vt_spec.proofs.Lists.{all-map, among-from_map, among_from_contains, contains_from_among}
 use Rattle.vt_letting_go.specs.InUse.{AllInUse, is_inode_used}
@@ -67,7 +68,7 @@ module _ (of_filesystem : Filesystem ℕ → ℕ) (of_namespace : Namespace ℕ 
   located_by locations filesystem =
       map (λ location. location.node)
       (filter (λ location. nat_eq filesystem (mount_at nat_eq world location).filesystem)
-      (locations ++ map root_of world.mounts ++ filter_map (λ mount. mount.place) world.mounts))
+      (locations ++ map root_of world.mounts ++ filter_map (λ mount. mount.mount_point) world.mounts))
 
   abbrev layers_by : List (Layer ℕ) → ℕ → List ℕ
   layers_by layers filesystem = map (λ layer. layer.directory)

@@ -11,8 +11,8 @@ use Rattle.vt_spec.specs.Errors.{denial, unless}
 use Rattle.vt_spec.specs.Tree.{Content, Node, entries_in, entry_named, is_directory_node}
 use Rattle.vt_spec.specs.Tree.Content.{Directory, Regular, Symlink, Whiteout}
 use Rattle.vt_spec.specs.TreeLaws.{IsTree}
-use Rattle.vt_spec.specs.Machine.FileTree.{is_kind_in, link_text}
-use Rattle.vt_spec.specs.Machine.Lists.{is_among, last_or}
+use Rattle.vt_spec.specs.FileTree.{is_kind_in, symlink_text}
+use Rattle.vt_spec.specs.Lists.{is_among, last_or}
 use Rattle.vt_spec.specs.Machine.Mounts.{Location, Mount, child_at, root_of, same_location, stands_at, topmost}
 use Rattle.vt_spec.specs.Machine.Walk.{LastWord, entry_location, hop, hops, is_lost, is_top, parent_location, stepped, up_from}
 use Rattle.vt_spec.specs.Machine.Walk.LastWord.{Dot, DotDot, Named, NoWord}
@@ -33,24 +33,24 @@ use Rattle.vt_tree_laws.proofs.TreesWalked.{ok_same}
 use Rattle.vt_world_laws.specs.Worlds.Permits.{IsReached, IsReachedDirectory}
 
 -- a directory is no link
-pub directory_no_link : (o : Option (Node ℕ)) → is_directory_node o ≡ true → link_text o ≡ None
+pub directory_no_link : (o : Option (Node ℕ)) → is_directory_node o ≡ true → symlink_text o ≡ None
 directory_no_link None is = refl
 directory_no_link (Some node) is = by node.content is
   where
     by : (content : Content ℕ) → is_directory_node (Some (record { attr = node.attr; content = content })) ≡ true
-        → link_text (Some (record { attr = node.attr; content = content })) ≡ None
+        → symlink_text (Some (record { attr = node.attr; content = content })) ≡ None
     by (Directory parent entries opaque) e = refl
     by (Regular bytes) e = refl
     by (Symlink text) e = absurd (true≢false (sym e))
     by Whiteout e = refl
 
 -- what is there, and is no directory, whiteout or link, is a regular file
-pub others_are_files : (o : Option (Node ℕ)) → is_some o ≡ true → link_text o ≡ None → is_directory_node o ≡ false
+pub others_are_files : (o : Option (Node ℕ)) → is_some o ≡ true → symlink_text o ≡ None → is_directory_node o ≡ false
     → is_kind_in White o ≡ false → is_kind_in File o ≡ true
 others_are_files None there no_link no_directory no_whiteout = absurd (true≢false (sym there))
 others_are_files (Some node) there no_link no_directory no_whiteout = by node.content no_link no_directory no_whiteout
   where
-    by : (content : Content ℕ) → link_text (Some (record { attr = node.attr; content = content })) ≡ None
+    by : (content : Content ℕ) → symlink_text (Some (record { attr = node.attr; content = content })) ≡ None
         → is_directory_node (Some (record { attr = node.attr; content = content })) ≡ false
         → is_kind_in White (Some (record { attr = node.attr; content = content })) ≡ false
         → is_kind_in File (Some (record { attr = node.attr; content = content })) ≡ true
@@ -61,7 +61,7 @@ others_are_files (Some node) there no_link no_directory no_whiteout = by node.co
 
 -- a mount that stands at a place is in the namespace of the mount below
 pub namespace_below : (world : World ℕ) (number : ℕ) (place : Location ℕ) → Stands nat_eq world number
-    → (mount_numbered nat_eq world number).place ≡ Some place
+    → (mount_numbered nat_eq world number).mount_point ≡ Some place
     → (mount_numbered nat_eq world number).namespace ≡ (mount_numbered nat_eq world place.mount).namespace
 namespace_below world number place (at_root it e) f = none_is_not _ place e f
 namespace_below world number place (on_parent it on e same stands) f =
@@ -81,7 +81,7 @@ module _ (world : World ℕ) (whole : IsWorld nat_eq world) (task : Task ℕ) wh
   IsDirectory location = is_directory_at nat_eq world location ≡ true
 
   abbrev pub IsNoLink : Location ℕ → Type 0
-  IsNoLink location = link_text (node_at nat_eq world location) ≡ None
+  IsNoLink location = symlink_text (node_at nat_eq world location) ≡ None
 
   -- what a step leads to, and where a walk through links ends
   abbrev pub IsFound : Location ℕ → Type 0
@@ -134,7 +134,7 @@ module _ (world : World ℕ) (whole : IsWorld nat_eq world) (task : Task ℕ) wh
           let below = namespace_below world mount.number a
           (among_from_all (λ (m : Mount ℕ). Stands nat_eq world m.number) world.mounts whole.mounts.standing mount
           found.0)
-          (ap (λ (m : Mount ℕ). m.place) itself ∙ stands_there a mount found.1) in
+          (ap (λ (m : Mount ℕ). m.mount_point) itself ∙ stands_there a mount found.1) in
           subst IsFoundDirectory (same_Some (root_of mount) b h) (
             (
               is_one_of world.mounts mount found.0,
@@ -161,17 +161,17 @@ module _ (world : World ℕ) (whole : IsWorld nat_eq world) (task : Task ℕ) wh
       (λ a b found e. child_found a b found.0 e) (length world.mounts) location location is
 
   -- mounts outside every namespace stand nowhere
-  nowhere_unplaced : (mount : Mount ℕ) → Among mount world.mounts → (place : Location ℕ) → mount.place ≡ Some place
+  nowhere_unplaced : (mount : Mount ℕ) → Among mount world.mounts → (place : Location ℕ) → mount.mount_point ≡ Some place
       → mount.namespace ≡ None → ⊥
   nowhere_unplaced mount m place e none =
       true≢false
       (sym (among_from_list_all is_nowhere_or_attached world.mounts whole.mounts.nowhere mount m)
-      ∙ ap (λ n. is_some n || (not (is_some mount.place) && is_private mount.propagation)) none
+      ∙ ap (λ n. is_some n || (not (is_some mount.mount_point) && is_private mount.propagation)) none
       ∙ ap (λ q. not (is_some q) && is_private mount.propagation) e)
 
   -- the place of a mount
   pub place_found : (number : ℕ) (place : Location ℕ) → IsOn number → (mount_numbered nat_eq world
-      number).place ≡ Some place
+      number).mount_point ≡ Some place
       → IsFoundDirectory place
   place_found number place on e =
       let mount = mount_numbered nat_eq world number in
@@ -191,7 +191,7 @@ module _ (world : World ℕ) (whole : IsWorld nat_eq world) (task : Task ℕ) wh
               (found_or_none world.mounts place.mount),
           ap (λ o. list_all (nat_eq task.namespace) (option_to_list o)) (sym below) ∙ on.1,
         ),
-        among_from_all (λ (m : Mount ℕ). (at : Location ℕ) → m.place ≡ Some at
+        among_from_all (λ (m : Mount ℕ). (at : Location ℕ) → m.mount_point ≡ Some at
             → is_directory_at nat_eq world at ≡ true) world.mounts
             (worlds_are_standing world whole).places mount there place e,
       )
@@ -199,7 +199,7 @@ module _ (world : World ℕ) (whole : IsWorld nat_eq world) (task : Task ℕ) wh
   hop_found : (a b : Location ℕ) → IsFoundDirectory a → hop nat_eq world task a ≡ Some b → IsFoundDirectory b
   hop_found a b is e = by (same_location nat_eq a task.root) (nat_eq a.node (mount_at nat_eq world a).root) e
     where
-      by : (p q : Bool) → cond p None (cond q (mount_at nat_eq world a).place None) ≡ Some b → IsFoundDirectory b
+      by : (p q : Bool) → cond p None (cond q (mount_at nat_eq world a).mount_point None) ≡ Some b → IsFoundDirectory b
       by true q h = none_is_not None b refl h
       by false true h = place_found a.mount b is.0 h
       by false false h = none_is_not None b refl h

@@ -5,12 +5,13 @@ use Rattle.vt_spec.specs.declared.errors.Deny.{Deny}
 use Rattle.vt_spec.specs.declared.errors.Rule.TheVariants.{W3, W6, W8}
 use Rattle.vt_spec.specs.Errors.{and_then}
 use Rattle.vt_spec.specs.PathText.{ends_in_slash, words}
-use Rattle.vt_spec.specs.Machine.FileTree.{link_text}
-use Rattle.vt_spec.specs.Machine.Lists.{then_some}
+use Rattle.vt_spec.specs.FileTree.{symlink_text}
+use Rattle.vt_spec.specs.Lists.{then_some}
 use Rattle.vt_spec.specs.Machine.Mounts.{Location, topmost}
 use Rattle.vt_spec.specs.Machine.Outcome.Mounting.{destination_walk, source_walk}
 use Rattle.vt_spec.specs.Machine.Outcome.Removing.{rename_new_walk}
-use Rattle.vt_spec.specs.Machine.Walk.{Here, LastWord, Place, Stop, directory_walk, entry_location, file_or_link, file_walk, file_walked, final_word, follow_rules, followed, front_walked, is_directory_there, is_special, link_of, link_start, link_there, most_links, new_leaf_walk, new_name_rules, new_walk, object_named, old_leaf_walk, old_walk, path_text, place_walk, placed, search_rules, stepped, steps_at, then_walk, walk_start, walk_unless}
+use Rattle.vt_spec.specs.Machine.Walk.{Here, LastWord, Place, Stop, directory_walk, entry_location, file_or_symlink, file_walk, file_walked, final_word, follow_rules, followed, front_walked, is_directory_there, is_special, symlink_of, symlink_start, symlink_there, new_leaf_walk, new_name_rules, new_walk, object_named, old_leaf_walk, old_walk, path_text, place_walk, placed, search_rules, stepped, steps_at, then_walk, walk_start, walk_unless}
+use Rattle.vt_spec.specs.Language.Limits.{most_symlinks}
 use Rattle.vt_spec.specs.Machine.Walk.LastWord.{Dot, DotDot, Named, NoWord}
 use Rattle.vt_spec.specs.Machine.World.{Task, World, is_directory_at, is_removed_at, node_at, task_called}
 use Rattle.vt_spec.specs.Machine.WorldLaws.{IsWorld}
@@ -140,15 +141,15 @@ module _ (world : World ℕ) (whole : IsWorld nat_eq world) (task : Task ℕ)
       ) ∷ []) place (λ passed. is))
 
   -- files
-  no_link_there : (place : Place ℕ) → link_there nat_eq world place ≡ None → (object : Location ℕ)
+  no_link_there : (place : Place ℕ) → symlink_there nat_eq world place ≡ None → (object : Location ℕ)
       → place.object ≡ Some object
-      → link_text (node_at nat_eq world object) ≡ None
-  no_link_there place none object e = ap (λ o. then_some o (λ at. link_text (node_at nat_eq world at))) (sym e) ∙ none
+      → symlink_text (node_at nat_eq world object) ≡ None
+  no_link_there place none object e = ap (λ o. then_some o (λ at. symlink_text (node_at nat_eq world at))) (sym e) ∙ none
 
   file_or_link_end : (place : Place ℕ) (follow : List ℕ → Result (Place ℕ) (Stop ℕ)) → IsFoundPlace place
       → ((inner : List ℕ) → Ends IsEndPlace (follow inner))
-      → (text : Option (List ℕ)) → link_there nat_eq world place ≡ text
-      → Ends IsEndPlace (file_or_link nat_eq world place text follow)
+      → (text : Option (List ℕ)) → symlink_there nat_eq world place ≡ text
+      → Ends IsEndPlace (file_or_symlink nat_eq world place text follow)
   file_or_link_end place follow is goes None e = (is.0, is.1, λ object f. by place.object refl object f)
     where
       by : (o : Option (Location ℕ)) → place.object ≡ o → (object : Location ℕ)
@@ -162,8 +163,8 @@ module _ (world : World ℕ) (whole : IsWorld nat_eq world) (task : Task ℕ)
   -- where a link stands there, its text is walked
   abbrev linked_file : ℕ → List ℕ → Bool → Here ℕ → Place ℕ → List ℕ → Result (Place ℕ) (Stop ℕ)
   linked_file depth text slash here place inner =
-      then_walk (walk_unless place.steps (follow_rules nat_eq world (link_of here place) inner)
-      (link_start nat_eq world task here.location (link_of here place) inner))
+      then_walk (walk_unless place.steps (follow_rules nat_eq world (symlink_of here place) inner)
+      (symlink_start nat_eq world task here.location (symlink_of here place) inner))
       (λ next. file_walked nat_eq depth world task next inner (slash || ends_in_slash text))
 
   file_walked_end : (depth : ℕ) (start : Here ℕ) → HereEnd start → (text : List ℕ) (slash : Bool)
@@ -175,26 +176,26 @@ module _ (world : World ℕ) (whole : IsWorld nat_eq world) (task : Task ℕ)
       (front_end world whole task called start is (reverse (words text))) (λ here end.
       ends_then IsFoundPlace IsEndPlace (placed nat_eq world task here (final_word (reverse (words text)))
       (slash || ends_in_slash text))
-      (λ place. file_or_link nat_eq world place (link_there nat_eq world place)
+      (λ place. file_or_symlink nat_eq world place (symlink_there nat_eq world place)
       (linked_file depth text slash here place))
       (placed_found here end (final_word (reverse (words text))) (slash || ends_in_slash text)) (λ place place_is.
       file_or_link_end place (linked_file depth text slash here place) place_is (λ inner.
       ends_then HereEnd IsEndPlace
-      (walk_unless place.steps (follow_rules nat_eq world (link_of here place) inner)
-      (link_start nat_eq world task here.location (link_of here place) inner))
+      (walk_unless place.steps (follow_rules nat_eq world (symlink_of here place) inner)
+      (symlink_start nat_eq world task here.location (symlink_of here place) inner))
       (λ next. file_walked nat_eq depth world task next inner (slash || ends_in_slash text))
-      (ends_unless HereEnd place.steps (follow_rules nat_eq world (link_of here place) inner)
-      (link_start nat_eq world task here.location (link_of here place) inner)
+      (ends_unless HereEnd place.steps (follow_rules nat_eq world (symlink_of here place) inner)
+      (symlink_start nat_eq world task here.location (symlink_of here place) inner)
       (λ passed. start_end world whole task called here.location inner end))
       (λ next next_is. file_walked_end depth next next_is inner (slash || ends_in_slash text)))
-      (link_there nat_eq world place) refl))
+      (symlink_there nat_eq world place) refl))
 
   pub file_walk_end : (path : List ℕ) → Ends IsEndPlace (file_walk nat_eq world task path)
   file_walk_end path =
       ends_next IsEndPlace (path_text path) _ (λ text.
-      ends_then IsEndPlace IsEndPlace (file_walked nat_eq (most_links + 1) world task
+      ends_then IsEndPlace IsEndPlace (file_walked nat_eq (most_symlinks + 1) world task
       (walk_start task text) text false) _
-      (file_walked_end (most_links + 1) (walk_start task text) (walk_start_end world whole task called text) text
+      (file_walked_end (most_symlinks + 1) (walk_start task text) (walk_start_end world whole task called text) text
       false) (λ place is.
       ends_unless IsEndPlace place.steps (new_name_rules nat_eq world place) place (λ passed. is)))
 

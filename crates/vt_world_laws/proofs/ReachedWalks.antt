@@ -4,11 +4,13 @@ use Rattle.std.specs.List.{find}
 use Rattle.std.proofs.lemmas.Bool.{and_parts}
 use Rattle.vt_spec.specs.declared.errors.Rule.TheVariants.{W3}
 use Rattle.vt_spec.specs.PathText.{ends_in_slash, is_absolute, words}
-use Rattle.vt_spec.specs.Machine.FileTree.{link_text}
+use Rattle.vt_spec.specs.FileTree.{symlink_text}
 use Rattle.vt_spec.specs.Machine.Mounts.{Location}
-use Rattle.vt_spec.specs.Machine.Walk.{Follow, Here, LastWord, Stop, directory_walk, final_word, follow_rules, followed, front_walked, if_link, last_walked, last_word, link_start, link_walk, link_walk_by, link_walked, most_links, object_walk, path_text, path_walked, search_rules, slash_rules, start_of, stepped, steps_with, walk_start, walk_unless, word_walked, words_walked}
+use Rattle.vt_spec.specs.Machine.Walk.{Follow, Here, LastWord, Stop, directory_walk, final_word, follow_rules, followed, front_walked, if_link, last_walked, last_word, symlink_start, symlink_walk, symlink_walk_by, symlink_walked, object_walk, path_text, path_walked, search_rules, slash_rules, start_of, stepped, steps_with, walk_start, walk_unless, word_walked, words_walked}
+use Rattle.vt_spec.specs.Language.Limits.{most_symlinks}
 use Rattle.vt_spec.specs.Machine.Walk.LastWord.{Dot, DotDot, Named, NoWord}
-use Rattle.vt_spec.specs.Machine.World.{Task, World, all_locations, is_directory_at, locations_of, node_at, same_name, task_called}
+use Rattle.vt_spec.specs.Machine.World.{Task, World, all_locations, is_directory_at, locations_of, node_at, task_called}
+use Rattle.vt_spec.specs.Language.Calls.{same_name}
 use Rattle.vt_spec.specs.Machine.WorldLaws.{IsWorld, is_directory_seen_in, is_located_well, stands_on_directories}
 use Rattle.vt_spec.proofs.Lists.{Among, all_from_among, among-flat_map, among_from_list_all}
 use Rattle.vt_tree_laws.proofs.TreesEntered.{found_all}
@@ -87,7 +89,7 @@ module _ (world : World ℕ) (whole : IsWorld nat_eq world) (task : Task ℕ)
 
   if_link_end : (next : Here ℕ) (follow : List ℕ → Result (Here ℕ) (Stop ℕ)) → Found next.location
       → ((text : List ℕ) → EndsAtEnd (follow text))
-      → (o : Option (List ℕ)) → link_text (node_at nat_eq world next.location) ≡ o → EndsAtEnd (if_link next o follow)
+      → (o : Option (List ℕ)) → symlink_text (node_at nat_eq world next.location) ≡ o → EndsAtEnd (if_link next o follow)
   if_link_end next follow found goes None e = (found, e)
   if_link_end next follow found goes (Some text) e = goes text
 
@@ -101,27 +103,27 @@ module _ (world : World ℕ) (whole : IsWorld nat_eq world) (task : Task ℕ)
       (word_walked nat_eq world task reached (last_word word)) _ (word_found reached (last_word word) end.0)
       (λ next found.
       if_link_end next (follow reached.location next) found (λ text. goes reached.location next text end)
-      (link_text (node_at nat_eq world next.location)) refl))
+      (symlink_text (node_at nat_eq world next.location)) refl))
 
-  link_end : (depth : ℕ) → FollowEnds (λ directory link text. link_walked nat_eq depth world task directory link text)
+  link_end : (depth : ℕ) → FollowEnds (λ directory link text. symlink_walked nat_eq depth world task directory link text)
   link_end zero directory link text is = tt
   link_end (suc depth) directory link text is =
       ends_then (λ start. End start.location) (λ next. End next.location)
-      (walk_unless link.steps (follow_rules nat_eq world link text) (link_start nat_eq world task directory link
+      (walk_unless link.steps (follow_rules nat_eq world link text) (symlink_start nat_eq world task directory link
       text)) _
       (ends_unless (λ start. End start.location) link.steps (follow_rules nat_eq world link text)
-      (link_start nat_eq world task directory link text)
+      (symlink_start nat_eq world task directory link text)
       (λ passed. start_end directory text is)) (λ start start_is.
       ends_then (λ reached. End reached.location) (λ next. End next.location)
-      (words_walked nat_eq world task (λ inside next inner. link_walked nat_eq depth world task inside next inner)
+      (words_walked nat_eq world task (λ inside next inner. symlink_walked nat_eq depth world task inside next inner)
       start (reverse (words text))) _
-      (words_end (λ inside next inner. link_walked nat_eq depth world task inside next inner)
+      (words_end (λ inside next inner. symlink_walked nat_eq depth world task inside next inner)
       (link_end depth) start start_is (reverse (words text))) (λ reached end.
       ends_unless (λ next. End next.location) reached.steps (slash_rules nat_eq world text reached.location) reached
       (λ passed. end)))
 
   followed_end : FollowEnds (followed nat_eq world task)
-  followed_end directory link text is = link_end (most_links + 1) directory link text is
+  followed_end directory link text is = link_end (most_symlinks + 1) directory link text is
 
   path_end : (path : List ℕ) → EndsAtEnd (path_walked nat_eq world task path)
   path_end path =
@@ -162,7 +164,7 @@ module _ (world : World ℕ) (whole : IsWorld nat_eq world) (task : Task ℕ)
   last_found here DotDot is = word_found here DotDot is
   last_found here (Named name) is = word_found here (Named name) is
 
-  link_walk_by_found : (b : Bool) (path : List ℕ) → EndsFound (link_walk_by nat_eq b world task path)
+  link_walk_by_found : (b : Bool) (path : List ℕ) → EndsFound (symlink_walk_by nat_eq b world task path)
   link_walk_by_found true path =
       ends_weaker (object_walk nat_eq world task path) (object_end path)
     where
@@ -176,5 +178,5 @@ module _ (world : World ℕ) (whole : IsWorld nat_eq world) (task : Task ℕ)
       (front_end (walk_start task text) (walk_start_end text) (reverse (words text))) (λ here end.
       last_found here (final_word (reverse (words text))) end.0))
 
-  pub link_walk_found : (path : List ℕ) → EndsFound (link_walk nat_eq world task path)
+  pub link_walk_found : (path : List ℕ) → EndsFound (symlink_walk nat_eq world task path)
   link_walk_found path = link_walk_by_found (ends_in_slash path) path

@@ -5,7 +5,7 @@ use Rattle.std.proofs.Common.{◌≡◌, refl, sym, ap, subst, ◌∙◌, inl, i
 use Rattle.std.specs.Prelude.{if◌then◌else◌, option_to_list, unwrap_or}
 use Rattle.std.specs.List.{list_all}
 use Rattle.std.proofs.lemmas.Bool.{and_from, and_parts}
-use Rattle.vt_spec.specs.Machine.Lists.{Fresh, chain, evens, holds_of, last_or, odds}
+use Rattle.vt_spec.specs.Lists.{Fresh, chain, evens, holds_of, last_or, odds}
 use Rattle.vt_spec.specs.Machine.Mounts.{Location, Mount, child_at, numbers_by, root_of, stands_at, topmost}
 use Rattle.vt_spec.specs.Machine.Namespaces.{copied_mount, is_copied, location_on_copy, moved_location, namespace_root, pivoted_location, pivoted_task, unshared, unshared_task}
 use Rattle.vt_spec.specs.Machine.World.{Namespace, Task, World, filesystem_numbered, is_directory_at, mount_at, mount_numbered, mounts_of, node_at, root_mount}
@@ -86,7 +86,7 @@ module _ (world : World ℕ) (is : IsWorld nat_eq world) where
       ap (λ (x : Mount ℕ). is_directory_node
       ((filesystem_numbered nat_eq world x.filesystem).files.tree.node mount.root)) (itself mount m)
       ∙ (and_parts (is_directory_node ((filesystem_numbered nat_eq world mount.filesystem).files.tree.node mount.root))
-      (list_all (is_directory_at nat_eq world) (option_to_list mount.place))
+      (list_all (is_directory_at nat_eq world) (option_to_list mount.mount_point))
       (among_from_list_all (has_its_root nat_eq world) world.mounts is.roots mount m)).0
 
   -- the root of a mount of the namespace
@@ -103,7 +103,7 @@ module _ (world : World ℕ) (is : IsWorld nat_eq world) where
       }
 
   -- what stands over a place is in its namespace
-  pub child_in : (own : ℕ) (child : Mount ℕ) → Among child world.mounts → (here : Location ℕ) → child.place ≡ Some here
+  pub child_in : (own : ℕ) (child : Mount ℕ) → Among child world.mounts → (here : Location ℕ) → child.mount_point ≡ Some here
       → is_in own (mount_at nat_eq world here) ≡ true → is_in own child ≡ true
   child_in own child m here at inside =
       by (among_from_all (λ (x : Mount ℕ). Stands nat_eq world x.number) world.mounts is.mounts.standing child m)
@@ -111,9 +111,9 @@ module _ (world : World ℕ) (is : IsWorld nat_eq world) where
     where
       by : Stands nat_eq world child.number → mount_numbered nat_eq world child.number ≡ child → is_in own child ≡ true
       by (at_root number e) same =
-          absurd (true≢false (sym (ap is_some at) ∙ ap (λ (x : Mount ℕ). is_some x.place) (sym same) ∙ ap is_some e))
+          absurd (true≢false (sym (ap is_some at) ∙ ap (λ (x : Mount ℕ). is_some x.mount_point) (sym same) ∙ ap is_some e))
       by (on_parent number place e namespace later) same =
-          let it : Some place ≡ Some here = sym e ∙ ap (λ (x : Mount ℕ). x.place) same ∙ at in
+          let it : Some place ≡ Some here = sym e ∙ ap (λ (x : Mount ℕ). x.mount_point) same ∙ at in
           ap (is_in own) (sym same)
           ∙ ap (λ o. list_all (nat_eq own) (option_to_list o)) namespace
           ∙ ap (λ o. list_all (nat_eq own) (option_to_list (mount_at nat_eq world (unwrap_or o here)).namespace)) it

@@ -2,10 +2,10 @@
 use Rattle.std.proofs.Common.{◌≡◌, refl, sym, ap, subst, ◌∙◌, inl, inr, ⊎_elim, ℕ, zero, suc, nat_eq, eqb-true, Bool, true, false, cond, true≢false, find, length, List, [], ◌∷◌, ◌++◌, Some, is_some, map}
 use Rattle.std.specs.Prelude.{if◌then◌else◌, unwrap_or}
 use Rattle.vt_spec.specs.Machine.Attach.{Copies, attach, copy_at, graft_of, parts_of, twig_of}
-use Rattle.vt_spec.specs.Machine.Calls.{TypeWord}
+use Rattle.vt_spec.specs.Language.Calls.{MountFlags, TypeWord}
 use Rattle.vt_spec.specs.Machine.Detach.{deepest_first, going, is_going, lazily_unmounted, taken_away, unmounted, unmounted_if_there}
-use Rattle.vt_spec.specs.Machine.Lists.{Fresh, folded, holds_of, is_among}
-use Rattle.vt_spec.specs.Machine.Mounts.{Location, Mount, MountFlags, children, group_of, mount_in, mount_tree, stands_on, tree_from, with_mount}
+use Rattle.vt_spec.specs.Lists.{Fresh, folded, holds_of, is_among}
+use Rattle.vt_spec.specs.Machine.Mounts.{Location, Mount, children, group_of, mount_in, mount_tree, stands_on, tree_from, with_mount}
 use Rattle.vt_spec.specs.Machine.Namespaces.{pivoted, pivoted_mount}
 use Rattle.vt_spec.specs.Machine.Outcome.Mounting.{mounted, new_mount, with_new_filesystem}
 use Rattle.vt_spec.specs.Machine.Types.{with_type}
@@ -172,8 +172,8 @@ module _ (root new : Mount ℕ) (put : Location ℕ) where
   pivoted_number mount = by (nat_eq mount.number new.number) (nat_eq mount.number root.number)
     where
       by : (a b : Bool)
-          → (if a then (record mount { place = root.place }) else
-          (if b then (record mount { place = Some put }) else mount)).number ≡ mount.number
+          → (if a then (record mount { mount_point = root.mount_point }) else
+          (if b then (record mount { mount_point = Some put }) else mount)).number ≡ mount.number
       by true b = refl
       by false true = refl
       by false false = refl
@@ -182,8 +182,8 @@ module _ (root new : Mount ℕ) (put : Location ℕ) where
   pivoted_view mount = by (nat_eq mount.number new.number) (nat_eq mount.number root.number)
     where
       by : (a b : Bool)
-          → KeepsView mount (if a then (record mount { place = root.place }) else
-          (if b then (record mount { place = Some put }) else mount))
+          → KeepsView mount (if a then (record mount { mount_point = root.mount_point }) else
+          (if b then (record mount { mount_point = Some put }) else mount))
       by true b = record { filesystem = refl; root = refl; namespace = λ own e. e }
       by false true = record { filesystem = refl; root = refl; namespace = λ own e. e }
       by false false = same_view mount
@@ -229,12 +229,12 @@ module _ (world : World ℕ) (one : OneNumberAMount world.mounts)
           → child.namespace ≡ (mount_numbered nat_eq world parent).namespace
       by (at_root number e) itself =
           absurd (true≢false (sym on ∙ ap (holds_of (λ (place : Location ℕ). nat_eq parent place.mount))
-          (ap (λ (x : Mount ℕ). x.place) (sym itself) ∙ e)))
+          (ap (λ (x : Mount ℕ). x.mount_point) (sym itself) ∙ e)))
       by (on_parent number place e same later) itself =
           let it : parent ≡ place.mount =
           eqb-true parent place.mount
           (sym (ap (holds_of (λ (at : Location ℕ). nat_eq parent at.mount))
-          (ap (λ (x : Mount ℕ). x.place) (sym itself) ∙ e)) ∙ on) in
+          (ap (λ (x : Mount ℕ). x.mount_point) (sym itself) ∙ e)) ∙ on) in
           ap (λ (x : Mount ℕ). x.namespace) (sym itself) ∙ same
           ∙ ap (λ n. (mount_numbered nat_eq world n).namespace) (sym it)
 

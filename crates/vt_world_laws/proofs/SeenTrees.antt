@@ -3,11 +3,11 @@
 use Rattle.std.proofs.Common.{◌≡◌, refl, sym, ap, subst, ◌∙◌, ◌⊎◌, inl, inr, ⊎_elim, ℕ, nat_eq, eqb-true, eq-eqb, Bool, true, false, cond, true≢false, find, flat_map, List, [], ◌∷◌, ◌++◌, Option, Some, None, map}
 use Rattle.std.specs.Prelude.{All, unwrap_or, ⊤}
 use Rattle.vt_spec.specs.declared.attributes.Attr.{Attr}
-use Rattle.vt_spec.specs.Machine.Changes.{Change, changed, content_with_mark, content_with_parent, node_with_attr, node_with_mark, node_with_parent, node_without_entry, with_inode, with_name, without_entry, without_name, without_parent}
-use Rattle.vt_spec.specs.Machine.Changes.Change.{AddName, CopyUp, Make, Move, Remove, SetAttr, SetBytes, SetMark}
-use Rattle.vt_spec.specs.Machine.FileTree.{FileTree}
+use Rattle.vt_spec.specs.Language.Changes.{Change, changed, content_with_mark, content_with_parent, node_with_attr, node_with_mark, node_with_parent, node_without_entry, with_inode, with_name, without_entry, without_name, without_parent}
+use Rattle.vt_spec.specs.Language.Changes.Change.{AddName, CopyUp, Make, Move, Remove, SetAttr, SetBytes, SetMark}
+use Rattle.vt_spec.specs.FileTree.{FileTree}
 use Rattle.vt_spec.specs.Machine.Filesystems.{filesystem_changed, with_change, with_files}
-use Rattle.vt_spec.specs.Machine.Lists.{Fresh, holds_of, is_among}
+use Rattle.vt_spec.specs.Lists.{Fresh, holds_of, is_among}
 use Rattle.vt_spec.specs.Machine.Mounts.{Location}
 use Rattle.vt_spec.specs.Machine.Run.{Serves, numbers_in_use, used_by_filesystem, used_by_mount}
 use Rattle.vt_spec.specs.Machine.World.{Filesystem, World, filesystem_at, is_overlay, mount_at, no_filesystem, replaced_if_numbered, with_filesystem}

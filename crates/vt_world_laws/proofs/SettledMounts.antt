@@ -2,8 +2,8 @@
 use Rattle.std.proofs.Common.{◌≡◌, refl, sym, ap, ◌∙◌, cond, find, inl, inr, ℕ, nat_eq, Bool, true, false, List, ◌∷◌, [], Option, Some, None, filter, is_some, true≢false, ◌&&◌}
 use Rattle.std.specs.Prelude.{length, nat_lt, unwrap_or, option_to_list, ◌==◌}
 use Rattle.std.specs.List.{list_all, list_any}
-use Rattle.vt_spec.specs.Machine.Attach.{most_mounts}
-use Rattle.vt_spec.specs.Machine.Lists.{holds_of}
+use Rattle.vt_spec.specs.Language.Limits.{most_mounts}
+use Rattle.vt_spec.specs.Lists.{holds_of}
 use Rattle.vt_spec.specs.Machine.Mounts.{Location, Mount, mount_in, no_mount}
 use Rattle.vt_spec.specs.Machine.Settled.{mount_lives, settled}
 use Rattle.vt_spec.specs.Machine.World.{Namespace, World, mount_at, mount_numbered, mounts_of}
@@ -20,14 +20,14 @@ use Rattle.vt_world_laws.specs.Worlds.Kept.{IsWorldButForUse}
 use Rattle.vt_world_laws.proofs.SettledSeen.{attached_lives, found_still, itself, placed_attached}
 
 -- what is found with a place is there
-found_placed : (mounts : List (Mount ℕ)) (number : ℕ) → is_some (mount_in nat_eq mounts number).place ≡ true
+found_placed : (mounts : List (Mount ℕ)) (number : ℕ) → is_some (mount_in nat_eq mounts number).mount_point ≡ true
     → Among (mount_in nat_eq mounts number) mounts
 found_placed [] number e = absurd (true≢false (sym e))
 found_placed (first ∷ rest) number e = by (nat_eq number first.number) e (found_placed rest number)
   where
     by : (b : Bool) → is_some (unwrap_or (cond b (Some first) (find (λ x. nat_eq number x.number) rest))
-        (no_mount number)).place ≡ true
-        → (is_some (mount_in nat_eq rest number).place ≡ true → Among (mount_in nat_eq rest number) rest)
+        (no_mount number)).mount_point ≡ true
+        → (is_some (mount_in nat_eq rest number).mount_point ≡ true → Among (mount_in nat_eq rest number) rest)
         → Among (unwrap_or (cond b (Some first) (find (λ x. nat_eq number x.number) rest)) (no_mount number))
         (first ∷ rest)
     by true f later = inl refl
@@ -38,7 +38,7 @@ module _ (world : World ℕ) (unsettled : IsWorldButForUse world) where
   later = settled nat_eq world
 
   -- a mount that is found with a place is in a namespace
-  found_attached : (number : ℕ) (place : Location ℕ) → (mount_numbered nat_eq world number).place ≡ Some place
+  found_attached : (number : ℕ) (place : Location ℕ) → (mount_numbered nat_eq world number).mount_point ≡ Some place
       → is_some (mount_numbered nat_eq world number).namespace ≡ true
   found_attached number place e =
       placed_attached world unsettled (mount_numbered nat_eq world number)
@@ -49,12 +49,12 @@ module _ (world : World ℕ) (unsettled : IsWorldButForUse world) where
       → mount_lives nat_eq world (mount_numbered nat_eq world number) ≡ true
       → Stands nat_eq later number
   stands_still number (at_root it e) lives =
-      at_root it (ap (λ (m : Mount ℕ). m.place) (found_still world unsettled it lives) ∙ e)
+      at_root it (ap (λ (m : Mount ℕ). m.mount_point) (found_still world unsettled it lives) ∙ e)
   stands_still number (on_parent it place e f stands) lives =
       let below_lives : mount_lives nat_eq world (mount_at nat_eq world place) ≡ true =
       attached_lives world unsettled (mount_at nat_eq world place) (ap is_some (sym f) ∙ found_attached it place e) in
       on_parent it place
-      (ap (λ (m : Mount ℕ). m.place) (found_still world unsettled it lives) ∙ e)
+      (ap (λ (m : Mount ℕ). m.mount_point) (found_still world unsettled it lives) ∙ e)
       (ap (λ (m : Mount ℕ). m.namespace) (found_still world unsettled it lives) ∙ f
       ∙ ap (λ (m : Mount ℕ). m.namespace) (sym (found_still world unsettled place.mount below_lives)))
       (stands_still place.mount stands below_lives)

@@ -1,7 +1,7 @@
 -- What is seen where tasks are, at the roots of mounts and at their places stays where what nothing uses goes.
 use Rattle.std.proofs.Common.{◌≡◌, refl, sym, ap, ◌∙◌, ℕ, nat_eq, eqb-true, eq-eqb, Bool, true, false, cond, not, List, [], ◌∷◌, ◌++◌, Some, find, map, filter, is_some, true≢false}
 use Rattle.std.specs.Prelude.{filter_map, unwrap_or}
-use Rattle.vt_spec.specs.Machine.Lists.{is_among}
+use Rattle.vt_spec.specs.Lists.{is_among}
 use Rattle.vt_spec.specs.Machine.Mounts.{Location, Mount, root_of}
 use Rattle.vt_spec.specs.Machine.Settled.{filesystem_lives, is_located, is_mounted, located_in, mount_lives, only_used, settled, used_in, without_dead_filesystems, without_dead_in, without_dead_mounts}
 use Rattle.vt_spec.specs.Machine.World.{Filesystem, World, all_locations, filesystem_numbered, is_overlay, mount_at, mount_numbered, no_filesystem, node_at}
@@ -100,7 +100,7 @@ module _ (world : World ℕ) (unsettled : IsWorldButForUse world) where
       (eq-eqb mount.number location.mount e))
 
   -- what has a place is in a namespace
-  pub placed_attached : (mount : Mount ℕ) → Among mount world.mounts → is_some mount.place ≡ true
+  pub placed_attached : (mount : Mount ℕ) → Among mount world.mounts → is_some mount.mount_point ≡ true
       → is_some mount.namespace ≡ true
   placed_attached mount m placed = by (is_some mount.namespace) refl
     where
@@ -112,7 +112,7 @@ module _ (world : World ℕ) (unsettled : IsWorldButForUse world) where
 
   -- Locations
   abbrev pub used_locations : List (Location ℕ)
-  used_locations = all_locations world ++ map root_of mounted.mounts ++ filter_map (λ mount. mount.place) mounted.mounts
+  used_locations = all_locations world ++ map root_of mounted.mounts ++ filter_map (λ mount. mount.mount_point) mounted.mounts
 
   -- an inode stays where something is at it
   node_stays : (number object : ℕ) → is_mounted nat_eq mounted number ≡ true

@@ -5,8 +5,8 @@ use Rattle.std.specs.List.{list_all}
 use Rattle.std.proofs.lemmas.Bool.{and_from, and_parts}
 use Rattle.std.proofs.lemmas.List.Elements.{All-filter, All-weaker}
 use Rattle.vt_spec.specs.declared.attributes.Kind.TheVariants.{File}
-use Rattle.vt_spec.specs.Machine.FileTree.{is_kind_in}
-use Rattle.vt_spec.specs.Machine.Lists.{any_pair, is_among}
+use Rattle.vt_spec.specs.FileTree.{is_kind_in}
+use Rattle.vt_spec.specs.Lists.{any_pair, is_among}
 use Rattle.vt_spec.specs.Machine.Mounts.{Location, Mount, mount_in, no_mount, root_of}
 use Rattle.vt_spec.specs.Machine.Settled.{filesystem_lives, mount_lives, only_used, settled, without_dead_filesystems, without_dead_in, without_dead_mounts}
 use Rattle.vt_spec.specs.Machine.World.{Descriptor, Filesystem, Task, World, all_locations, filesystem_numbered, is_directory_at, is_overlay, locations_of, mount_at, mount_numbered, node_at}
@@ -71,7 +71,7 @@ module _ (world : World ℕ) (unsettled : IsWorldButForUse world) where
   same_node location m =
       seen_stays world unsettled location
       (among-append_left (all_locations world ++ map root_of live_mounts)
-      (filter_map (λ mount. mount.place) live_mounts) location
+      (filter_map (λ mount. mount.mount_point) live_mounts) location
       (among-append_left (all_locations world) (map root_of live_mounts) location m))
       (located_there location m) (mount_lives_at location m)
 
@@ -141,16 +141,16 @@ module _ (world : World ℕ) (unsettled : IsWorldButForUse world) where
   shows : (mount : Mount ℕ) → Among mount world.mounts → mount_lives nat_eq world mount ≡ true
       → has_its_root nat_eq after mount ≡ true
   shows mount m lives =
-      let parts = and_parts _ (list_all (is_directory_at nat_eq world) (option_to_list mount.place))
+      let parts = and_parts _ (list_all (is_directory_at nat_eq world) (option_to_list mount.mount_point))
       (passes (has_its_root nat_eq world) world.mounts unsettled.roots mount m) in
-      and_from _ (list_all (is_directory_at nat_eq after) (option_to_list mount.place))
+      and_from _ (list_all (is_directory_at nat_eq after) (option_to_list mount.mount_point))
       (ap is_directory_node same_root ∙ parts.0)
-      (all_pass (is_directory_at nat_eq after) (option_to_list mount.place)
-      (λ place p. ap is_directory_node (same_place place (placed mount.place refl place p))
-      ∙ passes (is_directory_at nat_eq world) (option_to_list mount.place) parts.1 place p))
+      (all_pass (is_directory_at nat_eq after) (option_to_list mount.mount_point)
+      (λ place p. ap is_directory_node (same_place place (placed mount.mount_point refl place p))
+      ∙ passes (is_directory_at nat_eq world) (option_to_list mount.mount_point) parts.1 place p))
     where
-      placed : (o : Option (Location ℕ)) → mount.place ≡ o → (place : Location ℕ) → Among place (option_to_list o)
-          → mount.place ≡ Some place
+      placed : (o : Option (Location ℕ)) → mount.mount_point ≡ o → (place : Location ℕ) → Among place (option_to_list o)
+          → mount.mount_point ≡ Some place
       placed None e place p = absurd p
       placed (Some at) e place (inl same) = e ∙ ap Some (sym same)
       placed (Some at) e place (inr none) = absurd none
@@ -171,13 +171,13 @@ module _ (world : World ℕ) (unsettled : IsWorldButForUse world) where
           (sym (found_still world unsettled mount.number found_lives ∙ found))
           ∙ seen_stays world unsettled (root_of mount)
           (among-append_left (all_locations world ++ map root_of live_mounts)
-          (filter_map (λ x. x.place) live_mounts) (root_of mount)
+          (filter_map (λ x. x.mount_point) live_mounts) (root_of mount)
           (among-append_right (all_locations world) (map root_of live_mounts) (root_of mount)
           (among-map root_of live_mounts mount live)))
           (subst (λ x. Among x world.mounts) (sym found) m) found_lives
           ∙ ap (λ (x : Mount ℕ). (filesystem_numbered nat_eq world x.filesystem).files.tree.node mount.root) found
 
-      below_attached : (place : Location ℕ) → mount.place ≡ Some place
+      below_attached : (place : Location ℕ) → mount.mount_point ≡ Some place
           → is_some (mount_at nat_eq world place).namespace ≡ true
       below_attached place e =
           by mount.number (among_from_all
@@ -186,21 +186,21 @@ module _ (world : World ℕ) (unsettled : IsWorldButForUse world) where
           by : (number : ℕ) → Stands nat_eq world number → mount_numbered nat_eq world number ≡ mount
               → is_some (mount_at nat_eq world place).namespace ≡ true
           by number (at_root it f) same =
-              absurd (true≢false (sym (ap is_some e) ∙ ap (λ (x : Mount ℕ). is_some x.place) (sym same)
+              absurd (true≢false (sym (ap is_some e) ∙ ap (λ (x : Mount ℕ). is_some x.mount_point) (sym same)
               ∙ ap is_some f))
           by number (on_parent it at f g stands) same =
               ap (λ l. is_some (mount_at nat_eq world l).namespace)
-              (same_Some place at (sym e ∙ ap (λ (x : Mount ℕ). x.place) (sym same) ∙ f))
+              (same_Some place at (sym e ∙ ap (λ (x : Mount ℕ). x.mount_point) (sym same) ∙ f))
               ∙ ap is_some (sym g) ∙ ap (λ (x : Mount ℕ). is_some x.namespace) same
               ∙ placed_attached world unsettled mount m (ap is_some e)
 
-      same_place : (place : Location ℕ) → mount.place ≡ Some place → node_at nat_eq after place
+      same_place : (place : Location ℕ) → mount.mount_point ≡ Some place → node_at nat_eq after place
           ≡ node_at nat_eq world place
       same_place place e =
           seen_stays world unsettled place
           (among-append_right (all_locations world ++ map root_of live_mounts)
-          (filter_map (λ x. x.place) live_mounts) place
-          (among-filter_map (λ (x : Mount ℕ). x.place) live_mounts mount place live e))
+          (filter_map (λ x. x.mount_point) live_mounts) place
+          (among-filter_map (λ (x : Mount ℕ). x.mount_point) live_mounts mount place live e))
           (found_is_there world.mounts place.mount (below_attached place e))
           (attached_lives world unsettled (mount_at nat_eq world place) (below_attached place e))
 

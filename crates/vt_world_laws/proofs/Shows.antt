@@ -4,10 +4,10 @@ use Rattle.std.specs.Prelude.{if◌then◌else◌, option_to_list, unwrap_or}
 use Rattle.std.specs.List.{list_all}
 use Rattle.std.proofs.lemmas.Bool.{and_from, and_parts}
 use Rattle.std.proofs.lemmas.Option.{same_Some}
-use Rattle.vt_spec.specs.Machine.Calls.{TypeWord}
-use Rattle.vt_spec.specs.Machine.Detach.{after_going, deepest_first, going, is_going, lazily_unmounted, place_below, place_left, taken_away, unmounted, unmounted_if_there}
-use Rattle.vt_spec.specs.Machine.Lists.{Fresh, evens, folded, holds_of, odds}
-use Rattle.vt_spec.specs.Machine.Mounts.{Location, Mount, MountFlags, detached, mount_tree, numbers_by, replaced_if_same, with_mount}
+use Rattle.vt_spec.specs.Language.Calls.{MountFlags, TypeWord}
+use Rattle.vt_spec.specs.Machine.Detach.{after_going, deepest_first, going, is_going, lazily_unmounted, mount_point_of_parent, mount_point_left, taken_away, unmounted, unmounted_if_there}
+use Rattle.vt_spec.specs.Lists.{Fresh, evens, folded, holds_of, odds}
+use Rattle.vt_spec.specs.Machine.Mounts.{Location, Mount, detached, mount_tree, numbers_by, replaced_if_same, with_mount}
 use Rattle.vt_spec.specs.Machine.Namespaces.{copied_mount, location_on_copy, namespaces_ended, pivoted, pivoted_mount, unshared}
 use Rattle.vt_spec.specs.Machine.Receives.{inheriting}
 use Rattle.vt_spec.specs.Machine.Run.{Serves}
@@ -35,7 +35,7 @@ pub record IsPlace (world : World ℕ) (place : Location ℕ) : Type 0 where
 
 pub record ShowsWell (world : World ℕ) (mount : Mount ℕ) : Type 0 where
   pub root : is_directory_node (node_in world mount.filesystem mount.root) ≡ true
-  pub place : (place : Location ℕ) → mount.place ≡ Some place → IsPlace world place
+  pub mount_point : (place : Location ℕ) → mount.mount_point ≡ Some place → IsPlace world place
 
 abbrev pub AllShow : World ℕ → Type 0
 AllShow world = (mount : Mount ℕ) → Among mount world.mounts → ShowsWell world mount
@@ -53,7 +53,7 @@ module _ (before after : World ℕ) (seen : KeepsWhatIsSeen before after) where
       record {
         root = directory_kept (node_in before mount.filesystem mount.root) (node_in after mount.filesystem mount.root)
             (seen.nodes mount.filesystem mount.root) shows.root;
-        place = λ place e. place_after place (shows.place place e);
+        mount_point = λ place e. place_after place (shows.mount_point place e);
       }
 
   -- where the mounts are those that were there
@@ -62,13 +62,13 @@ module _ (before after : World ℕ) (seen : KeepsWhatIsSeen before after) where
 
 -- a mount that shows what another does, and stands where it does
 pub shows_alike : (world : World ℕ) (one other : Mount ℕ) → other.filesystem ≡ one.filesystem → other.root ≡ one.root
-    → other.place ≡ one.place
+    → other.mount_point ≡ one.mount_point
     → ShowsWell world one → ShowsWell world other
 shows_alike world one other filesystem root place shows =
     record {
       root = ap (λ f. is_directory_node (node_in world f other.root)) filesystem
           ∙ ap (λ r. is_directory_node (node_in world one.filesystem r)) root ∙ shows.root;
-      place = λ at e. shows.place at (sym place ∙ e);
+      mount_point = λ at e. shows.mount_point at (sym place ∙ e);
     }
 
 -- The invariant says so
@@ -76,8 +76,8 @@ pub mounts_show : (world : World ℕ) → AllShow world → MountsShow world
 mounts_show world shows =
     list_all_from_among (has_its_root nat_eq world) world.mounts (λ mount m.
     and_from (is_directory_node (node_in world mount.filesystem mount.root))
-    (list_all (is_directory_at nat_eq world) (option_to_list mount.place))
-    (shows mount m).root (by mount.place (λ place e. ((shows mount m).place place e).directory)))
+    (list_all (is_directory_at nat_eq world) (option_to_list mount.mount_point))
+    (shows mount m).root (by mount.mount_point (λ place e. ((shows mount m).mount_point place e).directory)))
   where
     by : (o : Option (Location ℕ))
         → ((place : Location ℕ) → o ≡ Some place → is_directory_at nat_eq world place ≡ true)
@@ -87,7 +87,7 @@ mounts_show world shows =
 
 module _ (world : World ℕ) (is : IsWorld nat_eq world) where
   -- where a mount stands is on a mount of its namespace
-  pub parent_namespace : (mount : Mount ℕ) → Among mount world.mounts → (place : Location ℕ) → mount.place ≡ Some place
+  pub parent_namespace : (mount : Mount ℕ) → Among mount world.mounts → (place : Location ℕ) → mount.mount_point ≡ Some place
       → mount.namespace ≡ (mount_at nat_eq world place).namespace
   parent_namespace mount m place at =
       by (among_from_all (λ (x : Mount ℕ). Stands nat_eq world x.number) world.mounts is.mounts.standing mount m)
@@ -96,13 +96,13 @@ module _ (world : World ℕ) (is : IsWorld nat_eq world) where
       by : Stands nat_eq world mount.number → mount_numbered nat_eq world mount.number ≡ mount
           → mount.namespace ≡ (mount_at nat_eq world place).namespace
       by (at_root number e) same =
-          absurd (true≢false (sym (ap is_some at) ∙ ap (λ (x : Mount ℕ). is_some x.place) (sym same) ∙ ap is_some e))
+          absurd (true≢false (sym (ap is_some at) ∙ ap (λ (x : Mount ℕ). is_some x.mount_point) (sym same) ∙ ap is_some e))
       by (on_parent number other e namespace later) same =
-          let it : Some other ≡ Some place = sym e ∙ ap (λ (x : Mount ℕ). x.place) same ∙ at in
+          let it : Some other ≡ Some place = sym e ∙ ap (λ (x : Mount ℕ). x.mount_point) same ∙ at in
           ap (λ (x : Mount ℕ). x.namespace) (sym same) ∙ namespace
           ∙ ap (λ o. (mount_at nat_eq world (unwrap_or o place)).namespace) it
 
-  placed_is_attached : (mount : Mount ℕ) → Among mount world.mounts → (place : Location ℕ) → mount.place ≡ Some place
+  placed_is_attached : (mount : Mount ℕ) → Among mount world.mounts → (place : Location ℕ) → mount.mount_point ≡ Some place
       → is_some mount.namespace ≡ true
   placed_is_attached mount m place at = by (is_some mount.namespace) refl
     where
@@ -111,10 +111,10 @@ module _ (world : World ℕ) (is : IsWorld nat_eq world) where
       by false e =
           absurd (true≢false
           (sym (among_from_list_all is_nowhere_or_attached world.mounts is.mounts.nowhere mount m)
-          ∙ ap (λ b. b || (not (is_some mount.place) && is_private mount.propagation)) e
+          ∙ ap (λ b. b || (not (is_some mount.mount_point) && is_private mount.propagation)) e
           ∙ ap (λ o. not (is_some o) && is_private mount.propagation) at))
 
-  pub place_listed : (mount : Mount ℕ) → Among mount world.mounts → (place : Location ℕ) → mount.place ≡ Some place
+  pub place_listed : (mount : Mount ℕ) → Among mount world.mounts → (place : Location ℕ) → mount.mount_point ≡ Some place
       → is_mount world place.mount ≡ true
   place_listed mount m place at = by (mount_at nat_eq world place).namespace refl
     where
@@ -129,11 +129,11 @@ module _ (world : World ℕ) (is : IsWorld nat_eq world) where
   pub world_shows : AllShow world
   world_shows mount m =
       let parts = and_parts (is_directory_node (node_in world mount.filesystem mount.root))
-      (list_all (is_directory_at nat_eq world) (option_to_list mount.place))
+      (list_all (is_directory_at nat_eq world) (option_to_list mount.mount_point))
       (among_from_list_all (has_its_root nat_eq world) world.mounts is.roots mount m) in
       record {
         root = parts.0;
-        place = λ place at. record {
+        mount_point = λ place at. record {
           listed = place_listed mount m place at;
           directory = (and_parts (is_directory_at nat_eq world place) true
               (sym (ap (λ o. list_all (is_directory_at nat_eq world) (option_to_list o)) at) ∙ parts.1)).0;
@@ -146,32 +146,32 @@ module _ (world : World ℕ) (is : IsWorld nat_eq world) where
 
 -- Mounts are taken away
 module _ (world : World ℕ) (gone : List ℕ) (shows : AllShow world) where
-  step : (a b : Location ℕ) → IsPlace world a → place_below nat_eq world gone a ≡ Some b → IsPlace world b
+  step : (a b : Location ℕ) → IsPlace world a → mount_point_of_parent nat_eq world gone a ≡ Some b → IsPlace world b
   step a b at e = by (is_going nat_eq gone a.mount) e
     where
-      by : (c : Bool) → (if c then (mount_at nat_eq world a).place else None) ≡ Some b → IsPlace world b
-      by true f = (shows (mount_at nat_eq world a) (found_there world.mounts a.mount at.listed)).place b f
+      by : (c : Bool) → (if c then (mount_at nat_eq world a).mount_point else None) ≡ Some b → IsPlace world b
+      by true f = (shows (mount_at nat_eq world a) (found_there world.mounts a.mount at.listed)).mount_point b f
       by false f = absurd (true≢false (sym (ap is_some f)))
 
-  left_is_place : (place : Location ℕ) → IsPlace world place → IsPlace world (place_left nat_eq world gone place)
-  left_is_place place at = last_has (IsPlace world) (place_below nat_eq world gone) step
+  left_is_place : (place : Location ℕ) → IsPlace world place → IsPlace world (mount_point_left nat_eq world gone place)
+  left_is_place place at = last_has (IsPlace world) (mount_point_of_parent nat_eq world gone) step
       (length world.mounts) place place at
 
   going_shows : (mount : Mount ℕ) → ShowsWell world mount → ShowsWell world (after_going nat_eq world gone mount)
   going_shows mount well = by (is_going nat_eq gone mount.number)
     where
-      left : (o : Option (Location ℕ)) → mount.place ≡ o → (at : Location ℕ)
-          → option_map (place_left nat_eq world gone) o ≡ Some at → IsPlace world at
+      left : (o : Option (Location ℕ)) → mount.mount_point ≡ o → (at : Location ℕ)
+          → option_map (mount_point_left nat_eq world gone) o ≡ Some at → IsPlace world at
       left None e at f = absurd (true≢false (sym (ap is_some f)))
       left (Some place) e at f =
-          subst (IsPlace world) (same_Some (place_left nat_eq world gone place) at f)
-          (left_is_place place (well.place place e))
+          subst (IsPlace world) (same_Some (mount_point_left nat_eq world gone place) at f)
+          (left_is_place place (well.mount_point place e))
 
       by : (b : Bool) → ShowsWell world
           (if b then detached mount else
-          (record mount { place = option_map (place_left nat_eq world gone) mount.place }))
-      by true = record { root = well.root; place = λ at f. absurd (true≢false (sym (ap is_some f))) }
-      by false = record { root = well.root; place = λ at f. left mount.place refl at f }
+          (record mount { mount_point = option_map (mount_point_left nat_eq world gone) mount.mount_point }))
+      by true = record { root = well.root; mount_point = λ at f. absurd (true≢false (sym (ap is_some f))) }
+      by false = record { root = well.root; mount_point = λ at f. left mount.mount_point refl at f }
 
   pub taken_show : AllShow (taken_away nat_eq world gone)
   taken_show mount m =
@@ -183,7 +183,7 @@ module _ (world : World ℕ) (gone : List ℕ) (shows : AllShow world) where
       (going_shows old.0 (shows old.0 old.1)) in
       shows_after world (taken_away nat_eq world gone) (taken_seen world gone) mount
       (subst (ShowsWell world) (sym from.2)
-      (record { root = well.root; place = well.place }))
+      (record { root = well.root; mount_point = well.mount_point }))
 
 lazy_show_step : (world : World ℕ) (mount : Mount ℕ) → AllShow world → AllShow (unmounted_if_there nat_eq world mount)
 lazy_show_step world mount shows = by (is_some (mount_numbered nat_eq world mount.number).namespace)
@@ -221,10 +221,10 @@ retyped_show world fresh one word recursive shows mount m =
     let kept = retype_keeps world group word named old.0 in
     let well : ShowsWell world from.0 =
     subst (ShowsWell world) (sym old.2)
-    (shows_alike world old.0 (change old.0) kept.filesystem kept.root kept.place (shows old.0 old.1)) in
+    (shows_alike world old.0 (change old.0) kept.filesystem kept.root kept.mount_point (shows old.0 old.1)) in
     shows_after world (with_type nat_eq fresh world one word recursive)
     (retyped_seen world fresh one word recursive) mount
-    (subst (ShowsWell world) (sym from.2) (record { root = well.root; place = well.place }))
+    (subst (ShowsWell world) (sym from.2) (record { root = well.root; mount_point = well.mount_point }))
 
 pub flags_show : (world : World ℕ) (one : ℕ) (flags : MountFlags) → AllShow world
     → ShowsWell world (mount_numbered nat_eq world one)
@@ -239,7 +239,7 @@ flags_show world one flags shows well mount m =
   where
     by : (old : Mount ℕ) (b : Bool) → ShowsWell world old
         → ShowsWell world (if b then (record (mount_numbered nat_eq world one) { flags = flags }) else old)
-    by old true was = record { root = well.root; place = well.place }
+    by old true was = record { root = well.root; mount_point = well.mount_point }
     by old false was = was
 
 -- The root is pivoted
@@ -253,11 +253,11 @@ pivoted_show world namespace root new put shows at_root_place at_put mount m =
     (by from.0 (nat_eq from.0.number new.number) (nat_eq from.0.number root.number) (shows from.0 from.1)))
   where
     by : (old : Mount ℕ) (a b : Bool) → ShowsWell world old
-        → ShowsWell world (if a then (record old { place = root.place }) else
-        (if b then (record old { place = Some put }) else old))
-    by old true b was = record { root = was.root; place = at_root_place.place }
+        → ShowsWell world (if a then (record old { mount_point = root.mount_point }) else
+        (if b then (record old { mount_point = Some put }) else old))
+    by old true b was = record { root = was.root; mount_point = at_root_place.mount_point }
     by old false true was =
-        record { root = was.root; place = λ place e. subst (IsPlace world) (same_Some put place e) at_put }
+        record { root = was.root; mount_point = λ place e. subst (IsPlace world) (same_Some put place e) at_put }
     by old false false was = was
 
 -- The mounts of a namespace are copied
@@ -276,13 +276,13 @@ module _ (world : World ℕ) (fresh : Fresh ℕ) (task : Task ℕ) (is : IsWorld
   is_own None e = absurd (true≢false (sym e))
   is_own (Some n) e = ap Some (sym (eqb-true task.namespace n e))
 
-  copy_place : (mount : Mount ℕ) → Among mount copied → (place : Location ℕ) → mount.place ≡ Some place
+  copy_place : (mount : Mount ℕ) → Among mount copied → (place : Location ℕ) → mount.mount_point ≡ Some place
       → IsPlace after (location_on_copy copy place)
   copy_place mount m place at =
       let there = among-from_filter
       (λ (x : Mount ℕ). holds_of (nat_eq task.namespace) x.namespace) world.mounts mount m in
       let parent = mount_at nat_eq world place in
-      let on = (world_shows world is mount there.0).place place at in
+      let on = (world_shows world is mount there.0).mount_point place at in
       let namespace : parent.namespace ≡ Some task.namespace =
       sym (parent_namespace world is mount there.0 place at) ∙ is_own mount.namespace there.1 in
       let parent_copied : Among parent copied =
@@ -317,10 +317,10 @@ module _ (world : World ℕ) (fresh : Fresh ℕ) (task : Task ℕ) (is : IsWorld
             root = (world_shows world is old
                 (among-from_filter (λ (x : Mount ℕ). holds_of
                 (nat_eq task.namespace) x.namespace) world.mounts old n).0).root;
-            place = λ at e. by old.place refl at e;
+            mount_point = λ at e. by old.mount_point refl at e;
           }
         where
-          by : (o : Option (Location ℕ)) → old.place ≡ o → (at : Location ℕ)
+          by : (o : Option (Location ℕ)) → old.mount_point ≡ o → (at : Location ℕ)
               → option_map (location_on_copy copy) o ≡ Some at → IsPlace after at
           by None e at f = absurd (true≢false (sym (ap is_some f)))
           by (Some place) e at f = subst (IsPlace after) (same_Some (location_on_copy copy place) at f)

@@ -4,7 +4,7 @@ use Rattle.std.specs.Prelude.{if◌then◌else◌, unwrap_or}
 use Rattle.std.proofs.lemmas.Bool.{and_from, and_parts}
 use Rattle.std.proofs.lemmas.Option.{same_Some}
 use Rattle.vt_spec.specs.Machine.Attach.{Copies, Graft, Twig, added_mounts, attached_by, copies_at, copy_at, copy_number, copy_place, is_top, place_on_copy, pushed_onto, reaches, receiver_below, receivers_of, takes_part, top_of_copies, twig_of, with_moved_mounts}
-use Rattle.vt_spec.specs.Machine.Lists.{folded, rest_of}
+use Rattle.vt_spec.specs.Lists.{folded, rest_of}
 use Rattle.vt_spec.specs.Machine.Mounts.{Location, Mount, child_at, group_of, replaced_if_same, root_of, stands_at, with_mount}
 use Rattle.vt_spec.specs.Machine.World.{World, is_directory_at, mount_at, mount_numbered}
 use Rattle.vt_spec.specs.Tree.{is_directory_node}
@@ -66,7 +66,7 @@ module _ (world : World ℕ) (new : Copies ℕ) (place : Location ℕ) (moves : 
     → is_directory_node (node_in world origin.filesystem origin.root) ≡ true)
     (parents : (origin : Mount ℕ) → Among origin mounts
     → is_top nat_eq (graft world new place moves mounts) origin.number ≡ false
-    → (at : Location ℕ) → origin.place ≡ Some at
+    → (at : Location ℕ) → origin.mount_point ≡ Some at
     → (on : Mount ℕ) × Among on mounts × (on.number ≡ at.mount)
     × (is_directory_node (node_in world on.filesystem at.node) ≡ true))
     (moving : moves ≡ true → (origin : Mount ℕ) → Among origin mounts
@@ -206,12 +206,12 @@ module _ (world : World ℕ) (new : Copies ℕ) (place : Location ℕ) (moves : 
   copy_shows part m origin n =
       record {
         root = roots origin n;
-        place = λ at e.
+        mount_point = λ at e.
             subst (IsPlace after) (same_Some (copy_place nat_eq new tree part.number origin) at e)
-            (by (is_top nat_eq tree origin.number) refl origin.place refl);
+            (by (is_top nat_eq tree origin.number) refl origin.mount_point refl);
       }
     where
-      by : (b : Bool) → is_top nat_eq tree origin.number ≡ b → (o : Option (Location ℕ)) → origin.place ≡ o
+      by : (b : Bool) → is_top nat_eq tree origin.number ≡ b → (o : Option (Location ℕ)) → origin.mount_point ≡ o
           → IsPlace after (if b then record { mount = part.number; node = place.node }
           else unwrap_or (option_map (place_on_copy nat_eq new tree part.number) o) place)
       by true top o at = part_place part m
@@ -255,7 +255,7 @@ module _ (world : World ℕ) (new : Copies ℕ) (place : Location ℕ) (moves : 
           (rest_of all_parts) part e in
           record {
             root = well.root;
-            place = λ at f. subst (IsPlace after) (same_Some (top_of_copies nat_eq (copies part) place) at f)
+            mount_point = λ at f. subst (IsPlace after) (same_Some (top_of_copies nat_eq (copies part) place) at f)
                 (top_place part found.0);
           }
 

@@ -2,8 +2,9 @@
 use Rattle.std.proofs.Common.{◌≡◌, refl, sym, ap, subst, ◌∙◌, ◌⊎◌, inl, inr, ⊎_elim, ℕ, zero, suc, ◌+◌, ◌*◌, arith, nat_eq, eqb-true, eq-eqb, Bool, true, false, cond, true≢false, find, flat_map, filter, List, [], ◌∷◌, ◌++◌, Some, None, length, map}
 use Rattle.std.specs.Prelude.{unwrap_or}
 use Rattle.vt_spec.specs.Machine.Attach.{attach, bind_tree, bindable_children, bindable_tree, bound, is_top, stands_under, twig_of}
-use Rattle.vt_spec.specs.Machine.Lists.{Fresh, first_of_list, holds_of, odds}
-use Rattle.vt_spec.specs.Machine.Mounts.{Location, Mount, MountFlags, children, group_of, mount_tree, stands_on, tree_from}
+use Rattle.vt_spec.specs.Lists.{Fresh, first_of_list, holds_of, odds}
+use Rattle.vt_spec.specs.Machine.Mounts.{Location, Mount, children, group_of, mount_tree, stands_on, tree_from}
+use Rattle.vt_spec.specs.Language.Calls.{MountFlags}
 use Rattle.vt_spec.specs.Machine.Outcome.Mounting.{bound_at, mounted, new_mount, plain_filesystem, with_new_filesystem}
 use Rattle.vt_spec.specs.Machine.Run.{Serves, numbers_in_use, used_by_filesystem, used_by_mount}
 use Rattle.vt_spec.specs.Machine.World.{Filesystem, World, is_directory_at, mount_at, mount_numbered, no_filesystem, root_attr}
@@ -101,7 +102,7 @@ module _ (world : World ℕ) (is : IsWorld nat_eq world) where
 
   -- so its child stands on what is there
   pub stands_there_well : (mounts : List (Mount ℕ)) → ((mount : Mount ℕ) → Among mount mounts → IsNumberedWell mount)
-      → (mount : Mount ℕ) → HasParent mounts mount → (at : Location ℕ) → mount.place ≡ Some at
+      → (mount : Mount ℕ) → HasParent mounts mount → (at : Location ℕ) → mount.mount_point ≡ Some at
       → (on : Mount ℕ) × Among on mounts × (on.number ≡ at.mount)
       × (is_directory_node (node_in world on.filesystem at.node) ≡ true)
   stands_there_well mounts well mount has at e =
@@ -114,7 +115,7 @@ module _ (world : World ℕ) (is : IsWorld nat_eq world) where
         number,
         ap (λ f. is_directory_node (node_in world f at.node))
             (sym (well on has.1.1) ∙ ap (λ n. (mount_numbered nat_eq world n).filesystem) number)
-            ∙ ((world_shows world is mount has.0).place at e).directory,
+            ∙ ((world_shows world is mount has.0).mount_point at e).directory,
       )
 
   -- Binds

@@ -4,15 +4,15 @@ use Rattle.std.specs.Prelude.{if◌then◌else◌}
 use Rattle.std.specs.List.{list_any}
 use Rattle.std.specs.Cmp.Lexicographic.{bytes_decides}
 use Rattle.std.proofs.lemmas.Bool.{or_parts}
-use Rattle.vt_spec.specs.Machine.Lists.{any_pair, first_of_list, rest_of}
+use Rattle.vt_spec.specs.Lists.{Fresh, any_pair, first_of_list, rest_of}
 use Rattle.vt_spec.specs.Machine.Mounts.{Mount}
 use Rattle.vt_spec.specs.Machine.Namespaces.{pivoted_location, pivoted_task}
 use Rattle.vt_spec.specs.Machine.Filesystems.{raised}
 use Rattle.vt_spec.specs.Machine.Policy.{numbers_raised, raised_task}
 use Rattle.vt_spec.specs.Machine.Outcome.Tasks.{child_name, child_of}
-use Rattle.vt_spec.specs.Machine.Lists.{Fresh}
 use Rattle.vt_spec.specs.Machine.WorldLaws.{ForksAreCounted}
-use Rattle.vt_spec.specs.Machine.World.{Task, TaskName, World, first_task, opening, replaced_if_called, same_name}
+use Rattle.vt_spec.specs.Machine.World.{Task, World, first_task, opening, replaced_if_called}
+use Rattle.vt_spec.specs.Language.Calls.{TaskName, same_name}
 use Rattle.vt_spec.specs.Rights.{Credentials}
 use Rattle.vt_spec.proofs.Lists.{Among, among-append, among-from_filter, among-from_map, among_from_contains, contains_from_among, none_among, none_from_among, pair-filter, pair-map}
 

@@ -3,7 +3,7 @@
 //! Each public function is a theorem of the written policy, and does nothing.
 #![tactic(auto)]
 
+pub mod kept;
 pub mod opening;
 pub mod settling;
-pub mod kept;
 pub mod worlds;

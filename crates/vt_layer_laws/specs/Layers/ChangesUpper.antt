@@ -1,12 +1,12 @@
 -- What a change of an overlay does to its tree and to its upper layer, clause by clause: the kernel's overlayfs document,
 -- "upper and lower" (copy_up) and "whiteouts and opaque directories".
 use Rattle.std.specs.Prelude.{List, None, Option, Some, [], false, is_some, nat_eq, true, ℕ, ⊤, ◌++◌, ◌||◌, ◌≡◌, ◌≢◌, ◌⊎◌}
-use Rattle.vt_spec.specs.Machine.Changes.{Change, changed, node_with_attr, node_with_mark}
-use Rattle.vt_spec.specs.Machine.Changes.Change.{AddName, CopyUp, Make, Move, Remove, SetAttr, SetBytes, SetMark}
+use Rattle.vt_spec.specs.Language.Changes.{Change, changed, node_with_attr, node_with_mark}
+use Rattle.vt_spec.specs.Language.Changes.Change.{AddName, CopyUp, Make, Move, Remove, SetAttr, SetBytes, SetMark}
 use Rattle.vt_spec.specs.Machine.CopyUp.{Merge, Stack, copied_up, hides_directory, line_to, merge_changed, shown_below, upper_directory_named, upper_of, whiteout_of}
-use Rattle.vt_spec.specs.Machine.FileTree.{FileTree, a_name, attr_in, is_opaque_in, kind_in}
+use Rattle.vt_spec.specs.FileTree.{FileTree, a_name, attr_in, is_opaque_in, kind_in}
 use Rattle.vt_spec.specs.Machine.Layers.{Shown}
-use Rattle.vt_spec.specs.Machine.Lists.{Fresh, evens, is_among, odds}
+use Rattle.vt_spec.specs.Lists.{Fresh, evens, is_among, odds}
 use Rattle.vt_spec.specs.Machine.Filesystems.{merge_of}
 use Rattle.vt_spec.specs.Machine.World.{Layer, Overlay, World, filesystem_numbered, upper_object}
 use Rattle.vt_spec.specs.Machine.WorldLaws.{IsWorld, ListsNumbers, number_at_path}

@@ -3,7 +3,7 @@
 -- directories" and "multiple lower layers".
 use Rattle.std.specs.Prelude.{All, List, None, Option, Some, [], if◌then◌else◌, map, slice_get, true, ℕ, ◌++◌, ◌+◌, ◌∷◌, ◌≡◌, ◌≢◌, is_some}
 use Rattle.vt_spec.specs.Machine.Layers.{OpenLayer, view_of}
-use Rattle.vt_spec.specs.Machine.Lists.{then_some}
+use Rattle.vt_spec.specs.Lists.{then_some}
 use Rattle.vt_spec.specs.Machine.Views.{Shown, View, cuts, hides, node_led, shown, shown_over}
 use Rattle.vt_spec.specs.Tree.{Node, is_directory_node}
 use Rattle.vt_spec.specs.TreeLaws.{IsDirectory, IsTree, entry_at}

@@ -2,7 +2,7 @@
 -- "directories".
 use Rattle.std.specs.Prelude.{List, Option, Some, [], is_some, map, nat_eq, option_map, ℕ, ◌++◌, ◌∷◌, ◌≡◌}
 use Rattle.vt_spec.specs.Machine.Layers.{view_of}
-use Rattle.vt_spec.specs.Machine.Lists.{then_some}
+use Rattle.vt_spec.specs.Lists.{then_some}
 use Rattle.vt_spec.specs.Machine.Merging.{real_object}
 use Rattle.vt_spec.specs.Machine.Views.{Shown, View, shown}
 use Rattle.vt_spec.specs.Machine.World.{Overlay, World, open_layer, shown_layers}

@@ -1,8 +1,8 @@
 -- What lies or counts under a layer of a live overlay is changed by nobody but the overlay itself, and only in its upper
 -- layer: the kernel's overlayfs document, "changes to underlying filesystems" (that a layer in use is locked is the profile's).
 use Rattle.std.specs.Prelude.{Contains, Some, nat_eq, true, ℕ, ◌≡◌, ◌≢◌}
-use Rattle.vt_spec.specs.Machine.Calls.{Call}
-use Rattle.vt_spec.specs.Machine.Lists.{Fresh}
+use Rattle.vt_spec.specs.Language.Calls.{Call}
+use Rattle.vt_spec.specs.Lists.{Fresh}
 use Rattle.vt_spec.specs.Machine.Locked.{lies_or_counts_under, upper_and_work}
 use Rattle.vt_spec.specs.Machine.Policy.{call_outcome}
 use Rattle.vt_spec.specs.Machine.World.{Layer, Overlay, Task, World, filesystem_numbered, task_called}

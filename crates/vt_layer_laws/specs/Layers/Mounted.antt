@@ -2,9 +2,9 @@
 -- same tree: the kernel's overlayfs document, "upper and lower" and "changes to underlying filesystems".
 use Rattle.std.specs.Prelude.{List, Option, Some, [], is_some, map, nat_eq, true, ℕ, ⊤, ◌∷◌, ◌≡◌, ◌≢◌}
 use Rattle.std.specs.List.{list_all}
-use Rattle.vt_spec.specs.Machine.FileTree.{attr_in, is_opaque_in, kind_in}
+use Rattle.vt_spec.specs.FileTree.{attr_in, is_opaque_in, kind_in}
 use Rattle.vt_spec.specs.Machine.Layers.{OpenLayer, node_at_path}
-use Rattle.vt_spec.specs.Machine.Lists.{Fresh, then_some}
+use Rattle.vt_spec.specs.Lists.{Fresh, then_some}
 use Rattle.vt_spec.specs.Machine.Outcome.Mounting.{overlay_filesystem}
 use Rattle.vt_spec.specs.Machine.World.{Filesystem, Overlay, World, filesystem_numbered, open_layer, shown_layers}
 use Rattle.vt_spec.specs.Machine.WorldLaws.{IsMerged, IsWorld, SameObject, is_plain_layer, number_at_path}

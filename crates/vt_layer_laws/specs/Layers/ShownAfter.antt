@@ -2,10 +2,10 @@
 use Rattle.std.specs.Prelude.{Bool, List, None, Option, Some, [], false, is_some, nat_eq, not, true, ℕ, ⊤, ◌||◌, ◌∷◌, ◌≡◌}
 use Rattle.std.specs.List.{list_any}
 use Rattle.vt_spec.specs.declared.attributes.Kind.TheVariants.{White}
-use Rattle.vt_spec.specs.Machine.Changes.{Change}
-use Rattle.vt_spec.specs.Machine.Changes.Change.{AddName, CopyUp, Make, Move, Remove, SetAttr, SetBytes, SetMark}
-use Rattle.vt_spec.specs.Machine.FileTree.{FileTree, is_kind, is_kind_in, is_opaque_in, kind_in}
-use Rattle.vt_spec.specs.Machine.Lists.{fronts, same_option, when}
+use Rattle.vt_spec.specs.Language.Changes.{Change}
+use Rattle.vt_spec.specs.Language.Changes.Change.{AddName, CopyUp, Make, Move, Remove, SetAttr, SetBytes, SetMark}
+use Rattle.vt_spec.specs.FileTree.{FileTree, is_kind, is_kind_in, is_opaque_in, kind_in}
+use Rattle.vt_spec.specs.Lists.{fronts, same_option, when}
 use Rattle.vt_spec.specs.Machine.Views.{View, below, node_led, shown}
 use Rattle.vt_spec.specs.Tree.{Node, Tree, entries_of, is_directory_node, kind_of}
 use Rattle.vt_spec.specs.TreeLaws.{IsDirectory, IsTree, entry_at}

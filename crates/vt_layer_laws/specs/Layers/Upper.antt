@@ -1,11 +1,11 @@
 -- What a change through an overlay leaves as it was in the filesystem of its upper layer: the kernel's overlayfs document,
 -- "upper and lower".
 use Rattle.std.specs.Prelude.{Some, is_some, nat_eq, true, ℕ, ◌≡◌, ◌≢◌}
-use Rattle.vt_spec.specs.Machine.Changes.{Change}
-use Rattle.vt_spec.specs.Machine.Changes.Change.{AddName, CopyUp, Make, Move, Remove, SetAttr, SetBytes, SetMark}
-use Rattle.vt_spec.specs.Machine.FileTree.{FileTree}
+use Rattle.vt_spec.specs.Language.Changes.{Change}
+use Rattle.vt_spec.specs.Language.Changes.Change.{AddName, CopyUp, Make, Move, Remove, SetAttr, SetBytes, SetMark}
+use Rattle.vt_spec.specs.FileTree.{FileTree}
 use Rattle.vt_spec.specs.Machine.Filesystems.{with_change}
-use Rattle.vt_spec.specs.Machine.Lists.{Fresh}
+use Rattle.vt_spec.specs.Lists.{Fresh}
 use Rattle.vt_spec.specs.Machine.Mounts.{Location}
 use Rattle.vt_spec.specs.Machine.World.{Layer, Overlay, World, files_at, filesystem_at}
 use Rattle.vt_spec.specs.Machine.World.Real.{Upper}

@@ -4,11 +4,11 @@ use Rattle.std.specs.Prelude.{Bool, List, None, Some, [], false, if◌then◌els
 use Rattle.std.specs.List.{list_any}
 use Rattle.std.specs.Str.{bytes_eq}
 use Rattle.vt_spec.specs.declared.attributes.Attr.{Attr}
-use Rattle.vt_spec.specs.Machine.Changes.{Change, changed, node_with_attr, node_with_mark}
-use Rattle.vt_spec.specs.Machine.Changes.Change.{AddName, CopyUp, Make, Move, Remove, SetAttr, SetBytes, SetMark}
-use Rattle.vt_spec.specs.Machine.FileTree.{FileTree}
+use Rattle.vt_spec.specs.Language.Changes.{Change, changed, node_with_attr, node_with_mark}
+use Rattle.vt_spec.specs.Language.Changes.Change.{AddName, CopyUp, Make, Move, Remove, SetAttr, SetBytes, SetMark}
+use Rattle.vt_spec.specs.FileTree.{FileTree}
 use Rattle.vt_spec.specs.Machine.Layers.{View, view_of}
-use Rattle.vt_spec.specs.Machine.Lists.{front_of, fronts, is_among, is_empty_list, last_or, same_option}
+use Rattle.vt_spec.specs.Lists.{front_of, fronts, is_among, is_empty_list, last_or, same_option}
 use Rattle.vt_spec.specs.Machine.Views.{node_led, shown}
 use Rattle.vt_spec.specs.Tree.{Node, Tree, entries_in, entries_of, is_directory_node, node_with_bytes}
 use Rattle.vt_spec.specs.TreeLaws.{IsDirectory, IsTree, entry_at, led}

@@ -1,8 +1,9 @@
 -- What a bind, a new mount and a move keep of mounts outside every namespace and of groups:
 -- mount_namespaces(7), sharedsubtree.
 use Rattle.std.specs.Prelude.{Bool, is_some, true, ℕ, nat_eq, ◌≡◌}
-use Rattle.vt_spec.specs.Machine.Lists.{Fresh}
-use Rattle.vt_spec.specs.Machine.Mounts.{Location, MountFlags}
+use Rattle.vt_spec.specs.Lists.{Fresh}
+use Rattle.vt_spec.specs.Machine.Mounts.{Location}
+use Rattle.vt_spec.specs.Language.Calls.{MountFlags}
 use Rattle.vt_spec.specs.Machine.Outcome.Mounting.{bound_at, mounted, moved_to, with_new_filesystem}
 use Rattle.vt_spec.specs.Machine.Run.{Serves}
 use Rattle.vt_spec.specs.Machine.World.{Filesystem, World, mount_at}

@@ -3,7 +3,7 @@
 use Rattle.std.specs.Prelude.{Bool, List, false, filter, map, true, ℕ, nat_eq, ◌++◌, ◌≡◌}
 use Rattle.std.specs.List.{list_any}
 use Rattle.vt_spec.specs.Machine.Attach.{attach, receivers_of, takes_part}
-use Rattle.vt_spec.specs.Machine.Lists.{Fresh, any_pair, is_among}
+use Rattle.vt_spec.specs.Lists.{Fresh, any_pair, is_among}
 use Rattle.vt_spec.specs.Machine.Mounts.{Location, Mount, stands_at}
 use Rattle.vt_spec.specs.Machine.Outcome.Mounting.{moved_to}
 use Rattle.vt_spec.specs.Machine.World.{World, mount_at, mount_numbered}

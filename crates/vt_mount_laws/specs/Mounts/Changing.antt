@@ -2,10 +2,10 @@
 -- MS_BIND, and with MS_SHARED, MS_SLAVE, MS_PRIVATE or MS_UNBINDABLE; mount_namespaces(7), "propagation type
 -- transitions".
 use Rattle.std.specs.Prelude.{Bool, None, false, true, ℕ, nat_eq, ◌≡◌}
-use Rattle.vt_spec.specs.Machine.Calls.{TypeWord}
-use Rattle.vt_spec.specs.Machine.Calls.TypeWord.{ToSlave}
-use Rattle.vt_spec.specs.Machine.Lists.{Fresh, is_among}
-use Rattle.vt_spec.specs.Machine.Mounts.{Location, Mount, MountFlags, numbers_by}
+use Rattle.vt_spec.specs.Language.Calls.{MountFlags, TypeWord}
+use Rattle.vt_spec.specs.Language.Calls.TypeWord.{ToSlave}
+use Rattle.vt_spec.specs.Lists.{Fresh, is_among}
+use Rattle.vt_spec.specs.Machine.Mounts.{Location, Mount, numbers_by}
 use Rattle.vt_spec.specs.Machine.Mounts.Propagation.{Private, Shared}
 use Rattle.vt_spec.specs.Machine.Outcome.Mounting.{with_flags}
 use Rattle.vt_spec.specs.Machine.Receives.{has_members}
@@ -31,7 +31,7 @@ FlagsAreOfOne =
 pub record KeepsAllButType (before later : Mount ℕ) : Type 0 where
   pub number : later.number ≡ before.number
   pub namespace : later.namespace ≡ before.namespace
-  pub place : later.place ≡ before.place
+  pub mount_point : later.mount_point ≡ before.mount_point
   pub filesystem : later.filesystem ≡ before.filesystem
   pub root : later.root ≡ before.root
   pub flags : later.flags ≡ before.flags

@@ -1,7 +1,7 @@
 -- Numbers for the copies of mounts that are attached, by what they are made from.
 use Rattle.std.specs.Prelude.{Bool, List, false, true, ℕ, nat_eq, ◌≡◌, ◌≢◌}
 use Rattle.vt_spec.specs.Machine.Attach.{Copies, attached_by, copies_from, parts_of}
-use Rattle.vt_spec.specs.Machine.Lists.{Fresh, is_among}
+use Rattle.vt_spec.specs.Lists.{Fresh, is_among}
 use Rattle.vt_spec.specs.Machine.Mounts.{Location, Mount}
 use Rattle.vt_spec.specs.Machine.Receives.{has_members}
 use Rattle.vt_spec.specs.Machine.Run.{Serves, numbers_in_use}

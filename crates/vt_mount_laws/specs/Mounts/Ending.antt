@@ -116,20 +116,20 @@ ByEndedNamespaces Relation =
 abbrev pub UnmountKeepsRootMounts : Type 0
 UnmountKeepsRootMounts =
     (world : World ℕ) (one : ℕ) → OneNumberEach world
-    → is_some (mount_numbered nat_eq world one).place ≡ true
+    → is_some (mount_numbered nat_eq world one).mount_point ≡ true
     → KeepsRootMounts world (unmounted nat_eq world one)
 
 abbrev pub LazyUnmountKeepsRootMounts : Type 0
 LazyUnmountKeepsRootMounts =
     (world : World ℕ) (one : ℕ) → OneNumberEach world
-    → is_some (mount_numbered nat_eq world one).place ≡ true
+    → is_some (mount_numbered nat_eq world one).mount_point ≡ true
     → KeepsRootMounts world (lazily_unmounted nat_eq world one)
 
 -- or has each of the mounts of which trees are taken away,
 abbrev pub TreesKeepRootMounts : Type 0
 TreesKeepRootMounts =
     (world : World ℕ) (mounts : List (Mount ℕ)) → OneNumberEach world
-    → list_all (λ mount. is_some (mount_numbered nat_eq world mount.number).place) mounts ≡ true
+    → list_all (λ mount. is_some (mount_numbered nat_eq world mount.number).mount_point) mounts ≡ true
     → KeepsRootMounts world (trees_taken_away nat_eq world mounts)
 
 -- as those on a directory have,

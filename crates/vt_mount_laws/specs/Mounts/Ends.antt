@@ -23,8 +23,8 @@ OthersAreKept =
 abbrev pub OthersKeepTheirPlaces : Type 0
 OthersKeepTheirPlaces =
     (world : World ℕ) (gone : List ℕ) (number : ℕ) (place : Location ℕ) → is_going nat_eq gone number ≡ false
-    → (mount_numbered nat_eq world number).place ≡ Some place → is_going nat_eq gone place.mount ≡ false
-    → (mount_numbered nat_eq (taken_away nat_eq world gone) number).place ≡ Some place
+    → (mount_numbered nat_eq world number).mount_point ≡ Some place → is_going nat_eq gone place.mount ≡ false
+    → (mount_numbered nat_eq (taken_away nat_eq world gone) number).mount_point ≡ Some place
 
 -- and its type, unless it is a slave of a group that lost its last member.
 abbrev pub OthersKeepTheirTypes : Type 0
@@ -47,5 +47,5 @@ LazyIsOfMounts = (world : World ℕ) (one : ℕ) → KeepsAllButMounts world (la
 -- A mount that stands at a place, and on which no other stands, goes itself when it is unmounted.
 abbrev pub TheMountItselfGoes : Type 0
 TheMountItselfGoes =
-    (world : World ℕ) (one : ℕ) (place : Location ℕ) → OneMountAPlace world.mounts → (mount_numbered nat_eq world one).place ≡ Some place
+    (world : World ℕ) (one : ℕ) (place : Location ℕ) → OneMountAPlace world.mounts → (mount_numbered nat_eq world one).mount_point ≡ Some place
     → has_child nat_eq world one ≡ false → goes_with world one one ≡ true

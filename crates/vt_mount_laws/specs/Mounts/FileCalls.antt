@@ -1,12 +1,12 @@
 -- Calls on files, and calls of tasks that leave no namespace, are of no mount.
 use Rattle.std.specs.Prelude.{Bool, List, false, filter, true, ℕ, nat_eq, ◌≡◌, ◌⊎◌}
-use Rattle.vt_spec.specs.Machine.Calls.{Call}
-use Rattle.vt_spec.specs.Machine.Calls.Call.{Bind, Exit, Lazy, MountOverlay, MountPlain, MoveMount, PivotRoot, Remount, Rename, Rmdir, SetType, Setns, Umount, Unshare}
-use Rattle.vt_spec.specs.Machine.Lists.{Fresh}
+use Rattle.vt_spec.specs.Language.Calls.{Call, TaskName}
+use Rattle.vt_spec.specs.Language.Calls.Call.{Bind, Exit, Lazy, MountOverlay, MountPlain, MoveMount, PivotRoot, Remount, Rename, Rmdir, SetType, Setns, Umount, Unshare}
+use Rattle.vt_spec.specs.Lists.{Fresh}
 use Rattle.vt_spec.specs.Machine.Mounts.{Mount}
 use Rattle.vt_spec.specs.Machine.Policy.{policy}
 use Rattle.vt_spec.specs.Machine.Settled.{mount_lives}
-use Rattle.vt_spec.specs.Machine.World.{TaskName, World}
+use Rattle.vt_spec.specs.Machine.World.{World}
 
 -- A call that is no mount call, removes no directory and leaves no namespace. A directory that is removed or replaced may
 -- be a mount point in another namespace, and a namespace may end with the task that leaves it: mount_namespaces(7).

@@ -1,18 +1,17 @@
 -- What a granted call makes of the mounts: umount(2), mount(2), pivot_root(2), rmdir(2), rename(2), _exit(2), unshare(2), setns(2).
 use Rattle.std.specs.Prelude.{Bool, List, Ok, Some, ℕ, nat_eq, ◌≡◌}
-use Rattle.vt_spec.specs.Machine.Calls.{Call, OverlayWords, TypeWord}
-use Rattle.vt_spec.specs.Machine.Calls.Call.{Bind, Exit, Lazy, MountOverlay, MountPlain, MoveMount, PivotRoot, Remount, Rmdir, SetType, Setns, Unshare, Rename}
+use Rattle.vt_spec.specs.Language.Calls.{Call, MountFlags, OverlayWords, TaskName, TypeWord}
+use Rattle.vt_spec.specs.Language.Calls.Call.{Bind, Exit, Lazy, MountOverlay, MountPlain, MoveMount, PivotRoot, Remount, Rmdir, SetType, Setns, Unshare, Rename}
 use Rattle.vt_spec.specs.Machine.Detach.{lazily_unmounted, without_mounts_on}
-use Rattle.vt_spec.specs.Machine.Lists.{Fresh, odds}
-use Rattle.vt_spec.specs.Machine.Mounts.{MountFlags}
+use Rattle.vt_spec.specs.Lists.{Fresh, odds}
 use Rattle.vt_spec.specs.Machine.Namespaces.{namespace_entered, namespaces_ended, pivoted, unshared}
 use Rattle.vt_spec.specs.Machine.Outcome.Mounting.{LayerPlaces, bound_at, destination_walk, layers_walked, mounted, moved_to, overlay_mounted, plain_filesystem, source_walk, with_flags}
 use Rattle.vt_spec.specs.Machine.Outcome.Removing.{object_there, is_one_object, rename_new_walk, without_replaced}
-use Rattle.vt_spec.specs.Machine.Outcomes.Answer.{Done}
+use Rattle.vt_spec.specs.Language.Answers.Answer.{Done}
 use Rattle.vt_spec.specs.Machine.Policy.{policy}
 use Rattle.vt_spec.specs.Machine.Types.{with_type}
 use Rattle.vt_spec.specs.Machine.Walk.{Here, Place, directory_walk, old_walk, walk_end, is_directory_there, old_leaf_walk}
-use Rattle.vt_spec.specs.Machine.World.{Task, TaskName, World, mount_at, task_called, without_task}
+use Rattle.vt_spec.specs.Machine.World.{Task, World, mount_at, task_called, without_task}
 use Rattle.vt_mount_laws.specs.Mounts.FileCalls.{HasLiving}
 use Rattle.std.proofs.Common.{false, true}
 

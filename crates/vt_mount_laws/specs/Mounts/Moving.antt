@@ -2,8 +2,9 @@
 -- mount_namespaces(7), sharedsubtree, "Move semantics".
 use Rattle.std.specs.Prelude.{All, Bool, Contains, None, Some, false, filter, is_some, length, true, ℕ, nat_eq, ◌≡◌}
 use Rattle.std.specs.List.{list_any}
-use Rattle.vt_spec.specs.Machine.Lists.{Fresh}
-use Rattle.vt_spec.specs.Machine.Mounts.{Location, Mount, MountFlags, child_at}
+use Rattle.vt_spec.specs.Lists.{Fresh}
+use Rattle.vt_spec.specs.Machine.Mounts.{Location, Mount, child_at}
+use Rattle.vt_spec.specs.Language.Calls.{MountFlags}
 use Rattle.vt_spec.specs.Machine.Outcome.Mounting.{bound_at, mounted, moved_to, moved_tree}
 use Rattle.vt_spec.specs.Machine.Run.{Serves}
 use Rattle.vt_spec.specs.Machine.World.{Filesystem, World, mount_at, mounts_of}
@@ -52,7 +53,7 @@ NewMountsStayInNamespaces =
 abbrev pub MovesKeepRootMounts : Type 0
 MovesKeepRootMounts =
     (world : World ℕ) (fresh : Fresh ℕ) (source place : Location ℕ) → OneNumberEach world
-    → is_some (mount_at nat_eq world source).place ≡ true
+    → is_some (mount_at nat_eq world source).mount_point ≡ true
     → KeepsRootMounts world (moved_to nat_eq fresh world source place)
 
 abbrev pub MovesStayInNamespaces : Type 0
@@ -69,7 +70,7 @@ is_mount_of place other = nat_eq other.number place.mount
 -- A mount that has a place is moved, to a place in its namespace that is on no mount of the tree that moves: mount(2) with
 -- MS_MOVE
 pub record CanMove (world : World ℕ) (source place : Location ℕ) : Type 0 where
-  pub placed : is_some (mount_at nat_eq world source).place ≡ true
+  pub placed : is_some (mount_at nat_eq world source).mount_point ≡ true
   pub one_namespace : (mount_at nat_eq world place).namespace ≡ (mount_at nat_eq world source).namespace
   pub outside : list_any (is_mount_of place) (moved_tree nat_eq world source) ≡ false
 

@@ -1,10 +1,10 @@
 -- Mounts of namespaces: mount_namespaces(7), unshare(2), pivot_root(2).
 use Rattle.std.specs.List.{list_all}
 use Rattle.std.specs.Prelude.{Bool, None, [], false, filter, is_some, length, map, Some, option_to_list, true, ℕ, nat_eq, ◌≡◌}
-use Rattle.vt_spec.specs.Machine.Calls.{TypeWord}
-use Rattle.vt_spec.specs.Machine.Lists.{Fresh, evens, odds}
+use Rattle.vt_spec.specs.Language.Calls.{MountFlags, TypeWord}
+use Rattle.vt_spec.specs.Lists.{Fresh, evens, odds}
 use Rattle.vt_spec.specs.Machine.Looks.{looks_of}
-use Rattle.vt_spec.specs.Machine.Mounts.{Location, Mount, MountFlags, child_at, numbers_by, root_of, topmost}
+use Rattle.vt_spec.specs.Machine.Mounts.{Location, Mount, child_at, numbers_by, root_of, topmost}
 use Rattle.vt_spec.specs.Machine.Namespaces.{copied_mount, pivoted, unshared}
 use Rattle.vt_spec.specs.Machine.Outcome.Mounting.{with_flags}
 use Rattle.vt_spec.specs.Machine.Rules.Mounting.{is_below_mount, lies_under_place}

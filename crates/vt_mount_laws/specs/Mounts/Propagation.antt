@@ -2,9 +2,10 @@
 use Rattle.std.specs.Prelude.{Bool, Contains, List, None, Option, Some, [], false, find, if◌then◌else◌, true, ℕ, nat_eq, ◌&&◌, ◌∷◌, ◌≡◌, ◌⊎◌}
 use Rattle.vt_spec.specs.Machine.Attach.{attach, bind_tree, bound, copies_from, parts_of}
 use Rattle.vt_spec.specs.Machine.Detach.{unmounted}
-use Rattle.vt_spec.specs.Machine.Lists.{Fresh, evens}
+use Rattle.vt_spec.specs.Lists.{Fresh, evens}
 use Rattle.vt_spec.specs.Machine.Listing.{mount_lines}
-use Rattle.vt_spec.specs.Machine.Mounts.{Location, Mount, MountFlags, Propagation, child_at, detached, is_shared, stands_at}
+use Rattle.vt_spec.specs.Machine.Mounts.{Location, Mount, Propagation, child_at, detached, is_shared, stands_at}
+use Rattle.vt_spec.specs.Language.Calls.{MountFlags}
 use Rattle.vt_spec.specs.Machine.Mounts.Propagation.{Private, Shared, Slave}
 use Rattle.vt_spec.specs.Machine.Namespaces.{unshared}
 use Rattle.vt_spec.specs.Machine.Outcome.Mounting.{moved_tree, new_mount, with_new_filesystem}
@@ -24,7 +25,7 @@ use Rattle.vt_mount_laws.specs.Mounts.Unmounting.{mount_left}
 pub record Attachment : Type 0 where
   pub world : World ℕ
   pub fresh : Fresh ℕ
-  pub place : Location ℕ
+  pub mount_point : Location ℕ
   pub moves : Bool
   pub mounts : List (Mount ℕ)
 
@@ -33,7 +34,7 @@ abbrev pub bind_of : Fresh ℕ → World ℕ → Location ℕ → Location ℕ �
 bind_of fresh world source place recursive = record {
   world = world;
   fresh = fresh;
-  place = place;
+  mount_point = place;
   moves = false;
   mounts = bind_tree nat_eq world source recursive;
 }
@@ -42,7 +43,7 @@ abbrev pub new_mount_of : Fresh ℕ → World ℕ → Location ℕ → Filesyste
 new_mount_of fresh world place filesystem flags = record {
   world = with_new_filesystem world filesystem;
   fresh = fresh;
-  place = place;
+  mount_point = place;
   moves = false;
   mounts = new_mount filesystem.number filesystem.files.tree.root flags ∷ [];
 }
@@ -51,34 +52,34 @@ abbrev pub move_of : Fresh ℕ → World ℕ → Location ℕ → Location ℕ �
 move_of fresh world source place = record {
   world = world;
   fresh = fresh;
-  place = place;
+  mount_point = place;
   moves = true;
   mounts = moved_tree nat_eq world source;
 }
 
 -- the world after it
 abbrev pub world_after : Attachment → World ℕ
-world_after it = attach nat_eq it.world it.fresh it.place it.moves it.mounts
+world_after it = attach nat_eq it.world it.fresh it.mount_point it.moves it.mounts
 
 abbrev pub destination_of : Attachment → Mount ℕ
-destination_of it = mount_at nat_eq it.world it.place
+destination_of it = mount_at nat_eq it.world it.mount_point
 
 -- the destination and the receivers that take part
 abbrev pub IsPart : Attachment → Mount ℕ → Type 0
-IsPart it part = Contains (parts_of nat_eq it.world it.place) part
+IsPart it part = Contains (parts_of nat_eq it.world it.mount_point) part
 
 abbrev pub IsOfTree : Attachment → Mount ℕ → Type 0
 IsOfTree it origin = Contains it.mounts origin
 
 -- what is at this part are the mounts that move themselves
 abbrev pub moves_to : Attachment → Mount ℕ → Bool
-moves_to it part = it.moves && nat_eq part.number it.place.mount
+moves_to it part = it.moves && nat_eq part.number it.mount_point.mount
 
 -- the number of the copy of a mount at a part
 abbrev pub number_at : Attachment → Mount ℕ → Mount ℕ → ℕ
 number_at it part origin =
     if moves_to it part then origin.number
-    else (copies_from nat_eq it.fresh (parts_of nat_eq it.world it.place) it.mounts).copy part.number origin.number
+    else (copies_from nat_eq it.fresh (parts_of nat_eq it.world it.mount_point) it.mounts).copy part.number origin.number
 
 -- the copy of a mount at a part, or at the destination of a move the mount itself
 abbrev pub copy_of : Attachment → Mount ℕ → Mount ℕ → Mount ℕ
@@ -145,7 +146,7 @@ abbrev pub FirstStandsOnItsPart : Type 0
 FirstStandsOnItsPart =
     (it : Attachment) (part first : Mount ℕ) (rest : List (Mount ℕ)) → CanAttach it → IsPart it part
     → it.mounts ≡ first ∷ rest
-    → (copy_of it part first).place ≡ Some (record { mount = part.number; node = it.place.node })
+    → (copy_of it part first).mount_point ≡ Some (record { mount = part.number; node = it.mount_point.node })
 
 -- Each other stands on the copy of the one on which it stood, at the same node; where mounts move, unless it stood at
 -- the place of a receiver.
@@ -153,9 +154,9 @@ abbrev pub OthersStandOnCopies : Type 0
 OthersStandOnCopies =
     (it : Attachment) (part first origin below : Mount ℕ) (rest : List (Mount ℕ)) (at : Location ℕ) → CanAttach it
     → IsPart it part → it.mounts ≡ first ∷ rest → IsOfTree it origin → nat_eq origin.number first.number ≡ false
-    → IsOfTree it below → origin.place ≡ Some at → at.mount ≡ below.number
-    → (moves_to it part && stands_at_a_receiver it.world it.place origin) ≡ false
-    → (copy_of it part origin).place ≡ Some (record { mount = (copy_of it part below).number; node = at.node })
+    → IsOfTree it below → origin.mount_point ≡ Some at → at.mount ≡ below.number
+    → (moves_to it part && stands_at_a_receiver it.world it.mount_point origin) ≡ false
+    → (copy_of it part origin).mount_point ≡ Some (record { mount = (copy_of it part below).number; node = at.node })
 
 -- Types at the destination: sharedsubtree, the tables of "Bind semantics" and "Move semantics"
 
@@ -201,7 +202,7 @@ SlaveOnShared =
 -- the nearest group, from this one up the masters, of which a part is a member
 abbrev pub nearest_part_group : Attachment → ℕ → Option ℕ
 nearest_part_group it group =
-    find (has_members nat_eq (parts_of nat_eq it.world it.place)) (groups_up it.world group)
+    find (has_members nat_eq (parts_of nat_eq it.world it.mount_point)) (groups_up it.world group)
 
 -- copies at two parts are peers
 abbrev pub ArePeers : Mount ℕ → Mount ℕ → Type 0
@@ -223,7 +224,7 @@ CopiesAtPeersArePeers =
 abbrev pub CopiesAtSlavesAreSlaves : Type 0
 CopiesAtSlavesAreSlaves =
     (it : Attachment) (one other origin : Mount ℕ) (master group : ℕ) → CanAttach it → IsPart it one → IsPart it other
-    → IsOfTree it origin → nat_eq one.number it.place.mount ≡ false → one.propagation ≡ Slave master
+    → IsOfTree it origin → nat_eq one.number it.mount_point.mount ≡ false → one.propagation ≡ Slave master
     → nearest_part_group it master ≡ Some group → other.propagation ≡ Shared group
     → IsSlaveOf (copy_of it one origin) (copy_of it other origin)
 

@@ -1,8 +1,9 @@
 -- Where mounts stand: each on one that stands, down to the root mount of its namespace. mount_namespaces(7).
 use Rattle.std.specs.Prelude.{All, Bool, None, true, ℕ, nat_eq, ◌↔◌, ◌≡◌}
 use Rattle.vt_spec.specs.Machine.Attach.{bind_tree}
-use Rattle.vt_spec.specs.Machine.Lists.{Fresh}
-use Rattle.vt_spec.specs.Machine.Mounts.{Location, MountFlags, child_at, mount_tree}
+use Rattle.vt_spec.specs.Lists.{Fresh}
+use Rattle.vt_spec.specs.Machine.Mounts.{Location, child_at, mount_tree}
+use Rattle.vt_spec.specs.Language.Calls.{MountFlags}
 use Rattle.vt_spec.specs.Machine.Outcome.Mounting.{bound_at, mounted, moved_to, with_new_filesystem}
 use Rattle.vt_spec.specs.Machine.Run.{Serves}
 use Rattle.vt_spec.specs.Machine.World.{Filesystem, World, mount_numbered}

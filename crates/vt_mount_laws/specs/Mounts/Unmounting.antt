@@ -2,16 +2,17 @@
 -- semantics". Groups that lose their last member: mount_namespaces(7), and the profile.
 use Rattle.std.specs.Prelude.{Bool, Contains, List, None, Ok, Some, false, find, map, true, ℕ, nat_eq, ◌↔◌, ◌≡◌}
 use Rattle.std.specs.List.{list_all}
-use Rattle.vt_spec.specs.Machine.Calls.Call.{Umount}
+use Rattle.vt_spec.specs.Language.Calls.Call.{Umount}
 use Rattle.vt_spec.specs.Machine.Detach.{going, is_going, may_go, unmounted}
-use Rattle.vt_spec.specs.Machine.Lists.{Fresh}
+use Rattle.vt_spec.specs.Lists.{Fresh}
 use Rattle.vt_spec.specs.Machine.Mounts.{Location, Mount, Propagation, child_at, detached, is_shared}
 use Rattle.vt_spec.specs.Machine.Mounts.Propagation.{Private, Shared, Slave, Unbindable}
-use Rattle.vt_spec.specs.Machine.Outcomes.Answer.{Done}
+use Rattle.vt_spec.specs.Language.Answers.Answer.{Done}
 use Rattle.vt_spec.specs.Machine.Policy.{policy}
 use Rattle.vt_spec.specs.Machine.Receives.{Receives, groups_up, has_members, slave_of_heir}
 use Rattle.vt_spec.specs.Machine.Walk.{Here, directory_walk, walk_end}
-use Rattle.vt_spec.specs.Machine.World.{Task, TaskName, World, mount_at, mount_numbered, task_called}
+use Rattle.vt_spec.specs.Machine.World.{Task, World, mount_at, mount_numbered, task_called}
+use Rattle.vt_spec.specs.Language.Calls.{TaskName}
 use Rattle.vt_spec.specs.Machine.WorldLaws.{stands_in_its_namespace}
 use Rattle.vt_mount_laws.specs.Mounts.FileCalls.{HasLiving}
 use Rattle.vt_mount_laws.specs.Mounts.Receivers.{GroupsLive}
@@ -19,11 +20,11 @@ use Rattle.vt_mount_laws.specs.Mounts.Receivers.{GroupsLive}
 -- What goes when a mount is unmounted. If the mount that it stands on is shared: what stands at the same inode of each mount that
 -- receives from that group, if nothing stands on it, or one mount alone that covers its root. Else the mount itself.
 pub data Goes (world : World ℕ) (mount : Mount ℕ) : ℕ → Type 0 where
-  from_nowhere : mount.place ≡ None → Goes world mount mount.number
-  alone : (place : Location ℕ) → mount.place ≡ Some place → is_shared (mount_at nat_eq world place).propagation ≡ false
+  from_nowhere : mount.mount_point ≡ None → Goes world mount mount.number
+  alone : (place : Location ℕ) → mount.mount_point ≡ Some place → is_shared (mount_at nat_eq world place).propagation ≡ false
       → Goes world mount mount.number
   at_receiver : (place : Location ℕ) (group : ℕ) (receiver child : Mount ℕ)
-      → mount.place ≡ Some place → (mount_at nat_eq world place).propagation ≡ Shared group
+      → mount.mount_point ≡ Some place → (mount_at nat_eq world place).propagation ≡ Shared group
       → Contains world.mounts receiver → Receives world group receiver
       → child_at nat_eq world.mounts (record { mount = receiver.number; node = place.node }) ≡ Some child
       → may_go nat_eq world child ≡ true
@@ -71,20 +72,20 @@ WhatStaysKeeps =
 -- Where a place is left when mounts go: it stays if its mount stays; else it falls to the place of its mount.
 pub data FallsTo (world : World ℕ) (gone : List ℕ) : Location ℕ → Location ℕ → Type 0 where
   rests : (place : Location ℕ) → is_going nat_eq gone place.mount ≡ false → FallsTo world gone place place
-  falls : (place below rest : Location ℕ) → is_going nat_eq gone place.mount ≡ true → (mount_at nat_eq world place).place ≡ Some below
+  falls : (place below rest : Location ℕ) → is_going nat_eq gone place.mount ≡ true → (mount_at nat_eq world place).mount_point ≡ Some below
       → FallsTo world gone below rest → FallsTo world gone place rest
 
 -- What stood on mounts that stay keeps its place, and a root mount stays one.
 abbrev pub WhatStaysKeepsItsPlace : Type 0
 WhatStaysKeepsItsPlace =
     (world : World ℕ) (one number : ℕ) (place : Location ℕ)
-    → goes_with world one number ≡ false → (mount_numbered nat_eq world number).place ≡ Some place
+    → goes_with world one number ≡ false → (mount_numbered nat_eq world number).mount_point ≡ Some place
     → goes_with world one place.mount ≡ false
-    → (mount_left world one number).place ≡ Some place
+    → (mount_left world one number).mount_point ≡ Some place
 
 abbrev pub RootMountsStay : Type 0
 RootMountsStay =
-    (world : World ℕ) (one number : ℕ) → (mount_numbered nat_eq world number).place ≡ None → (mount_left world one number).place ≡ None
+    (world : World ℕ) (one number : ℕ) → (mount_numbered nat_eq world number).mount_point ≡ None → (mount_left world one number).mount_point ≡ None
 
 -- the places below places come to an end
 abbrev pub PlacesEnd : World ℕ → Type 0
@@ -94,9 +95,9 @@ PlacesEnd world = list_all (stands_in_its_namespace nat_eq world) world.mounts �
 abbrev pub WhatCoveredFalls : Type 0
 WhatCoveredFalls =
     (world : World ℕ) (one number : ℕ) (place rest : Location ℕ) → PlacesEnd world
-    → goes_with world one number ≡ false → (mount_numbered nat_eq world number).place ≡ Some place
+    → goes_with world one number ≡ false → (mount_numbered nat_eq world number).mount_point ≡ Some place
     → FallsTo world (going nat_eq world (mount_numbered nat_eq world one)) place rest
-    → (mount_left world one number).place ≡ Some rest
+    → (mount_left world one number).mount_point ≡ Some rest
 
 -- a slave whose master group has a member, or no slave
 abbrev pub has_its_master : World ℕ → Propagation ℕ → Bool

@@ -1,39 +1,36 @@
--- Attaching a tree of mounts at a place and at all that receives from there: the kernel's document sharedsubtree,
--- "Bind semantics" and "Move semantics", and mount_namespaces(7). Types and masters of copies at receivers, and what
--- becomes of a mount that stands at the place already, are the profile's.
+-- Attaching a tree of mounts at a destination, with a copy at each receiver of the destination's mount: the kernel's
+-- document sharedsubtree, "Bind semantics" and "Move semantics", and mount_namespaces(7). Types and masters of copies at
+-- receivers, and where a mount goes that has that mount point already, are the profile's.
 use Rattle.std.specs.Prelude.{Bool, List, None, Option, Some, [], false, filter, filter_map, find, flat_map, if◌then◌else◌, is_some, length, map, nat_lt, not, option_map, suc, true, unwrap_or, zero, ℕ, ◌&&◌, ◌*◌, ◌++◌, ◌+◌, ◌∷◌}
 use Rattle.std.specs.List.{list_any}
-use Rattle.vt_spec.specs.Machine.FileTree.{is_directory_under}
-use Rattle.vt_spec.specs.Machine.Lists.{Fresh, evens, first_of_list, folded, holds_of, odds, place_from, rest_of, then_some, when}
+use Rattle.vt_spec.specs.Language.Limits.{most_mounts}
+use Rattle.vt_spec.specs.FileTree.{is_directory_under}
+use Rattle.vt_spec.specs.Lists.{Fresh, evens, first_of_list, folded, holds_of, odds, place_from, rest_of, then_some, when}
 use Rattle.vt_spec.specs.Machine.Mounts.{Location, Mount, Propagation, children, group_of, index_of, is_shared, is_unbindable, root_of, stands_at, topmost, with_mount}
 use Rattle.vt_spec.specs.Machine.Mounts.Propagation.{Private, Shared, Slave, Unbindable}
 use Rattle.vt_spec.specs.Machine.Receives.{groups_up, has_members, is_member_of, receivers, slave_of_heir}
 use Rattle.vt_spec.specs.Machine.Types.{master_after, with_master}
 use Rattle.vt_spec.specs.Machine.World.{World, files_at, filesystem_numbered, mount_at, mounts_of}
 
--- a mount of the tree that is attached: what it is made from, or what moves, and the type that it takes at the destination
+-- one mount of the tree that is attached: the mount that is copied or moves, and its propagation type at the destination
 pub record Twig (N : Type 0) : Type 0 where
   pub origin : Mount N
   pub propagation : Propagation N
 
--- A tree that is attached at a place: a mount before its children. At the destination the mounts that move are
--- themselves put there; elsewhere, and where nothing moves, copies are.
+-- A tree of mounts and its destination; each mount stands before its children. At the destination a move attaches the
+-- mounts themselves; receivers, and every part of a bind or new mount, get copies.
 pub record Graft (N : Type 0) : Type 0 where
-  pub place : Location N
+  pub destination : Location N
   pub twigs : List (Twig N)
   pub moves : Bool
 
--- no namespace holds more mounts than this (profile; fs.mount-max of proc(5))
-abbrev pub most_mounts : ℕ
-most_mounts = 4096
-
--- What is new where a tree is attached, by what it is made from: the copy of a mount at a receiver, and the group of the
--- copies of a mount at the members of a group. Mounts and groups stand for their numbers.
+-- The new numbers of an attachment: of the copy of a mount at a part, and of the peer group that the copies of a mount
+-- form at the members of a group. Mounts and groups are given by their numbers.
 pub record Copies (N : Type 0) : Type 0 where
   pub copy : N → N → N
   pub image : N → N → N
 
--- the number of the i-th thing of the k-th, where each has so many
+-- the index of the i-th element of the k-th row, where each row has `size` elements
 abbrev pub numbered : ℕ → ℕ → ℕ → ℕ
 numbered size k i = k * size + i
 
@@ -45,7 +42,7 @@ module _ {N : Type 0} where
   type_on_shared new Private = Shared new
   type_on_shared new Unbindable = Shared new
 
-  -- at a destination that is not shared a mount keeps its type; at a member of a group it takes the image there
+  -- at a destination that is not shared a mount keeps its type; at a shared one it joins the group made for it there
   abbrev pub type_at : Copies N → Option N → Mount N → Propagation N
   type_at new None mount = mount.propagation
   type_at new (Some group) mount = type_on_shared (new.image group mount.number) mount.propagation
@@ -53,7 +50,7 @@ module _ {N : Type 0} where
   abbrev pub twig_of : Copies N → Option N → Mount N → Twig N
   twig_of new group mount = record { origin = mount; propagation = type_at new group mount }
 
-  -- a group that a twig makes at the destination, with its master: that of a slave
+  -- the new group of a mount at the destination, with its master: a slave becomes shared and keeps its master
   abbrev pub twig_master : Twig N → Option (N × Option N)
   twig_master twig =
       if is_shared twig.origin.propagation then None
@@ -64,12 +61,12 @@ module _ {N : Type 0} where
   added_mounts false copied = copied
 
 module _ {N : Type 0} (eq : N → N → Bool) where
-  -- the place is the mount's root, or lies under it
+  -- the node is the mount's root directory, or lies under it
   abbrev pub reaches : World N → N → Mount N → Bool
   reaches world node mount =
       is_directory_under eq (filesystem_numbered eq world mount.filesystem).files mount.root node
 
-  -- a receiver takes part if it was attached before, and the place is its root or lies under it
+  -- a receiver takes part if it is attached, shows the same filesystem, and the destination lies at or under its root
   abbrev pub takes_part : World N → Location N → Mount N → Bool
   takes_part world place mount =
       not (eq place.mount mount.number) && is_some mount.namespace
@@ -78,25 +75,25 @@ module _ {N : Type 0} (eq : N → N → Bool) where
   abbrev pub receivers_of : World N → Mount N → List (Mount N)
   receivers_of world mount = unwrap_or (option_map (receivers eq world) (group_of mount.propagation)) []
 
-  -- the destination, and then who else takes part, in order of attachment
+  -- the parts: the destination's mount, then the receivers that take part, in order of attachment
   abbrev pub parts_of : World N → Location N → List (Mount N)
   parts_of world place =
       mount_at eq world place ∷ filter (takes_part world place) (receivers_of world (mount_at eq world place))
 
-  -- Copies at members of one group are in one group, the image of theirs: at the destination's group that of the twig
-  -- there, at each other group a new one.
+  -- Copies at the members of one group form one group, the image of that group: for the destination's group it is the
+  -- group of the mount attached there, for each other group a new one.
   abbrev pub image : Copies N → Mount N → Twig N → N → N
   image new destination twig group =
       if is_member_of eq group destination then unwrap_or (group_of twig.propagation) (new.image group twig.origin.number)
       else new.image group twig.origin.number
 
-  -- the image of the nearest group, from this one up the masters, that got a copy
+  -- the image of the nearest group with a part, from this group up the masters
   abbrev pub nearest_image : World N → Copies N → List (Mount N) → Mount N → Twig N → Option N → Option N
   nearest_image world new parts destination twig None = None
   nearest_image world new parts destination twig (Some group) =
       option_map (image new destination twig) (find (has_members eq parts) (groups_up world group))
 
-  -- the type of a copy, by that of the receiver that it is for
+  -- the type of a copy, by the type of its receiver
   abbrev pub copy_type : World N → Copies N → List (Mount N) → Mount N → Twig N → Propagation N → Propagation N
   copy_type world new parts destination twig (Shared group) = Shared (image new destination twig group)
   copy_type world new parts destination twig (Slave master) =
@@ -106,28 +103,28 @@ module _ {N : Type 0} (eq : N → N → Bool) where
 
   -- the part is the destination
   abbrev pub is_destination : Graft N → N → Bool
-  is_destination graft part = eq part graft.place.mount
+  is_destination graft part = eq part graft.destination.mount
 
   abbrev pub type_at_part : World N → Copies N → Graft N → List (Mount N) → Mount N → Twig N → Propagation N
   type_at_part world new graft parts part twig =
       if is_destination graft part.number then twig.propagation
-      else copy_type world new parts (mount_at eq world graft.place) twig part.propagation
+      else copy_type world new parts (mount_at eq world graft.destination) twig part.propagation
 
-  -- the groups that the copies at a part make, with their masters
+  -- the new group that a copy at a part forms, if any, with its master
   abbrev pub group_made : World N → Copies N → Graft N → List (Mount N) → Mount N → Twig N → Option (N × Option N)
   group_made world new graft parts part twig =
       if is_destination graft part.number then twig_master twig
       else then_some (group_of part.propagation) (λ group.
-      when (not (is_member_of eq group (mount_at eq world graft.place))) (
-        image new (mount_at eq world graft.place) twig group,
-        nearest_image world new parts (mount_at eq world graft.place) twig (world.master group),
+      when (not (is_member_of eq group (mount_at eq world graft.destination))) (
+        image new (mount_at eq world graft.destination) twig group,
+        nearest_image world new parts (mount_at eq world graft.destination) twig (world.master group),
       ))
 
-  -- the number of a copy; at the destination of a move mounts keep their numbers
+  -- the number of a copy; mounts that move keep theirs at the destination
   abbrev pub copy_number : Copies N → Graft N → N → N → N
   copy_number new graft part origin = if graft.moves && is_destination graft part then origin else new.copy part origin
 
-  -- The top of the tree stands at the place, each other mount on the copy of the one that it stands on.
+  -- The first mount of the tree stands at the destination, each other one on the copy of its parent.
   abbrev pub is_top : Graft N → N → Bool
   is_top graft origin = holds_of (λ twig. eq origin twig.origin.number) (first_of_list graft.twigs)
 
@@ -136,39 +133,39 @@ module _ {N : Type 0} (eq : N → N → Bool) where
 
   abbrev pub copy_place : Copies N → Graft N → N → Mount N → Location N
   copy_place new graft part origin =
-      if is_top graft origin.number then record { mount = part; node = graft.place.node }
-      else unwrap_or (option_map (place_on_copy new graft part) origin.place) graft.place
+      if is_top graft origin.number then record { mount = part; node = graft.destination.node }
+      else unwrap_or (option_map (place_on_copy new graft part) origin.mount_point) graft.destination
 
   abbrev pub copy_at : World N → Copies N → Graft N → List (Mount N) → Mount N → Twig N → Mount N
   copy_at world new graft parts part twig = record twig.origin {
     number = copy_number new graft part.number twig.origin.number;
     namespace = part.namespace;
-    place = Some (copy_place new graft part.number twig.origin);
+    mount_point = Some (copy_place new graft part.number twig.origin);
     propagation = type_at_part world new graft parts part twig;
   }
 
-  -- the copy of the whole tree at one part
+  -- the copies of all mounts of the tree at one part
   abbrev pub copies_at : World N → Copies N → Graft N → List (Mount N) → Mount N → List (Mount N)
   copies_at world new graft parts part = map (copy_at world new graft parts part) graft.twigs
 
-  -- What stands at the place of a receiver already goes onto the topmost mount that the copied tree has over its root.
+  -- A mount that stood at this location of a receiver moves onto the topmost mount over the root of the copied tree.
   abbrev pub top_of_copies : List (Mount N) → Location N → Location N
   top_of_copies [] place = place
   top_of_copies (first ∷ rest) place = topmost eq (first ∷ rest) (root_of first)
 
   abbrev pub receiver_below : Graft N → List (Mount N) → Mount N → Option (Mount N)
   receiver_below graft parts mount =
-      find (λ part. stands_at eq (record { mount = part.number; node = graft.place.node }) mount) (rest_of parts)
+      find (λ part. stands_at eq (record { mount = part.number; node = graft.destination.node }) mount) (rest_of parts)
 
   abbrev pub pushed_onto : World N → Copies N → Graft N → List (Mount N) → Mount N → Option (Mount N) → Mount N
   pushed_onto world new graft parts mount None = mount
   pushed_onto world new graft parts mount (Some part) =
-      record mount { place = Some (top_of_copies (copies_at world new graft parts part) graft.place) }
+      record mount { mount_point = Some (top_of_copies (copies_at world new graft parts part) graft.destination) }
 
   abbrev pub pushed_up : World N → Copies N → Graft N → List (Mount N) → Mount N → Mount N
   pushed_up world new graft parts mount = pushed_onto world new graft parts mount (receiver_below graft parts mount)
 
-  -- Mounts that move leave first, and keep their places in the list; else the destination's copies come last in it
+  -- Mounts that move leave first and keep their order of attachment; the copies of a bind or new mount come last.
   abbrev pub with_moved_mounts : Bool → List (Mount N) → List (Mount N) → List (Mount N)
   with_moved_mounts true mounts copied = folded (with_mount eq) mounts copied
   with_moved_mounts false mounts copied = mounts
@@ -180,23 +177,23 @@ module _ {N : Type 0} (eq : N → N → Bool) where
   all_groups_made world new graft parts =
       flat_map (λ part. filter_map (group_made world new graft parts part) graft.twigs) parts
 
-  -- The world with the tree attached: at the destination first, then at the receivers in order of attachment
+  -- the world with the tree attached, at the destination first, then at the receivers in order of attachment
   abbrev pub attached_at : World N → Copies N → Graft N → List (Mount N) → World N
   attached_at world new graft parts = record world {
     mounts = map (pushed_up world new graft parts)
-        (with_moved_mounts graft.moves world.mounts (copies_at world new graft parts (mount_at eq world graft.place)))
-        ++ added_mounts graft.moves (copies_at world new graft parts (mount_at eq world graft.place))
+        (with_moved_mounts graft.moves world.mounts (copies_at world new graft parts (mount_at eq world graft.destination)))
+        ++ added_mounts graft.moves (copies_at world new graft parts (mount_at eq world graft.destination))
         ++ flat_map (copies_at world new graft parts) (rest_of parts);
     master = folded masters_with world.master (all_groups_made world new graft parts);
   }
 
   abbrev pub attached : World N → Copies N → Graft N → World N
-  attached world new graft = attached_at world new graft (parts_of world graft.place)
+  attached world new graft = attached_at world new graft (parts_of world graft.destination)
 
-  -- The graft of mounts at a place
+  -- the graft of these mounts at a destination
   abbrev pub graft_of : World N → Copies N → Location N → Bool → List (Mount N) → Graft N
   graft_of world new place moves mounts = record {
-    place = place;
+    destination = place;
     twigs = map (twig_of new (group_of (mount_at eq world place).propagation)) mounts;
     moves = moves;
   }
@@ -204,7 +201,7 @@ module _ {N : Type 0} (eq : N → N → Bool) where
   abbrev pub attached_by : World N → Copies N → Location N → Bool → List (Mount N) → World N
   attached_by world new place moves mounts = attached world new (graft_of world new place moves mounts)
 
-  -- New numbers by what they are made from, out of a supply: the i-th mount's at the k-th part
+  -- new numbers out of a supply, by the index of the part and of the mount that is copied
   abbrev pub index_of_group : List (Mount N) → N → ℕ
   index_of_group parts group = unwrap_or (place_from (is_member_of eq group) 0 parts) 0
 
@@ -218,8 +215,8 @@ module _ {N : Type 0} (eq : N → N → Bool) where
   attach world fresh place moves mounts =
       attached_by world (copies_from fresh (parts_of world place) mounts) place moves mounts
 
-  -- A recursive bind takes each mount at or under the source, and leaves out unbindable ones with all below them. Below
-  -- a mount that is taken everything is.
+  -- A recursive bind copies each mount at or under the source, with all its descendants; it leaves out unbindable mounts
+  -- and their descendants.
   abbrev pub bindable_children : List (Mount N) → N → List (Mount N)
   bindable_children mounts number = filter (λ mount. not (is_unbindable mount.propagation)) (children eq mounts number)
 
@@ -229,9 +226,9 @@ module _ {N : Type 0} (eq : N → N → Bool) where
 
   abbrev pub stands_under : World N → Location N → Mount N → Bool
   stands_under world source mount =
-      holds_of (λ place. is_directory_under eq (files_at eq world source) source.node place.node) mount.place
+      holds_of (λ place. is_directory_under eq (files_at eq world source) source.node place.node) mount.mount_point
 
-  -- the mount on which the source lies, with the source as its root
+  -- the mount of the source, with the source as its root directory
   abbrev pub bound : World N → Location N → Mount N
   bound world source = record (mount_at eq world source) { root = source.node }
 

@@ -1,11 +1,11 @@
 -- What a change of an overlay does to its upper layer: the kernel's overlayfs document, "upper and lower" (copy_up),
 -- "whiteouts and opaque directories" and "changes to underlying filesystems".
 use Rattle.std.specs.Prelude.{Bool, List, None, Option, Some, [], false, if◌then◌else◌, is_some, reverse, slice_get, true, unwrap_or, ℕ, ◌++◌, ◌+◌, ◌∷◌}
-use Rattle.vt_spec.specs.Machine.Changes.{Change, changed, changed_node, content_with_parent, node_with_attr, node_with_mark, node_without_entries, with_inode, with_moved, with_name, without_name, without_parent}
-use Rattle.vt_spec.specs.Machine.Changes.Change.{AddName, CopyUp, Make, Move, Remove, SetAttr, SetBytes, SetMark}
-use Rattle.vt_spec.specs.Machine.FileTree.{FileTree, a_name, ancestors, path_down}
+use Rattle.vt_spec.specs.Language.Changes.{Change, changed, changed_node, content_with_parent, node_with_attr, node_with_mark, node_without_entries, with_inode, with_moved, with_name, without_name, without_parent}
+use Rattle.vt_spec.specs.Language.Changes.Change.{AddName, CopyUp, Make, Move, Remove, SetAttr, SetBytes, SetMark}
+use Rattle.vt_spec.specs.FileTree.{FileTree, a_name, ancestors, path_down}
 use Rattle.vt_spec.specs.Machine.Layers.{OpenLayer, Shown, below}
-use Rattle.vt_spec.specs.Machine.Lists.{Fresh, evens, holds_of, odds, then_some}
+use Rattle.vt_spec.specs.Lists.{Fresh, evens, holds_of, odds, then_some}
 use Rattle.vt_spec.specs.Rights.{Credentials}
 use Rattle.vt_spec.specs.Tree.{Content, Node, entries_in, entry_named, is_directory_node, new_directory, node_with_bytes}
 use Rattle.vt_spec.specs.Tree.Content.{Directory, Regular, Symlink, Whiteout}
@@ -18,14 +18,14 @@ pub record Merge (N : Type 0) : Type 0 where
   pub real : N → Option (Real N)
   pub upper : FileTree N
 
--- what a change goes by: the upper layer's directory, the lower layers and the mounter
+-- the upper layer's directory, the lower layers and the mounter
 pub record Stack (N : Type 0) : Type 0 where
   pub directory : N
   pub lowers : List (OpenLayer N)
   pub mounter : Credentials
 
 module _ {N : Type 0} where
-  -- a copy has the content, but of a directory no names and no mark
+  -- a copy of a file or symlink has its content; a copy of a directory has no entries and no mark
   abbrev pub copied_content : N → Content N → Content N
   copied_content parent (Directory old entries opaque) = new_directory parent
   copied_content parent (Regular bytes) = Regular bytes
@@ -40,7 +40,7 @@ module _ {N : Type 0} where
   is_directory_shown layers (Some seen) =
       holds_of (λ layer. is_directory_node (layer.tree.node seen.object)) (slice_get layers seen.layer)
 
-  -- the object of the upper layer that an inode is
+  -- the upper inode that is an inode's real object
   abbrev pub upper_of : Merge N → N → N
   upper_of merge number = unwrap_or (upper_object (merge.real number)) number
 
@@ -51,7 +51,7 @@ module _ {N : Type 0} where
   copy_parent merge copy None = copy
   copy_parent merge copy (Some name) = upper_of merge name.0
 
-  -- the upper layer's directory that a name stands for, if it is one
+  -- the upper directory of a name, if that is a directory
   abbrev pub upper_directory_named : Merge N → N → List ℕ → Option N
   upper_directory_named merge directory name =
       then_some (entry_named name (entries_in (merge.files.tree.node directory)))
@@ -69,11 +69,11 @@ module _ {N : Type 0} (eq : N → N → Bool) where
   line_by files object None = object ∷ []
   line_by files object (Some name) = directories_to files name.0 ++ (object ∷ [])
 
-  -- an object, behind the directories above it if it has a name
+  -- the directories down to an object that has a name, then the object
   abbrev pub line_to : FileTree N → N → List N
   line_to files object = line_by files object (a_name eq files object)
 
-  -- the copy under the name that the object has, or under none
+  -- the copy, under the object's name if it has one
   abbrev pub copy_named : Merge N → N → Option (N × List ℕ) → FileTree N → FileTree N
   copy_named merge copy None upper = upper
   copy_named merge copy (Some name) upper = with_name eq upper (upper_of merge name.0) name.1 copy
@@ -91,13 +91,14 @@ module _ {N : Type 0} (eq : N → N → Bool) where
   copy_of merge object copy (Some node) true = merge
   copy_of merge object copy (Some node) false = copy_of_node merge object copy node
 
-  -- copy-up: each of these that lies only below is copied, with owner, mode and content; its inode stays the one it was
+  -- copy-up: each of these that has its real object in a lower layer is copied, with owner, mode and content; the inode of
+  -- the merged tree stays the same
   abbrev pub copied_each : Fresh N → ℕ → Merge N → List N → Merge N
   copied_each fresh k merge [] = merge
   copied_each fresh k merge (object ∷ rest) =
       copied_each fresh (k + 1) (copy_of merge object (fresh k) (merge.files.tree.node object) (is_in_upper merge object)) rest
 
-  -- an object is copied, missing parents first
+  -- an object is copied up, missing parents first
   abbrev pub copied_up : Fresh N → Merge N → N → Merge N
   copied_up fresh merge object = copied_each fresh 0 merge (line_to merge.files object)
 
@@ -106,18 +107,18 @@ module _ {N : Type 0} (eq : N → N → Bool) where
   path_to merge directory name =
       unwrap_or (path_down eq merge.files merge.files.tree.root directory) [] ++ (name ∷ [])
 
-  -- what the lower layers show at a name, whatever the upper layer has there
+  -- what the lower layers show at a name, ignoring what the upper layer has there
   abbrev pub shown_below : Stack N → Merge N → N → List ℕ → Option (Shown N)
   shown_below stack merge directory name =
       below (record { tree = merge.upper.tree; directory = stack.directory }) stack.lowers (path_to merge directory name)
 
-  -- lower layers show a directory there, which an opaque one hides
+  -- the lower layers show a directory there, which a new one must hide by its opaque mark
   abbrev pub hides_directory : Stack N → Merge N → N → List ℕ → Bool
   hides_directory stack merge directory name =
       is_directory_shown (record { tree = merge.upper.tree; directory = stack.directory } ∷ stack.lowers)
       (shown_below stack merge directory name)
 
-  -- where a name was, a whiteout stands if lower layers still show something there
+  -- a name that is removed leaves a whiteout if lower layers still show something there
   abbrev pub name_left_by : Bool → Fresh N → Stack N → FileTree N → N → List ℕ → FileTree N
   name_left_by true fresh stack upper directory name =
       with_name eq (with_inode eq upper (fresh 0) (whiteout_of stack.mounter)) directory name (fresh 0)
@@ -127,17 +128,17 @@ module _ {N : Type 0} (eq : N → N → Bool) where
   name_left fresh stack merge upper directory name =
       name_left_by (is_some (shown_below stack merge directory name)) fresh stack upper (upper_of merge directory) name
 
-  -- a directory that is removed or replaced keeps no whiteout in it, and is its own parent
+  -- a directory that is removed or replaced loses the whiteouts in it, and is its own parent
   abbrev pub emptied : FileTree N → Option N → FileTree N
   emptied upper None = upper
   emptied upper (Some object) = without_parent eq (changed_node eq upper object node_without_entries) (Some object)
 
-  -- a directory under a new name is opaque if it hides one; else it keeps what it had
+  -- a directory under a new name becomes opaque if it must hide one; else it keeps its mark
   abbrev pub marked : Bool → FileTree N → N → FileTree N
   marked true upper object = changed_node eq upper object (node_with_mark true)
   marked false upper object = upper
 
-  -- Each change, after what it asks to be copied was copied
+  -- each change, after its objects were copied up
 
   abbrev pub made : Fresh N → Stack N → Merge N → N → List ℕ → N → Node N → Merge N
   made fresh stack merge directory name number node = record {
@@ -178,7 +179,7 @@ module _ {N : Type 0} (eq : N → N → Bool) where
     upper = changed_node eq merge.upper (upper_of merge object) change;
   }
 
-  -- what a change asks to be copied is copied, and then it is made
+  -- the objects of a change are copied up, and then it is made
   abbrev pub merge_changed : Fresh N → Stack N → Merge N → Change N → Merge N
   merge_changed fresh stack merge (Make directory name number node) =
       made (odds fresh) stack (copied_up (evens fresh) merge directory) directory name number node

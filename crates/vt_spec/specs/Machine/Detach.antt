@@ -1,8 +1,8 @@
--- Taking mounts away: umount(2), MNT_DETACH, and the kernel's document sharedsubtree, "Unmount semantics".
+-- Detaching mounts: umount(2), MNT_DETACH, and the kernel's document sharedsubtree, "Unmount semantics".
 use Rattle.std.specs.Prelude.{Bool, List, None, Option, Some, [], false, filter, filter_map, flat_map, if◌then◌else◌, is_some, length, map, nat_lt, option_map, option_to_list, true, ℕ, ◌&&◌, ◌||◌, ◌∷◌}
 use Rattle.std.specs.List.{list_any}
 use Rattle.vt_spec.specs.Machine.Attach.{receivers_of}
-use Rattle.vt_spec.specs.Machine.Lists.{chain, folded, holds_of, is_among, last_or, then_some, when}
+use Rattle.vt_spec.specs.Lists.{chain, folded, holds_of, is_among, last_or, then_some, when}
 use Rattle.vt_spec.specs.Machine.Locked.{of_overlay}
 use Rattle.vt_spec.specs.Machine.Mounts.{Location, Mount, child_at, children, detached, is_shared, mount_tree, root_of, stands_at, stands_on}
 use Rattle.vt_spec.specs.Machine.Receives.{regrouped}
@@ -22,7 +22,7 @@ module _ {N : Type 0} (eq : N → N → Bool) where
   only_cover mount (child ∷ []) = covers_root mount child
   only_cover mount (child ∷ other ∷ rest) = false
 
-  -- a mount goes at a receiver if it has no child, or one alone that covers its root
+  -- a mount is detached at a receiver if it has no child, or a single child that covers its root
   abbrev pub may_go : World N → Mount N → Bool
   may_go world mount = only_cover mount (children eq world.mounts mount.number)
 
@@ -30,8 +30,8 @@ module _ {N : Type 0} (eq : N → N → Bool) where
   goes_at world node receiver =
       then_some (child_at eq world.mounts (record { mount = receiver.number; node = node })) (λ child. when (may_go world child) child)
 
-  -- The mounts that go at one unmount event: if the parent is shared, what stands directly at the place at each receiver;
-  -- else the mount alone
+  -- The mounts that one unmount event detaches: where the parent is shared, the mount with the same mount point at each
+  -- receiver of the parent's group; else the mount alone.
   abbrev pub going_from : World N → Mount N → Location N → Bool → List N
   going_from world mount place true =
       map (λ gone. gone.number) (filter_map (goes_at world place.node) (receivers_of eq world (mount_at eq world place)))
@@ -42,67 +42,67 @@ module _ {N : Type 0} (eq : N → N → Bool) where
   going_at world mount (Some place) = going_from world mount place (is_shared (mount_at eq world place).propagation)
 
   abbrev pub going : World N → Mount N → List N
-  going world mount = going_at world mount mount.place
+  going world mount = going_at world mount mount.mount_point
 
   abbrev pub is_going : List N → N → Bool
   is_going gone number = is_among eq number gone
 
-  -- the place of a mount that stays: where it covered what goes, the first place that is left
-  abbrev pub place_below : World N → List N → Location N → Option (Location N)
-  place_below world gone place = if is_going gone place.mount then (mount_at eq world place).place else None
+  -- The mount point of a mount that stays. Where its parent is detached it takes that one's mount point, and so on.
+  abbrev pub mount_point_of_parent : World N → List N → Location N → Option (Location N)
+  mount_point_of_parent world gone place = if is_going gone place.mount then (mount_at eq world place).mount_point else None
 
-  abbrev pub place_left : World N → List N → Location N → Location N
-  place_left world gone place = last_or place (chain (length world.mounts) (place_below world gone) place)
+  abbrev pub mount_point_left : World N → List N → Location N → Location N
+  mount_point_left world gone place = last_or place (chain (length world.mounts) (mount_point_of_parent world gone) place)
 
   abbrev pub after_going : World N → List N → Mount N → Mount N
   after_going world gone mount =
       if is_going gone mount.number then detached mount
-      else record mount { place = option_map (place_left world gone) mount.place }
+      else record mount { mount_point = option_map (mount_point_left world gone) mount.mount_point }
 
-  -- the world without these
+  -- the world with these mounts detached
   abbrev pub taken_away : World N → List N → World N
   taken_away world gone = regrouped eq (with_mounts world (map (after_going world gone) world.mounts))
 
   abbrev pub unmounted : World N → N → World N
   unmounted world number = taken_away world (going world (mount_numbered eq world number))
 
-  -- How deep a mount lies in a tree: how many places there are above it
+  -- the depth of a mount: how many ancestors it has
   abbrev pub depth_of : World N → Mount N → ℕ
   depth_of world mount =
-      length (chain (length world.mounts) (λ below. option_map (mount_at eq world) below.place) mount)
+      length (chain (length world.mounts) (λ below. option_map (mount_at eq world) below.mount_point) mount)
 
   abbrev pub insert_deepest : World N → Mount N → List (Mount N) → List (Mount N)
   insert_deepest world mount [] = mount ∷ []
   insert_deepest world mount (other ∷ rest) =
       if nat_lt (depth_of world mount) (depth_of world other) then other ∷ insert_deepest world mount rest else mount ∷ other ∷ rest
 
-  -- the mounts of a tree, the deepest first, and at one depth the later ones first
+  -- mounts ordered by depth, the deepest first; of one depth, the one attached last comes first
   abbrev pub deepest_first : World N → List (Mount N) → List (Mount N)
   deepest_first world mounts = folded (λ sorted mount. insert_deepest world mount sorted) [] mounts
 
-  -- what an earlier event took away is skipped
+  -- a mount that an earlier event detached is skipped
   abbrev pub unmounted_if_there : World N → Mount N → World N
   unmounted_if_there world mount =
       if is_some (mount_numbered eq world mount.number).namespace then unmounted world mount.number else world
 
-  -- a lazy unmount: one event for each mount of the tree as the call begins
+  -- a lazy unmount: one unmount event for each mount of the tree, as the tree is when the call begins
   abbrev pub lazily_unmounted : World N → N → World N
   lazily_unmounted world number =
       folded unmounted_if_there world (deepest_first world (mount_tree eq world.mounts (mount_numbered eq world number)))
 
-  -- mounts and all below them go, without propagation: a removed mount point, a namespace that ends
+  -- mounts and their descendants are detached without propagation: at a removed mount point
   abbrev pub trees_taken_away : World N → List (Mount N) → World N
   trees_taken_away world mounts =
       taken_away world (map (λ mount. mount.number) (flat_map (mount_tree eq world.mounts) mounts))
 
-  -- A task's root, working directory or descriptor is on one of these
+  -- a task's root, working directory or descriptor is on one of these mounts
   abbrev pub is_used : World N → List N → Bool
   is_used world mounts = list_any (λ location. is_among eq location.mount mounts) (all_locations world)
 
   abbrev pub has_child : World N → N → Bool
   has_child world number = list_any (stands_on eq number) world.mounts
 
-  -- EBUSY of umount(2): the mount has a child, or something uses a mount that would go
+  -- EBUSY of umount(2): the mount has a child, or a mount that would be detached is in use
   abbrev pub is_busy : World N → N → Bool
   is_busy world number = has_child world number || is_used world (going world (mount_numbered eq world number))
 
@@ -111,12 +111,12 @@ module _ {N : Type 0} (eq : N → N → Bool) where
   is_written_through world mount =
       list_any (λ task. list_any (λ descriptor. descriptor.writes && eq mount descriptor.location.mount) task.descriptors) world.tasks
 
-  -- Mount points are directories, whatever mount they are seen through; on an overlay so is the object in the upper layer
+  -- A mount point is a directory, through whatever mount it is seen; on an overlay its upper directory counts too.
   abbrev pub is_point : World N → N → N → Mount N → Bool
   is_point world filesystem node mount =
-      holds_of (λ place. eq place.node node && eq (mount_at eq world place).filesystem filesystem) mount.place
+      holds_of (λ place. eq place.node node && eq (mount_at eq world place).filesystem filesystem) mount.mount_point
 
-  -- the inodes that count as one mount point with an object
+  -- the directories that count as one mount point with this one
   abbrev pub points_of : World N → Location N → List (N × N)
   points_of world location =
       ((filesystem_at eq world location).number, location.node)
@@ -126,6 +126,6 @@ module _ {N : Type 0} (eq : N → N → Bool) where
   mounts_on world location =
       filter (λ mount. list_any (λ point. is_point world point.0 point.1 mount) (points_of world location)) world.mounts
 
-  -- a removed directory takes the mounts on it, in whatever namespace, away
+  -- the mounts on a removed directory are detached in every namespace, with their descendants
   abbrev pub without_mounts_on : World N → Location N → World N
   without_mounts_on world location = trees_taken_away world (mounts_on world location)

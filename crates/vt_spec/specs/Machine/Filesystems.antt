@@ -4,13 +4,13 @@ use Rattle.std.specs.List.{list_any}
 use Rattle.vt_spec.specs.declared.attributes.Attr.{Attr}
 use Rattle.vt_spec.specs.declared.attributes.Kind.TheVariants.{File}
 use Rattle.vt_spec.specs.declared.errors.Rule.TheVariants.{B1, B2}
-use Rattle.vt_spec.specs.Machine.Changes.{Change, changed}
-use Rattle.vt_spec.specs.Machine.Changes.Change.{AddName, CopyUp, Make, Move, Remove, SetAttr, SetBytes, SetMark}
+use Rattle.vt_spec.specs.Language.Changes.{Change, changed}
+use Rattle.vt_spec.specs.Language.Changes.Change.{AddName, CopyUp, Make, Move, Remove, SetAttr, SetBytes, SetMark}
 use Rattle.vt_spec.specs.Machine.CopyUp.{Merge, Stack, merge_changed}
 use Rattle.vt_spec.specs.Errors.{Rules}
-use Rattle.vt_spec.specs.Machine.FileTree.{FileTree, a_name, ancestors, attr_in, is_kind_in, path_down}
+use Rattle.vt_spec.specs.FileTree.{FileTree, a_name, ancestors, attr_in, is_kind_in, path_down}
 use Rattle.vt_spec.specs.Machine.Layers.{has_lower_directory}
-use Rattle.vt_spec.specs.Machine.Lists.{Fresh, before_first}
+use Rattle.vt_spec.specs.Lists.{Fresh, before_first}
 use Rattle.vt_spec.specs.Machine.Locked.{of_overlay}
 use Rattle.vt_spec.specs.Machine.Mounts.{Location}
 use Rattle.vt_spec.specs.Machine.Rightful.{node_allows}

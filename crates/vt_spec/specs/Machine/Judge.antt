@@ -6,16 +6,16 @@ use Rattle.vt_spec.specs.declared.errors.Deny.{Deny}
 use Rattle.vt_spec.specs.declared.errors.Rule.TheVariants.{E1, E2, E6, K1, O2, S2}
 use Rattle.vt_spec.specs.Errors.{Rules, and_then, denial, unless}
 use Rattle.vt_spec.specs.Machine.Apply.{overfills}
-use Rattle.vt_spec.specs.Machine.Calls.{Access, Call, Creation, ForkWords, OverlayWords, TypeWord}
-use Rattle.vt_spec.specs.Machine.Calls.Call.{Bind, Chdir, Chmod, Chown, Chroot, Close, Drop, Exec, Exit, Fork, Lazy, LinkTo, ListMounts, Ls, Lstat, MakeWhiteout, Mkdir, MountOverlay, MountPlain, MoveMount, Opaque, OpenFile, PivotRoot, Pread, Pwrite, Read, Readlink, Remount, Rename, Rmdir, SetType, Setns, Stat, SymlinkAt, Umask, Umount, Unlink, Unshare, Write}
-use Rattle.vt_spec.specs.Machine.Calls.Creation.{Exclusive, NoCreation, OrCreate}
-use Rattle.vt_spec.specs.Machine.Changes.{Change}
-use Rattle.vt_spec.specs.Machine.Changes.Change.{SetAttr, SetBytes, SetMark}
-use Rattle.vt_spec.specs.Machine.Lists.{Fresh}
+use Rattle.vt_spec.specs.Language.Calls.{Access, Call, Creation, ForkWords, MountFlags, OverlayWords, TaskName, TypeWord}
+use Rattle.vt_spec.specs.Language.Calls.Call.{Bind, Chdir, Chmod, Chown, Chroot, Close, Drop, Exec, Exit, Fork, Lazy, LinkTo, ListMounts, Ls, Lstat, MakeWhiteout, Mkdir, MountOverlay, MountPlain, MoveMount, Opaque, OpenFile, PivotRoot, Pread, Pwrite, Read, Readlink, Remount, Rename, Rmdir, SetType, Setns, Stat, SymlinkAt, Umask, Umount, Unlink, Unshare, Write}
+use Rattle.vt_spec.specs.Language.Calls.Creation.{Exclusive, NoCreation, OrCreate}
+use Rattle.vt_spec.specs.Language.Changes.{Change}
+use Rattle.vt_spec.specs.Language.Changes.Change.{SetAttr, SetBytes, SetMark}
+use Rattle.vt_spec.specs.Lists.{Fresh}
 use Rattle.vt_spec.specs.Machine.Looks.{Looks, looks_of}
-use Rattle.vt_spec.specs.Machine.Mounts.{Location, MountFlags}
+use Rattle.vt_spec.specs.Machine.Mounts.{Location}
 use Rattle.vt_spec.specs.Machine.Outcome.Attributes.{attr_with_mode, attr_with_owner, may_chown}
-use Rattle.vt_spec.specs.Machine.Outcome.Making.{directory_mode, file_mode, link_mode, linking, new_file}
+use Rattle.vt_spec.specs.Machine.Outcome.Making.{directory_mode, file_mode, symlink_mode, linking, new_file}
 use Rattle.vt_spec.specs.Machine.Outcome.Tasks.{capabilities_of, child_credentials, permission_bits, with_dropped}
 use Rattle.vt_spec.specs.Machine.Permits.{Permit}
 use Rattle.vt_spec.specs.Machine.Permits.Permit.{Allowed, ToBind, ToChange, ToClose, ToEnterNamespace, ToExit, ToFork, ToList, ToListMounts, ToMake, ToMountOverlay, ToMountPlain, ToMove, ToOpen, ToOpenNew, ToPivot, ToRead, ToReadPart, ToRemoveDirectory, ToRename, ToSetCredentials, ToSetDirectory, ToSetFlags, ToSetRoot, ToSetType, ToSetUmask, ToStat, ToUnmount, ToUnmountLazily, ToUnshare, ToWritePart}
@@ -24,12 +24,13 @@ use Rattle.vt_spec.specs.Machine.Rules.Attributes.{attr_at, attr_rules, opaque_r
 use Rattle.vt_spec.specs.Machine.Rules.Conditions.{lacks}
 use Rattle.vt_spec.specs.Machine.Rules.Descriptors.{descriptor_at, descriptor_rules, exclusive_word_rules, open_rules, pwrite_rules}
 use Rattle.vt_spec.specs.Machine.Rules.Looking.{exec_rules, list_rules, read_rules, readlink_rules}
-use Rattle.vt_spec.specs.Machine.Rules.Making.{file_word_rules, largest_file, link_rules, link_text_rules, make_rules, new_word_rules, rewrite_rules, whiteout_rules}
+use Rattle.vt_spec.specs.Machine.Rules.Making.{file_word_rules, hard_link_rules, link_text_rules, make_rules, new_word_rules, rewrite_rules, whiteout_rules}
+use Rattle.vt_spec.specs.Language.Limits.{largest_file}
 use Rattle.vt_spec.specs.Machine.Rules.Mounting.{admin_rules, bind_rules, destination_walk, layer_rules, layers_walked, lazy_rules, move_rules, new_mount_rules, overlay_at, pivot_rules, remount_rules, source_walk, type_rules, umount_rules}
 use Rattle.vt_spec.specs.Machine.Rules.Removing.{is_one_object, object_there, old_word_rules, removing, rename_new_walk, rename_rules, rmdir_rules, rmdir_word_rules, same_object_rules, unlink_rules}
 use Rattle.vt_spec.specs.Machine.Rules.Tasks.{enter_rules, fork_rules}
-use Rattle.vt_spec.specs.Machine.Walking.{Place, directory_walk, file_walk, is_directory_there, is_special, link_walk, name_of, new_leaf_walk, new_walk, object_walk, old_leaf_walk, old_walk, walk_end}
-use Rattle.vt_spec.specs.Machine.World.{Task, TaskName, World}
+use Rattle.vt_spec.specs.Machine.Walking.{Place, directory_walk, file_walk, is_directory_there, is_special, symlink_walk, name_of, new_leaf_walk, new_walk, object_walk, old_leaf_walk, old_walk, walk_end}
+use Rattle.vt_spec.specs.Machine.World.{Task, World}
 use Rattle.vt_spec.specs.Rights.{cap_sys_admin, cap_sys_chroot, owns}
 use Rattle.vt_spec.specs.Tree.{Node, new_directory}
 use Rattle.vt_spec.specs.Tree.Content.{Symlink, Whiteout}
@@ -101,11 +102,11 @@ module _ {N : Type 0} (eq : N → N → Bool) where
 
   unfoldable pub lstat_permit : Looks N → Task N → List ℕ → Judgement N
   lstat_permit looks task path =
-      and_then (walk_end (link_walk eq looks task path)) (λ here. Ok (ToStat here.location))
+      and_then (walk_end (symlink_walk eq looks task path)) (λ here. Ok (ToStat here.location))
 
   unfoldable pub readlink_permit : Looks N → Task N → List ℕ → Judgement N
   readlink_permit looks task path =
-      and_then (walk_end (link_walk eq looks task path)) (λ here.
+      and_then (walk_end (symlink_walk eq looks task path)) (λ here.
       unless (readlink_rules looks here.location) (Ok (ToRead here.location)))
 
   unfoldable pub read_permit : Looks N → Task N → List ℕ → Judgement N
@@ -134,7 +135,7 @@ module _ {N : Type 0} (eq : N → N → Bool) where
   symlink_permit looks task text path =
       unless (link_text_rules text)
       (and_then (walk_end (new_leaf_walk eq looks task path)) (λ place.
-      made_permit looks task place (record { attr = exact_attr task link_mode; content = Symlink text })))
+      made_permit looks task place (record { attr = exact_attr task symlink_mode; content = Symlink text })))
 
   unfoldable pub whiteout_permit : Looks N → Task N → List ℕ → Judgement N
   whiteout_permit looks task path =
@@ -142,12 +143,12 @@ module _ {N : Type 0} (eq : N → N → Bool) where
       unless (whiteout_rules looks task place)
       (Ok (make_permit place (record { attr = exact_attr task 0; content = Whiteout }))))
 
-  unfoldable pub link_permit : Looks N → Task N → List ℕ → List ℕ → Judgement N
-  link_permit looks task old new =
-      and_then (walk_end (link_walk eq looks task old)) (λ from.
+  unfoldable pub hard_link_permit : Looks N → Task N → List ℕ → List ℕ → Judgement N
+  hard_link_permit looks task old new =
+      and_then (walk_end (symlink_walk eq looks task old)) (λ from.
       and_then (walk_end (new_leaf_walk eq looks task new)) (λ place.
       unless ((is_special place.last, E1) ∷ [])
-      (unless (link_rules eq looks task from.location place (linking from.location place))
+      (unless (hard_link_rules eq looks task from.location place (linking from.location place))
       (Ok (ToChange place.parent (linking from.location place))))))
 
   -- the whole content of a file that is there, or of a new one
@@ -343,7 +344,7 @@ module _ {N : Type 0} (eq : N → N → Bool) where
   judge looks overfills task (Mkdir path mode) = mkdir_permit looks task path mode
   judge looks overfills task (SymlinkAt text path) = symlink_permit looks task text path
   judge looks overfills task (MakeWhiteout path) = whiteout_permit looks task path
-  judge looks overfills task (LinkTo old new) = link_permit looks task old new
+  judge looks overfills task (LinkTo old new) = hard_link_permit looks task old new
   judge looks overfills task (Unlink path) = unlink_permit looks task path
   judge looks overfills task (Rmdir path) = rmdir_permit looks task path
   judge looks overfills task (Rename old new) = rename_permit looks task old new

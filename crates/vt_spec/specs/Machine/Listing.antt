@@ -1,14 +1,15 @@
 -- The lists of mounts and of peer groups: mountinfo of proc(5), in the profile's form. Filesystems and groups are
 -- numbered by where they first stand in the list, from left to right.
 use Rattle.std.specs.Prelude.{Bool, List, None, Option, Some, [], filter, flat_map, map, not, option_map, option_to_list, unwrap_or, ℕ, ◌&&◌, ◌∷◌}
-use Rattle.vt_spec.specs.Machine.FileTree.{path_down}
-use Rattle.vt_spec.specs.Machine.Lists.{counted_from, each_once, holds_of, place_from}
+use Rattle.vt_spec.specs.FileTree.{path_down}
+use Rattle.vt_spec.specs.Lists.{counted_from, each_once, holds_of, place_from}
 use Rattle.vt_spec.specs.Machine.Mounts.{Location, Mount, Propagation, is_shared, source_of}
 use Rattle.vt_spec.specs.Machine.Mounts.Propagation.{Private, Shared, Slave, Unbindable}
-use Rattle.vt_spec.specs.Machine.Outcomes.{MountLine, Outcome, PeerLine, Spot, TypeLine, granted}
-use Rattle.vt_spec.specs.Machine.Outcomes.Answer.{MountList}
-use Rattle.vt_spec.specs.Machine.Outcomes.Spot.{Gone, Reached}
-use Rattle.vt_spec.specs.Machine.Outcomes.TypeLine.{PrivateLine, SharedLine, SlaveLine, UnbindableLine}
+use Rattle.vt_spec.specs.Language.Answers.{MountLine, PeerLine, Spot, TypeLine}
+use Rattle.vt_spec.specs.Machine.Outcomes.{Outcome, granted}
+use Rattle.vt_spec.specs.Language.Answers.Answer.{MountList}
+use Rattle.vt_spec.specs.Language.Answers.Spot.{Gone, Reached}
+use Rattle.vt_spec.specs.Language.Answers.TypeLine.{PrivateLine, SharedLine, SlaveLine, UnbindableLine}
 use Rattle.vt_spec.specs.Machine.Receives.{is_member_of}
 use Rattle.vt_spec.specs.Machine.World.{Namespace, Task, World, files_at, filesystem_numbered, is_overlay, mount_at, mounts_of}
 
@@ -56,7 +57,7 @@ module _ {N : Type 0} (eq : N → N → Bool) where
 
   abbrev pub mount_line : World N → List (Mount N) → Mount N → MountLine
   mount_line world mounts mount = record {
-    place = option_map (λ place. (number_among (map (λ other. other.number) mounts) place.mount, place_spot world place)) mount.place;
+    mount_point = option_map (λ place. (number_among (map (λ other. other.number) mounts) place.mount, place_spot world place)) mount.mount_point;
     overlay = is_overlay (filesystem_numbered eq world mount.filesystem);
     filesystem = number_among (filesystems_seen mounts) mount.filesystem;
     root = root_spot world mount;

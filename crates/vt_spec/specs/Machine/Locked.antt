@@ -1,18 +1,18 @@
--- The layers of live overlays: what lies in one is not changed, and what may not be a layer of two (profile; the
--- kernel's overlayfs document, "changes to underlying filesystems").
+-- The layers of live overlays: what lies in one is locked against changes from outside, and which directories may not be
+-- layers of two overlays (profile; the kernel's overlayfs document, "changes to underlying filesystems").
 use Rattle.std.specs.Prelude.{Bool, List, None, Option, Some, [], false, filter, flat_map, option_to_list, ◌&&◌, ◌++◌, ◌||◌}
 use Rattle.std.specs.List.{list_any}
-use Rattle.vt_spec.specs.Machine.FileTree.{is_under}
-use Rattle.vt_spec.specs.Machine.Lists.{holds_of}
+use Rattle.vt_spec.specs.FileTree.{is_under}
+use Rattle.vt_spec.specs.Lists.{holds_of}
 use Rattle.vt_spec.specs.Machine.Mounts.{Location}
 use Rattle.vt_spec.specs.Machine.World.{Filesystem, Layer, Overlay, World, filesystem_numbered, is_overlay, layers_of, mount_at, upper_object}
 
 module _ {N : Type 0} where
-  -- the overlays that are there; each lives as long as a mount of it
+  -- the live overlays: each exists as long as it is mounted or in use
   abbrev pub overlays : World N → List (Filesystem N)
   overlays world = filter is_overlay world.filesystems
 
-  -- what is said of an overlay, and of a plain tree
+  -- a value for an overlay, and one for a plain tree
   abbrev pub overlay_or : {A : Type 0} → A → (Overlay N → A) → Option (Overlay N) → A
   overlay_or plain said None = plain
   overlay_or plain said (Some overlay) = said overlay
@@ -20,11 +20,11 @@ module _ {N : Type 0} where
   abbrev pub of_overlay : {A : Type 0} → A → (Overlay N → A) → Filesystem N → A
   of_overlay plain said filesystem = overlay_or plain said filesystem.overlay
 
-  -- the directories of an overlay to which changes go
+  -- the layers of an overlay that its changes write to
   abbrev pub upper_and_work : Overlay N → List (Layer N)
   upper_and_work overlay = option_to_list overlay.upper ++ option_to_list overlay.work
 
-  -- the layers of live overlays, and those to which changes go
+  -- the layers of live overlays, and those of them that changes write to
   abbrev pub live_layers : World N → List (Layer N)
   live_layers world = flat_map (of_overlay [] layers_of) (overlays world)
 
@@ -40,14 +40,14 @@ module _ {N : Type 0} (eq : N → N → Bool) where
   abbrev pub is_real_upper : Overlay N → N → N → Bool
   is_real_upper overlay object number = holds_of (eq object) (upper_object (overlay.real number))
 
-  -- an inode of the upper layer that an inode of the overlay is, with or without a name
+  -- an upper inode is the real object of an inode of the overlay, with or without a name
   abbrev pub is_object_of : N → N → Filesystem N → Overlay N → Bool
   is_object_of filesystem object merged overlay =
       holds_of (λ layer. eq filesystem layer.filesystem) overlay.upper
       && list_any (is_real_upper overlay object) merged.files.numbers
 
-  -- an upper inode that is an object of a live overlay counts as under its upper directory, with or without a name, and so as
-  -- under a layer in which that directory lies
+  -- Such an upper inode of a live overlay counts as under its upper directory, even without a name, and so as under each
+  -- layer in which that directory lies.
   abbrev pub counts_in_layer : World N → N → N → Layer N → Filesystem N → Bool
   counts_in_layer world filesystem object layer merged =
       of_overlay false (λ overlay.

@@ -1,29 +1,30 @@
--- What walks and tables of rules look at. Two worlds that look alike are walked and judged alike, however they are
--- kept.
+-- What walks and tables of rules look at in a world. Worlds that look alike are walked and judged alike, however their
+-- state is kept.
 use Rattle.std.specs.Prelude.{Bool, List, Option, length, option_map, ℕ}
 use Rattle.vt_spec.specs.Errors.{Rules}
-use Rattle.vt_spec.specs.Machine.Changes.{Change}
+use Rattle.vt_spec.specs.Language.Changes.{Change}
 use Rattle.vt_spec.specs.Machine.Detach.{is_busy, is_written_through, mounts_on}
-use Rattle.vt_spec.specs.Machine.FileTree.{is_directory_under}
+use Rattle.vt_spec.specs.FileTree.{is_directory_under}
 use Rattle.vt_spec.specs.Machine.Filesystems.{has_lower_directory_at, mounter_rules}
-use Rattle.vt_spec.specs.Machine.Lists.{last_or}
+use Rattle.vt_spec.specs.Lists.{last_or}
 use Rattle.vt_spec.specs.Machine.Locked.{in_use, is_locked_at, overlaps_one_of}
 use Rattle.vt_spec.specs.Machine.Mounts.{Location, Mount, mount_tree, mounts_over}
 use Rattle.vt_spec.specs.Machine.Rightful.{mounter_allows, node_allows}
 use Rattle.vt_spec.specs.Tree.{Node, is_directory_node}
-use Rattle.vt_spec.specs.Machine.World.{Layer, Overlay, Task, TaskName, World, filesystem_at, filesystem_numbered, is_removed_at, mount_numbered, node_at, task_called}
+use Rattle.vt_spec.specs.Machine.World.{Layer, Overlay, Task, World, filesystem_at, filesystem_numbered, is_removed_at, mount_numbered, node_at, task_called}
+use Rattle.vt_spec.specs.Language.Calls.{TaskName}
 
 pub record Looks (N : Type 0) : Type 0 where
   -- the namespace of the task that has a name: the process of setns(2)
   pub namespace_called : TaskName → Option N
-  -- the mount that has a number; how many mounts exist; a mount and all below it, each before its children:
+  -- the mount with a number; how many mounts exist; a mount and all its descendants, each before its children:
   -- mount_namespaces(7)
   pub mount : N → Mount N
   pub mount_count : ℕ
   pub mount_tree : N → List (Mount N)
-  -- a place, and then the root of each mount that stands over the one before: mount(2)
+  -- a location, then the root of the mount that stands there, of the mount on that root, and so on: mount(2)
   pub mounts_over : Location N → List (Location N)
-  -- the mounts that stand on a directory, through whatever mount they are seen: EBUSY of rmdir(2) and rename(2)
+  -- the mounts with a directory as their mount point, through whatever mount it is seen: EBUSY of rmdir(2), rename(2)
   pub mounts_on : Location N → List (Mount N)
   -- EBUSY of umount(2): a mount is in use; of mount(2) with MS_REMOUNT: a file is open for writing through it
   pub is_busy : N → Bool
@@ -74,7 +75,7 @@ module _ {N : Type 0} where
   abbrev pub mount_at : Looks N → Location N → Mount N
   mount_at looks location = looks.mount location.mount
 
-  -- a place through every mount over it
+  -- the root of the topmost mount over a location, or the location itself
   abbrev pub topmost : Looks N → Location N → Location N
   topmost looks location = last_or location (looks.mounts_over location)
 

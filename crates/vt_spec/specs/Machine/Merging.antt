@@ -1,16 +1,16 @@
--- An overlay is one tree: at every path it has what its layers show, with a real object for each of its inodes (the
--- kernel's overlayfs document, "upper and lower", "directories", "non-directories").
+-- The merged tree of an overlay: at every path it has what the layers show, and each of its inodes has a real object
+-- (the kernel's overlayfs document, "upper and lower", "directories", "non-directories").
 use Rattle.std.specs.Prelude.{Bool, List, Option, [], false, filter_map, find, map, not, option_map, slice_get, suc, true, unwrap_or, zero, ℕ, ◌&&◌, ◌∷◌}
 use Rattle.std.specs.Str.{bytes_eq}
-use Rattle.vt_spec.specs.Machine.FileTree.{FileTree}
+use Rattle.vt_spec.specs.FileTree.{FileTree}
 use Rattle.vt_spec.specs.Machine.Layers.{OpenLayer, Shown, paths_from, shown}
-use Rattle.vt_spec.specs.Machine.Lists.{Fresh, each_once, front_of, last_or, place_from, same_list, then_some, when}
+use Rattle.vt_spec.specs.Lists.{Fresh, each_once, front_of, last_or, place_from, same_list, then_some, when}
 use Rattle.vt_spec.specs.Tree.{Content, Node}
 use Rattle.vt_spec.specs.Tree.Content.{Directory, Regular, Symlink, Whiteout}
 use Rattle.vt_spec.specs.Machine.World.{Real}
 use Rattle.vt_spec.specs.Machine.World.Real.{Below, Upper}
 
--- an object of the merged tree: where it stands, and what is shown there
+-- an object of the merged tree: its path, and what is shown there
 pub record Merged (N : Type 0) : Type 0 where
   pub path : List (List ℕ)
   pub seen : Shown N
@@ -32,11 +32,11 @@ module _ {N : Type 0} where
   abbrev pub merged_at : List (OpenLayer N) → List (List ℕ) → Option (Merged N)
   merged_at layers path = option_map (λ seen. record { path = path; seen = seen }) (shown layers path)
 
-  -- everything that is shown; no path is longer than there are inodes in all layers
+  -- every object that is shown; no path has more words than there are inodes in all layers
   abbrev pub merged_objects : List (OpenLayer N) → ℕ → List (Merged N)
   merged_objects layers longest = filter_map (merged_at layers) (paths_from longest layers [])
 
-  -- The real object, where the top layer is an upper one or not
+  -- the real object; the first argument says whether the top layer is an upper layer
   abbrev pub real_object : Bool → ℕ → Merged N → Real N
   real_object true zero object = Upper object.seen.object
   real_object true (suc layer) object = Below layer object.path
@@ -64,18 +64,18 @@ module _ {N : Type 0} (eq : N → N → Bool) where
   is_one_inode has_upper a b =
       same_real (real_object has_upper a.seen.layer a) (real_object has_upper b.seen.layer b)
 
-  -- the new number of an object: of all that are one inode, the first one's
+  -- the new number of an object: all objects that are one inode have the number of the first
   abbrev pub merged_number : Fresh N → Bool → List (Merged N) → Merged N → N
   merged_number fresh has_upper objects object =
       fresh (unwrap_or (place_from (is_one_inode has_upper object) 0 objects) 0)
 
-  -- the entry of an object in the directory at a path, if it stands there
+  -- the entry of an object in the directory at a path, if that is its directory
   abbrev pub entry_below : Fresh N → Bool → List (Merged N) → List (List ℕ) → Merged N → Option (List ℕ × N)
   entry_below fresh has_upper objects path object =
       when (not (is_root_path object.path) && same_path path (front_of object.path))
       (last_or [] object.path, merged_number fresh has_upper objects object)
 
-  -- a directory has what is shown in it, and no mark
+  -- a merged directory has an entry for each object shown in it, and no opaque mark
   abbrev pub merged_content : Fresh N → Bool → List (Merged N) → List (List ℕ) → Content N → Content N
   merged_content fresh has_upper objects path (Directory parent entries opaque) =
       Directory (number_at fresh has_upper objects (front_of path)) (filter_map (entry_below fresh has_upper objects path) objects) false

@@ -1,17 +1,12 @@
 -- Mounts: mount(2), mount_namespaces(7) and the kernel's document sharedsubtree.
 use Rattle.std.specs.Prelude.{Bool, List, None, Option, Some, [], false, filter, find, flat_map, if◌then◌else◌, is_some, length, map, option_map, suc, true, unwrap_or, zero, ℕ, ◌&&◌, ◌∷◌}
-use Rattle.vt_spec.specs.Machine.Lists.{Fresh, chain, holds_of, last_or, place_from}
+use Rattle.vt_spec.specs.Language.Calls.{MountFlags, plain_flags}
+use Rattle.vt_spec.specs.Lists.{Fresh, chain, holds_of, last_or, place_from}
 
--- a place in the tree of mounts: an inode, seen through a mount
+-- A location: an inode seen through a mount.
 pub record Location (N : Type 0) : Type 0 where
   pub mount : N
   pub node : N
-
--- MS_RDONLY, MS_NOEXEC and MS_NOSYMFOLLOW of one mount: mount(2)
-pub record MountFlags : Type 0 where
-  pub read_only : Bool
-  pub noexec : Bool
-  pub nosymfollow : Bool
 
 -- Propagation types: sharedsubtree, "Shared mount", "Slave mount" and so on. A shared mount is a member of a peer
 -- group; where that group has a master it is slave and shared. A slave has a master group.
@@ -21,19 +16,16 @@ pub data Propagation (N : Type 0) : Type 0 where
   Private : Propagation N
   Unbindable : Propagation N
 
--- A mount shows a filesystem from a root directory on. It stands at a place, a directory of another mount, unless it
--- is a namespace's root mount. One outside every namespace stands nowhere and is private.
+-- A mount shows a filesystem from a root directory on. Its mount point is a directory of another mount, its parent; the
+-- root mount of a namespace has none. A mount outside every namespace has no mount point and is private.
 pub record Mount (N : Type 0) : Type 0 where
   pub number : N
   pub namespace : Option N
-  pub place : Option (Location N)
+  pub mount_point : Option (Location N)
   pub filesystem : N
   pub root : N
   pub flags : MountFlags
   pub propagation : Propagation N
-
-abbrev pub plain_flags : MountFlags
-plain_flags = record { read_only = false; noexec = false; nosymfollow = false }
 
 module _ {N : Type 0} where
   abbrev pub group_of : Propagation N → Option N
@@ -42,7 +34,7 @@ module _ {N : Type 0} where
   group_of Private = None
   group_of Unbindable = None
 
-  -- the group that a mount hears of events from: its own, or its master
+  -- the peer group from which a mount receives events: its own, or its master
   abbrev pub source_of : Propagation N → Option N
   source_of (Shared group) = Some group
   source_of (Slave master) = Some master
@@ -61,14 +53,14 @@ module _ {N : Type 0} where
   abbrev pub root_of : Mount N → Location N
   root_of mount = record { mount = mount.number; node = mount.root }
 
-  -- a mount that is taken away has no place, namespace or group: umount(2) with MNT_DETACH
+  -- a detached mount has no mount point, namespace or peer group: umount(2) with MNT_DETACH
   abbrev pub detached : Mount N → Mount N
-  detached mount = record mount { namespace = None; place = None; propagation = Private }
+  detached mount = record mount { namespace = None; mount_point = None; propagation = Private }
 
-  -- what a number stands for where no mount has it
+  -- the value of a number that no mount has
   abbrev pub no_mount : N → Mount N
   no_mount number =
-      record { number = number; namespace = None; place = None; filesystem = number; root = number; flags = plain_flags; propagation = Private }
+      record { number = number; namespace = None; mount_point = None; filesystem = number; root = number; flags = plain_flags; propagation = Private }
 
 module _ {N : Type 0} (eq : N → N → Bool) where
   abbrev pub same_location : Location N → Location N → Bool
@@ -78,20 +70,20 @@ module _ {N : Type 0} (eq : N → N → Bool) where
   mount_in mounts number = unwrap_or (find (λ mount. eq number mount.number) mounts) (no_mount number)
 
   abbrev pub stands_at : Location N → Mount N → Bool
-  stands_at location mount = holds_of (same_location location) mount.place
+  stands_at location mount = holds_of (same_location location) mount.mount_point
 
   abbrev pub stands_on : N → Mount N → Bool
-  stands_on number mount = holds_of (λ place. eq number place.mount) mount.place
+  stands_on number mount = holds_of (λ place. eq number place.mount) mount.mount_point
 
-  -- the one mount that stands at a place
+  -- the mount whose mount point is this location
   abbrev pub child_at : List (Mount N) → Location N → Option (Mount N)
   child_at mounts location = find (stands_at location) mounts
 
-  -- the mounts that stand on a mount, in order of attachment
+  -- the children of a mount, in order of attachment
   abbrev pub children : List (Mount N) → N → List (Mount N)
   children mounts number = filter (stands_on number) mounts
 
-  -- a mount and all below it: a mount before its children, and those in order of attachment
+  -- a mount and all its descendants: each mount before its children, those in order of attachment
   abbrev pub tree_from : ℕ → List (Mount N) → Mount N → List (Mount N)
   tree_from zero mounts mount = mount ∷ []
   tree_from (suc depth) mounts mount = mount ∷ flat_map (tree_from depth mounts) (children mounts mount.number)
@@ -99,22 +91,22 @@ module _ {N : Type 0} (eq : N → N → Bool) where
   abbrev pub mount_tree : List (Mount N) → Mount N → List (Mount N)
   mount_tree mounts mount = tree_from (length mounts) mounts mount
 
-  -- a place, and then each mount that stands over the one before
+  -- a location, then the root of the mount that stands there, of the mount on that root, and so on
   abbrev pub mounts_over : List (Mount N) → Location N → List (Location N)
   mounts_over mounts location = chain (length mounts) (λ here. option_map root_of (child_at mounts here)) location
 
-  -- a place through every mount over it
+  -- the root of the topmost mount over a location, or the location itself where none stands there
   abbrev pub topmost : List (Mount N) → Location N → Location N
   topmost mounts location = last_or location (mounts_over mounts location)
 
   abbrev pub replaced_if_same : Mount N → Mount N → Mount N
   replaced_if_same new old = if eq new.number old.number then new else old
 
-  -- a mount in the place of the one with its number
+  -- the list with the mount of this number replaced
   abbrev pub with_mount : List (Mount N) → Mount N → List (Mount N)
   with_mount mounts mount = map (replaced_if_same mount) mounts
 
-  -- The place of a mount in a list, and numbers by the mounts for which they are, out of a supply: the i-th mount's
+  -- the index of a mount in a list, and a supply of numbers by mounts: the i-th mount gets the i-th number
   abbrev pub index_of : List (Mount N) → N → ℕ
   index_of mounts number = unwrap_or (place_from (λ mount. eq number mount.number) 0 mounts) 0
 

@@ -2,7 +2,7 @@
 use Rattle.std.specs.Prelude.{Bool, List, Option, Some, [], filter, if◌then◌else◌, map, not, option_map, unwrap_or, ◌&&◌, ◌++◌, ◌∷◌}
 use Rattle.std.specs.List.{list_any}
 use Rattle.vt_spec.specs.Machine.Detach.{taken_away}
-use Rattle.vt_spec.specs.Machine.Lists.{Fresh, evens, holds_of, odds}
+use Rattle.vt_spec.specs.Lists.{Fresh, evens, holds_of, odds}
 use Rattle.vt_spec.specs.Machine.Mounts.{Location, Mount, numbers_by, root_of, same_location, topmost}
 use Rattle.vt_spec.specs.Machine.World.{Namespace, Task, World, mounts_of, root_mount, with_task}
 
@@ -10,8 +10,8 @@ module _ {N : Type 0} where
   abbrev pub entered_at : Task N → N → Location N → Task N
   entered_at task namespace root = record task { namespace = namespace; root = root; directory = root }
 
-  -- Copies of a namespace's mounts, whose numbers go by those of what they are copied from. Copies of shared mounts join the
-  -- group, copies of slaves keep the master.
+  -- Copies of a namespace's mounts; `copy` gives the number of a mount's copy. The copy of a shared mount is a peer of it,
+  -- that of a slave has the same master.
   abbrev pub location_on_copy : (N → N) → Location N → Location N
   location_on_copy copy location = record location { mount = copy location.mount }
 
@@ -19,14 +19,14 @@ module _ {N : Type 0} where
   copied_mount copy namespace mount = record mount {
     number = copy mount.number;
     namespace = Some namespace;
-    place = option_map (location_on_copy copy) mount.place;
+    mount_point = option_map (location_on_copy copy) mount.mount_point;
   }
 
 module _ {N : Type 0} (eq : N → N → Bool) where
   abbrev pub is_copied : List (Mount N) → Location N → Bool
   is_copied mounts location = list_any (λ mount. eq location.mount mount.number) mounts
 
-  -- the root and the working directory go to the copies, where they were on copied mounts
+  -- a root or working directory on a copied mount moves to the copy
   abbrev pub moved_location : List (Mount N) → (N → N) → Location N → Location N
   moved_location mounts copy location = if is_copied mounts location then location_on_copy copy location else location
 
@@ -37,7 +37,7 @@ module _ {N : Type 0} (eq : N → N → Bool) where
     directory = moved_location mounts copy task.directory;
   }
 
-  -- the copies follow in the order of what they are copied from
+  -- the copies are attached last, in the order of the mounts that are copied
   abbrev pub unshared_by : World N → (N → N) → N → Task N → World N
   unshared_by world copy namespace task = with_task (record world {
     mounts = world.mounts ++ map (copied_mount copy namespace) (mounts_of eq world task.namespace);
@@ -49,7 +49,7 @@ module _ {N : Type 0} (eq : N → N → Bool) where
   unshared world fresh task =
       unshared_by world (numbers_by eq (odds fresh) (mounts_of eq world task.namespace)) (evens fresh 0) task
 
-  -- A namespace ends with its last task: its mounts go, without propagation
+  -- a namespace ends with its last task: its mounts are detached, without propagation
   abbrev pub has_tasks : World N → Namespace N → Bool
   has_tasks world namespace = list_any (λ task. eq namespace.number task.namespace) world.tasks
 
@@ -63,7 +63,7 @@ module _ {N : Type 0} (eq : N → N → Bool) where
         namespaces = filter (has_tasks world) world.namespaces;
       }
 
-  -- the root of a namespace's root mount, through every mount over it
+  -- the root of the topmost mount over the root of a namespace's root mount
   abbrev pub namespace_root : World N → N → Option (Location N)
   namespace_root world namespace = option_map (λ mount. topmost eq world.mounts (root_of mount)) (root_mount eq world namespace)
 
@@ -71,17 +71,18 @@ module _ {N : Type 0} (eq : N → N → Bool) where
   namespace_entered world task namespace =
       with_task world (entered_at task namespace (unwrap_or (namespace_root world namespace) task.root))
 
-  -- pivot_root(2): the new mount stands where the root mount stood, and that one at the place given. Nothing propagates.
+  -- pivot_root(2): the new mount takes the mount point of the root mount, if any, and the root mount gets a mount point
+  -- under the new one. Nothing propagates.
   abbrev pub pivoted_mount : Mount N → Mount N → Location N → Mount N → Mount N
   pivoted_mount root new put mount =
-      if eq mount.number new.number then record mount { place = root.place }
-      else if eq mount.number root.number then record mount { place = Some put }
+      if eq mount.number new.number then record mount { mount_point = root.mount_point }
+      else if eq mount.number root.number then record mount { mount_point = Some put }
       else mount
 
   abbrev pub pivoted_location : Mount N → Mount N → Location N → Location N
   pivoted_location root new location = if same_location eq location (root_of root) then root_of new else location
 
-  -- each task of the namespace whose root or working directory is the root of the old root mount gets that of the new one
+  -- a root or working directory of the namespace's tasks at the root of the old root mount moves to that of the new one
   abbrev pub pivoted_task : N → Mount N → Mount N → Task N → Task N
   pivoted_task namespace root new task =
       if eq namespace task.namespace then

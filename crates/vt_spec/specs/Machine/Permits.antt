@@ -1,8 +1,8 @@
--- What a call that no rule refuses may do: its permit, with all that is needed to do it.
+-- What a call may do that no rule refuses: its permit, which names everything that it acts on.
 use Rattle.std.specs.Prelude.{Bool, List, Option, ℕ}
-use Rattle.vt_spec.specs.Machine.Calls.{Access, TypeWord}
-use Rattle.vt_spec.specs.Machine.Changes.{Change}
-use Rattle.vt_spec.specs.Machine.Mounts.{Location, MountFlags}
+use Rattle.vt_spec.specs.Language.Calls.{Access, MountFlags, TypeWord}
+use Rattle.vt_spec.specs.Language.Changes.{Change}
+use Rattle.vt_spec.specs.Machine.Mounts.{Location}
 use Rattle.vt_spec.specs.Machine.World.{Overlay}
 use Rattle.vt_spec.specs.Rights.{Credentials}
 use Rattle.vt_spec.specs.Tree.{Node}
@@ -56,17 +56,17 @@ pub data Permit (N : Type 0) : Type 0 where
   -- a copy of the mount of a source, from that directory on, or of the mounts under it too: mount(2) with MS_BIND, and
   -- MS_REC
   ToBind : (source : Location N) → (place : Location N) → (recursive : Bool) → Permit N
-  -- a mount and all below it get another place: mount(2) with MS_MOVE
+  -- a mount moves to another mount point, with its descendants: mount(2) with MS_MOVE
   ToMove : (mount : N) → (place : Location N) → Permit N
   -- an unmount event: umount(2)
   ToUnmount : (mount : N) → Permit N
-  -- an unmount event for a mount and each one below it: umount(2) with MNT_DETACH
+  -- an unmount event for a mount and each of its descendants: umount(2) with MNT_DETACH
   ToUnmountLazily : (mount : N) → Permit N
   -- other flags of a mount: mount(2) with MS_REMOUNT and MS_BIND
   ToSetFlags : (mount : N) → (flags : MountFlags) → Permit N
-  -- another propagation type of a mount, or of all below it too: mount(2) with MS_SHARED and its kin, and MS_REC
+  -- another propagation type of a mount, or of its descendants too: mount(2) with MS_SHARED and its kin, and MS_REC
   ToSetType : (mount : N) → (word : TypeWord) → (recursive : Bool) → Permit N
-  -- a mount becomes the root mount, which gets a place under it: pivot_root(2)
+  -- a mount becomes the root mount, and the old root mount gets a mount point under it: pivot_root(2)
   ToPivot : (new : N) → (put : Location N) → Permit N
   -- the mounts of the caller's namespace: mountinfo of proc(5)
   ToListMounts : Permit N

@@ -2,25 +2,25 @@
 use Rattle.std.specs.Prelude.{Bool, Err, List, Ok, Option, [], false, if◌then◌else◌, is_ok, map, not, ok_or, true, ◌&&◌, ◌||◌}
 use Rattle.vt_spec.specs.declared.errors.Rule.TheVariants.{S2}
 use Rattle.vt_spec.specs.Machine.Apply.{filesystems_changed}
-use Rattle.vt_spec.specs.Machine.Calls.{Call}
-use Rattle.vt_spec.specs.Machine.Calls.Call.{Bind, Chdir, Chmod, Chown, Chroot, Close, Drop, Exec, Exit, Fork, Lazy, LinkTo, ListMounts, Ls, Lstat, MakeWhiteout, Mkdir, MountOverlay, MountPlain, MoveMount, Opaque, OpenFile, PivotRoot, Pread, Pwrite, Read, Readlink, Remount, Rename, Rmdir, SetType, Setns, Stat, SymlinkAt, Umask, Umount, Unlink, Unshare, Write}
+use Rattle.vt_spec.specs.Language.Calls.{Call, MountFlags, TaskName, same_name}
+use Rattle.vt_spec.specs.Language.Calls.Call.{Bind, Chdir, Chmod, Chown, Chroot, Close, Drop, Exec, Exit, Fork, Lazy, LinkTo, ListMounts, Ls, Lstat, MakeWhiteout, Mkdir, MountOverlay, MountPlain, MoveMount, Opaque, OpenFile, PivotRoot, Pread, Pwrite, Read, Readlink, Remount, Rename, Rmdir, SetType, Setns, Stat, SymlinkAt, Umask, Umount, Unlink, Unshare, Write}
 use Rattle.vt_spec.specs.Errors.{denial}
 use Rattle.vt_spec.specs.Machine.Filesystems.{filesystems_raised, raised}
 use Rattle.vt_spec.specs.Machine.Judge.{Judgement, judge_in}
 use Rattle.vt_spec.specs.Machine.Listing.{mounts_outcome}
-use Rattle.vt_spec.specs.Machine.Lists.{Fresh, same_list, same_option, then_some}
-use Rattle.vt_spec.specs.Machine.Mounts.{Mount, MountFlags, Propagation, same_location, source_of}
+use Rattle.vt_spec.specs.Lists.{Fresh, same_list, same_option, then_some}
+use Rattle.vt_spec.specs.Machine.Mounts.{Mount, Propagation, same_location, source_of}
 use Rattle.vt_spec.specs.Machine.Mounts.Propagation.{Private, Shared, Slave, Unbindable}
 use Rattle.vt_spec.specs.Machine.Outcome.Attributes.{chmod_outcome, chown_outcome, opaque_outcome}
 use Rattle.vt_spec.specs.Machine.Outcome.Descriptors.{close_outcome, open_outcome, pread_outcome, pwrite_outcome}
 use Rattle.vt_spec.specs.Machine.Outcome.Looking.{exec_outcome, list_outcome, lstat_outcome, read_outcome, readlink_outcome, stat_outcome}
-use Rattle.vt_spec.specs.Machine.Outcome.Making.{link_outcome, mkdir_outcome, symlink_outcome, whiteout_outcome, write_outcome}
+use Rattle.vt_spec.specs.Machine.Outcome.Making.{hard_link_outcome, mkdir_outcome, symlink_outcome, whiteout_outcome, write_outcome}
 use Rattle.vt_spec.specs.Machine.Outcome.Mounting.{bind_outcome, lazy_outcome, mount_overlay_outcome, mount_plain_outcome, move_outcome, pivot_outcome, remount_outcome, type_outcome, umount_outcome}
 use Rattle.vt_spec.specs.Machine.Outcome.Removing.{rename_outcome, rmdir_outcome, unlink_outcome}
 use Rattle.vt_spec.specs.Machine.Outcome.Tasks.{chdir_outcome, chroot_outcome, drop_outcome, exit_outcome, fork_outcome, setns_outcome, umask_outcome, unshare_outcome}
 use Rattle.vt_spec.specs.Machine.Outcomes.{Outcome, after}
 use Rattle.vt_spec.specs.Machine.Settled.{settled}
-use Rattle.vt_spec.specs.Machine.World.{Namespace, Task, TaskName, World, mounts_of, same_name, task_called}
+use Rattle.vt_spec.specs.Machine.World.{Namespace, Task, World, mounts_of, task_called}
 
 -- a call that only looks changes nothing, no change number either
 abbrev pub only_looks : Call → Bool
@@ -62,7 +62,7 @@ module _ {N : Type 0} (eq : N → N → Bool) where
   call_outcome fresh world task (Mkdir path mode) = mkdir_outcome eq fresh world task path mode
   call_outcome fresh world task (SymlinkAt text path) = symlink_outcome eq fresh world task text path
   call_outcome fresh world task (MakeWhiteout path) = whiteout_outcome eq fresh world task path
-  call_outcome fresh world task (LinkTo old new) = link_outcome eq fresh world task old new
+  call_outcome fresh world task (LinkTo old new) = hard_link_outcome eq fresh world task old new
   call_outcome fresh world task (Unlink path) = unlink_outcome eq fresh world task path
   call_outcome fresh world task (Rmdir path) = rmdir_outcome eq fresh world task path
   call_outcome fresh world task (Rename old new) = rename_outcome eq fresh world task old new
@@ -108,7 +108,7 @@ module _ {N : Type 0} (eq : N → N → Bool) where
 
   abbrev pub same_mount : World N → World N → Mount N → Mount N → Bool
   same_mount before after_call a b =
-      eq a.number b.number && same_option (same_location eq) a.place b.place && same_flags a.flags b.flags
+      eq a.number b.number && same_option (same_location eq) a.mount_point b.mount_point && same_flags a.flags b.flags
       && same_propagation a.propagation b.propagation && same_option eq (master_above before a) (master_above after_call b)
 
   abbrev pub same_mounts_in : World N → World N → N → Bool

@@ -1,7 +1,8 @@
--- Who hears of events in a peer group: the kernel's document sharedsubtree, "Propagation", and mount_namespaces(7).
+-- Which mounts receive the events of a peer group: the kernel's document sharedsubtree, "Propagation", and
+-- mount_namespaces(7).
 use Rattle.std.specs.Prelude.{Bool, List, None, Option, Some, false, filter, find, length, map, not, true, ◌||◌, ◌≡◌}
 use Rattle.std.specs.List.{list_any}
-use Rattle.vt_spec.specs.Machine.Lists.{chain, holds_of, is_among, then_some}
+use Rattle.vt_spec.specs.Lists.{chain, holds_of, is_among, then_some}
 use Rattle.vt_spec.specs.Machine.Mounts.{Mount, Propagation, group_of, source_of}
 use Rattle.vt_spec.specs.Machine.Mounts.Propagation.{Private, Shared, Slave, Unbindable}
 use Rattle.vt_spec.specs.Machine.World.{World}
@@ -11,20 +12,20 @@ module _ {N : Type 0} where
   slave_of_heir None = Private
   slave_of_heir (Some master) = Slave master
 
--- What receives from a group: the least set of mounts that holds its members, its slaves, and what receives from every
--- group whose master it is
+-- The receivers of a group: the least set of mounts with its members, its slaves, and the receivers of every group whose
+-- master it is.
 pub data Receives {N : Type 0} (world : World N) : N → Mount N → Type 0 where
   member : (group : N) (mount : Mount N) → mount.propagation ≡ Shared group → Receives world group mount
   slave : (group : N) (mount : Mount N) → mount.propagation ≡ Slave group → Receives world group mount
   further_down : (group lower : N) (mount : Mount N) → world.master lower ≡ Some group → Receives world lower mount → Receives world group mount
 
 module _ {N : Type 0} where
-  -- a group, its master, the master of that, and so on; each group has a member, so there are no more than mounts
+  -- a group, its master, that one's master, and so on; each group has a member, so there are no more than mounts
   abbrev pub groups_up : World N → N → List N
   groups_up world group = chain (length world.mounts) world.master group
 
 module _ {N : Type 0} (eq : N → N → Bool) where
-  -- So a mount receives from its own group or its master, and from all groups up the masters.
+  -- computed: a mount receives from its source group and from all groups up the masters
   abbrev pub receives : World N → N → Mount N → Bool
   receives world group mount = holds_of (λ source. is_among eq group (groups_up world source)) (source_of mount.propagation)
 
@@ -37,7 +38,7 @@ module _ {N : Type 0} (eq : N → N → Bool) where
   abbrev pub has_members : List (Mount N) → N → Bool
   has_members mounts group = list_any (is_member_of group) mounts
 
-  -- A group that lost its last member hands its slaves to its master: the nearest group up that has members
+  -- A group without members leaves its slaves to its heir: the nearest group up the masters that has members.
   abbrev pub heir : World N → Option N → Option N
   heir world None = None
   heir world (Some group) = find (has_members world.mounts) (groups_up world group)
@@ -48,15 +49,15 @@ module _ {N : Type 0} (eq : N → N → Bool) where
   inherited world Private = Private
   inherited world Unbindable = Unbindable
 
-  -- The world without groups that have no member: their slaves get their master; where there is none, pure slaves become
-  -- private and groups lose their master (mount_namespaces(7), "slave")
+  -- The world without groups that have no member. Their slaves get the heir as master; where there is none, a slave that
+  -- is not shared becomes private, and a group loses its master (mount_namespaces(7), "slave").
   abbrev pub inheriting : World N → Mount N → Mount N
   inheriting world mount = record mount { propagation = inherited world mount.propagation }
 
   abbrev pub is_lost_group : World N → Option N → Bool
   is_lost_group world group = holds_of (λ number. not (has_members world.mounts number)) group
 
-  -- a mount's group or master, or the master of its group, has no member left
+  -- the group or master of a mount, or the master of that group, has no member
   abbrev pub lost_a_group : World N → Mount N → Bool
   lost_a_group world mount =
       is_lost_group world (source_of mount.propagation)

@@ -1,6 +1,6 @@
 -- Two worlds that differ by a one-to-one renaming of their numbers are the same world. A renaming goes there and back.
 use Rattle.std.specs.Prelude.{List, map, option_map, ℕ, ◌≡◌}
-use Rattle.vt_spec.specs.Machine.FileTree.{FileTree}
+use Rattle.vt_spec.specs.FileTree.{FileTree}
 use Rattle.vt_spec.specs.Machine.Mounts.{Location, Mount, Propagation}
 use Rattle.vt_spec.specs.Machine.Mounts.Propagation.{Private, Shared, Slave, Unbindable}
 use Rattle.vt_spec.specs.Tree.{Content, Node}
@@ -64,7 +64,7 @@ module _ {N M : Type 0} (there : N → M) (back : M → N) where
   renamed_mount mount = record {
     number = there mount.number;
     namespace = option_map there mount.namespace;
-    place = option_map renamed_location mount.place;
+    mount_point = option_map renamed_location mount.mount_point;
     filesystem = there mount.filesystem;
     root = there mount.root;
     flags = mount.flags;

@@ -1,8 +1,8 @@
 -- What new objects are, and the change that makes one.
 use Rattle.std.specs.Prelude.{ℕ}
 use Rattle.vt_spec.specs.declared.attributes.Attr.{Attr}
-use Rattle.vt_spec.specs.Machine.Changes.{Change}
-use Rattle.vt_spec.specs.Machine.Changes.Change.{Make}
+use Rattle.vt_spec.specs.Language.Changes.{Change}
+use Rattle.vt_spec.specs.Language.Changes.Change.{Make}
 use Rattle.vt_spec.specs.Rights.{masked}
 use Rattle.vt_spec.specs.Tree.{Node}
 use Rattle.vt_spec.specs.Machine.Walk.{Place, name_of}

@@ -2,7 +2,7 @@
 -- looks at either.
 use Rattle.std.specs.Prelude.{Bool, List, Some, [], map, true, ⊤, ◌∷◌, ◌≡◌}
 use Rattle.std.specs.List.Sorted.{IsPermutation}
-use Rattle.vt_spec.specs.Machine.FileTree.{FileTree, has_entry_to}
+use Rattle.vt_spec.specs.FileTree.{FileTree, has_entry_to}
 use Rattle.vt_spec.specs.Machine.Filesystems.{lies_below}
 use Rattle.vt_spec.specs.Machine.World.{Filesystem, Namespace, Overlay, Task, World, filesystem_numbered}
 

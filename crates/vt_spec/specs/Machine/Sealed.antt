@@ -2,19 +2,19 @@
 use Rattle.std.specs.Prelude.{Bool, List, None, Option, Some, [], false, filter, filter_map, flat_map, if◌then◌else◌, is_some, map, not, option_to_list, ◌&&◌, ◌++◌, ◌||◌, ◌∷◌}
 use Rattle.std.specs.List.{list_all, list_any}
 use Rattle.vt_spec.specs.declared.errors.Rule.TheVariants.{S2}
-use Rattle.vt_spec.specs.Machine.Calls.{Directive}
-use Rattle.vt_spec.specs.Machine.Calls.Directive.{AskPeers, AskSealed}
-use Rattle.vt_spec.specs.Machine.FileTree.{FileTree}
+use Rattle.vt_spec.specs.Language.Calls.{Directive, TaskName, plain_flags, same_name}
+use Rattle.vt_spec.specs.Language.Calls.Directive.{AskPeers, AskSealed}
+use Rattle.vt_spec.specs.FileTree.{FileTree}
 use Rattle.vt_spec.specs.Machine.Listing.{peer_lines}
-use Rattle.vt_spec.specs.Machine.Lists.{each_once, holds_of, is_among, when}
+use Rattle.vt_spec.specs.Lists.{each_once, holds_of, is_among, when}
 use Rattle.vt_spec.specs.Machine.Locked.{lies_in_layer, of_overlay, overlays}
-use Rattle.vt_spec.specs.Machine.Mounts.{Location, Mount, Propagation, detached, group_of, plain_flags}
+use Rattle.vt_spec.specs.Machine.Mounts.{Location, Mount, Propagation, detached, group_of}
 use Rattle.vt_spec.specs.Machine.Mounts.Propagation.{Private, Shared, Slave, Unbindable}
 use Rattle.vt_spec.specs.Machine.Outcomes.{Outcome, granted, judged}
-use Rattle.vt_spec.specs.Machine.Outcomes.Answer.{PeerList, YesNo}
+use Rattle.vt_spec.specs.Language.Answers.Answer.{PeerList, YesNo}
 use Rattle.vt_spec.specs.Machine.Receives.{is_member_of}
 use Rattle.vt_spec.specs.Machine.Settled.{has_layer_on, named_in, only_among}
-use Rattle.vt_spec.specs.Machine.World.{Filesystem, Layer, Task, TaskName, World, filesystem_numbered, locations_of, mount_at, same_name, task_called}
+use Rattle.vt_spec.specs.Machine.World.{Filesystem, Layer, Task, World, filesystem_numbered, locations_of, mount_at, task_called}
 
 module _ {N : Type 0} where
   abbrev pub is_member_task : List TaskName → Task N → Bool

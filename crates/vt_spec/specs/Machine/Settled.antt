@@ -1,22 +1,22 @@
--- What lives: what nothing uses any more is gone. path_resolution(7) and unlink(2) on inodes that are still in use,
--- umount(2) with MNT_DETACH on mounts, mount_namespaces(7) on namespaces.
+-- The end of what is no longer in use: mounts, filesystems, inodes, peer groups. path_resolution(7) and unlink(2) on
+-- inodes that are still in use, umount(2) with MNT_DETACH on mounts, mount_namespaces(7) on namespaces.
 use Rattle.std.specs.Prelude.{Bool, List, None, [], false, filter, filter_map, flat_map, if◌then◌else◌, is_some, map, not, option_map, true, ◌&&◌, ◌++◌, ◌||◌, ◌∷◌}
 use Rattle.std.specs.List.{list_all, list_any}
-use Rattle.vt_spec.specs.Machine.FileTree.{FileTree, targets_in}
-use Rattle.vt_spec.specs.Machine.Lists.{holds_of, is_among}
+use Rattle.vt_spec.specs.FileTree.{FileTree, targets_in}
+use Rattle.vt_spec.specs.Lists.{holds_of, is_among}
 use Rattle.vt_spec.specs.Machine.Locked.{of_overlay}
 use Rattle.vt_spec.specs.Machine.Mounts.{Mount, root_of}
 use Rattle.vt_spec.specs.Machine.Receives.{has_members}
 use Rattle.vt_spec.specs.Machine.World.{Filesystem, Overlay, World, all_locations, is_overlay, layers_of, mount_at, upper_object, with_mounts}
 
 module _ {N : Type 0} where
-  -- The inodes in use: the root, those with a name, those of locations and mounts, layers, and the upper layer's
-  -- objects of overlays
+  -- The inodes in use: the root, those with a name, those of locations, mounts and mount points, the directories of
+  -- layers, and the objects that an overlay has in its upper layer.
   abbrev pub named_in : FileTree N → List N
   named_in files = flat_map (λ directory. targets_in (files.tree.node directory)) files.numbers
 
 module _ {N : Type 0} (eq : N → N → Bool) where
-  -- a mount lives in a namespace, or while a root, working directory or descriptor is on it
+  -- a mount is in use while it is in a namespace, or a root, working directory or descriptor is on it
   abbrev pub is_located : World N → N → Bool
   is_located world number = list_any (λ location. eq number location.mount) (all_locations world)
 
@@ -30,7 +30,7 @@ module _ {N : Type 0} (eq : N → N → Bool) where
   has_layer_on filesystem merged =
       of_overlay false (λ overlay. list_any (λ layer. eq filesystem layer.filesystem) (layers_of overlay)) merged
 
-  -- a filesystem lives while a mount of it does, or an overlay with a layer in it
+  -- a filesystem is in use while it is mounted, or a mounted overlay has a layer in it
   abbrev pub filesystem_lives : World N → Filesystem N → Bool
   filesystem_lives world filesystem =
       is_mounted world filesystem.number
@@ -39,7 +39,7 @@ module _ {N : Type 0} (eq : N → N → Bool) where
   abbrev pub located_in : World N → N → List N
   located_in world filesystem =
       map (λ location. location.node) (filter (λ location. eq filesystem (mount_at eq world location).filesystem)
-      (all_locations world ++ map root_of world.mounts ++ filter_map (λ mount. mount.place) world.mounts))
+      (all_locations world ++ map root_of world.mounts ++ filter_map (λ mount. mount.mount_point) world.mounts))
 
   abbrev pub layers_in : World N → N → List N
   layers_in world filesystem =
@@ -63,7 +63,7 @@ module _ {N : Type 0} (eq : N → N → Bool) where
     numbers = filter (λ number. is_among eq number used) files.numbers;
   }
 
-  -- an inode of an overlay that is gone has no real object
+  -- an inode of an overlay that is removed loses its real object
   abbrev pub real_among : List N → Overlay N → Overlay N
   real_among used overlay =
       record overlay { real = λ number. if is_among eq number used then overlay.real number else None }
@@ -93,12 +93,12 @@ module _ {N : Type 0} (eq : N → N → Bool) where
   without_dead_in chosen world =
       record world { filesystems = map (λ filesystem. only_used world (chosen filesystem) filesystem) world.filesystems }
 
-  -- first the inodes of overlays go, then those of the trees that their layers are in
+  -- first the inodes of overlays are removed, then those of plain trees, in which their layers are
   abbrev pub without_dead_inodes : World N → World N
   without_dead_inodes world =
       without_dead_in (λ filesystem. not (is_overlay filesystem)) (without_dead_in is_overlay world)
 
-  -- a group goes with its last member, and what it heard from with it
+  -- a peer group ends with its last member, and loses its master
   abbrev pub without_dead_groups : World N → World N
   without_dead_groups world =
       record world { master = λ group. if has_members eq world.mounts group then world.master group else None }

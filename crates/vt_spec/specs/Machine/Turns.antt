@@ -4,26 +4,28 @@ use Rattle.std.specs.Prelude.{Bool, Err, List, None, Ok, Option, Result, Some, [
 use Rattle.std.specs.List.{list_any}
 use Rattle.vt_spec.specs.declared.errors.Deny.{Deny}
 use Rattle.vt_spec.specs.declared.errors.Rule.TheVariants.{K1, S1, S5}
-use Rattle.vt_spec.specs.Machine.Calls.{Call, Creation, Directive, OverlayWords}
-use Rattle.vt_spec.specs.Machine.Calls.Call.{Bind, Chdir, Chmod, Chown, Chroot, Exec, Lazy, LinkTo, Ls, Lstat, MakeWhiteout, Mkdir, MountOverlay, MountPlain, MoveMount, Opaque, OpenFile, PivotRoot, Read, Readlink, Remount, Rename, Rmdir, SetType, Stat, SymlinkAt, Umount, Unlink, Write}
-use Rattle.vt_spec.specs.Machine.Calls.Creation.{Exclusive, NoCreation, OrCreate}
+use Rattle.vt_spec.specs.Language.Calls.{Call, Creation, Directive, OverlayWords, TaskName, same_name}
+use Rattle.vt_spec.specs.Language.Calls.Call.{Bind, Chdir, Chmod, Chown, Chroot, Exec, Lazy, LinkTo, Ls, Lstat, MakeWhiteout, Mkdir, MountOverlay, MountPlain, MoveMount, Opaque, OpenFile, PivotRoot, Read, Readlink, Remount, Rename, Rmdir, SetType, Stat, SymlinkAt, Umount, Unlink, Write}
+use Rattle.vt_spec.specs.Language.Calls.Creation.{Exclusive, NoCreation, OrCreate}
 use Rattle.vt_spec.specs.Errors.{Rules, denial, unless}
-use Rattle.vt_spec.specs.Machine.Lists.{Fresh, counted_from, first_of_list, folded, is_empty_list, rest_of}
+use Rattle.vt_spec.specs.Lists.{Fresh, counted_from, first_of_list, folded, is_empty_list, rest_of}
 use Rattle.vt_spec.specs.Machine.Outcome.Descriptors.{descriptor_rules}
 use Rattle.vt_spec.specs.Machine.Outcome.Mounting.{admin_rules, destination_walk, source_walk, work_walked}
 use Rattle.vt_spec.specs.Machine.Outcome.Removing.{rename_new_walk}
-use Rattle.vt_spec.specs.Machine.Outcomes.{Answer, Outcome, denied}
+use Rattle.vt_spec.specs.Language.Answers.{Answer}
+use Rattle.vt_spec.specs.Machine.Outcomes.{Outcome, denied}
 use Rattle.vt_spec.specs.Machine.Policy.{policy}
-use Rattle.vt_spec.specs.Machine.Printed.{reply_line}
+use Rattle.vt_spec.specs.Language.Printed.{reply_line}
 use Rattle.vt_spec.specs.Rights.{cap_sys_chroot}
 use Rattle.vt_spec.specs.Machine.Rows.{lacks}
 use Rattle.vt_spec.specs.Machine.Run.{everything, first_world, handed, later}
-use Rattle.vt_spec.specs.Machine.Script.{Grammar, Request, Version, Who, each_of, is_silent, lines_of, longest_line, raw_tokens, request_of, token_text, who_of, whole}
-use Rattle.vt_spec.specs.Machine.Script.Request.{Asking, Calling}
-use Rattle.vt_spec.specs.Machine.Script.Who.{Nobody, Someone}
+use Rattle.vt_spec.specs.Language.Script.{Grammar, Request, Version, Who, each_of, is_silent, lines_of, raw_tokens, request_of, token_text, who_of, whole}
+use Rattle.vt_spec.specs.Language.Limits.{longest_line, most_restarts}
+use Rattle.vt_spec.specs.Language.Script.Request.{Asking, Calling}
+use Rattle.vt_spec.specs.Language.Script.Who.{Nobody, Someone}
 use Rattle.vt_spec.specs.Machine.Sealed.{directed}
-use Rattle.vt_spec.specs.Machine.Walk.{Here, Place, Stop, directory_walk, file_walk, is_directory_there, link_walk, new_leaf_walk, new_walk, object_walk, old_leaf_walk, old_walk}
-use Rattle.vt_spec.specs.Machine.World.{Task, TaskName, World, same_name, task_called}
+use Rattle.vt_spec.specs.Machine.Walk.{Here, Place, Stop, directory_walk, file_walk, is_directory_there, symlink_walk, new_leaf_walk, new_walk, object_walk, old_leaf_walk, old_walk}
+use Rattle.vt_spec.specs.Machine.World.{Task, World, task_called}
 
 -- what stands in a queue: a call, a directive, or a line that is refused
 pub data Item : Type 0 where
@@ -68,10 +70,6 @@ same_who (Someone a) (Someone b) = same_name a b
 same_who (Someone a) Nobody = false
 same_who Nobody (Someone b) = false
 same_who Nobody Nobody = true
-
--- the most restarts of one call: a fourth one runs it whole
-abbrev pub most_restarts : ℕ
-most_restarts = 3
 
 -- a change number that can rise no more tells nothing
 abbrev pub last_number : ℕ
@@ -171,8 +169,8 @@ module _ {N : Type 0} (eq : N → N → Bool) where
   abbrev pub routes : World N → Task N → Call → List (Route N)
   routes world task (Ls path) = here_route (directory_walk eq world task path) ∷ []
   routes world task (Stat path) = here_route (object_walk eq world task path) ∷ []
-  routes world task (Lstat path) = here_route (link_walk eq world task path) ∷ []
-  routes world task (Readlink path) = here_route (link_walk eq world task path) ∷ []
+  routes world task (Lstat path) = here_route (symlink_walk eq world task path) ∷ []
+  routes world task (Readlink path) = here_route (symlink_walk eq world task path) ∷ []
   routes world task (Read path) = here_route (object_walk eq world task path) ∷ []
   routes world task (Write path bytes) = place_route (file_walk eq world task path) ∷ []
   routes world task (Exec path) = here_route (object_walk eq world task path) ∷ []
@@ -180,7 +178,7 @@ module _ {N : Type 0} (eq : N → N → Bool) where
   routes world task (SymlinkAt text path) = place_route (new_leaf_walk eq world task path) ∷ []
   routes world task (MakeWhiteout path) = place_route (new_leaf_walk eq world task path) ∷ []
   routes world task (LinkTo old new) =
-      here_route (link_walk eq world task old) ∷ place_route (new_leaf_walk eq world task new) ∷ []
+      here_route (symlink_walk eq world task old) ∷ place_route (new_leaf_walk eq world task new) ∷ []
   routes world task (Unlink path) = place_route (old_leaf_walk eq world task path) ∷ []
   routes world task (Rmdir path) = place_route (old_walk eq world task path) ∷ []
   routes world task (Rename old new) =

@@ -2,17 +2,17 @@
 -- that of mount_namespaces(7).
 use Rattle.std.specs.Prelude.{Bool, List, None, Option, Some, [], false, if◌then◌else◌, map, true, ◌∷◌}
 use Rattle.std.specs.List.{list_any}
-use Rattle.vt_spec.specs.Machine.Calls.{TypeWord}
-use Rattle.vt_spec.specs.Machine.Calls.TypeWord.{ToPrivate, ToShared, ToSlave, ToUnbindable}
-use Rattle.vt_spec.specs.Machine.Lists.{Fresh}
+use Rattle.vt_spec.specs.Language.Calls.{TypeWord}
+use Rattle.vt_spec.specs.Language.Calls.TypeWord.{ToPrivate, ToShared, ToSlave, ToUnbindable}
+use Rattle.vt_spec.specs.Lists.{Fresh}
 use Rattle.vt_spec.specs.Machine.Mounts.{Mount, Propagation, mount_tree, numbers_by}
 use Rattle.vt_spec.specs.Machine.Mounts.Propagation.{Private, Shared, Slave, Unbindable}
 use Rattle.vt_spec.specs.Machine.Receives.{regrouped}
 use Rattle.vt_spec.specs.Machine.World.{World, mount_numbered}
 
 module _ {N : Type 0} where
-  -- The type that a mount takes, a new group being at hand. What stops being a member becomes a slave of the group it
-  -- leaves; where it was alone there, its heir is that group's master, or none.
+  -- The type after a change, where `new` is the number of a new group. A member that becomes a slave has the group that it
+  -- leaves as its master; where it was the last member, `regrouped` gives it that group's heir.
   abbrev pub type_after : N → TypeWord → Propagation N → Propagation N
   type_after new ToShared (Shared group) = Shared group
   type_after new ToShared (Slave master) = Shared new
@@ -25,7 +25,7 @@ module _ {N : Type 0} where
   type_after new ToPrivate old = Private
   type_after new ToUnbindable old = Unbindable
 
-  -- the master of the new group: the slave's own
+  -- the master of the new group: a slave's own master
   abbrev pub master_after : Propagation N → Option N
   master_after (Shared group) = None
   master_after (Slave master) = Some master
@@ -33,11 +33,11 @@ module _ {N : Type 0} where
   master_after Unbindable = None
 
 module _ {N : Type 0} (eq : N → N → Bool) where
-  -- a group and its master
+  -- the masters with that of one group replaced
   abbrev pub with_master : (N → Option N) → N → Option N → N → Option N
   with_master master group above other = if eq other group then above else master other
 
-  -- The named mounts take their types at once. A new group is that of the mount for which it is made.
+  -- All named mounts change at once; each new group is given by the mount that it is made for.
   abbrev pub retyped_mount : (N → N) → TypeWord → List (Mount N) → Mount N → Mount N
   retyped_mount group word named mount =
       if list_any (λ other. eq mount.number other.number) named
@@ -54,7 +54,7 @@ module _ {N : Type 0} (eq : N → N → Bool) where
     master = with_new_groups group world.master named;
   })
 
-  -- one mount, or that mount and all below it
+  -- one mount, or the mount and all its descendants
   abbrev pub named_mounts : World N → N → Bool → List (Mount N)
   named_mounts world number true = mount_tree eq world.mounts (mount_numbered eq world number)
   named_mounts world number false = mount_numbered eq world number ∷ []

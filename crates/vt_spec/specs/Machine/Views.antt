@@ -4,8 +4,8 @@
 use Rattle.std.specs.Prelude.{Bool, List, None, Option, Some, [], false, filter, flat_map, if◌then◌else◌, is_some, map, not, suc, true, zero, ℕ, ◌&&◌, ◌++◌, ◌+◌, ◌||◌, ◌∷◌}
 use Rattle.std.specs.List.{list_any}
 use Rattle.vt_spec.specs.declared.attributes.Kind.TheVariants.{White}
-use Rattle.vt_spec.specs.Machine.FileTree.{is_kind_in, is_opaque_in}
-use Rattle.vt_spec.specs.Machine.Lists.{folded, front_of, fronts, then_some, when}
+use Rattle.vt_spec.specs.FileTree.{is_kind_in, is_opaque_in}
+use Rattle.vt_spec.specs.Lists.{folded, front_of, fronts, then_some, when}
 use Rattle.vt_spec.specs.Rights.{is_directory}
 use Rattle.vt_spec.specs.Tree.{Entries, Node, entries_in, is_directory_node, kind_of, with_entry}
 

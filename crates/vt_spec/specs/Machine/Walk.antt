@@ -6,7 +6,7 @@ use Rattle.vt_spec.specs.Machine.Looks.{looks_of}
 use Rattle.vt_spec.specs.Machine.Mounts.{Location}
 use Rattle.vt_spec.specs.Machine.Walking
 use Rattle.vt_spec.specs.Machine.World.{Task, World}
-pub use Rattle.vt_spec.specs.Machine.Walking.{Follow, Here, LastWord, Place, Stop, all_met, also_met, final_word, if_link, is_dot, is_dot_dot, is_no_word, is_special, last_word, link_of, most_links, name_of, path_text, start_of, stopped_by, then_walk, walk_end, walk_start, walk_unless}
+pub use Rattle.vt_spec.specs.Machine.Walking.{Follow, Here, LastWord, Place, Stop, all_met, also_met, final_word, if_link, is_dot, is_dot_dot, is_no_word, is_special, last_word, symlink_of, name_of, path_text, start_of, stopped_by, then_walk, walk_end, walk_start, walk_unless}
 pub use Rattle.vt_spec.specs.Machine.Walking.LastWord.{Dot, DotDot, Named, NoWord}
 
 module _ {N : Type 0} (eq : N → N → Bool) where
@@ -46,8 +46,8 @@ module _ {N : Type 0} (eq : N → N → Bool) where
   abbrev pub follow_rules : World N → Here N → List ℕ → Rules
   follow_rules world = Walking.follow_rules eq (looks_of eq world)
 
-  abbrev pub link_start : World N → Task N → Location N → Here N → List ℕ → Here N
-  link_start world task = Walking.link_start eq (looks_of eq world) task
+  abbrev pub symlink_start : World N → Task N → Location N → Here N → List ℕ → Here N
+  symlink_start world task = Walking.symlink_start eq (looks_of eq world) task
 
   abbrev pub slash_rules : World N → List ℕ → Location N → Rules
   slash_rules world = Walking.slash_rules eq (looks_of eq world)
@@ -55,8 +55,8 @@ module _ {N : Type 0} (eq : N → N → Bool) where
   abbrev pub words_walked : World N → Task N → Follow N → Here N → List (List ℕ) → Result (Here N) (Stop N)
   words_walked world task = Walking.words_walked eq (looks_of eq world) task
 
-  abbrev pub link_walked : ℕ → World N → Task N → Location N → Here N → List ℕ → Result (Here N) (Stop N)
-  link_walked depth world task = Walking.link_walked eq depth (looks_of eq world) task
+  abbrev pub symlink_walked : ℕ → World N → Task N → Location N → Here N → List ℕ → Result (Here N) (Stop N)
+  symlink_walked depth world task = Walking.symlink_walked eq depth (looks_of eq world) task
 
   abbrev pub followed : World N → Task N → Location N → Here N → List ℕ → Result (Here N) (Stop N)
   followed world task = Walking.followed eq (looks_of eq world) task
@@ -76,11 +76,11 @@ module _ {N : Type 0} (eq : N → N → Bool) where
   abbrev pub last_walked : World N → Task N → Here N → LastWord → Result (Here N) (Stop N)
   last_walked world task = Walking.last_walked eq (looks_of eq world) task
 
-  abbrev pub link_walk_by : Bool → World N → Task N → List ℕ → Result (Here N) (Stop N)
-  link_walk_by follows world task = Walking.link_walk_by eq follows (looks_of eq world) task
+  abbrev pub symlink_walk_by : Bool → World N → Task N → List ℕ → Result (Here N) (Stop N)
+  symlink_walk_by follows world task = Walking.symlink_walk_by eq follows (looks_of eq world) task
 
-  abbrev pub link_walk : World N → Task N → List ℕ → Result (Here N) (Stop N)
-  link_walk world task = Walking.link_walk eq (looks_of eq world) task
+  abbrev pub symlink_walk : World N → Task N → List ℕ → Result (Here N) (Stop N)
+  symlink_walk world task = Walking.symlink_walk eq (looks_of eq world) task
 
   abbrev pub object_named : World N → Task N → Location N → LastWord → Result (Option (Location N)) Deny
   object_named world task = Walking.object_named eq (looks_of eq world) task
@@ -115,12 +115,12 @@ module _ {N : Type 0} (eq : N → N → Bool) where
   abbrev pub entered : World N → Place N → Place N
   entered world = Walking.entered eq (looks_of eq world)
 
-  abbrev pub link_there : World N → Place N → Option (List ℕ)
-  link_there world = Walking.link_there eq (looks_of eq world)
+  abbrev pub symlink_there : World N → Place N → Option (List ℕ)
+  symlink_there world = Walking.symlink_there eq (looks_of eq world)
 
-  abbrev pub file_or_link : World N → Place N → Option (List ℕ) → (List ℕ → Result (Place N) (Stop N))
+  abbrev pub file_or_symlink : World N → Place N → Option (List ℕ) → (List ℕ → Result (Place N) (Stop N))
       → Result (Place N) (Stop N)
-  file_or_link world = Walking.file_or_link eq (looks_of eq world)
+  file_or_symlink world = Walking.file_or_symlink eq (looks_of eq world)
 
   abbrev pub file_walked : ℕ → World N → Task N → Here N → List ℕ → Bool → Result (Place N) (Stop N)
   file_walked depth world task = Walking.file_walked eq depth (looks_of eq world) task

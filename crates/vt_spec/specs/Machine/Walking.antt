@@ -6,11 +6,12 @@ use Rattle.std.specs.Str.{bytes_eq}
 use Rattle.vt_spec.specs.declared.errors.Deny.{Deny}
 use Rattle.vt_spec.specs.declared.errors.Rule.TheVariants.{W2, W3, W4, W5, W6, W7, W8, W9}
 use Rattle.vt_spec.specs.Errors.{Rules, and_then, denial, unless}
-use Rattle.vt_spec.specs.Machine.FileTree.{link_text}
-use Rattle.vt_spec.specs.Machine.Lists.{chain, holds_of, last_or, then_some}
+use Rattle.vt_spec.specs.FileTree.{symlink_text}
+use Rattle.vt_spec.specs.Lists.{chain, holds_of, last_or, then_some}
 use Rattle.vt_spec.specs.Machine.Looks.{Looks, is_directory_at, may, mount_at, mounter_may, topmost}
 use Rattle.vt_spec.specs.Machine.Mounts.{Location, same_location}
-use Rattle.vt_spec.specs.PathText.{ends_in_slash, is_absolute, longest_name, parsed_path, words}
+use Rattle.vt_spec.specs.PathText.{ends_in_slash, is_absolute, parsed_path, words}
+use Rattle.vt_spec.specs.Language.Limits.{longest_name, most_symlinks}
 use Rattle.vt_spec.specs.Rights.{execute_right}
 use Rattle.vt_spec.specs.Tree.{entries_in, entry_named, parent_in}
 use Rattle.vt_spec.specs.Machine.World.{Task}
@@ -58,10 +59,6 @@ name_of NoWord = []
 name_of Dot = []
 name_of DotDot = []
 name_of (Named name) = name
-
--- the most links that are followed for one path: MAXSYMLINKS, path_resolution(7)
-abbrev pub most_links : ℕ
-most_links = 40
 
 -- Where a walk stands: the place, the links that it may still follow, and for each word walked, the last one first, the
 -- filesystems that it met.
@@ -129,13 +126,13 @@ module _ {N : Type 0} where
   if_link here (Some text) follow = follow text
 
   abbrev pub walk_start : Task N → List ℕ → Here N
-  walk_start task path = record { location = start_of task task.directory path; left = most_links; steps = [] }
+  walk_start task path = record { location = start_of task task.directory path; left = most_symlinks; steps = [] }
 
   abbrev pub path_text : List ℕ → Result (List ℕ) (Stop N)
   path_text path = stopped_by [] (parsed_path path)
 
-  abbrev pub link_of : Here N → Place N → Here N
-  link_of here place =
+  abbrev pub symlink_of : Here N → Place N → Here N
+  symlink_of here place =
       record { location = unwrap_or place.object place.parent; left = here.left; steps = place.steps }
 
 module _ {N : Type 0} (eq : N → N → Bool) where
@@ -159,7 +156,7 @@ module _ {N : Type 0} (eq : N → N → Bool) where
   abbrev pub hop : Looks N → Task N → Location N → Option (Location N)
   hop looks task here =
       if same_location eq here task.root then None
-      else if eq here.node (mount_at looks here).root then (mount_at looks here).place
+      else if eq here.node (mount_at looks here).root then (mount_at looks here).mount_point
       else None
 
   abbrev pub hops : Looks N → Task N → Location N → List (Location N)
@@ -227,8 +224,8 @@ module _ {N : Type 0} (eq : N → N → Bool) where
       ∷ []
 
   -- where the walk of a link's text begins, in the directory that the link stands in
-  abbrev pub link_start : Looks N → Task N → Location N → Here N → List ℕ → Here N
-  link_start looks task directory link text = record {
+  abbrev pub symlink_start : Looks N → Task N → Location N → Here N → List ℕ → Here N
+  symlink_start looks task directory link text = record {
     location = start_of task directory text;
     left = link.left - 1;
     steps = if is_absolute text then also_met (mount_at looks task.root).filesystem link.steps else link.steps;
@@ -244,21 +241,21 @@ module _ {N : Type 0} (eq : N → N → Bool) where
   words_walked looks task follow here (word ∷ front) =
       then_walk (words_walked looks task follow here front) (λ reached.
       then_walk (word_walked looks task reached (last_word word)) (λ next.
-      if_link next (link_text (looks.node next.location)) (follow reached.location next)))
+      if_link next (symlink_text (looks.node next.location)) (follow reached.location next)))
 
   -- A link is a walk of its text from its directory or the task's root, with what is left of the links. Links stand in
   -- one another's texts no deeper than there are links to follow.
-  abbrev pub link_walked : ℕ → Looks N → Task N → Location N → Here N → List ℕ → Result (Here N) (Stop N)
-  link_walked zero looks task directory link text = Err (record { deny = denial W7; steps = link.steps })
-  link_walked (suc depth) looks task directory link text =
+  abbrev pub symlink_walked : ℕ → Looks N → Task N → Location N → Here N → List ℕ → Result (Here N) (Stop N)
+  symlink_walked zero looks task directory link text = Err (record { deny = denial W7; steps = link.steps })
+  symlink_walked (suc depth) looks task directory link text =
       then_walk
-      (walk_unless link.steps (follow_rules looks link text) (link_start looks task directory link text)) (λ start.
-      then_walk (words_walked looks task (λ inside next inner. link_walked depth looks task inside next inner)
+      (walk_unless link.steps (follow_rules looks link text) (symlink_start looks task directory link text)) (λ start.
+      then_walk (words_walked looks task (λ inside next inner. symlink_walked depth looks task inside next inner)
       start (reverse (words text))) (λ reached.
       walk_unless reached.steps (slash_rules looks text reached.location) reached))
 
   abbrev pub followed : Looks N → Task N → Location N → Here N → List ℕ → Result (Here N) (Stop N)
-  followed looks task directory link text = link_walked (most_links + 1) looks task directory link text
+  followed looks task directory link text = symlink_walked (most_symlinks + 1) looks task directory link text
 
   -- every word of the path walked, a final link too
   abbrev pub path_walked : Looks N → Task N → List ℕ → Result (Here N) (Stop N)
@@ -290,15 +287,15 @@ module _ {N : Type 0} (eq : N → N → Bool) where
   last_walked looks task here DotDot = word_walked looks task here DotDot
   last_walked looks task here (Named name) = word_walked looks task here (Named name)
 
-  abbrev pub link_walk_by : Bool → Looks N → Task N → List ℕ → Result (Here N) (Stop N)
-  link_walk_by true looks task path = object_walk looks task path
-  link_walk_by false looks task path =
+  abbrev pub symlink_walk_by : Bool → Looks N → Task N → List ℕ → Result (Here N) (Stop N)
+  symlink_walk_by true looks task path = object_walk looks task path
+  symlink_walk_by false looks task path =
       then_walk (path_text path) (λ text.
       then_walk (front_walked looks task (followed looks task) (walk_start task text) (reverse (words text))) (λ here.
       last_walked looks task here (final_word (reverse (words text)))))
 
-  abbrev pub link_walk : Looks N → Task N → List ℕ → Result (Here N) (Stop N)
-  link_walk looks task path = link_walk_by (ends_in_slash path) looks task path
+  abbrev pub symlink_walk : Looks N → Task N → List ℕ → Result (Here N) (Stop N)
+  symlink_walk looks task path = symlink_walk_by (ends_in_slash path) looks task path
 
   -- Parent walks
 
@@ -387,26 +384,26 @@ module _ {N : Type 0} (eq : N → N → Bool) where
     steps = all_met (filesystems_of looks (entered_mounts looks place)) place.steps;
   }
 
-  abbrev pub link_there : Looks N → Place N → Option (List ℕ)
-  link_there looks place = then_some place.object (λ object. link_text (looks.node object))
+  abbrev pub symlink_there : Looks N → Place N → Option (List ℕ)
+  symlink_there looks place = then_some place.object (λ object. symlink_text (looks.node object))
 
-  abbrev pub file_or_link : Looks N → Place N → Option (List ℕ) → (List ℕ → Result (Place N) (Stop N))
+  abbrev pub file_or_symlink : Looks N → Place N → Option (List ℕ) → (List ℕ → Result (Place N) (Stop N))
       → Result (Place N) (Stop N)
-  file_or_link looks place None follow = Ok (entered looks place)
-  file_or_link looks place (Some text) follow = follow text
+  file_or_symlink looks place None follow = Ok (entered looks place)
+  file_or_symlink looks place (Some text) follow = follow text
 
   abbrev pub file_walked : ℕ → Looks N → Task N → Here N → List ℕ → Bool → Result (Place N) (Stop N)
   file_walked zero looks task start text slash = Err (record { deny = denial W7; steps = start.steps })
   file_walked (suc depth) looks task start text slash =
       then_walk (front_walked looks task (followed looks task) start (reverse (words text))) (λ here.
       then_walk (placed looks task here (final_word (reverse (words text))) (slash || ends_in_slash text)) (λ place.
-      file_or_link looks place (link_there looks place) (λ inner.
-      then_walk (walk_unless place.steps (follow_rules looks (link_of here place) inner)
-      (link_start looks task here.location (link_of here place) inner))
+      file_or_symlink looks place (symlink_there looks place) (λ inner.
+      then_walk (walk_unless place.steps (follow_rules looks (symlink_of here place) inner)
+      (symlink_start looks task here.location (symlink_of here place) inner))
       (λ next. file_walked depth looks task next inner (slash || ends_in_slash text)))))
 
   abbrev pub file_walk : Looks N → Task N → List ℕ → Result (Place N) (Stop N)
   file_walk looks task path =
       then_walk (path_text path) (λ text.
-      then_walk (file_walked (most_links + 1) looks task (walk_start task text) text false) (λ place.
+      then_walk (file_walked (most_symlinks + 1) looks task (walk_start task text) text false) (λ place.
       walk_unless place.steps (new_name_rules looks place) place))

@@ -1,19 +1,15 @@
 -- The state of the machine: mounts, groups, filesystems, namespaces and tasks. Tasks are those of credentials(7) and
 -- mount_namespaces(7).
 use Rattle.std.specs.Prelude.{Bool, List, None, Option, Some, [], filter, find, flat_map, if◌then◌else◌, is_some, map, not, option_to_list, unwrap_or, ℕ, ◌++◌, ◌∷◌}
-use Rattle.std.specs.Str.{bytes_eq}
 use Rattle.vt_spec.specs.declared.attributes.Attr.{Attr}
-use Rattle.vt_spec.specs.Machine.FileTree.{FileTree, is_removed}
+use Rattle.vt_spec.specs.FileTree.{FileTree, is_removed}
 use Rattle.vt_spec.specs.Machine.Layers.{OpenLayer}
-use Rattle.vt_spec.specs.Machine.Lists.{Fresh, holds_of}
-use Rattle.vt_spec.specs.Machine.Mounts.{Location, Mount, mount_in, plain_flags}
+use Rattle.vt_spec.specs.Lists.{Fresh, holds_of}
+use Rattle.vt_spec.specs.Machine.Mounts.{Location, Mount, mount_in}
+use Rattle.vt_spec.specs.Language.Calls.{TaskName, plain_flags, same_name}
 use Rattle.vt_spec.specs.Machine.Mounts.Propagation.{Private}
 use Rattle.vt_spec.specs.Rights.{Credentials, all_capabilities}
 use Rattle.vt_spec.specs.Tree.{Node, is_directory_node, tree_of_root}
-
--- a task's name is the numbers after its `t`, so `t` itself is the empty list
-abbrev pub TaskName : Type 0
-TaskName = List ℕ
 
 -- a layer of an overlay: a directory of a plain tree
 pub record Layer (N : Type 0) : Type 0 where
@@ -73,9 +69,6 @@ pub record World (N : Type 0) : Type 0 where
   pub namespaces : List (Namespace N)
   pub tasks : List (Task N)
   pub change : ℕ
-
-abbrev pub same_name : TaskName → TaskName → Bool
-same_name a b = bytes_eq a b
 
 module _ {N : Type 0} where
   -- a tree that is not there
@@ -163,7 +156,7 @@ module _ {N : Type 0} (eq : N → N → Bool) where
 
   -- the root mount of a namespace
   abbrev pub root_mount : World N → N → Option (Mount N)
-  root_mount world namespace = find (λ mount. not (is_some mount.place)) (mounts_of world namespace)
+  root_mount world namespace = find (λ mount. not (is_some mount.mount_point)) (mounts_of world namespace)
 
   abbrev pub open_layer : World N → Layer N → OpenLayer N
   open_layer world layer =
@@ -189,7 +182,7 @@ module _ {N : Type 0} (eq : N → N → Bool) where
       record {
         number = fresh 0;
         namespace = Some (fresh 1);
-        place = None;
+        mount_point = None;
         filesystem = fresh 2;
         root = fresh 3;
         flags = plain_flags;

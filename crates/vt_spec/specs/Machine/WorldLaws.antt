@@ -4,30 +4,28 @@ use Rattle.std.specs.List.{list_all, list_any}
 use Rattle.std.specs.Str.{bytes_eq}
 use Rattle.vt_spec.specs.declared.attributes.Kind.TheVariants.{File, White}
 use Rattle.vt_spec.specs.Machine.Attach.{has_too_many}
-use Rattle.vt_spec.specs.Machine.FileTree.{FileTree, is_kind_in, is_opaque_in, link_text}
+use Rattle.vt_spec.specs.FileTree.{FileTree, is_kind_in, is_opaque_in, symlink_text}
 use Rattle.vt_spec.specs.Machine.Layers.{node_at_path, shown}
-use Rattle.vt_spec.specs.Machine.Lists.{any_pair, chain, holds_of, is_among, is_empty_list, last_or, same_option, then_some}
+use Rattle.vt_spec.specs.Lists.{any_pair, chain, holds_of, is_among, is_empty_list, last_or, same_option, then_some}
 use Rattle.vt_spec.specs.Machine.Locked.{live_upper_and_work, of_overlay, overlaps_one_of, overlays}
 use Rattle.vt_spec.specs.Machine.Merging.{layer_node, merged_at, real_object}
 use Rattle.vt_spec.specs.Machine.Mounts.{Location, Mount, Propagation, same_location, source_of}
 use Rattle.vt_spec.specs.Machine.Mounts.Propagation.{Private, Shared, Slave, Unbindable}
 use Rattle.vt_spec.specs.Machine.Namespaces.{has_tasks}
-use Rattle.vt_spec.specs.Machine.Outcome.Descriptors.{most_descriptors}
-use Rattle.vt_spec.specs.Machine.Outcome.Making.{largest_file}
-use Rattle.vt_spec.specs.Machine.Outcome.Mounting.{most_lowers}
-use Rattle.vt_spec.specs.Machine.Outcome.Tasks.{deepest_name, most_forks}
+use Rattle.vt_spec.specs.Language.Limits.{deepest_name, largest_file, longest_name, longest_path, most_descriptors, most_forks, most_lowers}
 use Rattle.vt_spec.specs.Machine.Policy.{same_bool}
 use Rattle.vt_spec.specs.Machine.Receives.{groups_up, has_members}
-use Rattle.vt_spec.specs.PathText.{is_empty, longest_name, longest_path}
+use Rattle.vt_spec.specs.PathText.{is_empty}
 use Rattle.vt_spec.specs.Machine.Settled.{settled}
 use Rattle.vt_spec.specs.Tree.{Content, Node, bytes_in, is_directory_node, names_in}
 use Rattle.vt_spec.specs.Tree.Content.{Directory, Regular, Symlink}
 use Rattle.vt_spec.specs.TreeLaws.{HasOwnParents, IsTree, led}
-use Rattle.vt_spec.specs.Machine.World.{Descriptor, Filesystem, Layer, Namespace, Overlay, Real, Task, TaskName, World, all_locations, filesystem_numbered, is_directory_at, is_overlay, layers_of, mount_at, mount_numbered, mounts_of, node_at, open_layer, same_name, shown_layers}
+use Rattle.vt_spec.specs.Machine.World.{Descriptor, Filesystem, Layer, Namespace, Overlay, Real, Task, World, all_locations, filesystem_numbered, is_directory_at, is_overlay, layers_of, mount_at, mount_numbered, mounts_of, node_at, open_layer, shown_layers}
+use Rattle.vt_spec.specs.Language.Calls.{TaskName, same_name}
 use Rattle.vt_spec.specs.Machine.World.Real.{Below, Upper}
 
 module _ {N : Type 0} where
-  -- what the merged tree has of a shown object: its owner, mode, kind, bytes or text; a directory's names are the tree's
+  -- A merged inode and its real object have the same owner, mode, kind, and bytes or text; entries of directories differ.
   abbrev pub same_content : Content N → Content N → Bool
   same_content (Directory parent entries opaque) (Directory other_parent other_entries other_opaque) = true
   same_content (Regular bytes) (Regular other) = bytes_eq bytes other
@@ -46,9 +44,9 @@ module _ {N : Type 0} where
   is_private Private = true
   is_private Unbindable = false
 
-  -- a mount outside every namespace has no place and is private
+  -- a mount outside every namespace has no mount point and is private
   abbrev pub is_nowhere_or_attached : Mount N → Bool
-  is_nowhere_or_attached mount = is_some mount.namespace || (not (is_some mount.place) && is_private mount.propagation)
+  is_nowhere_or_attached mount = is_some mount.namespace || (not (is_some mount.mount_point) && is_private mount.propagation)
 
   -- descriptors stand in the order of their numbers, each once
   abbrev pub are_ascending_from : ℕ → List (Descriptor N) → Bool
@@ -80,7 +78,7 @@ module _ {N : Type 0} where
 
   abbrev pub has_fit_text : FileTree N → N → Bool
   has_fit_text files number =
-      list_all (λ text. not (is_empty text) && nat_le (length text) longest_path) (option_to_list (link_text (files.tree.node number)))
+      list_all (λ text. not (is_empty text) && nat_le (length text) longest_path) (option_to_list (symlink_text (files.tree.node number)))
 
   abbrev pub is_fit_filesystem : Filesystem N → Bool
   is_fit_filesystem filesystem =
@@ -100,8 +98,8 @@ module _ {N : Type 0} where
 -- A mount stands: it has no mount point, or its parent is in the same namespace and stands. Mounts are given by numbers; a
 -- number that no mount has stands too, and `nowhere` excludes it as a parent.
 pub data Stands {N : Type 0} (eq : N → N → Bool) (world : World N) : N → Type 0 where
-  at_root : (number : N) → (mount_numbered eq world number).place ≡ None → Stands eq world number
-  on_parent : (number : N) (place : Location N) → (mount_numbered eq world number).place ≡ Some place
+  at_root : (number : N) → (mount_numbered eq world number).mount_point ≡ None → Stands eq world number
+  on_parent : (number : N) (place : Location N) → (mount_numbered eq world number).mount_point ≡ Some place
       → (mount_numbered eq world number).namespace ≡ (mount_numbered eq world place.mount).namespace
       → Stands eq world place.mount → Stands eq world number
 
@@ -114,16 +112,16 @@ pub data Lives {N : Type 0} (members : N → Bool) (master : N → Option N) : N
 module _ {N : Type 0} (eq : N → N → Bool) where
   -- Mounts
 
-  abbrev pub stand_at_one_place : Mount N → Mount N → Bool
-  stand_at_one_place a b = is_some a.place && same_option (same_location eq) a.place b.place
+  abbrev pub share_a_mount_point : Mount N → Mount N → Bool
+  share_a_mount_point a b = is_some a.mount_point && same_option (same_location eq) a.mount_point b.mount_point
 
-  -- as a test: the places below places come to an end, at a mount without one, in the same namespace
-  abbrev pub last_below : World N → Mount N → Mount N
-  last_below world mount = last_or mount (chain (length world.mounts) (λ below. option_map (mount_at eq world) below.place) mount)
+  -- as a test: the chain of parents ends at a mount without a mount point, in the same namespace
+  abbrev pub last_parent : World N → Mount N → Mount N
+  last_parent world mount = last_or mount (chain (length world.mounts) (λ below. option_map (mount_at eq world) below.mount_point) mount)
 
   abbrev pub stands_in_its_namespace : World N → Mount N → Bool
   stands_in_its_namespace world mount =
-      not (is_some (last_below world mount).place) && same_option eq mount.namespace (last_below world mount).namespace
+      not (is_some (last_parent world mount).mount_point) && same_option eq mount.namespace (last_parent world mount).namespace
 
   -- the peer group or master of each mount lives
   abbrev pub HasLivingGroups : World N → Mount N → Type 0
@@ -139,18 +137,18 @@ module _ {N : Type 0} (eq : N → N → Bool) where
       list_all (λ group. list_all (has_members eq world.mounts) (groups_up world group) && masters_end world group)
       (option_to_list (source_of mount.propagation))
 
-  -- the namespace of a mount or a task is there
+  -- the namespace of a mount or a task exists
   abbrev pub is_listed : World N → N → Bool
   is_listed world number = is_among eq number (map (λ namespace. namespace.number) world.namespaces)
 
   abbrev pub is_root_mount : Mount N → Bool
-  is_root_mount mount = not (is_some mount.place)
+  is_root_mount mount = not (is_some mount.mount_point)
 
   -- a namespace has one root mount
   abbrev pub has_one_root : World N → Namespace N → Bool
   has_one_root world namespace = length (filter is_root_mount (mounts_of eq world namespace.number)) == 1
 
-  -- what a location, a mount or a layer uses is there
+  -- the inode of a location, a mount or a layer exists
   abbrev pub is_there : World N → N → N → Bool
   is_there world filesystem number = is_some ((filesystem_numbered eq world filesystem).files.tree.node number)
 
@@ -162,7 +160,7 @@ module _ {N : Type 0} (eq : N → N → Bool) where
   abbrev pub has_its_root : World N → Mount N → Bool
   has_its_root world mount =
       is_directory_node ((filesystem_numbered eq world mount.filesystem).files.tree.node mount.root)
-      && list_all (is_directory_at eq world) (option_to_list mount.place)
+      && list_all (is_directory_at eq world) (option_to_list mount.mount_point)
 
   -- layers are directories of plain trees
   abbrev pub is_plain_layer : World N → Layer N → Bool
@@ -170,12 +168,12 @@ module _ {N : Type 0} (eq : N → N → Bool) where
       not (is_overlay (filesystem_numbered eq world layer.filesystem))
       && is_directory_node ((filesystem_numbered eq world layer.filesystem).files.tree.node layer.directory)
 
-  -- The numbers that stand beside a tree are those of its inodes
+  -- the numbers beside a tree are those of its inodes
   abbrev pub ListsNumbers : FileTree N → Type 0
   ListsNumbers files = (number : N) → is_among eq number files.numbers ≡ is_some (files.tree.node number)
 
-  -- An overlay is one tree: at every path it has what its layers show, and no whiteout and no mark; two inodes have two
-  -- real objects; and the real object of an inode with a name is the one that is shown there.
+  -- The merged tree of an overlay has at every path what the layers show, and no whiteout and no mark. Two inodes have two
+  -- real objects; the real object of an inode with a name is the one that is shown there.
   abbrev pub real_shown : World N → Overlay N → List (List ℕ) → Option (Real N)
   real_shown world overlay path =
       option_map (λ object. real_object (is_some overlay.upper) object.seen.layer object)
@@ -245,7 +243,7 @@ module _ {N : Type 0} (eq : N → N → Bool) where
   -- Invariants of mounts: mount_namespaces(7), sharedsubtree
   pub record MountInvariants (world : World N) : Type 0 where
     pub one_number : any_pair (λ a b. eq a.number b.number) world.mounts ≡ false
-    pub one_child : any_pair stand_at_one_place world.mounts ≡ false
+    pub one_child : any_pair share_a_mount_point world.mounts ≡ false
     pub standing : All (λ mount. Stands eq world mount.number) world.mounts
     pub nowhere : list_all is_nowhere_or_attached world.mounts ≡ true
     pub groups : All (HasLivingGroups world) world.mounts
@@ -268,7 +266,7 @@ module _ {N : Type 0} (eq : N → N → Bool) where
     pub directories : list_all (stands_on_directories world) world.tasks ≡ true
     pub open_files : list_all (has_regular_files_open world) world.tasks ≡ true
 
-  -- All of them. What mounts show is there, and nothing is left that nothing uses.
+  -- All of them. The root and the mount point of each mount exist, and nothing is left that is not in use.
   pub record IsWorld (world : World N) : Type 0 where
     pub files : TreeInvariants world
     pub overlays : OverlayInvariants world

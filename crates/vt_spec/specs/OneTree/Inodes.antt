@@ -1,9 +1,9 @@
 -- A tree whose inodes count their uses: inode(7), "Hard link count", and unlink(2) on a file that is still open.
 use Rattle.std.specs.Prelude.{Bool, List, None, Option, Some, ℕ, option_map, if◌then◌else◌, nat_le, ◌+◌, ◌-◌, is_some}
 use Rattle.vt_spec.specs.declared.attributes.Attr.{Attr}
-use Rattle.vt_spec.specs.Machine.Changes.{Change, node_with_attr, node_with_mark, node_with_parent, node_without_entry}
-use Rattle.vt_spec.specs.Machine.Changes.Change.{AddName, CopyUp, Make, Move, Remove, SetAttr, SetBytes, SetMark}
-use Rattle.vt_spec.specs.Machine.Lists.{chain, is_among}
+use Rattle.vt_spec.specs.Language.Changes.{Change, node_with_attr, node_with_mark, node_with_parent, node_without_entry}
+use Rattle.vt_spec.specs.Language.Changes.Change.{AddName, CopyUp, Make, Move, Remove, SetAttr, SetBytes, SetMark}
+use Rattle.vt_spec.specs.Lists.{chain, is_among}
 use Rattle.vt_spec.specs.Tree.{Node, Tree, entries_in, entry_named, new_directory, node_with_bytes, node_with_entry, parent_in}
 
 -- an inode, and how many names lead to it and descriptors are on it; the root counts once more

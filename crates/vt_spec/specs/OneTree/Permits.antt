@@ -1,7 +1,7 @@
 -- What a call that no rule refuses may do.
 use Rattle.std.specs.Prelude.{List, ℕ}
-use Rattle.vt_spec.specs.Machine.Calls.{Access}
-use Rattle.vt_spec.specs.Machine.Changes.{Change}
+use Rattle.vt_spec.specs.Language.Calls.{Access}
+use Rattle.vt_spec.specs.Language.Changes.{Change}
 use Rattle.vt_spec.specs.Rights.{Credentials}
 use Rattle.vt_spec.specs.Tree.{Node}
 

@@ -5,23 +5,22 @@ use Rattle.vt_spec.specs.declared.attributes.Attr.{Attr}
 use Rattle.vt_spec.specs.declared.errors.Deny.{Deny}
 use Rattle.vt_spec.specs.declared.errors.Rule.TheVariants.{C2, P1, S1, S2}
 use Rattle.vt_spec.specs.Errors.{and_then, denial, unless}
-use Rattle.vt_spec.specs.Machine.Calls.{Access, Call, Creation, ForkWords}
-use Rattle.vt_spec.specs.Machine.Calls.Call.{Chmod, Chown, Close, Drop, Exec, Exit, Fork, LinkTo, Ls, Lstat, Mkdir, OpenFile, Pread, Pwrite, Read, Readlink, Rename, Rmdir, Stat, SymlinkAt, Umask, Unlink, Write}
-use Rattle.vt_spec.specs.Machine.Calls.Creation.{Exclusive, NoCreation, OrCreate}
-use Rattle.vt_spec.specs.Machine.Changes.Change.{AddName, Make, Move, Remove, SetAttr, SetBytes}
+use Rattle.vt_spec.specs.Language.Calls.{Access, Call, Creation, ForkWords, TaskName}
+use Rattle.vt_spec.specs.Language.Calls.Call.{Chmod, Chown, Close, Drop, Exec, Exit, Fork, LinkTo, Ls, Lstat, Mkdir, OpenFile, Pread, Pwrite, Read, Readlink, Rename, Rmdir, Stat, SymlinkAt, Umask, Unlink, Write}
+use Rattle.vt_spec.specs.Language.Calls.Creation.{Exclusive, NoCreation, OrCreate}
+use Rattle.vt_spec.specs.Language.Changes.Change.{AddName, Make, Move, Remove, SetAttr, SetBytes}
 use Rattle.vt_spec.specs.Machine.Outcome.Attributes.{attr_with_mode, attr_with_owner, may_chown}
 use Rattle.vt_spec.specs.Machine.Outcome.Descriptors.{overwritten}
 use Rattle.vt_spec.specs.Machine.Outcome.Looking.{stat_line}
-use Rattle.vt_spec.specs.Machine.Outcome.Making.{directory_mode, file_mode, link_mode, link_text_rules}
+use Rattle.vt_spec.specs.Machine.Outcome.Making.{directory_mode, file_mode, symlink_mode, link_text_rules}
 use Rattle.vt_spec.specs.Machine.Outcome.Tasks.{capabilities_of, child_credentials, permission_bits, with_dropped}
-use Rattle.vt_spec.specs.Machine.Outcomes.Answer.{Bytes, Child, Done, Names, Opened, Told}
+use Rattle.vt_spec.specs.Language.Answers.Answer.{Bytes, Child, Done, Names, Opened, Told}
 use Rattle.vt_spec.specs.Machine.Walk.{is_special, name_of}
-use Rattle.vt_spec.specs.Machine.World.{TaskName}
 use Rattle.vt_spec.specs.OneTree.Inodes.{Inodes, changed, pinned, tree_of, unpinned, with_new}
 use Rattle.vt_spec.specs.OneTree.Permits.{Permit}
 use Rattle.vt_spec.specs.OneTree.Permits.Permit.{Allowed, ToChange, ToClose, ToExit, ToFork, ToList, ToOpen, ToOpenNew, ToRead, ToReadPart, ToSetCredentials, ToSetUmask, ToTell}
-use Rattle.vt_spec.specs.OneTree.Rules.{attr_at, chmod_rules, descriptor_at, descriptor_rules, exclusive_rules, exec_rules, file_word_rules, fork_rules, is_one_object, link_rules, list_rules, new_rules, open_new_rules, open_rules, pwrite_rules, read_rules, readlink_rules, rename_rules, rewrite_rules, rmdir_rules, unlink_rules, write_new_rules}
-use Rattle.vt_spec.specs.OneTree.Walk.{Place, directory_walk, file_walk, is_directory_there, link_walk, new_leaf_walk, new_walk, object_walk, old_leaf_walk, old_walk, rename_new_walk}
+use Rattle.vt_spec.specs.OneTree.Rules.{attr_at, chmod_rules, descriptor_at, descriptor_rules, exclusive_rules, exec_rules, file_word_rules, fork_rules, is_one_object, hard_link_rules, list_rules, new_rules, open_new_rules, open_rules, pwrite_rules, read_rules, readlink_rules, rename_rules, rewrite_rules, rmdir_rules, unlink_rules, write_new_rules}
+use Rattle.vt_spec.specs.OneTree.Walk.{Place, directory_walk, file_walk, is_directory_there, symlink_walk, new_leaf_walk, new_walk, object_walk, old_leaf_walk, old_walk, rename_new_walk}
 use Rattle.vt_spec.specs.OneTree.World.{Descriptor, Outcome, Task, World, after, descriptor_numbered, free_number, granted, node_at, changed_if_called, task_called, with_descriptor, with_inodes, with_task, without_descriptor, without_task}
 use Rattle.vt_spec.specs.Rights.{Credentials, masked}
 use Rattle.vt_spec.specs.Tree.{Node, Tree, bytes_in, names_in, new_directory}
@@ -34,7 +33,7 @@ module _ {N : Type 0} where
 
   -- a link has mode 0777, whatever the umask: symlink(7)
   abbrev pub link_attr : Task N → Attr
-  link_attr task = record { uid = task.credentials.uid; gid = task.credentials.gid; mode = link_mode }
+  link_attr task = record { uid = task.credentials.uid; gid = task.credentials.gid; mode = symlink_mode }
 
   abbrev pub new_file : Task N → ℕ → List ℕ → Node N
   new_file task mode bytes = record { attr = new_attr task mode; content = Regular bytes }
@@ -55,11 +54,11 @@ module _ {N : Type 0} where
   stat_permit tree task path = and_then (object_walk tree task.credentials path) (λ here. Ok (ToTell here.node))
 
   unfoldable pub lstat_permit : Tree N → Task N → List ℕ → Result (Permit N) Deny
-  lstat_permit tree task path = and_then (link_walk tree task.credentials path) (λ here. Ok (ToTell here.node))
+  lstat_permit tree task path = and_then (symlink_walk tree task.credentials path) (λ here. Ok (ToTell here.node))
 
   unfoldable pub readlink_permit : Tree N → Task N → List ℕ → Result (Permit N) Deny
   readlink_permit tree task path =
-      and_then (link_walk tree task.credentials path) (λ here.
+      and_then (symlink_walk tree task.credentials path) (λ here.
       unless (readlink_rules tree here.node) (Ok (ToRead here.node)))
 
   unfoldable pub read_permit : Tree N → Task N → List ℕ → Result (Permit N) Deny
@@ -85,11 +84,11 @@ module _ {N : Type 0} where
       (and_then (new_leaf_walk tree task.credentials path) (λ place.
       unless (new_rules tree task.credentials place) (Ok (making place number (record { attr = link_attr task; content = Symlink text })))))
 
-  unfoldable pub link_permit : Tree N → Task N → List ℕ → List ℕ → Result (Permit N) Deny
-  link_permit tree task old new =
-      and_then (link_walk tree task.credentials old) (λ from.
+  unfoldable pub hard_link_permit : Tree N → Task N → List ℕ → List ℕ → Result (Permit N) Deny
+  hard_link_permit tree task old new =
+      and_then (symlink_walk tree task.credentials old) (λ from.
       and_then (new_leaf_walk tree task.credentials new) (λ place.
-      unless (link_rules tree task.credentials from.node place)
+      unless (hard_link_rules tree task.credentials from.node place)
       (Ok (ToChange (AddName place.parent (name_of place.last) from.node)))))
 
   -- Calls that write
@@ -233,7 +232,7 @@ module _ {N : Type 0} (eq : N → N → Bool) where
   judge number inodes name task (Exec path) = exec_permit (tree_of inodes) task path
   judge number inodes name task (Mkdir path mode) = mkdir_permit number (tree_of inodes) task path mode
   judge number inodes name task (SymlinkAt text path) = symlink_permit number (tree_of inodes) task text path
-  judge number inodes name task (LinkTo old new) = link_permit (tree_of inodes) task old new
+  judge number inodes name task (LinkTo old new) = hard_link_permit (tree_of inodes) task old new
   judge number inodes name task (Unlink path) = unlink_permit (tree_of inodes) task path
   judge number inodes name task (Rmdir path) = rmdir_permit (tree_of inodes) task path
   judge number inodes name task (Rename old new) = rename_permit inodes task old new

@@ -7,14 +7,12 @@ use Rattle.vt_spec.specs.declared.attributes.Kind.TheVariants.{File, Link, White
 use Rattle.vt_spec.specs.declared.errors.Deny.{Deny}
 use Rattle.vt_spec.specs.declared.errors.Rule.TheVariants.{C1, C2, C3, E1, E2, E3, E4, E5, E6, E7, E8, E9, K1, P1, S3, S4, S6}
 use Rattle.vt_spec.specs.Errors.{Rules, denial}
-use Rattle.vt_spec.specs.Machine.Calls.{Access}
-use Rattle.vt_spec.specs.Machine.FileTree.{attr_in, is_kind_in}
-use Rattle.vt_spec.specs.Machine.Lists.{holds_of, is_empty_list}
-use Rattle.vt_spec.specs.Machine.Outcome.Descriptors.{access_rights, most_descriptors}
-use Rattle.vt_spec.specs.Machine.Outcome.Making.{largest_file}
-use Rattle.vt_spec.specs.Machine.Outcome.Tasks.{deepest_name, most_forks}
+use Rattle.vt_spec.specs.Language.Calls.{Access, TaskName}
+use Rattle.vt_spec.specs.FileTree.{attr_in, is_kind_in}
+use Rattle.vt_spec.specs.Lists.{holds_of, is_empty_list}
+use Rattle.vt_spec.specs.Machine.Outcome.Descriptors.{access_rights}
+use Rattle.vt_spec.specs.Language.Limits.{deepest_name, largest_file, most_descriptors, most_forks}
 use Rattle.vt_spec.specs.Machine.Walk.{is_dot, is_dot_dot, is_no_word, is_special}
-use Rattle.vt_spec.specs.Machine.World.{TaskName}
 use Rattle.vt_spec.specs.OneTree.Inodes.{Inodes, is_directory_under, tree_of}
 use Rattle.vt_spec.specs.OneTree.Walk.{Place, is_directory_at, may}
 use Rattle.vt_spec.specs.OneTree.World.{Descriptor, Task, descriptor_numbered}
@@ -75,8 +73,8 @@ module _ {N : Type 0} where
       ∷ (may_not tree who place.parent write_right, C1)
       ∷ []
 
-  abbrev pub link_rules : Tree N → Credentials → N → Place N → Rules
-  link_rules tree who old place =
+  abbrev pub hard_link_rules : Tree N → Credentials → N → Place N → Rules
+  hard_link_rules tree who old place =
       (is_special place.last, E1)
       ∷ (is_some place.object, E1)
       ∷ (is_directory_at tree old, E7)

@@ -3,10 +3,11 @@ use Rattle.std.specs.Prelude.{Bool, List, None, Option, Some, [], false, length,
 use Rattle.vt_spec.specs.declared.errors.Rule.TheVariants.{S1, S5}
 use Rattle.vt_spec.specs.Errors.{denial}
 use Rattle.std.specs.Fmt.{digits}
-use Rattle.vt_spec.specs.Machine.Printed.{reply_line}
-use Rattle.vt_spec.specs.Machine.Script.{Request, files, is_silent, lines_of, longest_line, request_of}
-use Rattle.vt_spec.specs.Machine.Script.Request.{Asking, Calling}
-use Rattle.vt_spec.specs.OneTree.Policy.{chmod_permit, chown_permit, close_permit, exec_permit, fork_permit, link_permit, list_permit, lstat_permit, mkdir_permit, open_permit, policy, pread_permit, pwrite_permit, read_permit, readlink_permit, rename_permit, rmdir_permit, stat_permit, symlink_permit, unlink_permit, write_permit}
+use Rattle.vt_spec.specs.Language.Printed.{reply_line}
+use Rattle.vt_spec.specs.Language.Script.{Request, files, is_silent, lines_of, request_of}
+use Rattle.vt_spec.specs.Language.Limits.{longest_line}
+use Rattle.vt_spec.specs.Language.Script.Request.{Asking, Calling}
+use Rattle.vt_spec.specs.OneTree.Policy.{chmod_permit, chown_permit, close_permit, exec_permit, fork_permit, hard_link_permit, list_permit, lstat_permit, mkdir_permit, open_permit, policy, pread_permit, pwrite_permit, read_permit, readlink_permit, rename_permit, rmdir_permit, stat_permit, symlink_permit, unlink_permit, write_permit}
 use Rattle.vt_spec.specs.OneTree.World.{Outcome, World, denied, opening}
 
 -- what a line leads to: nothing, or an outcome that is answered
@@ -83,6 +84,6 @@ script_text refused script = text_from (opening nat_eq 0) 1 (lines_of script) re
 -- what a proof by computation opens
 unfoldable pub everything : Unit {0}
 unfolding digits script_text request_of list_permit stat_permit lstat_permit readlink_permit read_permit exec_permit
-    mkdir_permit symlink_permit link_permit write_permit unlink_permit rmdir_permit chmod_permit chown_permit open_permit
+    mkdir_permit symlink_permit hard_link_permit write_permit unlink_permit rmdir_permit chmod_permit chown_permit open_permit
     pread_permit pwrite_permit close_permit fork_permit rename_permit
 everything = tt

@@ -5,12 +5,13 @@ use Rattle.std.specs.List.{list_any}
 use Rattle.vt_spec.specs.declared.errors.Deny.{Deny}
 use Rattle.vt_spec.specs.declared.errors.Rule.TheVariants.{W2, W3, W4, W6, W7}
 use Rattle.vt_spec.specs.Errors.{Rules, and_then, denial, unless}
-use Rattle.vt_spec.specs.Machine.FileTree.{link_text}
-use Rattle.vt_spec.specs.Machine.Lists.{holds_of, then_some}
-use Rattle.vt_spec.specs.Machine.Walk.{LastWord, final_word, last_word, most_links}
+use Rattle.vt_spec.specs.FileTree.{symlink_text}
+use Rattle.vt_spec.specs.Lists.{holds_of, then_some}
+use Rattle.vt_spec.specs.Machine.Walk.{LastWord, final_word, last_word}
+use Rattle.vt_spec.specs.Language.Limits.{longest_name, most_symlinks}
 use Rattle.vt_spec.specs.Machine.Walk.LastWord.{Dot, DotDot, Named, NoWord}
 use Rattle.vt_spec.specs.Machine.Rightful.{node_allows}
-use Rattle.vt_spec.specs.PathText.{ends_in_slash, is_absolute, longest_name, parsed_path, words}
+use Rattle.vt_spec.specs.PathText.{ends_in_slash, is_absolute, parsed_path, words}
 use Rattle.vt_spec.specs.Rights.{Credentials, execute_right}
 use Rattle.vt_spec.specs.Tree.{Tree, entries_in, entry_named, is_directory_node, parent_in}
 
@@ -73,8 +74,8 @@ module _ {N : Type 0} where
   abbrev pub start_of : Tree N → N → List ℕ → N
   start_of tree directory text = if is_absolute text then tree.root else directory
 
-  abbrev pub link_start : Tree N → N → Here N → List ℕ → Here N
-  link_start tree directory link text = record { node = start_of tree directory text; left = link.left - 1 }
+  abbrev pub symlink_start : Tree N → N → Here N → List ℕ → Here N
+  symlink_start tree directory link text = record { node = start_of tree directory text; left = link.left - 1 }
 
   -- what is no link is reached; a link is followed
   abbrev pub if_link : Here N → Option (List ℕ) → (List ℕ → Result (Here N) Deny) → Result (Here N) Deny
@@ -91,24 +92,24 @@ module _ {N : Type 0} where
   words_walked tree who follow here (word ∷ front) =
       and_then (words_walked tree who follow here front) (λ reached.
       and_then (word_walked tree who reached (last_word word)) (λ next.
-      if_link next (link_text (tree.node next.node)) (follow reached.node next)))
+      if_link next (symlink_text (tree.node next.node)) (follow reached.node next)))
 
   -- A link is a walk of its text from its directory or the root, with what is left of the links. Links stand in one another's
   -- texts no deeper than there are links to follow.
-  abbrev pub link_walked : ℕ → Tree N → Credentials → N → Here N → List ℕ → Result (Here N) Deny
-  link_walked zero tree who directory link text = Err (denial W7)
-  link_walked (suc depth) tree who directory link text =
+  abbrev pub symlink_walked : ℕ → Tree N → Credentials → N → Here N → List ℕ → Result (Here N) Deny
+  symlink_walked zero tree who directory link text = Err (denial W7)
+  symlink_walked (suc depth) tree who directory link text =
       unless (follow_rules link text)
-      (and_then (words_walked tree who (λ inside next inner. link_walked depth tree who inside next inner)
-      (link_start tree directory link text) (reverse (words text))) (λ reached.
+      (and_then (words_walked tree who (λ inside next inner. symlink_walked depth tree who inside next inner)
+      (symlink_start tree directory link text) (reverse (words text))) (λ reached.
       unless (slash_rules tree text reached.node) (Ok reached)))
 
   abbrev pub followed : Tree N → Credentials → N → Here N → List ℕ → Result (Here N) Deny
-  followed tree who directory link text = link_walked (most_links + 1) tree who directory link text
+  followed tree who directory link text = symlink_walked (most_symlinks + 1) tree who directory link text
 
   -- every path begins at the root
   abbrev pub walk_start : Tree N → Here N
-  walk_start tree = record { node = tree.root; left = most_links }
+  walk_start tree = record { node = tree.root; left = most_symlinks }
 
   -- every word of the path walked, a final link too
   abbrev pub path_walked : Tree N → Credentials → List ℕ → Result (Here N) Deny
@@ -142,8 +143,8 @@ module _ {N : Type 0} where
       and_then (front_walked tree who (walk_start tree) (reverse (words text))) (λ here.
       last_walked tree who here (final_word (reverse (words text))))
 
-  abbrev pub link_walk : Tree N → Credentials → List ℕ → Result (Here N) Deny
-  link_walk tree who path =
+  abbrev pub symlink_walk : Tree N → Credentials → List ℕ → Result (Here N) Deny
+  symlink_walk tree who path =
       if ends_in_slash path then object_walk tree who path
       else and_then (parsed_path path) (unfollowed_walk tree who)
 
@@ -189,25 +190,25 @@ module _ {N : Type 0} where
       unless ((place.slash && not old_is_directory, W3) ∷ []) (Ok place))
 
   -- The place of a file that is opened or made: a final link is followed, also to a missing name: open(2) with O_CREAT
-  abbrev pub link_there : Tree N → Place N → Option (List ℕ)
-  link_there tree place = then_some place.object (λ object. link_text (tree.node object))
+  abbrev pub symlink_there : Tree N → Place N → Option (List ℕ)
+  symlink_there tree place = then_some place.object (λ object. symlink_text (tree.node object))
 
-  abbrev pub link_of : Here N → Place N → Here N
-  link_of here place = record { node = unwrap_or place.object place.parent; left = here.left }
+  abbrev pub symlink_of : Here N → Place N → Here N
+  symlink_of here place = record { node = unwrap_or place.object place.parent; left = here.left }
 
-  abbrev pub file_or_link : Place N → Option (List ℕ) → (List ℕ → Result (Place N) Deny) → Result (Place N) Deny
-  file_or_link place None follow = Ok place
-  file_or_link place (Some text) follow = follow text
+  abbrev pub file_or_symlink : Place N → Option (List ℕ) → (List ℕ → Result (Place N) Deny) → Result (Place N) Deny
+  file_or_symlink place None follow = Ok place
+  file_or_symlink place (Some text) follow = follow text
 
   abbrev pub file_walked : ℕ → Tree N → Credentials → Here N → List ℕ → Bool → Result (Place N) Deny
   file_walked zero tree who start text slash = Err (denial W7)
   file_walked (suc depth) tree who start text slash =
       and_then (front_walked tree who start (reverse (words text))) (λ here.
       and_then (placed tree who here.node (final_word (reverse (words text))) (slash || ends_in_slash text)) (λ place.
-      file_or_link place (link_there tree place) (λ inner.
-      unless (follow_rules (link_of here place) inner)
-      (file_walked depth tree who (link_start tree here.node (link_of here place) inner) inner (slash || ends_in_slash text)))))
+      file_or_symlink place (symlink_there tree place) (λ inner.
+      unless (follow_rules (symlink_of here place) inner)
+      (file_walked depth tree who (symlink_start tree here.node (symlink_of here place) inner) inner (slash || ends_in_slash text)))))
 
   abbrev pub file_walk : Tree N → Credentials → List ℕ → Result (Place N) Deny
   file_walk tree who path =
-      and_then (parsed_path path) (λ text. file_walked (most_links + 1) tree who (walk_start tree) text false)
+      and_then (parsed_path path) (λ text. file_walked (most_symlinks + 1) tree who (walk_start tree) text false)

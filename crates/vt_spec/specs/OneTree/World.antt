@@ -1,8 +1,9 @@
 -- The state of the machine of one tree: its inodes, and the tasks. Tasks are those of credentials(7).
 use Rattle.std.specs.Prelude.{Bool, Err, List, Ok, Option, Result, [], filter, find, if◌then◌else◌, map, nat_lt, not, option_map, ◌==◌, ◌∷◌, ◌+◌, ℕ}
 use Rattle.vt_spec.specs.declared.errors.Deny.{Deny}
-use Rattle.vt_spec.specs.Machine.Outcomes.{Answer}
-use Rattle.vt_spec.specs.Machine.World.{TaskName, first_credentials, root_attr, same_name}
+use Rattle.vt_spec.specs.Language.Answers.{Answer}
+use Rattle.vt_spec.specs.Language.Calls.{TaskName, same_name}
+use Rattle.vt_spec.specs.Machine.World.{first_credentials, root_attr}
 use Rattle.vt_spec.specs.OneTree.Inodes.{Inodes, node_in, one_directory}
 use Rattle.vt_spec.specs.Rights.{Credentials}
 use Rattle.vt_spec.specs.Tree.{Node}

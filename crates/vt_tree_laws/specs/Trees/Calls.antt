@@ -1,11 +1,11 @@
 -- Calls on files, in worlds of plain filesystems.
 use Rattle.std.specs.Prelude.{All, Bool, None, Some, false, nat_eq, true, ℕ, ◌≡◌}
-use Rattle.vt_spec.specs.Machine.Calls.{Call}
-use Rattle.vt_spec.specs.Machine.Calls.Call.{MountOverlay}
-use Rattle.vt_spec.specs.Machine.Lists.{Fresh}
+use Rattle.vt_spec.specs.Language.Calls.{Call, TaskName}
+use Rattle.vt_spec.specs.Language.Calls.Call.{MountOverlay}
+use Rattle.vt_spec.specs.Lists.{Fresh}
 use Rattle.vt_spec.specs.Machine.Mounts.{Location, root_of}
 use Rattle.vt_spec.specs.Machine.Policy.{policy}
-use Rattle.vt_spec.specs.Machine.World.{TaskName, World, is_directory_at, is_overlay, opening}
+use Rattle.vt_spec.specs.Machine.World.{World, is_directory_at, is_overlay, opening}
 use Rattle.vt_spec.specs.Machine.WorldLaws.{IsWorld}
 use Rattle.vt_tree_laws.specs.Trees.Settling.{HasFileTrees}
 
@@ -17,7 +17,7 @@ pub record IsWorldOfTrees (world : World ℕ) : Type 0 where
 -- the root of each mount, and the place that it stands at, are directories
 pub record IsStanding (world : World ℕ) : Type 0 where
   pub roots : All (λ mount. is_directory_at nat_eq world (root_of mount) ≡ true) world.mounts
-  pub places : All (λ mount. (place : Location ℕ) → mount.place ≡ Some place → is_directory_at nat_eq world place ≡ true) world.mounts
+  pub places : All (λ mount. (place : Location ℕ) → mount.mount_point ≡ Some place → is_directory_at nat_eq world place ≡ true) world.mounts
 
 -- In each world that has the conditions of worlds they are.
 abbrev pub WorldsAreStanding : Type 0

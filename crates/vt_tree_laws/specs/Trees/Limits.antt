@@ -1,11 +1,11 @@
 -- The limits of tasks: descriptors, forks, names, groups and the umask.
 use Rattle.std.specs.Prelude.{Bool, Some, length, nat_eq, nat_le, true, ℕ, ◌≡◌}
 use Rattle.std.specs.List.{list_all}
-use Rattle.vt_spec.specs.Machine.Calls.{Call}
-use Rattle.vt_spec.specs.Machine.Calls.Call.{Fork}
-use Rattle.vt_spec.specs.Machine.Lists.{Fresh}
+use Rattle.vt_spec.specs.Language.Calls.{Call, TaskName}
+use Rattle.vt_spec.specs.Language.Calls.Call.{Fork}
+use Rattle.vt_spec.specs.Lists.{Fresh}
 use Rattle.vt_spec.specs.Machine.Policy.{policy}
-use Rattle.vt_spec.specs.Machine.World.{TaskName, World, opening}
+use Rattle.vt_spec.specs.Machine.World.{World, opening}
 use Rattle.vt_spec.specs.Machine.WorldLaws.{is_within_limits}
 
 -- each task has at most 256 open descriptors, in order, was forked from at most 64 times, and so on

@@ -1,8 +1,8 @@
 -- What nothing uses goes, and what is left are trees.
 use Rattle.std.specs.Prelude.{All, List, None, false, map, nat_eq, true, ℕ, ◌≡◌}
 use Rattle.std.specs.List.{list_any}
-use Rattle.vt_spec.specs.Machine.FileTree.{FileTree}
-use Rattle.vt_spec.specs.Machine.Lists.{is_among}
+use Rattle.vt_spec.specs.FileTree.{FileTree}
+use Rattle.vt_spec.specs.Lists.{is_among}
 use Rattle.vt_spec.specs.Machine.Mounts.{Location, same_location}
 use Rattle.vt_spec.specs.Machine.Settled.{is_mounted, only_among, only_used, settled, used_in, without_dead_mounts}
 use Rattle.vt_spec.specs.Machine.World.{Filesystem, World, all_locations, filesystem_numbered, node_at}

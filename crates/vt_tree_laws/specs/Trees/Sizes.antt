@@ -1,17 +1,17 @@
 -- The limits of names, link texts and files.
 use Rattle.std.specs.Prelude.{All, Bool, List, Some, [], length, nat_eq, nat_le, not, false, true, ℕ, ⊤, ◌&&◌, ◌≡◌}
 use Rattle.std.specs.List.{list_all}
-use Rattle.vt_spec.specs.Machine.Calls.{Call}
-use Rattle.vt_spec.specs.Machine.Changes.{Change, changed}
-use Rattle.vt_spec.specs.Machine.Changes.Change.{AddName, CopyUp, Make, Move, Remove, SetAttr, SetBytes, SetMark}
-use Rattle.vt_spec.specs.Machine.FileTree.{FileTree}
-use Rattle.vt_spec.specs.Machine.Lists.{Fresh}
-use Rattle.vt_spec.specs.Machine.Outcome.Making.{largest_file}
+use Rattle.vt_spec.specs.Language.Calls.{Call, TaskName}
+use Rattle.vt_spec.specs.Language.Changes.{Change, changed}
+use Rattle.vt_spec.specs.Language.Changes.Change.{AddName, CopyUp, Make, Move, Remove, SetAttr, SetBytes, SetMark}
+use Rattle.vt_spec.specs.FileTree.{FileTree}
+use Rattle.vt_spec.specs.Lists.{Fresh}
+use Rattle.vt_spec.specs.Language.Limits.{largest_file, longest_name}
 use Rattle.vt_spec.specs.Machine.Policy.{policy}
 use Rattle.vt_spec.specs.Machine.Settled.{settled}
-use Rattle.vt_spec.specs.Machine.World.{TaskName, World, is_overlay, opening}
+use Rattle.vt_spec.specs.Machine.World.{World, is_overlay, opening}
 use Rattle.vt_spec.specs.Machine.WorldLaws.{has_fit_names, has_fit_text, is_fit_filesystem, is_no_larger}
-use Rattle.vt_spec.specs.PathText.{is_empty, longest_name}
+use Rattle.vt_spec.specs.PathText.{is_empty}
 use Rattle.vt_spec.specs.Tree.{Node}
 use Rattle.vt_tree_laws.specs.Trees.Calls.{mounts_overlay}
 

@@ -1,14 +1,14 @@
 -- Every call and every script without overlays keeps the invariants of a world.
 use Rattle.std.specs.Prelude.{All, Bool, List, None, Ok, Option, Some, [], false, nat_eq, true, ℕ, ◌≡◌, ◌∷◌}
-use Rattle.vt_spec.specs.Machine.Calls.{Call}
+use Rattle.vt_spec.specs.Language.Calls.{Call, TaskName}
 use Rattle.vt_spec.specs.Machine.Judge.{judge_in}
-use Rattle.vt_spec.specs.Machine.Lists.{Fresh}
+use Rattle.vt_spec.specs.Lists.{Fresh}
 use Rattle.vt_spec.specs.Machine.Permits.{Permit}
 use Rattle.vt_spec.specs.Machine.Policy.{policy}
 use Rattle.vt_spec.specs.Machine.Run.{Serves, line_step, step_world}
-use Rattle.vt_spec.specs.Machine.Script.{Grammar, Request, request_of}
-use Rattle.vt_spec.specs.Machine.Script.Request.{Asking, Calling}
-use Rattle.vt_spec.specs.Machine.World.{Task, TaskName, World, opening, task_called}
+use Rattle.vt_spec.specs.Language.Script.{Grammar, Request, request_of}
+use Rattle.vt_spec.specs.Language.Script.Request.{Asking, Calling}
+use Rattle.vt_spec.specs.Machine.World.{Task, World, opening, task_called}
 use Rattle.vt_spec.specs.Machine.WorldLaws.{IsWorld}
 use Rattle.vt_tree_laws.specs.Trees.Calls.{mounts_overlay}
 use Rattle.vt_tree_laws.specs.Trees.Limits.{names_few_groups}

@@ -2,7 +2,7 @@
 use Rattle.std.specs.Prelude.{All, Some, false, nat_eq, true, ℕ, ◌≡◌}
 use Rattle.std.specs.List.{list_all}
 use Rattle.vt_spec.specs.Machine.Apply.{apply}
-use Rattle.vt_spec.specs.Machine.Lists.{Fresh}
+use Rattle.vt_spec.specs.Lists.{Fresh}
 use Rattle.vt_spec.specs.Machine.Permits.{Permit}
 use Rattle.vt_spec.specs.Machine.Run.{Serves}
 use Rattle.vt_spec.specs.Machine.Settled.{settled}

@@ -5,11 +5,11 @@ use Rattle.std.specs.List.{list_all, list_any}
 use Rattle.vt_spec.specs.declared.attributes.Kind.TheVariants.{File}
 use Rattle.vt_spec.specs.Machine.Apply.{apply}
 use Rattle.vt_spec.specs.Machine.Attach.{has_too_many}
-use Rattle.vt_spec.specs.Machine.Changes.{Change}
-use Rattle.vt_spec.specs.Machine.Changes.Change.{AddName, CopyUp, Make, Move, Remove, SetAttr, SetBytes, SetMark}
+use Rattle.vt_spec.specs.Language.Changes.{Change}
+use Rattle.vt_spec.specs.Language.Changes.Change.{AddName, CopyUp, Make, Move, Remove, SetAttr, SetBytes, SetMark}
 use Rattle.vt_spec.specs.Machine.Detach.{is_busy}
-use Rattle.vt_spec.specs.Machine.FileTree.{is_kind_in}
-use Rattle.vt_spec.specs.Machine.Lists.{Fresh}
+use Rattle.vt_spec.specs.FileTree.{is_kind_in}
+use Rattle.vt_spec.specs.Lists.{Fresh}
 use Rattle.vt_spec.specs.Machine.Looks.{looks_of}
 use Rattle.vt_spec.specs.Machine.Mounts.{Location, Mount, child_at, is_shared, is_unbindable, mount_tree}
 use Rattle.vt_spec.specs.Machine.Permits.{Permit}
@@ -57,9 +57,9 @@ SetsBytesOfFiles world location (CopyUp object) = ⊤
 pub record MayMoveTo (world : World ℕ) (task : Task ℕ) (mount : ℕ) (place : Location ℕ) : Type 0 where
   pub destination : IsDestination world task place
   pub own : IsOwn world task mount
-  pub placed : is_some (mount_numbered nat_eq world mount).place ≡ true
+  pub placed : is_some (mount_numbered nat_eq world mount).mount_point ≡ true
   pub unshared_parent : list_any (λ (at : Location ℕ). is_shared (mount_at nat_eq world at).propagation)
-      (option_to_list (mount_numbered nat_eq world mount).place) ≡ false
+      (option_to_list (mount_numbered nat_eq world mount).mount_point) ≡ false
   pub no_unbindable : (is_shared (mount_at nat_eq world place).propagation
       && list_any (λ (other : Mount ℕ). is_unbindable other.propagation)
       (mount_tree nat_eq world.mounts (mount_numbered nat_eq world mount))) ≡ false
@@ -111,9 +111,9 @@ NamesWhatIsThere world task (ToBind source place recursive) =
     × (is_unbindable (mount_at nat_eq world source).propagation ≡ false)
 NamesWhatIsThere world task (ToMove mount place) = MayMoveTo world task mount place
 NamesWhatIsThere world task (ToUnmount mount) =
-    IsOwn world task mount × (is_some (mount_numbered nat_eq world mount).place ≡ true) × (is_busy nat_eq world mount ≡ false)
+    IsOwn world task mount × (is_some (mount_numbered nat_eq world mount).mount_point ≡ true) × (is_busy nat_eq world mount ≡ false)
 NamesWhatIsThere world task (ToUnmountLazily mount) =
-    IsOwn world task mount × (is_some (mount_numbered nat_eq world mount).place ≡ true)
+    IsOwn world task mount × (is_some (mount_numbered nat_eq world mount).mount_point ≡ true)
 NamesWhatIsThere world task (ToSetFlags mount flags) = IsOwn world task mount
 NamesWhatIsThere world task (ToSetType mount word recursive) = IsOwn world task mount
 NamesWhatIsThere world task (ToPivot new put) = MayPivot world task new put

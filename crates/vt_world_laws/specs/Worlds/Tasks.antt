@@ -2,12 +2,13 @@
 use Rattle.std.specs.Prelude.{Contains, List, Some, false, nat_eq, true, ℕ, ◌++◌, ◌≡◌, ◌≤◌, ◌∷◌}
 use Rattle.std.specs.List.{list_all}
 use Rattle.vt_spec.specs.Machine.Apply.{apply}
-use Rattle.vt_spec.specs.Machine.Lists.{Fresh, any_pair}
+use Rattle.vt_spec.specs.Lists.{Fresh, any_pair}
 use Rattle.vt_spec.specs.Machine.Permits.{Permit}
 use Rattle.vt_spec.specs.Machine.Policy.{numbers_raised}
 use Rattle.vt_spec.specs.Machine.Run.{Serves}
 use Rattle.vt_spec.specs.Machine.Settled.{settled}
-use Rattle.vt_spec.specs.Machine.World.{Task, TaskName, World, all_locations, opening, same_name, task_called}
+use Rattle.vt_spec.specs.Machine.World.{Task, World, all_locations, opening, task_called}
+use Rattle.vt_spec.specs.Language.Calls.{TaskName, same_name}
 use Rattle.vt_spec.specs.Machine.WorldLaws.{IsWorld, has_regular_files_open, is_located_well, is_within_limits, stands_on_directories}
 use Rattle.vt_world_laws.specs.Worlds.Kept.{IsPlain}
 use Rattle.vt_world_laws.specs.Worlds.Permits.{IsFitPermit}

@@ -1,5 +1,5 @@
 use Rattle.std.proofs.Common.{sym, subst}
-use Rattle.vt_spec.specs.Machine.Changes.Change.{Move}
+use Rattle.vt_spec.specs.Language.Changes.Change.{Move}
 use Rattle.vt_spec.specs.OneTree.Fits.{Fits}
 use Rattle.vt_permit.specs.PermitValue.{FitsChange}
 use Rattle.vt_tree.specs.TreeValue.{inodes_of}

@@ -1,5 +1,5 @@
 use Rattle.std.proofs.Common.{refl, rules}
-use Rattle.vt_spec.specs.Machine.Calls as spec
+use Rattle.vt_spec.specs.Language.Calls as spec
 use Rattle.vt_line.specs.declared.names.CallName.TheVariants.{Exec, Link, Ls, Lstat, Read, Readlink, Rename, Rmdir, Stat, Symlink, Unlink}
 use Rattle.vt_line.proofs.CallLemmas.{pair_asked, pair_refused, path_asked, path_refused}
 use Rattle.vt_line.proofs.calls.call.Goals as goal

@@ -1,6 +1,6 @@
 use Rattle.std.proofs.Common.{sym, ap, ◌∙◌, subst, option_map}
-use Rattle.vt_spec.specs.Machine.Lists.{then_some}
-use Rattle.vt_spec.specs.Machine.Script.{files, request_of_texts}
+use Rattle.vt_spec.specs.Lists.{then_some}
+use Rattle.vt_spec.specs.Language.Script.{files, request_of_texts}
 use Rattle.vt_line.specs.Calls.{IsRequestRead}
 use Rattle.vt_line.specs.Tokens.{texts_of}
 use Rattle.vt_line.proofs.RequestLemmas.{request-few}

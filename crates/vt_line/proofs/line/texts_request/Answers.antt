@@ -1,6 +1,6 @@
 use Rattle.std.proofs.Common.{◌≡◌, ◌∷◌, ◌<◌, Err, length, option_map, sym, ap, ◌∙◌, subst, rules}
-use Rattle.vt_spec.specs.Machine.Script.{files, request_of_texts, task_word}
-use Rattle.vt_spec.specs.Machine.Script.Request.{Calling}
+use Rattle.vt_spec.specs.Language.Script.{files, request_of_texts, task_word}
+use Rattle.vt_spec.specs.Language.Script.Request.{Calling}
 use Rattle.vt_request.specs.Requests.{call_of}
 use Rattle.vt_line.specs.declared.calls.ReadError.TheVariants.{Memory}
 use Rattle.vt_line.specs.Calls.{IsRequestRead, call_named}

@@ -1,5 +1,5 @@
 use Rattle.std.proofs.Common.{◌≡◌, ◌≤◌, drop}
-use Rattle.vt_spec.specs.Machine.Script.{digits_below, value_from}
+use Rattle.vt_spec.specs.Language.Script.{digits_below, value_from}
 use Rattle.vt_line.proofs.number.number.Given as goal
 
 abbrev pub invariant-loop-byte : goal.invariant-loop-byte

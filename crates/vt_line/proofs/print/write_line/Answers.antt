@@ -1,5 +1,5 @@
 use Rattle.std.proofs.Common.{List, Result, ℕ, ◌≡◌, ◌++◌, append_assoc, codes, decimal, sym, ap, ◌∙◌, rules}
-use Rattle.vt_spec.specs.Machine.Printed.{reply_line, spaced}
+use Rattle.vt_spec.specs.Language.Printed.{reply_line, spaced}
 use Rattle.vt_io.specs.Sink.{WroteFront}
 use Rattle.vt_io.proofs.Printing.{Prints-append, Wrote-append, WroteFront-longer, WroteFront-part}
 use Rattle.vt_spec.specs.declared.errors.Deny.{Deny}

@@ -1,6 +1,6 @@
 use Rattle.std.proofs.Common.{◌++◌, length, ◌∙◌, append_assoc, rules, arith}
 use Rattle.std.specs.List.{flat_map}
-use Rattle.vt_spec.specs.Machine.Printed.{printed_byte, printed_text}
+use Rattle.vt_spec.specs.Language.Printed.{printed_byte, printed_text}
 use Rattle.vt_io.specs.Sink.{WroteFront}
 use Rattle.vt_io.proofs.Printing.{Wrote-append, WroteFront-part}
 use Rattle.vt_line.proofs.TokenLemmas.{some-length}

@@ -1,6 +1,6 @@
 use Rattle.std.proofs.Common.{◌≡◌, ℕ, List, ◌++◌, length}
 use Rattle.std.specs.List.{flat_map}
-use Rattle.vt_spec.specs.Machine.Printed.{printed_byte}
+use Rattle.vt_spec.specs.Language.Printed.{printed_byte}
 use Rattle.vt_io.specs.Sink.{Wrote}
 use Rattle.vt_line.proofs.print.write_text.Given as goal
 

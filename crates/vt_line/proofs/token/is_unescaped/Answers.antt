@@ -2,7 +2,7 @@ use Rattle.std.proofs.Common.{◌||◌, ◌&&◌, ◌==◌, get_or, take, sym, a
 use Rattle.std.specs.List.{list_all}
 use Rattle.std.proofs.lemmas.List.{take_all}
 use Rattle.std.proofs.lemmas.List.Folds.{list_all_more}
-use Rattle.vt_spec.specs.Machine.Script.{is_plain}
+use Rattle.vt_spec.specs.Language.Script.{is_plain}
 use Rattle.vt_line.proofs.token.is_unescaped.Goals as goal
 
 pub loop-byte-preserved : goal.loop-byte-preserved

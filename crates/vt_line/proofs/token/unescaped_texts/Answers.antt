@@ -3,7 +3,7 @@ use Rattle.std.proofs.lemmas.List.{length_push, map_push, take_more, take_all}
 use Rattle.std.proofs.lemmas.Bool.Decides.{nat_tests}
 use Rattle.std.proofs.lemmas.Iterator.Splits.{YieldsList-from_slice_split}
 use Rattle.std.proofs.lemmas.Iterator.Consumers.{YieldsList-from_filter, YieldsList-turn, YieldsList-end}
-use Rattle.vt_spec.specs.Machine.Script.{raw_tokens}
+use Rattle.vt_spec.specs.Language.Script.{raw_tokens}
 use Rattle.vt_line.specs.Tokens.{texts_of}
 use Rattle.vt_line.proofs.TokenLemmas.{YieldsList-tokens, few_texts-few, few_texts-many, plain-tokens}
 use Rattle.vt_line.proofs.token.unescaped_texts.Goals as goal

@@ -1,5 +1,5 @@
 use Rattle.std.proofs.Common.{◌≡◌, ◌≤◌, length, take}
-use Rattle.vt_spec.specs.Machine.Script.{raw_tokens}
+use Rattle.vt_spec.specs.Language.Script.{raw_tokens}
 use Rattle.vt_line.specs.Tokens.{texts_of}
 use Rattle.vt_line.proofs.token.unescaped_texts.Given as goal
 

@@ -5,8 +5,8 @@ use Rattle.std.proofs.lemmas.List.{length_push}
 use Rattle.std.proofs.lemmas.Iterator.Splits.{YieldsList-from_slice_split}
 use Rattle.std.proofs.lemmas.Iterator.Consumers.{YieldsList-turn, YieldsList-end}
 use Rattle.vt_spec.specs.PathText.{parts}
-use Rattle.vt_spec.specs.Machine.Calls.CapabilityWord.{These}
-use Rattle.vt_spec.specs.Machine.Script.{each_of, with_first, capability_named}
+use Rattle.vt_spec.specs.Language.Calls.CapabilityWord.{These}
+use Rattle.vt_spec.specs.Language.Script.{each_of, with_first, capability_named}
 use Rattle.vt_cred.specs.Caps.{capability_bits}
 use Rattle.vt_line.proofs.Splits.{YieldsList-parts, each_of-more, each_of-end}
 use Rattle.vt_line.proofs.WordLemmas.{united, united-more, capabilities_word-names}

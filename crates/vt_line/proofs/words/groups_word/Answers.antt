@@ -5,7 +5,7 @@ use Rattle.std.proofs.lemmas.List.{append-nil, length_push}
 use Rattle.std.proofs.lemmas.Iterator.Splits.{YieldsList-from_slice_split}
 use Rattle.std.proofs.lemmas.Iterator.Consumers.{YieldsList-turn, YieldsList-end}
 use Rattle.vt_spec.specs.PathText.{parts}
-use Rattle.vt_spec.specs.Machine.Script.{each_of, with_first, identity_word}
+use Rattle.vt_spec.specs.Language.Script.{each_of, with_first, identity_word}
 use Rattle.vt_line.proofs.Splits.{YieldsList-parts, each_of-more, each_of-end}
 use Rattle.vt_line.proofs.TokenLemmas.{read_before, read_before-first}
 use Rattle.vt_line.proofs.WordLemmas.{groups_word-few, groups_word-many, groups_word-wrong}

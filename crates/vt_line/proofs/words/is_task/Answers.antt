@@ -4,7 +4,7 @@ use Rattle.std.proofs.lemmas.List.{length_push}
 use Rattle.std.proofs.lemmas.Iterator.Splits.{YieldsList-from_slice_split}
 use Rattle.std.proofs.lemmas.Iterator.Consumers.{YieldsList-at, YieldsList-turn, YieldsList-end}
 use Rattle.vt_spec.specs.PathText.{parts}
-use Rattle.vt_spec.specs.Machine.Script.{each_of, child_number}
+use Rattle.vt_spec.specs.Language.Script.{each_of, child_number}
 use Rattle.vt_line.proofs.Splits.{YieldsList-parts, YieldsList-others, each_of-end, each_of-goes, each_of-none, is_none}
 use Rattle.vt_line.proofs.WordLemmas.{task_word-other, task_word-children}
 use Rattle.vt_line.proofs.words.is_task.Goals as goal

@@ -1,6 +1,6 @@
 use Rattle.std.proofs.Common.{◌≡◌, length, drop, is_some}
 use Rattle.vt_spec.specs.PathText.{parts}
-use Rattle.vt_spec.specs.Machine.Script.{each_of, child_number}
+use Rattle.vt_spec.specs.Language.Script.{each_of, child_number}
 use Rattle.vt_line.proofs.words.is_task.Given as goal
 
 abbrev pub invariant-loop-part : goal.invariant-loop-part

@@ -3,7 +3,7 @@ use Rattle.std.proofs.lemmas.List.{append-nil, length_push}
 use Rattle.std.proofs.lemmas.Iterator.Splits.{YieldsList-from_slice_split}
 use Rattle.std.proofs.lemmas.Iterator.Consumers.{YieldsList-at, YieldsList-turn, YieldsList-end}
 use Rattle.vt_spec.specs.PathText.{parts}
-use Rattle.vt_spec.specs.Machine.Script.{each_of, with_first, child_number, task_word}
+use Rattle.vt_spec.specs.Language.Script.{each_of, with_first, child_number, task_word}
 use Rattle.vt_line.proofs.Splits.{YieldsList-parts, YieldsList-skipped, each_of-end, each_of-more, each_of-none, long_enough, on_err}
 use Rattle.vt_line.proofs.TokenLemmas.{read_before, read_before-first}
 use Rattle.vt_line.proofs.WordLemmas.{task_word-some}

@@ -1,5 +1,5 @@
 use Rattle.std.proofs.Common.{Ok, Some, nat_eq, inr, subst, sym, ap, ◌∙◌}
-use Rattle.vt_spec.specs.Machine.Changes.Change.{Move}
+use Rattle.vt_spec.specs.Language.Changes.Change.{Move}
 use Rattle.vt_spec.specs.Machine.Walk.{name_of}
 use Rattle.vt_spec.specs.OneTree.Fits.{MayReplace}
 use Rattle.vt_spec.specs.OneTree.Permits.Permit.{ToChange}

@@ -1,5 +1,6 @@
 use Rattle.std.proofs.Common.{◌≡◌, ◌⊎◌, ◌<◌, length, None, ap, sym, subst, ◌∙◌, Ok, Err}
-use Rattle.vt_spec.specs.Machine.Script.{files, longest_line, request_of}
+use Rattle.vt_spec.specs.Language.Script.{files, request_of}
+use Rattle.vt_spec.specs.Language.Limits.{longest_line}
 use Rattle.vt_ns.specs.WorldValue.{fresh_number, world_of}
 use Rattle.vt_line.specs.Lines.{IsSilent, IsSpoken, IsReadingOf}
 use Rattle.vt_script.proofs.ReplyLemmas.{kept_whole, not_there, replied_silent, replies_call, replies_unread}

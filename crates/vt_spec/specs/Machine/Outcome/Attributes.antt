@@ -2,13 +2,13 @@
 use Rattle.std.specs.Prelude.{Bool, List, Option, [], unwrap_or, ℕ, ◌&&◌, ◌==◌, ◌||◌, ◌∷◌}
 use Rattle.vt_spec.specs.declared.attributes.Attr.{Attr}
 use Rattle.vt_spec.specs.declared.errors.Rule.TheVariants.{K1}
-use Rattle.vt_spec.specs.Machine.Changes.Change.{SetAttr, SetMark}
+use Rattle.vt_spec.specs.Language.Changes.Change.{SetAttr, SetMark}
 use Rattle.vt_spec.specs.Errors.{Rules}
 use Rattle.vt_spec.specs.Machine.Filesystems.{with_change}
-use Rattle.vt_spec.specs.Machine.Lists.{Fresh}
+use Rattle.vt_spec.specs.Lists.{Fresh}
 use Rattle.vt_spec.specs.Machine.Mounts.{Location}
 use Rattle.vt_spec.specs.Machine.Outcomes.{Outcome, after, granted, judged}
-use Rattle.vt_spec.specs.Machine.Outcomes.Answer.{Done}
+use Rattle.vt_spec.specs.Language.Answers.Answer.{Done}
 use Rattle.vt_spec.specs.Rights.{Credentials, cap_chown, cap_sys_admin, has_all, is_member, owns}
 use Rattle.vt_spec.specs.Machine.Rows.{lacks}
 use Rattle.vt_spec.specs.Machine.Walk.{directory_walk, object_walk, walk_end}

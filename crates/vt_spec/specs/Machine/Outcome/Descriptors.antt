@@ -1,22 +1,22 @@
 -- Calls on open files: their rules in a world (`Rules/Descriptors.antt`), and what they change.
 use Rattle.std.specs.Prelude.{Bool, List, None, Option, Some, [], drop, false, filter, if◌then◌else◌, length, nat_lt, not, replicate, take, true, ℕ, ◌++◌, ◌+◌, ◌-◌, ◌==◌, ◌∷◌}
-use Rattle.vt_spec.specs.Machine.Calls.{Access, Creation}
-use Rattle.vt_spec.specs.Machine.Calls.Creation.{Exclusive, NoCreation, OrCreate}
-use Rattle.vt_spec.specs.Machine.Changes.Change.{CopyUp, SetBytes}
+use Rattle.vt_spec.specs.Language.Calls.{Access, Creation}
+use Rattle.vt_spec.specs.Language.Calls.Creation.{Exclusive, NoCreation, OrCreate}
+use Rattle.vt_spec.specs.Language.Changes.Change.{CopyUp, SetBytes}
 use Rattle.vt_spec.specs.Errors.{Rules}
 use Rattle.vt_spec.specs.Machine.Filesystems.{with_change}
-use Rattle.vt_spec.specs.Machine.Lists.{Fresh, evens}
+use Rattle.vt_spec.specs.Lists.{Fresh, evens}
 use Rattle.vt_spec.specs.Machine.Mounts.{Location}
 use Rattle.vt_spec.specs.Machine.Outcome.Making.{file_word_rules, make_rules, new_file, with_new}
 use Rattle.vt_spec.specs.Machine.Outcomes.{Outcome, after, granted, judged}
-use Rattle.vt_spec.specs.Machine.Outcomes.Answer.{Bytes, Done, Opened}
+use Rattle.vt_spec.specs.Language.Answers.Answer.{Bytes, Done, Opened}
 use Rattle.vt_spec.specs.Machine.Rows.{making}
 use Rattle.vt_spec.specs.Tree.{bytes_in}
 use Rattle.vt_spec.specs.Machine.Walk.{Place, file_walk, new_walk, object_walk, walk_end}
 use Rattle.vt_spec.specs.Machine.World.{Descriptor, Task, World, node_at, with_task}
 use Rattle.vt_spec.specs.Machine.Looks.{looks_of}
 use Rattle.vt_spec.specs.Machine.Rules.Descriptors
-pub use Rattle.vt_spec.specs.Machine.Rules.Descriptors.{access_rights, descriptor_at, descriptor_numbered, descriptor_rules, exclusive_word_rules, most_descriptors}
+pub use Rattle.vt_spec.specs.Machine.Rules.Descriptors.{access_rights, descriptor_at, descriptor_numbered, descriptor_rules, exclusive_word_rules}
 
 -- the bytes with others at an offset, zeros between: pwrite(2), lseek(2)
 abbrev pub padded : ℕ → List ℕ → List ℕ

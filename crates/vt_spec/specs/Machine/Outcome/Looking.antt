@@ -1,12 +1,13 @@
 -- Calls that look: their rules in a world (`Rules/Looking.antt`), and what they answer.
 use Rattle.std.specs.Prelude.{Bool, List, Option, length, ℕ}
 use Rattle.vt_spec.specs.Errors.{Rules}
-use Rattle.vt_spec.specs.Machine.FileTree.{attr_in, is_opaque_in, kind_in}
+use Rattle.vt_spec.specs.FileTree.{attr_in, is_opaque_in, kind_in}
 use Rattle.vt_spec.specs.Machine.Mounts.{Location}
-use Rattle.vt_spec.specs.Machine.Outcomes.{Outcome, StatLine, after, granted, judged}
-use Rattle.vt_spec.specs.Machine.Outcomes.Answer.{Bytes, Done, Names, Told}
+use Rattle.vt_spec.specs.Machine.Outcomes.{Outcome, after, granted, judged}
+use Rattle.vt_spec.specs.Language.Answers.{StatLine}
+use Rattle.vt_spec.specs.Language.Answers.Answer.{Bytes, Done, Names, Told}
 use Rattle.vt_spec.specs.Tree.{Node, bytes_in, names_in}
-use Rattle.vt_spec.specs.Machine.Walk.{directory_walk, link_walk, object_walk, walk_end}
+use Rattle.vt_spec.specs.Machine.Walk.{directory_walk, symlink_walk, object_walk, walk_end}
 use Rattle.vt_spec.specs.Machine.World.{Task, World, node_at}
 use Rattle.vt_spec.specs.Machine.Looks.{looks_of}
 use Rattle.vt_spec.specs.Machine.Rules.Looking
@@ -47,12 +48,12 @@ module _ {N : Type 0} (eq : N → N → Bool) where
 
   unfoldable pub lstat_outcome : World N → Task N → List ℕ → Outcome N
   lstat_outcome world task path =
-      after world (walk_end (link_walk eq world task path)) (λ here.
+      after world (walk_end (symlink_walk eq world task path)) (λ here.
       granted (Told (stat_line (node_at eq world here.location))) world)
 
   unfoldable pub readlink_outcome : World N → Task N → List ℕ → Outcome N
   readlink_outcome world task path =
-      after world (walk_end (link_walk eq world task path)) (λ here.
+      after world (walk_end (symlink_walk eq world task path)) (λ here.
       judged world (readlink_rules world here.location)
       (granted (Bytes (bytes_in (node_at eq world here.location))) world))
 

@@ -1,22 +1,23 @@
 -- Calls that make a name, and write: their rules in a world (`Rules/Making.antt`), and what they change.
 use Rattle.std.specs.Prelude.{Bool, List, None, Option, Some, [], length, nat_lt, unwrap_or, ℕ, ◌++◌, ◌∷◌}
+use Rattle.vt_spec.specs.Language.Limits.{largest_file}
 use Rattle.vt_spec.specs.declared.errors.Rule.TheVariants.{E1, E6}
-use Rattle.vt_spec.specs.Machine.Changes.{Change}
-use Rattle.vt_spec.specs.Machine.Changes.Change.{AddName, SetBytes}
+use Rattle.vt_spec.specs.Language.Changes.{Change}
+use Rattle.vt_spec.specs.Language.Changes.Change.{AddName, SetBytes}
 use Rattle.vt_spec.specs.Errors.{Rules}
 use Rattle.vt_spec.specs.Machine.Filesystems.{with_change}
-use Rattle.vt_spec.specs.Machine.Lists.{Fresh, evens, odds}
+use Rattle.vt_spec.specs.Lists.{Fresh, evens, odds}
 use Rattle.vt_spec.specs.Machine.Mounts.{Location}
 use Rattle.vt_spec.specs.Machine.Outcomes.{Outcome, after, granted, judged}
-use Rattle.vt_spec.specs.Machine.Outcomes.Answer.{Done}
+use Rattle.vt_spec.specs.Language.Answers.Answer.{Done}
 use Rattle.vt_spec.specs.Machine.Rows.{exact_attr, making, new_attr}
 use Rattle.vt_spec.specs.Tree.{Node, new_directory}
 use Rattle.vt_spec.specs.Tree.Content.{Regular, Symlink, Whiteout}
-use Rattle.vt_spec.specs.Machine.Walk.{Place, file_walk, is_special, link_walk, name_of, new_leaf_walk, new_walk, walk_end}
+use Rattle.vt_spec.specs.Machine.Walk.{Place, file_walk, is_special, symlink_walk, name_of, new_leaf_walk, new_walk, walk_end}
 use Rattle.vt_spec.specs.Machine.World.{Task, World}
 use Rattle.vt_spec.specs.Machine.Looks.{looks_of}
 use Rattle.vt_spec.specs.Machine.Rules.Making
-pub use Rattle.vt_spec.specs.Machine.Rules.Making.{file_word_rules, largest_file, link_text_rules, new_word_rules}
+pub use Rattle.vt_spec.specs.Machine.Rules.Making.{file_word_rules, link_text_rules, new_word_rules}
 
 -- mkdir asks for 0777 where no mode is given: mkdir(1)
 abbrev pub directory_mode : ℕ
@@ -27,8 +28,8 @@ abbrev pub file_mode : ℕ
 file_mode = 438
 
 -- the mode of a link: symlink(7)
-abbrev pub link_mode : ℕ
-link_mode = 511
+abbrev pub symlink_mode : ℕ
+symlink_mode = 511
 
 module _ {N : Type 0} where
   abbrev pub linking : Location N → Place N → Change N
@@ -66,7 +67,7 @@ module _ {N : Type 0} (eq : N → N → Bool) where
   symlink_outcome fresh world task text path =
       judged world (link_text_rules text)
       (after world (walk_end (new_leaf_walk eq world task path)) (λ place.
-      made_at fresh world task place (record { attr = exact_attr task link_mode; content = Symlink text })))
+      made_at fresh world task place (record { attr = exact_attr task symlink_mode; content = Symlink text })))
 
   abbrev pub whiteout_rules : World N → Task N → Place N → Rules
   whiteout_rules world task = Making.whiteout_rules (looks_of eq world) task
@@ -77,15 +78,15 @@ module _ {N : Type 0} (eq : N → N → Bool) where
       judged world (whiteout_rules world task place)
       (granted Done (with_new fresh world place (record { attr = exact_attr task 0; content = Whiteout }))))
 
-  abbrev pub link_rules : World N → Task N → Location N → Place N → Change N → Rules
-  link_rules world task = Making.link_rules eq (looks_of eq world) task
+  abbrev pub hard_link_rules : World N → Task N → Location N → Place N → Change N → Rules
+  hard_link_rules world task = Making.hard_link_rules eq (looks_of eq world) task
 
-  unfoldable pub link_outcome : Fresh N → World N → Task N → List ℕ → List ℕ → Outcome N
-  link_outcome fresh world task old new =
-      after world (walk_end (link_walk eq world task old)) (λ from.
+  unfoldable pub hard_link_outcome : Fresh N → World N → Task N → List ℕ → List ℕ → Outcome N
+  hard_link_outcome fresh world task old new =
+      after world (walk_end (symlink_walk eq world task old)) (λ from.
       after world (walk_end (new_leaf_walk eq world task new)) (λ place.
       judged world ((is_special place.last, E1) ∷ [])
-      (judged world (link_rules world task from.location place (linking from.location place))
+      (judged world (hard_link_rules world task from.location place (linking from.location place))
       (granted Done (with_change eq fresh world place.parent (linking from.location place))))))
 
   abbrev pub rewrite_rules : World N → Task N → Location N → List ℕ → Rules

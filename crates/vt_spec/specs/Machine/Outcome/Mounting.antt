@@ -3,28 +3,28 @@ use Rattle.std.specs.Prelude.{Bool, List, None, Option, Result, Some, [], false,
 use Rattle.vt_spec.specs.declared.errors.Deny.{Deny}
 use Rattle.vt_spec.specs.declared.errors.Rule.TheVariants.{O2}
 use Rattle.vt_spec.specs.Machine.Attach.{attach, bind_tree, has_too_many}
-use Rattle.vt_spec.specs.Machine.Calls.{OverlayWords, TypeWord}
+use Rattle.vt_spec.specs.Language.Calls.{MountFlags, OverlayWords, TypeWord}
 use Rattle.vt_spec.specs.Machine.Detach.{lazily_unmounted, unmounted}
 use Rattle.vt_spec.specs.Errors.{Rules, denial}
-use Rattle.vt_spec.specs.Machine.Lists.{Fresh, evens, odds}
+use Rattle.vt_spec.specs.Lists.{Fresh, evens, odds}
 use Rattle.vt_spec.specs.Machine.Merging.{MergedInode, merged_inodes, merged_objects, real_of, tree_of}
-use Rattle.vt_spec.specs.Machine.Mounts.{Location, Mount, MountFlags, mount_tree, with_mount}
+use Rattle.vt_spec.specs.Machine.Mounts.{Location, Mount, mount_tree, with_mount}
 use Rattle.vt_spec.specs.Machine.Mounts.Propagation.{Private}
 use Rattle.vt_spec.specs.Machine.Namespaces.{pivoted}
 use Rattle.vt_spec.specs.Machine.Outcomes.{Outcome, after, denied, granted, judged}
-use Rattle.vt_spec.specs.Machine.Outcomes.Answer.{Done}
+use Rattle.vt_spec.specs.Language.Answers.Answer.{Done}
 use Rattle.vt_spec.specs.Machine.Types.{with_type}
 use Rattle.vt_spec.specs.Machine.Walk.{Here, Stop, directory_walk, walk_end}
 use Rattle.vt_spec.specs.Machine.World.{Filesystem, Overlay, Task, World, mount_at, new_plain, open_layer, shown_layers, with_mounts}
 use Rattle.vt_spec.specs.Machine.Looks.{looks_of}
 use Rattle.vt_spec.specs.Machine.Rules.Mounting
-pub use Rattle.vt_spec.specs.Machine.Rules.Mounting.{LayerPlaces, admin_rules, all_places, change_places, has_single_lower, most_lowers, work_walked}
+pub use Rattle.vt_spec.specs.Machine.Rules.Mounting.{LayerPlaces, admin_rules, all_places, change_places, has_single_lower, work_walked}
 
 module _ {N : Type 0} where
   -- A new mount of a filesystem from its root on
   abbrev pub new_mount : N → N → MountFlags → Mount N
   new_mount filesystem root flags =
-      record { number = filesystem; namespace = None; place = None; filesystem = filesystem; root = root; flags = flags; propagation = Private }
+      record { number = filesystem; namespace = None; mount_point = None; filesystem = filesystem; root = root; flags = flags; propagation = Private }
 
   abbrev pub with_new_filesystem : World N → Filesystem N → World N
   with_new_filesystem world filesystem = record world { filesystems = world.filesystems ++ (filesystem ∷ []) }

@@ -4,10 +4,10 @@ use Rattle.vt_spec.specs.declared.errors.Rule.TheVariants.{E2}
 use Rattle.vt_spec.specs.Machine.Detach.{without_mounts_on}
 use Rattle.vt_spec.specs.Errors.{Rules}
 use Rattle.vt_spec.specs.Machine.Filesystems.{with_change}
-use Rattle.vt_spec.specs.Machine.Lists.{Fresh}
+use Rattle.vt_spec.specs.Lists.{Fresh}
 use Rattle.vt_spec.specs.Machine.Mounts.{Location}
 use Rattle.vt_spec.specs.Machine.Outcomes.{Outcome, after, granted, judged}
-use Rattle.vt_spec.specs.Machine.Outcomes.Answer.{Done}
+use Rattle.vt_spec.specs.Language.Answers.Answer.{Done}
 use Rattle.vt_spec.specs.Machine.Walk.{Place, Stop, is_directory_there, is_special, old_leaf_walk, old_walk, walk_end}
 use Rattle.vt_spec.specs.Machine.World.{Task, World}
 use Rattle.vt_spec.specs.Machine.Looks.{looks_of}

@@ -1,22 +1,22 @@
 -- Calls on tasks and namespaces: their rules in a world (`Rules/Tasks.antt`), and what they change.
 use Rattle.std.specs.Prelude.{Bool, List, None, Option, Some, [], map, ok_or, ℕ, ◌%◌, ◌++◌, ◌+◌, ◌||◌, ◌∷◌}
 use Rattle.vt_spec.specs.declared.errors.Rule.TheVariants.{K1, S2}
-use Rattle.vt_spec.specs.Machine.Calls.{CapabilityWord, ForkWords}
-use Rattle.vt_spec.specs.Machine.Calls.CapabilityWord.{Held, These}
+use Rattle.vt_spec.specs.Language.Calls.{CapabilityWord, ForkWords, TaskName}
+use Rattle.vt_spec.specs.Language.Calls.CapabilityWord.{Held, These}
 use Rattle.vt_spec.specs.Errors.{Rules, denial}
-use Rattle.vt_spec.specs.Machine.Lists.{Fresh}
+use Rattle.vt_spec.specs.Lists.{Fresh}
 use Rattle.vt_spec.specs.Machine.Mounts.{Location}
 use Rattle.vt_spec.specs.Machine.Namespaces.{namespace_entered, namespaces_ended, unshared}
 use Rattle.vt_spec.specs.Machine.Outcomes.{Outcome, after, granted, judged}
-use Rattle.vt_spec.specs.Machine.Outcomes.Answer.{Child, Done}
+use Rattle.vt_spec.specs.Language.Answers.Answer.{Child, Done}
 use Rattle.vt_spec.specs.PathText.{words}
 use Rattle.vt_spec.specs.Rights.{Credentials, cap_sys_admin, cap_sys_chroot, without}
 use Rattle.vt_spec.specs.Machine.Rows.{lacks}
 use Rattle.vt_spec.specs.Machine.Walk.{directory_walk, walk_end}
-use Rattle.vt_spec.specs.Machine.World.{Task, TaskName, World, replaced_if_called, task_called, with_task, without_task}
+use Rattle.vt_spec.specs.Machine.World.{Task, World, replaced_if_called, task_called, with_task, without_task}
 use Rattle.vt_spec.specs.Machine.Looks.{looks_of}
 use Rattle.vt_spec.specs.Machine.Rules.Tasks
-pub use Rattle.vt_spec.specs.Machine.Rules.Tasks.{deepest_name, fork_rules, most_forks}
+pub use Rattle.vt_spec.specs.Machine.Rules.Tasks.{fork_rules}
 
 -- the nine permission bits: umask(2)
 abbrev pub permission_bits : ℕ → ℕ

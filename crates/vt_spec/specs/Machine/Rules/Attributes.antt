@@ -1,8 +1,8 @@
 -- The rules of calls that change owner, mode and mark.
 use Rattle.std.specs.Prelude.{Bool, [], not, ◌∷◌}
 use Rattle.vt_spec.specs.Errors.{Rules}
-use Rattle.vt_spec.specs.Machine.Changes.Change.{SetAttr}
-use Rattle.vt_spec.specs.Machine.FileTree.{attr_in}
+use Rattle.vt_spec.specs.Language.Changes.Change.{SetAttr}
+use Rattle.vt_spec.specs.FileTree.{attr_in}
 use Rattle.vt_spec.specs.Machine.Looks.{Looks}
 use Rattle.vt_spec.specs.Machine.Mounts.{Location}
 use Rattle.vt_spec.specs.Machine.Rules.Conditions.{has_no_upper, is_overlay_at, is_read_only}

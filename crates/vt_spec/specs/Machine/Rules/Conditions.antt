@@ -1,8 +1,8 @@
 -- Conditions that many tables of rules share.
 use Rattle.std.specs.List.{list_any}
 use Rattle.std.specs.Prelude.{Bool, false, is_some, not, ℕ}
-use Rattle.vt_spec.specs.Machine.FileTree.{attr_in, is_kind_in}
-use Rattle.vt_spec.specs.Machine.Lists.{holds_of}
+use Rattle.vt_spec.specs.FileTree.{attr_in, is_kind_in}
+use Rattle.vt_spec.specs.Lists.{holds_of}
 use Rattle.vt_spec.specs.Machine.Locked.{overlay_or}
 use Rattle.vt_spec.specs.Machine.Looks.{Looks, may, mount_at, mounter_may}
 use Rattle.vt_spec.specs.Machine.Mounts.{Location}

@@ -1,14 +1,14 @@
 -- The rules of calls on open files.
 use Rattle.std.specs.Prelude.{Bool, List, Option, Result, [], false, find, if◌then◌else◌, is_some, length, nat_le, nat_lt, not, ok_or, option_to_list, true, ℕ, ◌&&◌, ◌+◌, ◌==◌, ◌∷◌}
 use Rattle.vt_spec.specs.Errors.{Rules, denial}
-use Rattle.vt_spec.specs.Machine.Calls.{Access}
-use Rattle.vt_spec.specs.Machine.Changes.Change.{CopyUp}
+use Rattle.vt_spec.specs.Language.Calls.{Access}
+use Rattle.vt_spec.specs.Language.Changes.Change.{CopyUp}
 use Rattle.vt_spec.specs.Machine.Filesystems.{lies_below}
 use Rattle.vt_spec.specs.Machine.Locked.{overlay_or}
 use Rattle.vt_spec.specs.Machine.Looks.{Looks, is_directory_at}
 use Rattle.vt_spec.specs.Machine.Mounts.{Location}
 use Rattle.vt_spec.specs.Machine.Rules.Conditions.{has_no_upper, is_read_only, kind_at, may_not, mounter_may_not}
-use Rattle.vt_spec.specs.Machine.Rules.Making.{largest_file}
+use Rattle.vt_spec.specs.Language.Limits.{largest_file, most_descriptors}
 use Rattle.vt_spec.specs.Machine.Walking.{Place, is_special}
 use Rattle.vt_spec.specs.Machine.World.{Descriptor, Task}
 use Rattle.vt_spec.specs.PathText.{is_empty}
@@ -16,10 +16,6 @@ use Rattle.vt_spec.specs.Rights.{read_right, write_right}
 use Rattle.vt_spec.specs.declared.attributes.Kind.TheVariants.{White}
 use Rattle.vt_spec.specs.declared.errors.Deny.{Deny}
 use Rattle.vt_spec.specs.declared.errors.Rule.TheVariants.{B1, C1, E1, E2, E6, E9, F1, F2, L1, S3, S4}
-
--- open files of a task (profile; RLIMIT_NOFILE of setrlimit(2))
-abbrev pub most_descriptors : ℕ
-most_descriptors = 256
 
 -- the rights that an access mode asks for, as one request: open(2)
 abbrev pub access_rights : Access → ℕ

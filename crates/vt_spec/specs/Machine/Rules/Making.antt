@@ -1,21 +1,18 @@
 -- The rules of calls that make a name, and write.
 use Rattle.std.specs.Prelude.{Bool, List, [], is_some, length, nat_lt, not, ℕ, ◌||◌, ◌∷◌}
 use Rattle.vt_spec.specs.Errors.{Rules}
-use Rattle.vt_spec.specs.Machine.Changes.{Change}
-use Rattle.vt_spec.specs.Machine.Changes.Change.{SetBytes}
+use Rattle.vt_spec.specs.Language.Changes.{Change}
+use Rattle.vt_spec.specs.Language.Changes.Change.{SetBytes}
 use Rattle.vt_spec.specs.Machine.Looks.{Looks, is_directory_at}
 use Rattle.vt_spec.specs.Machine.Mounts.{Location}
 use Rattle.vt_spec.specs.Machine.Rules.Conditions.{has_no_upper, is_overlay_at, is_read_only, kind_at, may_not, mounter_may_not}
 use Rattle.vt_spec.specs.Machine.Walking.{Place, is_special}
 use Rattle.vt_spec.specs.Machine.World.{Task}
-use Rattle.vt_spec.specs.PathText.{is_empty, longest_path}
+use Rattle.vt_spec.specs.PathText.{is_empty}
+use Rattle.vt_spec.specs.Language.Limits.{largest_file, longest_path}
 use Rattle.vt_spec.specs.Rights.{write_right}
 use Rattle.vt_spec.specs.declared.attributes.Kind.TheVariants.{White}
 use Rattle.vt_spec.specs.declared.errors.Rule.TheVariants.{B1, C1, E1, E2, E6, E7, E9, F1, F2, L1, O4, P2, W1, W2}
-
--- the most bytes of a file (profile; RLIMIT_FSIZE of setrlimit(2))
-abbrev pub largest_file : ℕ
-largest_file = 1048576
 
 -- W1 and W2 of a link's text as a whole: symlink(2), ENOENT and ENAMETOOLONG
 abbrev pub link_text_rules : List ℕ → Rules
@@ -73,8 +70,8 @@ module _ {N : Type 0} where
 
 module _ {N : Type 0} (eq : N → N → Bool) where
   -- link(2): EEXIST, EPERM, EROFS, EXDEV, EACCES
-  abbrev pub link_rules : Looks N → Task N → Location N → Place N → Change N → Rules
-  link_rules looks task old place change =
+  abbrev pub hard_link_rules : Looks N → Task N → Location N → Place N → Change N → Rules
+  hard_link_rules looks task old place change =
       (is_some place.object, E1)
       ∷ (is_directory_at looks old, E7)
       ∷ (is_read_only looks place.parent, F1)

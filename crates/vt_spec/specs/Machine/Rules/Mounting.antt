@@ -1,22 +1,19 @@
 -- The walks and rules of mount calls.
 use Rattle.std.specs.List.{list_any}
 use Rattle.std.specs.Prelude.{Bool, List, None, Ok, Option, Result, Some, [], false, if◌then◌else◌, is_some, length, map, nat_lt, not, option_map, option_to_list, true, ℕ, ◌&&◌, ◌++◌, ◌||◌, ◌∷◌}
+use Rattle.vt_spec.specs.Language.Limits.{most_lowers}
 use Rattle.vt_spec.specs.Errors.{Rules, and_then}
-use Rattle.vt_spec.specs.Machine.Calls.{OverlayWords}
-use Rattle.vt_spec.specs.Machine.Lists.{any_pair, chain, holds_of, is_empty_list, rest_of}
+use Rattle.vt_spec.specs.Language.Calls.{MountFlags, OverlayWords}
+use Rattle.vt_spec.specs.Lists.{any_pair, chain, holds_of, is_empty_list, rest_of}
 use Rattle.vt_spec.specs.Machine.Locked.{upper_and_work}
 use Rattle.vt_spec.specs.Machine.Looks.{Looks, mount_at, topmost}
-use Rattle.vt_spec.specs.Machine.Mounts.{Location, MountFlags, is_shared, is_unbindable}
+use Rattle.vt_spec.specs.Machine.Mounts.{Location, is_shared, is_unbindable}
 use Rattle.vt_spec.specs.Machine.Rules.Conditions.{is_elsewhere, is_no_root, is_overlay_at, is_read_only, lacks}
 use Rattle.vt_spec.specs.Machine.Walking.{Here, Stop, directory_walk, then_walk, walk_end, walk_unless}
 use Rattle.vt_spec.specs.Machine.World.{Layer, Overlay, Task}
 use Rattle.vt_spec.specs.Rights.{cap_sys_admin}
 use Rattle.vt_spec.specs.declared.errors.Deny.{Deny}
 use Rattle.vt_spec.specs.declared.errors.Rule.TheVariants.{K1, M10, M11, M12, M2, M3, M4, M5, M6, M7, M8, M9, O2, O3, O5, W8}
-
--- the most lower layers of an overlay (profile)
-abbrev pub most_lowers : ℕ
-most_lowers = 128
 
 -- a work directory without an upper one is not walked (profile)
 abbrev pub work_walked : OverlayWords → Option (List ℕ)
@@ -70,7 +67,7 @@ module _ {N : Type 0} where
 
   abbrev pub has_shared_parent : Looks N → Location N → Bool
   has_shared_parent looks source =
-      holds_of (λ place. is_shared (mount_at looks place).propagation) (mount_at looks source).place
+      holds_of (λ place. is_shared (mount_at looks place).propagation) (mount_at looks source).mount_point
 
 module _ {N : Type 0} (eq : N → N → Bool) where
   -- a source, or a layer: a directory that is not removed (profile)
@@ -156,7 +153,7 @@ module _ {N : Type 0} (eq : N → N → Bool) where
       ∷ (list_any (λ mount. eq mount.number place.mount) (looks.mount_tree source.mount), M6)
       ∷ (is_no_root eq looks source, M7)
       ∷ (overfull, M9)
-      ∷ (not (is_some (mount_at looks source).place), M10)
+      ∷ (not (is_some (mount_at looks source).mount_point), M10)
       ∷ []
 
   -- umount(2): EINVAL, EBUSY
@@ -165,7 +162,7 @@ module _ {N : Type 0} (eq : N → N → Bool) where
       (is_elsewhere eq looks task here, M2)
       ∷ (is_no_root eq looks here, M7)
       ∷ (looks.is_busy here.mount, M8)
-      ∷ (not (is_some (mount_at looks here).place), M10)
+      ∷ (not (is_some (mount_at looks here).mount_point), M10)
       ∷ []
 
   -- umount(2) with MNT_DETACH: EINVAL
@@ -173,7 +170,7 @@ module _ {N : Type 0} (eq : N → N → Bool) where
   lazy_rules looks task here =
       (is_elsewhere eq looks task here, M2)
       ∷ (is_no_root eq looks here, M7)
-      ∷ (not (is_some (mount_at looks here).place), M10)
+      ∷ (not (is_some (mount_at looks here).mount_point), M10)
       ∷ []
 
   -- mount(2) with MS_REMOUNT and MS_BIND: EINVAL, EBUSY
@@ -195,12 +192,12 @@ module _ {N : Type 0} (eq : N → N → Bool) where
   abbrev pub lies_under_place : Looks N → Location N → Location N → Bool
   lies_under_place looks top here =
       list_any (λ place. eq top.mount place.mount && looks.is_under (mount_at looks top).filesystem top.node place.node)
-      (chain looks.mount_count (λ place. (mount_at looks place).place) here)
+      (chain looks.mount_count (λ place. (mount_at looks place).mount_point) here)
 
   abbrev pub is_below_mount : Looks N → N → Location N → Bool
   is_below_mount looks mount here =
       list_any (λ place. eq mount place.mount)
-      (rest_of (chain looks.mount_count (λ place. (mount_at looks place).place) here))
+      (rest_of (chain looks.mount_count (λ place. (mount_at looks place).mount_point) here))
 
   abbrev pub pivot_rules : Looks N → Task N → Location N → Location N → Rules
   pivot_rules looks task new put =

@@ -2,9 +2,9 @@
 use Rattle.std.specs.List.{list_any}
 use Rattle.std.specs.Prelude.{Bool, List, None, Option, Result, Some, [], false, not, option_to_list, unwrap_or, ℕ, ◌&&◌, ◌||◌, ◌∷◌}
 use Rattle.vt_spec.specs.Errors.{Rules}
-use Rattle.vt_spec.specs.Machine.Changes.{Change}
-use Rattle.vt_spec.specs.Machine.Changes.Change.{Move, Remove}
-use Rattle.vt_spec.specs.Machine.Lists.{holds_of, is_empty_list}
+use Rattle.vt_spec.specs.Language.Changes.{Change}
+use Rattle.vt_spec.specs.Language.Changes.Change.{Move, Remove}
+use Rattle.vt_spec.specs.Lists.{holds_of, is_empty_list}
 use Rattle.vt_spec.specs.Machine.Looks.{Looks, is_directory_at, mount_at}
 use Rattle.vt_spec.specs.Machine.Mounts.{Location, same_location}
 use Rattle.vt_spec.specs.Machine.Rules.Conditions.{has_no_upper, is_kept, is_point_anywhere, is_point_in, is_read_only, may_not, mounter_may_not}

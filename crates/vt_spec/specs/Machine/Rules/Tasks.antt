@@ -1,6 +1,7 @@
 -- The rules of calls on tasks.
-use Rattle.std.specs.Prelude.{[], length, nat_le, not, ℕ, ◌&&◌, ◌==◌, ◌||◌, ◌∷◌}
+use Rattle.std.specs.Prelude.{[], length, nat_le, not, ◌&&◌, ◌==◌, ◌||◌, ◌∷◌}
 use Rattle.std.specs.Str.{bytes_eq}
+use Rattle.vt_spec.specs.Language.Limits.{deepest_name, most_forks}
 use Rattle.vt_spec.specs.Errors.{Rules}
 use Rattle.vt_spec.specs.Machine.Looks.{Looks}
 use Rattle.vt_spec.specs.Machine.Mounts.{Location}
@@ -8,13 +9,6 @@ use Rattle.vt_spec.specs.Machine.Rules.Conditions.{lacks, may_not, mounter_may_n
 use Rattle.vt_spec.specs.Machine.World.{Task}
 use Rattle.vt_spec.specs.Rights.{Credentials, cap_setgid, cap_setuid, execute_right}
 use Rattle.vt_spec.specs.declared.errors.Rule.TheVariants.{B1, C1, K1, S6}
-
--- the most forks of a task, and the most numbers in a name (profile; RLIMIT_NPROC of setrlimit(2))
-abbrev pub most_forks : ℕ
-most_forks = 64
-
-abbrev pub deepest_name : ℕ
-deepest_name = 8
 
 module _ {N : Type 0} where
   -- EAGAIN of fork(2) is the profile's ENOSPC; EPERM of setuid(2), setgid(2), setgroups(2) and capset(2)

@@ -39,7 +39,7 @@ returns-in_err-start-clause-value c =
     rw (p.1, p.2) (link-refused (tree_of c.args.tree.now) c.args.who.now c.loop-link._link c.loop-link-test.true (here_of c.loop-link.start) c.loop-link.text.now c.loop-link.slash
     c.asks_for_directory-slash.result c.asks_for_directory-slash.ensures split.result.0 (last_of split.result.1) split.ensures.front split.ensures.last
     (here_of c.in_ok-here.here) c.in_ok-here.ensures.value (place_of c.in-Ok.place) c.in-Ok.ensures.value
-    c.in-Some.inner.now (here_of c.link_of.result) c.in-Some.ensures c.link_of.ensures
+    c.in-Some.inner.now (here_of c.symlink_of.result) c.in-Some.ensures c.symlink_of.ensures
     _ c.in_err-start.ensures.value ∙ c.loop-link.invariant)
 
 pub loop-link-preserved : goal.loop-link-preserved
@@ -48,7 +48,7 @@ loop-link-preserved c =
     next-turn (tree_of c.args.tree.now) c.args.who.now c.loop-link._link c.loop-link-test.true (here_of c.loop-link.start) c.loop-link.text.now c.loop-link.slash
     c.asks_for_directory-slash.result c.asks_for_directory-slash.ensures split.result.0 (last_of split.result.1) split.ensures.front split.ensures.last
     (here_of c.in_ok-here.here) c.in_ok-here.ensures.value (place_of c.in-Ok.place) c.in-Ok.ensures.value
-    c.in-Some.inner.now (here_of c.link_of.result) c.in-Some.ensures c.link_of.ensures
+    c.in-Some.inner.now (here_of c.symlink_of.result) c.in-Some.ensures c.symlink_of.ensures
     (here_of c.in_ok-start.start) c.in_ok-start.ensures.value ∙ c.loop-link.invariant
 
 pub returns-clause-value : goal.returns-clause-value

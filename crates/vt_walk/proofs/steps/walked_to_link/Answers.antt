@@ -15,17 +15,17 @@ returns-in_err-here-clause-value c follow =
     c.in-Some.word.now c.next.new.self c.in-Some.ensures.steps _
     (c.in_err-here.ensures ∙ ap (word_walked tree who (here_of c.loop-word.here)) c.of.ensures))
 
-pub returns-in-Some-link_text-clause-value : goal.returns-in-Some-link_text-clause-value
-returns-in-Some-link_text-clause-value c follow =
+pub returns-in-Some-symlink_text-clause-value : goal.returns-in-Some-symlink_text-clause-value
+returns-in-Some-symlink_text-clause-value c follow =
     let tree = tree_of c.args.tree.now in
     let who = c.args.who.now in
     link-met tree who follow (here_of c.args.start) (here_of c.loop-word.here) c.args.words c.loop-word.words (c.loop-word.invariant.0 follow)
     c.in-Some.word.now c.next.new.self c.in-Some.ensures.steps (here_of c.in_ok-here.here)
     (c.in_ok-here.ensures ∙ ap (word_walked tree who (here_of c.loop-word.here)) c.of.ensures)
-    c.in-Some-link_text.text.now c.in-Some-link_text.ensures
+    c.in-Some-symlink_text.text.now c.in-Some-symlink_text.ensures
 
-pub returns-in-Some-link_text-clause-left : goal.returns-in-Some-link_text-clause-left
-returns-in-Some-link_text-clause-left c =
+pub returns-in-Some-symlink_text-clause-left : goal.returns-in-Some-symlink_text-clause-left
+returns-in-Some-symlink_text-clause-left c =
     word_walked-left (tree_of c.args.tree.now) c.args.who.now (here_of c.loop-word.here) (here_of c.in_ok-here.here) (last_of c.of.result) c.in_ok-here.ensures
     ∙ c.loop-word.invariant.1
 
@@ -37,7 +37,7 @@ loop-word-preserved c =
       (λ follow. no-link tree who follow (here_of c.args.start) (here_of c.loop-word.here) c.args.words c.loop-word.words (c.loop-word.invariant.0 follow)
           c.in-Some.word.now c.next.new.self c.in-Some.ensures.steps (here_of c.in_ok-here.here)
           (c.in_ok-here.ensures ∙ ap (word_walked tree who (here_of c.loop-word.here)) c.of.ensures)
-          c.in_default-link_text.ensures),
+          c.in_default-symlink_text.ensures),
       left ∙ c.loop-word.invariant.1,
     )
 

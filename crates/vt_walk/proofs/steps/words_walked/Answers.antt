@@ -17,7 +17,7 @@ returns-in-Some-clause-value c =
     let tree = tree_of c.args.tree.now in
     let who = c.args.who.now in
     let follow = followed tree who in
-    c.link_walked.ensures
+    c.symlink_walked.ensures
     ∙ link_passed-as tree who follow (here_of c.in_ok-here.field-0.here) _ _ _
     c.in-Some.is (c.in_ok-here.ensures.value follow)
 
@@ -26,8 +26,8 @@ returns-in-Some-clause-there c whole start =
     let tree = tree_of c.args.tree.now in
     let who = c.args.who.now in
     let follow = followed tree who in
-    walked-there tree whole who (here_of c.args.start) (reverse c.args.words) c.link_walked.result start
-    (c.link_walked.ensures
+    walked-there tree whole who (here_of c.args.start) (reverse c.args.words) c.symlink_walked.result start
+    (c.symlink_walked.ensures
     ∙ link_passed-as tree who follow (here_of c.in_ok-here.field-0.here) _ _ _
     c.in-Some.is (c.in_ok-here.ensures.value follow))
 

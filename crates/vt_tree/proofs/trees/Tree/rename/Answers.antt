@@ -1,6 +1,6 @@
 use Rattle.std.proofs.Common.{◌≡◌, ◌≢◌, ℕ, Ok, Some, inl, nat_eq, ap, sym, ◌∙◌}
 use Rattle.std.specs.FinMap.Entries.{is_sorted}
-use Rattle.vt_spec.specs.Machine.Changes.{node_with_parent, node_without_entry}
+use Rattle.vt_spec.specs.Language.Changes.{node_with_parent, node_without_entry}
 use Rattle.vt_spec.specs.OneTree.Inodes.{Inodes, with_changed, without_replaced}
 use Rattle.vt_spec.specs.Tree.{entries_in, name_cmp, node_with_entry}
 use Rattle.vt_spec.specs.TreeLaws.{entry_at}

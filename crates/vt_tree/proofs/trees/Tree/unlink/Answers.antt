@@ -1,5 +1,5 @@
 use Rattle.std.proofs.Common.{Some, nat_eq, ap, ◌∙◌}
-use Rattle.vt_spec.specs.Machine.Changes.{node_without_entry}
+use Rattle.vt_spec.specs.Language.Changes.{node_without_entry}
 use Rattle.vt_spec.specs.OneTree.Inodes.{with_changed, without_replaced}
 use Rattle.vt_tree.specs.TreeValue.{inodes_of}
 use Rattle.vt_tree.proofs.trees.Tree.unlink.Goals as goal

@@ -5,14 +5,13 @@ use Rattle.vt_spec.specs.declared.attributes.Kind.{Kind}
 use Rattle.vt_spec.specs.declared.attributes.Kind.TheVariants.{Dir, File, Link, White}
 use Rattle.vt_spec.specs.declared.errors.Deny.{Deny}
 use Rattle.vt_spec.specs.Errors.{errno_name, number_of, rule_name}
-use Rattle.vt_spec.specs.Machine.Lists.{counted_from}
-use Rattle.vt_spec.specs.Machine.Mounts.{MountFlags}
-use Rattle.vt_spec.specs.Machine.Outcomes.{Answer, MountLine, PeerLine, Spot, StatLine, TypeLine}
-use Rattle.vt_spec.specs.Machine.Outcomes.Answer.{Bytes, Child, Done, MountList, Names, Opened, PeerList, Told, YesNo}
-use Rattle.vt_spec.specs.Machine.Outcomes.Spot.{Gone, Reached}
-use Rattle.vt_spec.specs.Machine.Outcomes.TypeLine.{PrivateLine, SharedLine, SlaveLine, UnbindableLine}
-use Rattle.vt_spec.specs.Machine.Script.{is_plain}
-use Rattle.vt_spec.specs.Machine.World.{TaskName}
+use Rattle.vt_spec.specs.Lists.{counted_from}
+use Rattle.vt_spec.specs.Language.Calls.{MountFlags, TaskName}
+use Rattle.vt_spec.specs.Language.Answers.{Answer, MountLine, PeerLine, Spot, StatLine, TypeLine}
+use Rattle.vt_spec.specs.Language.Answers.Answer.{Bytes, Child, Done, MountList, Names, Opened, PeerList, Told, YesNo}
+use Rattle.vt_spec.specs.Language.Answers.Spot.{Gone, Reached}
+use Rattle.vt_spec.specs.Language.Answers.TypeLine.{PrivateLine, SharedLine, SlaveLine, UnbindableLine}
+use Rattle.vt_spec.specs.Language.Script.{is_plain}
 
 -- a lower-case hexadecimal digit
 abbrev pub hex_digit : ℕ → ℕ
@@ -79,7 +78,7 @@ kind_word overlay = if overlay then codes "overlay:" else codes "plain:"
 
 abbrev pub mount_line_words : ℕ × MountLine → List (List ℕ)
 mount_line_words line =
-    decimal line.0 ∷ place_words line.1.place
+    decimal line.0 ∷ place_words line.1.mount_point
     ++ ((kind_word line.1.overlay ++ decimal line.1.filesystem) ∷ printed_spot line.1.root
     ∷ printed_flags line.1.flags ∷ printed_type line.1.kind ∷ [])
 

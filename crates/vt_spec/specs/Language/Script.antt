@@ -3,17 +3,15 @@ use Rattle.std.specs.Prelude.{Bool, List, None, Option, Some, [], codes, drop, f
 use Rattle.std.specs.Int.RustNames.{bit_or}
 use Rattle.std.specs.List.{list_all, list_any}
 use Rattle.std.specs.Str.{bytes_eq}
-use Rattle.vt_spec.specs.Machine.Calls.{Access, Call, CapabilityWord, Creation, Directive, OverlayWords, TypeWord}
-use Rattle.vt_spec.specs.Machine.Calls.Call.{Bind, Chdir, Chmod, Chown, Chroot, Close, Drop, Exec, Exit, Fork, Lazy, LinkTo, ListMounts, Ls, Lstat, MakeWhiteout, Mkdir, MountOverlay, MountPlain, MoveMount, Opaque, OpenFile, PivotRoot, Pread, Pwrite, Read, Readlink, Remount, Rename, Rmdir, SetType, Setns, Stat, SymlinkAt, Umask, Umount, Unlink, Unshare, Write}
-use Rattle.vt_spec.specs.Machine.Calls.CapabilityWord.{Held, These}
-use Rattle.vt_spec.specs.Machine.Calls.Creation.{Exclusive, NoCreation, OrCreate}
-use Rattle.vt_spec.specs.Machine.Calls.Directive.{AskPeers, AskSealed}
-use Rattle.vt_spec.specs.Machine.Calls.TypeWord.{ToPrivate, ToShared, ToSlave, ToUnbindable}
-use Rattle.vt_spec.specs.Machine.Lists.{folded, or_else, then_some, when}
-use Rattle.vt_spec.specs.Machine.Mounts.{MountFlags, plain_flags}
+use Rattle.vt_spec.specs.Language.Calls.{Access, Call, CapabilityWord, Creation, Directive, MountFlags, OverlayWords, TaskName, TypeWord, plain_flags}
+use Rattle.vt_spec.specs.Language.Calls.Call.{Bind, Chdir, Chmod, Chown, Chroot, Close, Drop, Exec, Exit, Fork, Lazy, LinkTo, ListMounts, Ls, Lstat, MakeWhiteout, Mkdir, MountOverlay, MountPlain, MoveMount, Opaque, OpenFile, PivotRoot, Pread, Pwrite, Read, Readlink, Remount, Rename, Rmdir, SetType, Setns, Stat, SymlinkAt, Umask, Umount, Unlink, Unshare, Write}
+use Rattle.vt_spec.specs.Language.Calls.CapabilityWord.{Held, These}
+use Rattle.vt_spec.specs.Language.Calls.Creation.{Exclusive, NoCreation, OrCreate}
+use Rattle.vt_spec.specs.Language.Calls.Directive.{AskPeers, AskSealed}
+use Rattle.vt_spec.specs.Language.Calls.TypeWord.{ToPrivate, ToShared, ToSlave, ToUnbindable}
+use Rattle.vt_spec.specs.Lists.{folded, or_else, then_some, when}
 use Rattle.vt_spec.specs.PathText.{is_empty, parts, words_between}
 use Rattle.vt_spec.specs.Rights.{cap_chown, cap_dac_override, cap_dac_read_search, cap_fowner, cap_setgid, cap_setuid, cap_sys_admin, cap_sys_chroot}
-use Rattle.vt_spec.specs.Machine.World.{TaskName}
 
 -- The lines of a script end with a newline; a last line without one counts too.
 abbrev pub with_line_byte : Bool → ℕ → List (List ℕ) → List (List ℕ)
@@ -24,10 +22,6 @@ with_line_byte false byte (line ∷ lines) = (byte ∷ line) ∷ lines
 abbrev pub lines_of : List ℕ → List (List ℕ)
 lines_of [] = []
 lines_of (byte ∷ bytes) = with_line_byte (byte == 10) byte (lines_of bytes)
-
--- a line without its newline
-abbrev pub longest_line : ℕ
-longest_line = 8192
 
 -- tokens stand between spaces
 abbrev pub raw_tokens : List ℕ → List (List ℕ)

@@ -5,7 +5,7 @@ use Rattle.vt_walk.proofs.PendingWalked.{first-begun, first-denied, link-begun, 
 use Rattle.vt_walk.proofs.LinksWalked.{begun-left}
 use Rattle.vt_walk.specs.PendingTexts.{links_within}
 use Rattle.vt_walk.specs.WalkValue.{here_of}
-use Rattle.vt_walk.proofs.steps.link_walked.Goals as goal
+use Rattle.vt_walk.proofs.steps.symlink_walked.Goals as goal
 
 pub returns-in_err-here : goal.returns-in_err-here
 returns-in_err-here c =

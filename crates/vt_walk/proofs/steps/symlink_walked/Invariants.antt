@@ -3,7 +3,7 @@ use Rattle.vt_spec.specs.OneTree.Walk.{followed}
 use Rattle.vt_tree.specs.TreeValue.{tree_of}
 use Rattle.vt_walk.specs.PendingTexts.{link_passed, texts_walked}
 use Rattle.vt_walk.specs.WalkValue.{here_of}
-use Rattle.vt_walk.proofs.steps.link_walked.Given as goal
+use Rattle.vt_walk.proofs.steps.symlink_walked.Given as goal
 
 abbrev pub decreases-loop-text : goal.decreases-loop-text
 decreases-loop-text l = 2 * l.here.left + length l.pending.items

@@ -4,7 +4,7 @@ use Rattle.std.specs.List.{list_any}
 use Rattle.vt_spec.specs.declared.attributes.Attr.{Attr}
 use Rattle.vt_spec.specs.declared.attributes.Kind.{Kind}
 use Rattle.vt_spec.specs.declared.attributes.Kind.TheVariants.{Dir, File, Link, White}
-use Rattle.vt_spec.specs.Machine.Lists.{before_first, chain, first_of_list, is_among, when}
+use Rattle.vt_spec.specs.Lists.{before_first, chain, first_of_list, is_among, when}
 use Rattle.vt_spec.specs.Tree.{Content, Node, Tree, bytes_in, entries_in, is_directory_node, kind_of, parent_in}
 use Rattle.vt_spec.specs.Tree.Content.{Directory, Regular, Symlink, Whiteout}
 
@@ -48,8 +48,8 @@ module _ {N : Type 0} where
   is_opaque_in None = false
   is_opaque_in (Some node) = opaque_of node.content
 
-  abbrev pub link_text : Option (Node N) → Option (List ℕ)
-  link_text node = when (is_kind_in Link node) (bytes_in node)
+  abbrev pub symlink_text : Option (Node N) → Option (List ℕ)
+  symlink_text node = when (is_kind_in Link node) (bytes_in node)
 
   -- the numbers that a directory's entries lead to
   abbrev pub targets_in : Option (Node N) → List N

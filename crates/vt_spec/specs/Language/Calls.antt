@@ -1,6 +1,22 @@
 -- The calls of a task, as a script names them.
-use Rattle.std.specs.Prelude.{Bool, List, Option, ℕ}
-use Rattle.vt_spec.specs.Machine.Mounts.{MountFlags}
+use Rattle.std.specs.Prelude.{Bool, List, Option, false, ℕ}
+use Rattle.std.specs.Str.{bytes_eq}
+
+-- a task's name is the numbers after its `t`, so `t` itself is the empty list
+abbrev pub TaskName : Type 0
+TaskName = List ℕ
+
+abbrev pub same_name : TaskName → TaskName → Bool
+same_name a b = bytes_eq a b
+
+-- MS_RDONLY, MS_NOEXEC and MS_NOSYMFOLLOW of one mount: mount(2)
+pub record MountFlags : Type 0 where
+  pub read_only : Bool
+  pub noexec : Bool
+  pub nosymfollow : Bool
+
+abbrev pub plain_flags : MountFlags
+plain_flags = record { read_only = false; noexec = false; nosymfollow = false }
 
 -- the capabilities that a word names: all that the caller holds, or a set of bits
 pub data CapabilityWord : Type 0 where
