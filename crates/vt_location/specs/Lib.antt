@@ -1,0 +1,4 @@
+pub mod Numbers
+pub mod Flags
+pub mod Locations
+pub mod MountValue

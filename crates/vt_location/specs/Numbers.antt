@@ -1,0 +1,28 @@
+-- The numbers that the definitions see of what code counts, and of inodes in their slots. Mounts, peer groups, filesystems
+-- and namespaces have odd numbers, inodes even ones; numbers `4·c + 3` are given to nothing.
+use Rattle.std.specs.Prelude.{Bool, false, if◌then◌else◌, nat_eq, nat_lt, not, ℕ, ◌&&◌, ◌*◌, ◌+◌, ◌-◌, ◌/◌, ◌^◌}
+
+-- the number of what is counted by `count`
+abbrev pub counted : ℕ → ℕ
+counted count = 4 * count + 1
+
+-- a number that is given to nothing
+abbrev pub left_over : ℕ → ℕ
+left_over count = 4 * count + 3
+
+-- the number of the inode in a slot of a filesystem; slots are below 2^64
+abbrev pub inode_number : ℕ → ℕ → ℕ
+inode_number filesystem slot = 2 * (slot + 18446744073709551616 * (filesystem + 1))
+
+-- the number is one of an inode of this filesystem
+abbrev pub is_inode_of : ℕ → ℕ → Bool
+is_inode_of filesystem number =
+    not (nat_lt number (inode_number filesystem 0)) && nat_lt number (inode_number (filesystem + 1) 0)
+    && nat_eq (2 * (number / 2)) number
+
+-- Slots and the numbers of their inodes, exchanged with one another: its own way back.
+abbrev pub exchanged : ℕ → ℕ → ℕ
+exchanged filesystem number =
+    if nat_lt number 18446744073709551616 then inode_number filesystem number
+    else if is_inode_of filesystem number then number / 2 - 18446744073709551616 * (filesystem + 1)
+    else number

@@ -1,0 +1,43 @@
+-- What the definitions see of what a world shows to code.
+use Rattle.std.specs.Prelude.{Bool, List, None, Option, Some, [], false, nat_eq, option_map, unwrap_or, ℕ, ◌≡◌}
+use Rattle.std.specs.List.{list_any}
+use Rattle.vt_spec.specs.Language.Changes.{Change}
+use Rattle.vt_spec.specs.Machine.Looks.{Looks}
+use Rattle.vt_spec.specs.Machine.Mounts as meant
+use Rattle.vt_spec.specs.Machine.Mounts.{no_mount}
+use Rattle.vt_spec.specs.Machine.Permits.{Permit}
+use Rattle.vt_spec.specs.Machine.Permits.Permit.{ToBind, ToMountPlain, ToMove}
+use Rattle.vt_spec.specs.Machine.Renaming.{renamed_node}
+use Rattle.vt_spec.specs.Tree.{Node}
+use Rattle.vt_location.specs.declared.mounts.Mount.{Mount}
+use Rattle.vt_location.specs.Flags.{flags_of}
+use Rattle.vt_location.specs.Locations.{location_of}
+use Rattle.vt_location.specs.MountValue.{mount_of}
+use Rattle.vt_location.specs.Numbers.{counted, exchanged}
+use Rattle.vt_looks.specs.declared.look.Attachment.{Attachment}
+use Rattle.vt_looks.specs.declared.look.Attachment.TheVariants.{Bind, Move, Plain}
+
+-- the mount of a number, or the value of a number that no mount has
+abbrev pub mount_seen : ℕ → Option Mount → meant.Mount ℕ
+mount_seen number mount = unwrap_or (option_map mount_of mount) (no_mount (counted number))
+
+-- an inode in a slot of a filesystem, its entries and its parent by the numbers of inodes
+abbrev pub node_seen : ℕ → Option (Node ℕ) → Option (Node ℕ)
+node_seen filesystem node = option_map (renamed_node (exchanged filesystem) (exchanged filesystem)) node
+
+-- the second mount is the first, or a descendant of it
+abbrev pub is_at_or_below : Looks ℕ → ℕ → ℕ → Bool
+is_at_or_below looks top mount = list_any (λ other. nat_eq other.number mount) (looks.mount_tree top)
+
+-- what an attachment is a permit for
+abbrev pub permit_of : Attachment → Permit ℕ
+permit_of (Plain place flags) = ToMountPlain (location_of place) (flags_of flags)
+permit_of (Bind source place recursive) = ToBind (location_of source) (location_of place) recursive
+permit_of (Move mount place) = ToMove (counted mount) (location_of place)
+
+-- no location is in an overlay: nobody else is asked, no layer has anything below, and nothing is locked
+pub record HasNoOverlays (looks : Looks ℕ) : Type 0 where
+  pub overlay : (location : meant.Location ℕ) → looks.overlay location ≡ None
+  pub mounter : (location : meant.Location ℕ) (change : Change ℕ) → looks.mounter_rules location change ≡ []
+  pub lower : (location : meant.Location ℕ) (name : List ℕ) → looks.has_lower_directory location name ≡ false
+  pub unlocked : (location : meant.Location ℕ) → looks.is_locked location ≡ false
