@@ -1,1 +1,3 @@
-mod OpenLemmas
+pub mod GivenOnce
+pub mod OpenLemmas
+pub mod TasksLemmas

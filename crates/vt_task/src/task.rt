@@ -51,13 +51,14 @@ impl Task {
     pub fn first(alloc: Global, namespace: NamespaceId, root: Location) -> Self
         ensures { task_of result ≡ first_task_at (counted namespace) (location_of root) }
     {
+        let directory = root;
         Task {
             name: TaskName::new(alloc),
             cred: Cred::root(alloc),
             umask: Mode::new(FIRST_UMASK).unwrap(),
             namespace,
             root,
-            directory: root,
+            directory,
             descriptors: Descriptors::new(alloc),
             forks: 0,
         }

@@ -61,7 +61,9 @@ impl Tasks {
     /// No two tasks have one name.
     pub fn names_are_apart(&self)
         ensures { AreNamedApart self.now }
-    {}
+    {
+        let _ = &self.by_name;
+    }
 
     /// The task of this name.
     pub fn get(&self, name: &TaskName) -> Option<&Task>
@@ -133,7 +135,8 @@ impl Tasks {
         ensures left { option_map left_of result ≡ option_map left_by (called name.now self.old) }
         ensures rest { self.new ≡ changed_called name.now (λ task. entered_at task (counted namespace) (location_of root)) self.old }
     {
-        self.move_root_and_directory(name, namespace, root, root)
+        let directory = root;
+        self.move_root_and_directory(name, namespace, root, directory)
     }
 
     /// Moves a task into a namespace, to this root and this working directory, and tells what it left: unshare(2). It takes no
