@@ -1,3 +1,4 @@
 pub mod GivenOnce
+pub mod LocationLemmas
 pub mod OpenLemmas
 pub mod TasksLemmas

@@ -27,10 +27,10 @@ use Rattle.vt_task.specs.TaskValue.{task_of}
 use Rattle.vt_task.specs.TasksValue.{AreFit, AreKeyed, AreNamedApart, Tasks, are_given_once, called, changed_by, changed_called, fork_refusal, forked, forked_by, forked_once, open_refusal, replaced, tasks_of, with_child_behind, without_called}
 
 -- the tasks with this one in the place of the one of a name
-abbrev put_if : TaskName → Task ℕ → Task ℕ → Task ℕ
+abbrev pub put_if : TaskName → Task ℕ → Task ℕ → Task ℕ
 put_if name new old = if same_name name old.name then new else old
 
-abbrev put : TaskName → Task ℕ → Tasks → Tasks
+abbrev pub put : TaskName → Task ℕ → Tasks → Tasks
 put name new tasks = map (put_if name new) tasks
 
 module _ {A : Type 0} where

@@ -72,7 +72,7 @@ forked name credentials tasks = forked_by credentials tasks (called name tasks)
 
 -- a task's namespace, root and working directory
 abbrev pub left_of : Left → ℕ × Location ℕ × Location ℕ
-left_of left = (counted left.namespace, location_of left.root, location_of left.directory)
+left_of left = (counted left.namespace.count, location_of left.root, location_of left.directory)
 
 abbrev pub left_by : Task ℕ → ℕ × Location ℕ × Location ℕ
 left_by task = (task.namespace, task.root, task.directory)

@@ -49,16 +49,15 @@ pub struct Left {
 impl Task {
     /// The first task: user and group 0, all capabilities, umask 022, no open files. It takes no memory.
     pub fn first(alloc: Global, namespace: NamespaceId, root: Location) -> Self
-        ensures { task_of result ≡ first_task_at (counted namespace) (location_of root) }
+        ensures { task_of result ≡ first_task_at (counted namespace.count) (location_of root) }
     {
-        let directory = root;
         Task {
             name: TaskName::new(alloc),
             cred: Cred::root(alloc),
             umask: Mode::new(FIRST_UMASK).unwrap(),
             namespace,
             root,
-            directory,
+            directory: root,
             descriptors: Descriptors::new(alloc),
             forks: 0,
         }

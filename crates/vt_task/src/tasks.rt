@@ -48,7 +48,7 @@ impl Tasks {
     ///
     /// S5 (ENOMEM): memory was refused.
     pub fn new(alloc: Global, namespace: NamespaceId, root: Location) -> Result<Self, Deny>
-        ensures ok { IfOk result (λ tasks. tasks ≡ first_task_at (counted namespace) (location_of root) ∷ []) }
+        ensures ok { IfOk result (λ tasks. tasks ≡ first_task_at (counted namespace.count) (location_of root) ∷ []) }
         ensures memory { IfErr result (λ deny. deny ≡ denial S5) }
     {
         let mut by_name = IndexMap::new(alloc);
@@ -74,7 +74,7 @@ impl Tasks {
 
     /// The namespace of the task of this name.
     pub fn namespace_called(&self, name: &TaskName) -> Option<NamespaceId>
-        ensures { option_map counted result ≡ option_map (λ task. task.namespace) (called name.now self.now) }
+        ensures { option_map (λ namespace. counted namespace.count) result ≡ option_map (λ task. task.namespace) (called name.now self.now) }
     {
         let task = self.get(name)?;
         Some(task.namespace)
@@ -133,10 +133,9 @@ impl Tasks {
     /// It takes no memory.
     pub fn enter(&mut self, name: &TaskName, namespace: NamespaceId, root: Location) -> Option<Left>
         ensures left { option_map left_of result ≡ option_map left_by (called name.now self.old) }
-        ensures rest { self.new ≡ changed_called name.now (λ task. entered_at task (counted namespace) (location_of root)) self.old }
+        ensures rest { self.new ≡ changed_called name.now (λ task. entered_at task (counted namespace.count) (location_of root)) self.old }
     {
-        let directory = root;
-        self.move_root_and_directory(name, namespace, root, directory)
+        self.move_root_and_directory(name, namespace, root, root)
     }
 
     /// Moves a task into a namespace, to this root and this working directory, and tells what it left: unshare(2). It takes no
@@ -151,7 +150,7 @@ impl Tasks {
         ensures left { option_map left_of result ≡ option_map left_by (called name.now self.old) }
         ensures rest { self.new
             ≡ changed_called name.now
-            (λ task. record task { namespace = counted namespace; root = location_of root; directory = location_of directory })
+            (λ task. record task { namespace = counted namespace.count; root = location_of root; directory = location_of directory })
             self.old }
     {
         let task = self.by_name.get_mut(name.numbers())?;

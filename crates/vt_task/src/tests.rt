@@ -9,10 +9,7 @@ use vt_request::{Access, TaskName};
 fn directory(number: usize) -> Location {
     Location {
         mount: MountId::new(1),
-        node: NodeRef {
-            filesystem: FilesystemId::new(2),
-            node: NodeId::new(number),
-        },
+        node: NodeRef::new(FilesystemId::new(2), NodeId::new(number)),
     }
 }
 

@@ -17,9 +17,9 @@ pub returns-in_err-task-clause-rest : goal.returns-in_err-task-clause-rest
 returns-in_err-task-clause-rest c =
     let map = c.self.inside.by_name in
     ap (λ map. tasks_of map.entries) c.get_mut.follows.holds-at-none
-    ∙ sym (changed-absent c.numbers.result.now map map c.self.invariant (λ task. record task { namespace = counted c.args.namespace; root = location_of c.args.root; directory = location_of c.args.directory })
+    ∙ sym (changed-absent c.numbers.result.now map map c.self.invariant (λ task. record task { namespace = counted c.args.namespace.count; root = location_of c.args.root; directory = location_of c.args.directory })
     (sym c.get_mut.ensures.value ∙ ap option_copied_mut c.in_err-task.was))
-    ∙ (λ i. changed_called (c.numbers.ensures.value i) (λ task. record task { namespace = counted c.args.namespace; root = location_of c.args.root; directory = location_of c.args.directory }) (c.self.view_is i))
+    ∙ (λ i. changed_called (c.numbers.ensures.value i) (λ task. record task { namespace = counted c.args.namespace.count; root = location_of c.args.root; directory = location_of c.args.directory }) (c.self.view_is i))
 
 pub invariant_of-self-2 : goal.invariant_of-self-2
 invariant_of-self-2 c =
@@ -35,6 +35,6 @@ returns-clause-left c =
 
 pub returns-clause-rest : goal.returns-clause-rest
 returns-clause-rest c =
-    written-change c.numbers.result.now c.self.inside.by_name _ c.self.invariant (λ task. record task { namespace = counted c.args.namespace; root = location_of c.args.root; directory = location_of c.args.directory }) c.in_ok-task.task.now _
+    written-change c.numbers.result.now c.self.inside.by_name _ c.self.invariant (λ task. record task { namespace = counted c.args.namespace.count; root = location_of c.args.root; directory = location_of c.args.directory }) c.in_ok-task.task.now _
     (sym c.get_mut.ensures.value ∙ ap option_copied_mut c.in_ok-task.was) refl c.get_mut.ensures.unique (c.get_mut.follows.holds _) refl
-    ∙ (λ i. changed_called (c.numbers.ensures.value i) (λ task. record task { namespace = counted c.args.namespace; root = location_of c.args.root; directory = location_of c.args.directory }) (c.self.view_is i))
+    ∙ (λ i. changed_called (c.numbers.ensures.value i) (λ task. record task { namespace = counted c.args.namespace.count; root = location_of c.args.root; directory = location_of c.args.directory }) (c.self.view_is i))
