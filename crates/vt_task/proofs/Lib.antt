@@ -1,4 +1,5 @@
 pub mod GivenOnce
 pub mod LocationLemmas
 pub mod OpenLemmas
+pub mod OrderLemmas
 pub mod TasksLemmas

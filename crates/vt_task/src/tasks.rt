@@ -1,5 +1,6 @@
 //! The tasks that there are, by their names.
-ghost use Rattle.std.specs.Prelude.{◌≡◌, ◌<◌, [], ◌∷◌, length, map, Some, IfOk, IfErr, OnOk, OnErr, option_map, option_copied};
+ghost use Rattle.std.specs.Prelude.{◌≡◌, ◌<◌, [], ◌∷◌, length, map, true, Some, IfOk, IfErr, OnOk, OnErr, option_map, option_copied};
+ghost use Rattle.std.specs.List.{list_all};
 ghost use Rattle.std.specs.Option.{option_and_then};
 ghost use Rattle.vt_spec.specs.Language.Limits.{deepest_name};
 ghost use Rattle.vt_spec.specs.Machine.Namespaces.{entered_at};
@@ -11,15 +12,17 @@ ghost use Rattle.vt_spec.specs.Errors.{denial};
 ghost use Rattle.vt_cred.specs.Caps.{capability_bits};
 ghost use Rattle.vt_location.specs.Locations.{location_of};
 ghost use Rattle.vt_location.specs.Numbers.{counted};
+ghost use Rattle.vt_task.specs.Counts.{tasks_in};
 ghost use Rattle.vt_task.specs.Open.{numbered};
 ghost use Rattle.vt_task.specs.TaskValue.{task_of};
-ghost use Rattle.vt_task.specs.TasksValue.{AreNamedApart, called, changed_called, first_task_at, fork_refusal, forked, left_by, left_of, open_refusal, with_open, without_called};
+ghost use Rattle.vt_task.specs.TasksValue.{AreNamedApart, called, changed_called, first_task_at, fork_refusal, forked, has_files_in_order, left_by, left_of, open_refusal, with_open, without_called};
 
 use crate::descriptors::{MAX_DESCRIPTORS, OpenFile};
 use crate::task::{Left, MAX_DEPTH, MAX_FORKS, Task};
 use indexmap::IndexMap;
 use std::alloc::Global;
 use std::marker::Model;
+use std::mem;
 use vt_cred::{Caps, Cred, Mode};
 use vt_location::{Location, NamespaceId};
 use vt_request::TaskName;
@@ -65,6 +68,13 @@ impl Tasks {
         let _ = &self.by_name;
     }
 
+    /// Each task has its open files in the order of their numbers.
+    pub fn files_are_in_order(&self)
+        ensures { list_all has_files_in_order self.now ≡ true }
+    {
+        let _ = &self.by_name;
+    }
+
     /// The task of this name.
     pub fn get(&self, name: &TaskName) -> Option<&Task>
         ensures { option_map task_of (option_copied result) ≡ called name.now self.now }
@@ -85,6 +95,13 @@ impl Tasks {
         ensures { map task_of result.now ≡ self.now }
     {
         self.by_name.values().as_slice()
+    }
+
+    /// How many tasks are in a namespace.
+    pub fn count_in(&self, namespace: NamespaceId) -> usize
+        ensures { result ≡ tasks_in (counted namespace.count) self.now }
+    {
+        self.by_name.values().filter(|task| task.namespace == namespace).count()
     }
 
     /// Sets the umask of a task: umask(2). It takes no memory.
@@ -113,9 +130,7 @@ impl Tasks {
         ensures rest { self.new ≡ changed_called name.now (λ task. record task { directory = location_of directory }) self.old }
     {
         let task = self.by_name.get_mut(name.numbers())?;
-        let left = task.directory;
-        task.directory = directory;
-        Some(left)
+        Some(mem::replace(&mut task.directory, directory))
     }
 
     /// Sets the root of a task, and tells which it had: chroot(2). It takes no memory.
@@ -124,9 +139,7 @@ impl Tasks {
         ensures rest { self.new ≡ changed_called name.now (λ task. record task { root = location_of root }) self.old }
     {
         let task = self.by_name.get_mut(name.numbers())?;
-        let left = task.root;
-        task.root = root;
-        Some(left)
+        Some(mem::replace(&mut task.root, root))
     }
 
     /// Moves a task into a namespace, to this directory as its root and its working directory, and tells what it left: setns(2).
