@@ -1,12 +1,11 @@
 -- Names are given once, and no two tasks have one name.
 use Rattle.std.proofs.Common.{◌≡◌, ◌≢◌, ℕ, ◌+◌, ◌≤◌, ◌<◌, Bool, true, false, cond, ◌&&◌, ◌||◌, List, [], ◌∷◌, ◌++◌, filter, not, nat_eq, Option, Some, None, refl, sym, ap, ◌∙◌, true≢false, arith, eq-eqb, ne_eqb}
-use Rattle.std.specs.Prelude.{find, map, nat_le}
+use Rattle.std.specs.Prelude.{nat_le}
 use Rattle.std.specs.List.{list_all, list_any}
 use Rattle.std.specs.Cmp.Lexicographic.{pointwise}
 use Rattle.std.proofs.lemmas.Bool.{eqb-true, leb-true, le-leb, or_parts}
 use Rattle.vt_spec.proofs.Lists.{pair-filter, pair-map}
 use Rattle.vt_spec.specs.Language.Calls.{TaskName, same_name}
-use Rattle.vt_spec.specs.Lists.{any_pair}
 use Rattle.vt_spec.specs.Machine.Outcome.Tasks.{child_name, child_of}
 use Rattle.vt_spec.specs.Machine.World.{Task, replaced_if_called}
 use Rattle.vt_spec.specs.Rights.{Credentials}

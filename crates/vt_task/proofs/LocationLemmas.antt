@@ -1,6 +1,6 @@
 -- How often tasks use locations and namespaces, where one of them changes.
-use Rattle.std.proofs.Common.{◌≡◌, ◌≢◌, ◌<◌, ℕ, ◌+◌, ◌||◌, Bool, true, false, cond, List, [], ◌∷◌, ◌++◌, filter, map, nat_eq, not, Option, Some, None, refl, sym, ap, ◌∙◌, true≢false, arith, eq-eqb, ne_eqb}
-use Rattle.std.specs.Prelude.{count_by, find, flat_map, nat_lt}
+use Rattle.std.proofs.Common.{◌≡◌, ◌≢◌, ◌<◌, ℕ, ◌+◌, ◌||◌, Bool, true, false, cond, List, [], ◌∷◌, ◌++◌, filter, map, nat_eq, not, Some, refl, sym, ap, ◌∙◌, arith, eq-eqb, ne_eqb}
+use Rattle.std.specs.Prelude.{count_by, find, nat_lt}
 use Rattle.std.specs.List.{list_any}
 use Rattle.std.proofs.lemmas.Bool.{eqb-false, eqb-true, leb-true, or_parts}
 use Rattle.std.proofs.lemmas.Bool.Decides.{nat_tests}
@@ -9,10 +9,9 @@ use Rattle.std.proofs.lemmas.List.Recursion.{is_count_by}
 use Rattle.vt_location.specs.Numbers.{counted}
 use Rattle.vt_spec.specs.Language.Calls.{TaskName, same_name}
 use Rattle.vt_spec.specs.Machine.Mounts.{Location}
-use Rattle.vt_spec.specs.Machine.Namespaces.{entered_at}
 use Rattle.vt_spec.specs.Machine.Outcome.Descriptors.{free_number, inserted, with_descriptor, without_descriptor}
 use Rattle.vt_spec.specs.Machine.Outcome.Tasks.{child_of}
-use Rattle.vt_spec.specs.Machine.World.{Descriptor, Task, World, locations_of}
+use Rattle.vt_spec.specs.Machine.World.{Descriptor, Task, locations_of}
 use Rattle.vt_spec.specs.Machine.WorldLaws.{are_ascending_from}
 use Rattle.vt_task.proofs.GivenOnce.{name-of-called, same_names}
 use Rattle.vt_task.proofs.OpenLemmas.{both-first, both-second}

@@ -1,5 +1,5 @@
 -- Descriptors stay in the order of their numbers.
-use Rattle.std.proofs.Common.{◌≡◌, ◌≢◌, ◌≤◌, ℕ, ◌+◌, ◌&&◌, Bool, true, false, cond, List, [], ◌∷◌, filter, nat_eq, nat_lt, not, refl, sym, ap, ◌∙◌, true≢false, arith, lt-ltb, le-ltb}
+use Rattle.std.proofs.Common.{◌≡◌, ◌≢◌, ◌≤◌, ℕ, ◌+◌, Bool, true, false, cond, List, [], ◌∷◌, filter, nat_eq, nat_lt, refl, sym, ap, ◌∙◌, true≢false, arith, lt-ltb, le-ltb}
 use Rattle.std.specs.Prelude.{nat_le}
 use Rattle.std.proofs.lemmas.Bool.{eqb-true, eqb-false, leb-true, le-leb}
 use Rattle.vt_spec.specs.Machine.Outcome.Descriptors.{free_from, inserted}

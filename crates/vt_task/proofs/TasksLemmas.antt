@@ -1,6 +1,6 @@
 -- Tasks as the map keeps them, each under its name, and as contracts see them.
 use Rattle.std.proofs.Common.{◌<◌, ◌||◌, Result, Ok, Err, IfOk, IfErr, OnOk, OnErr, if◌then◌else◌, le-leb, ◌≡◌, ℕ, ◌+◌, ◌≤◌, Bool, true, false, cond, List, [], ◌∷◌, ◌++◌, not, length, map, nat_eq, Option, Some, None, option_map, refl, sym, ap, ◌∙◌, true≢false, subst}
-use Rattle.std.specs.Prelude.{find, nat_le}
+use Rattle.std.specs.Prelude.{nat_le}
 use Rattle.std.specs.declared.vec.Vec.{Vec}
 use Rattle.std.specs.Cmp.Lexicographic.{pointwise}
 use Rattle.std.proofs.lemmas.Cmp.{nat_list_eq_equiv}

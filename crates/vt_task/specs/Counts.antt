@@ -1,5 +1,5 @@
 -- How often tasks use locations and namespaces, before and after one of them changes.
-use Rattle.std.specs.Prelude.{Bool, List, Option, Some, [], flat_map, if◌then◌else◌, nat_eq, nat_lt, true, ℕ, ◌+◌, ◌∷◌, ◌≡◌}
+use Rattle.std.specs.Prelude.{Bool, List, Some, [], flat_map, if◌then◌else◌, nat_eq, nat_lt, true, ℕ, ◌+◌, ◌∷◌, ◌≡◌}
 use Rattle.vt_spec.specs.Language.Calls.{Access, TaskName}
 use Rattle.vt_spec.specs.Machine.Mounts.{Location}
 use Rattle.vt_spec.specs.Machine.Namespaces.{entered_at, has_tasks}

@@ -1,5 +1,5 @@
 -- A list of tasks changes as the tasks of a world do.
-use Rattle.std.specs.Prelude.{List, Option, Some, [], ℕ, ◌∷◌, ◌≡◌, nat_eq}
+use Rattle.std.specs.Prelude.{Some, [], ℕ, ◌∷◌, ◌≡◌, nat_eq}
 use Rattle.vt_spec.specs.Language.Calls.{TaskName}
 use Rattle.vt_spec.specs.Lists.{Fresh}
 use Rattle.vt_spec.specs.Machine.Outcome.Tasks.{with_child}

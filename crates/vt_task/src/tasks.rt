@@ -101,7 +101,10 @@ impl Tasks {
     pub fn count_in(&self, namespace: NamespaceId) -> usize
         ensures { result ≡ tasks_in (counted namespace.count) self.now }
     {
-        self.by_name.values().filter(|task| task.namespace == namespace).count()
+        self.by_name
+            .values()
+            .filter(|task| task.namespace == namespace)
+            .count()
     }
 
     /// Sets the umask of a task: umask(2). It takes no memory.

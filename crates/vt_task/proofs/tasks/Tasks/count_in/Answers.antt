@@ -1,9 +1,8 @@
-use Rattle.std.proofs.Common.{◌≡◌, ap, sym, map, nat_eq, ◌∙◌, rules}
+use Rattle.std.proofs.Common.{◌≡◌, ap, sym, nat_eq, ◌∙◌, rules}
 use Rattle.std.specs.Prelude.{count_by}
 use Rattle.vt_location.specs.Numbers.{counted}
 use Rattle.vt_task.specs.Counts.{tasks_in}
 use Rattle.vt_task.specs.declared.task.Task.{Task as Held}
-use Rattle.vt_task.specs.TaskValue.{task_of}
 use Rattle.vt_task.proofs.LocationLemmas.{tasks_in-values}
 use Rattle.vt_task.proofs.TasksLemmas.{tasks-values}
 use Rattle.vt_task.proofs.tasks.Tasks.count_in.Goals as goal
