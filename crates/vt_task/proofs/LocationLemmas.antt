@@ -141,7 +141,7 @@ module _ {A : Type 0} (test : A → Bool) where
       by false e = e ∙ as_many (times test rest)
 
 module _ (test : Location ℕ → Bool) where
-  abbrev weight : Task ℕ → ℕ
+  abbrev pub weight : Task ℕ → ℕ
   weight task = times test (locations_of task)
 
   pub uses-total : (tasks : Tasks) → uses test tasks ≡ total weight tasks
@@ -151,7 +151,7 @@ module _ (test : Location ℕ → Bool) where
       ∙ times-append test (locations_of task) (locations_in tasks)
       ∙ ap (λ n. weight task + n) (uses-total tasks)
 
-tasks_in-total : (namespace : ℕ) (tasks : Tasks) → tasks_in namespace tasks ≡ total (λ task. one_if (nat_eq namespace task.namespace)) tasks
+pub tasks_in-total : (namespace : ℕ) (tasks : Tasks) → tasks_in namespace tasks ≡ total (λ task. one_if (nat_eq namespace task.namespace)) tasks
 tasks_in-total namespace [] = refl
 tasks_in-total namespace (task ∷ tasks) = ap (λ n. one_if (nat_eq namespace task.namespace) + n) (tasks_in-total namespace tasks)
 
@@ -181,11 +181,11 @@ tasks_in-values count tasks =
 
 -- Open files
 
-abbrev place_of : Descriptor ℕ → Location ℕ
+abbrev pub place_of : Descriptor ℕ → Location ℕ
 place_of descriptor = descriptor.location
 
 module _ (test : Location ℕ → Bool) where
-  abbrev files : List (Descriptor ℕ) → ℕ
+  abbrev pub files : List (Descriptor ℕ) → ℕ
   files descriptors = times test (map place_of descriptors)
 
   files-inserted : (new : Descriptor ℕ) (descriptors : List (Descriptor ℕ)) → files (inserted new descriptors) ≡ files descriptors + one_if (test new.location)

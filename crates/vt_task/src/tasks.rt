@@ -1,9 +1,9 @@
 //! The tasks that there are, by their names.
-ghost use Rattle.std.specs.Prelude.{◌≡◌, ◌<◌, [], ◌∷◌, length, map, true, Some, IfOk, IfErr, OnOk, OnErr, option_map, option_copied};
+ghost use Rattle.std.specs.Prelude.{◌≡◌, ◌<◌, [], ◌∷◌, length, map, nat_eq, true, Some, IfOk, IfErr, OnOk, OnErr, option_map, option_copied};
 ghost use Rattle.std.specs.List.{list_all};
 ghost use Rattle.std.specs.Option.{option_and_then};
 ghost use Rattle.vt_spec.specs.Language.Limits.{deepest_name};
-ghost use Rattle.vt_spec.specs.Machine.Namespaces.{entered_at};
+ghost use Rattle.vt_spec.specs.Machine.Namespaces.{entered_at, pivoted_task};
 ghost use Rattle.vt_spec.specs.Machine.Outcome.Descriptors.{free_number, without_descriptor};
 ghost use Rattle.vt_spec.specs.Machine.Outcome.Tasks.{child_name, with_dropped};
 ghost use Rattle.vt_spec.specs.Machine.Rules.Descriptors.{descriptor_numbered};
@@ -11,6 +11,7 @@ ghost use Rattle.vt_spec.specs.declared.errors.Rule.TheVariants.{S5};
 ghost use Rattle.vt_spec.specs.Errors.{denial};
 ghost use Rattle.vt_cred.specs.Caps.{capability_bits};
 ghost use Rattle.vt_location.specs.Locations.{location_of};
+ghost use Rattle.vt_location.specs.MountValue.{mount_of};
 ghost use Rattle.vt_location.specs.Numbers.{counted};
 ghost use Rattle.vt_task.specs.Counts.{tasks_in};
 ghost use Rattle.vt_task.specs.Open.{numbered};
@@ -24,7 +25,7 @@ use std::alloc::Global;
 use std::marker::Model;
 use std::mem;
 use vt_cred::{Caps, Cred, Mode};
-use vt_location::{Location, NamespaceId};
+use vt_location::{Location, Mount, NamespaceId};
 use vt_request::TaskName;
 use vt_spec::errors::{Deny, Rule};
 
@@ -179,6 +180,18 @@ impl Tasks {
         task.root = root;
         task.directory = directory;
         Some(left)
+    }
+
+    /// Moves the roots and working directories of a namespace's tasks from the root of the first mount to that of the second:
+    /// pivot_root(2). It takes no memory.
+    pub fn pivot(&mut self, namespace: NamespaceId, root: &Mount, new: &Mount)
+        ensures { self.new ≡ map (pivoted_task nat_eq (counted namespace.count) (mount_of root.now) (mount_of new.now)) self.old }
+    {
+        for index in 0..self.by_name.len() {
+            if let Some(task) = self.by_name.get_index_mut(index) {
+                task.pivot(namespace, root, new);
+            }
+        }
     }
 
     /// Opens a file of a task under the least number that is free, and tells that number: open(2).
