@@ -1,12 +1,12 @@
 -- How often tasks use locations and namespaces, where a pivot moves them.
-use Rattle.std.proofs.Common.{◌≡◌, ℕ, ◌+◌, ◌&&◌, Bool, true, false, cond, List, [], ◌∷◌, if◌then◌else◌, map, nat_eq, refl, sym, ap, ◌∙◌, arith}
+use Rattle.std.proofs.Common.{◌≡◌, ℕ, ◌+◌, Bool, true, false, cond, [], ◌∷◌, if◌then◌else◌, map, nat_eq, refl, sym, ap, ◌∙◌, arith}
 use Rattle.std.proofs.lemmas.Bool.{eqb-true}
 use Rattle.vt_spec.specs.Machine.Mounts.{Location, Mount, root_of, same_location}
 use Rattle.vt_spec.specs.Machine.Namespaces.{pivoted_location, pivoted_task}
 use Rattle.vt_spec.specs.Machine.World.{Task}
-use Rattle.vt_task.proofs.LocationLemmas.{files, tasks_in-total, total, uses-total, weight}
+use Rattle.vt_task.proofs.LocationLemmas.{files, total, uses-total, weight}
 use Rattle.vt_task.proofs.OpenLemmas.{both-first, both-second}
-use Rattle.vt_task.specs.Counts.{PivotedTasks, PivotedUses, all_places_at, one_if, places_at, uses}
+use Rattle.vt_task.specs.Counts.{PivotedTasks, PivotedUses, all_places_at, one_if, places_at}
 use Rattle.vt_task.specs.TasksValue.{Tasks}
 
 same_locations : (a b : Location ℕ) → same_location nat_eq a b ≡ true → a ≡ b

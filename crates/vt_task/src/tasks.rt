@@ -85,7 +85,8 @@ impl Tasks {
 
     /// The namespace of the task of this name.
     pub fn namespace_called(&self, name: &TaskName) -> Option<NamespaceId>
-        ensures { option_map (λ namespace. counted namespace.count) result ≡ option_map (λ task. task.namespace) (called name.now self.now) }
+        ensures { option_map (λ namespace. counted namespace.count) result
+            ≡ option_map (λ task. task.namespace) (called name.now self.now) }
     {
         let task = self.get(name)?;
         Some(task.namespace)
@@ -150,7 +151,8 @@ impl Tasks {
     /// It takes no memory.
     pub fn enter(&mut self, name: &TaskName, namespace: NamespaceId, root: Location) -> Option<Left>
         ensures left { option_map left_of result ≡ option_map left_by (called name.now self.old) }
-        ensures rest { self.new ≡ changed_called name.now (λ task. entered_at task (counted namespace.count) (location_of root)) self.old }
+        ensures rest { self.new
+            ≡ changed_called name.now (λ task. entered_at task (counted namespace.count) (location_of root)) self.old }
     {
         self.move_root_and_directory(name, namespace, root, root)
     }

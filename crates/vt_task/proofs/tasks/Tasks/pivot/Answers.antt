@@ -1,7 +1,6 @@
-use Rattle.std.proofs.Common.{◌≡◌, IsSome, arith, ap, length, map, nat_eq, sym, subst, true≢false, ◌∙◌}
+use Rattle.std.proofs.Common.{◌≡◌, IsSome, arith, ap, length, map, sym, subst, true≢false, ◌∙◌}
 use Rattle.std.specs.Option.{option_copied_mut}
 use Rattle.std.specs.Map.{keys_of}
-use Rattle.vt_spec.specs.Machine.Namespaces.{pivoted_task}
 use Rattle.vt_location.specs.MountValue.{mount_of}
 use Rattle.vt_location.specs.Numbers.{counted}
 use Rattle.vt_task.specs.TasksValue.{tasks_of}
