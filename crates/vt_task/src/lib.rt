@@ -2,7 +2,13 @@
 #![tactic(auto)]
 
 mod descriptors;
+pub mod laws;
 mod task;
+mod tasks;
 
 pub use descriptors::{Descriptors, MAX_DESCRIPTORS, OpenFile};
-pub use task::{MAX_DEPTH, MAX_FORKS, Task};
+pub use task::{Left, MAX_DEPTH, MAX_FORKS, Task};
+pub use tasks::Tasks;
+
+#[cfg(test)]
+mod tests;
