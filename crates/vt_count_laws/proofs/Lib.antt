@@ -4,3 +4,4 @@ pub mod NameCounts
 pub mod Swept
 pub mod Changes
 pub mod SameAfter
+pub mod Exchanged

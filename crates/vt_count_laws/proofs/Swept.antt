@@ -23,7 +23,7 @@ use Rattle.vt_one_text.proofs.OneTreeSettled.{times_filter}
 use Rattle.vt_one_text.proofs.OneTreeTrees.{among_times, as_long, times_among, times_append}
 use Rattle.vt_count_laws.specs.Counted.{IsCounted, IsPlain}
 use Rattle.vt_count_laws.proofs.Listed.{no_repeats, none_times, once_or_none, once_times, times_is}
-use Rattle.vt_count_laws.proofs.TreeCounts.{IsStart, IsTallied, own_one, uses_of}
+use Rattle.vt_count_laws.proofs.TreeCounts.{IsStart, IsTallied, other_uses, own_one, uses_of}
 
 pub plain_of : (world : World ℕ) → IsPlain world → LettingGo.IsPlain world
 plain_of world plain = none_passes is_overlay world.filesystems (λ f m. among_from_all (λ g. is_overlay g ≡ false) world.filesystems plain f m)
@@ -133,58 +133,55 @@ not_found (first ∷ rest) number none = by (nat_eq number first.number) none (n
     by false e later = later e
 
 -- a filesystem with counted inodes is there
-pub there_if_counted : (world : World ℕ) (number : ℕ) (inodes : Inodes ℕ) → IsCounted world (filesystem_numbered nat_eq world number) inodes
-    → is_among nat_eq number (map (λ f. f.number) world.filesystems) ≡ true
-there_if_counted world number inodes counted = by (is_among nat_eq number (map (λ f. f.number) world.filesystems)) refl
+pub there_if_some : (searched world : World ℕ) (number : ℕ) (inodes : Inodes ℕ) → IsCounted world (filesystem_numbered nat_eq searched number) inodes
+    → is_among nat_eq number (map (λ f. f.number) searched.filesystems) ≡ true
+there_if_some searched world number inodes counted = by (is_among nat_eq number (map (λ f. f.number) searched.filesystems)) refl
   where
-    by : (b : Bool) → is_among nat_eq number (map (λ f. f.number) world.filesystems) ≡ b → is_among nat_eq number (map (λ f. f.number) world.filesystems) ≡ true
+    by : (b : Bool) → is_among nat_eq number (map (λ f. f.number) searched.filesystems) ≡ b → is_among nat_eq number (map (λ f. f.number) searched.filesystems) ≡ true
     by true e = e
     by false e =
-        let missing : IsCounted world (no_filesystem number) inodes = subst (λ f. IsCounted world f inodes) (not_found world.filesystems number e) counted in
+        let missing : IsCounted world (no_filesystem number) inodes = subst (λ f. IsCounted world f inodes) (not_found searched.filesystems number e) counted in
         let none : uses_in (inodes.inode number) ≡ 0 = unused (inodes.inode number) (missing.node number) in
         let all : uses_in (inodes.inode number) ≡ times (nat_eq number) (used_in nat_eq world (no_filesystem number)) = missing.uses number in
         let own = own_one number in
-        let some : times (nat_eq number) (used_in nat_eq world (no_filesystem number)) ≡ one_if number number + times (nat_eq number) (rest_of_used world number) = refl in
+        let some : times (nat_eq number) (used_in nat_eq world (no_filesystem number)) ≡ one_if number number + times (nat_eq number) others = refl in
         absurd (omega arith)
       where
         unused : (o : Option (Inode ℕ)) → node_in o ≡ None → uses_in o ≡ 0
         unused None e = refl
         unused (Some inode) e = cc
 
-        rest_of_used : World ℕ → ℕ → List ℕ
-        rest_of_used world number = named_in (no_filesystem number).files ++ located_in nat_eq world number
+        others : List ℕ
+        others = named_in (no_filesystem number).files ++ located_in nat_eq world number
             ++ layers_in nat_eq world number ++ flat_map (objects_of_overlay nat_eq number) world.filesystems
 
--- The counted inodes before a change
-pub counted_start : (world : World ℕ) (filesystem : Filesystem ℕ) (inodes : Inodes ℕ) → LettingGo.IsPlain world → IsListedTree filesystem.files
+pub there_if_counted : (world : World ℕ) (number : ℕ) (inodes : Inodes ℕ) → IsCounted world (filesystem_numbered nat_eq world number) inodes
+    → is_among nat_eq number (map (λ f. f.number) world.filesystems) ≡ true
+there_if_counted world number inodes counted = there_if_some world world number inodes counted
+
+-- The counted inodes where all are in use
+there_in : (o : Option (Inode ℕ)) → is_some (node_in o) ≡ is_some o
+there_in None = refl
+there_in (Some inode) = refl
+
+pub start_counts : (world : World ℕ) (filesystem : Filesystem ℕ) (inodes : Inodes ℕ) → IsListedTree filesystem.files
     → list_all (is_inode_used world filesystem) filesystem.files.numbers ≡ true → IsCounted world filesystem inodes
-    → IsStart (base_of world filesystem) filesystem.files.tree.node filesystem.files.numbers inodes
-counted_start world filesystem inodes plain tree used counted = record {
-  tallied = record {
-    counted = record {
-      uses_are = λ n. counted.uses n ∙ plain_uses_are world plain filesystem n;
-      in_use = λ n there.
-          let e = counted.uses n in
-          let all : times (nat_eq n) (used_in nat_eq world filesystem) ≡ times_in n (used_in nat_eq world filesystem) = times_is n (used_in nat_eq world filesystem) in
-          let some = among_times n (used_in nat_eq world filesystem)
-          (passes (is_inode_used world filesystem) filesystem.files.numbers used n (among_numbers n filesystem.files.numbers (tree.numbers n ∙ sym (same_there n) ∙ there))) in
-          omega arith;
-      kept = λ n there. sym (counted.node n);
-      emptied = λ n none. ap targets_in (sym (counted.node n)) ∙ no_targets (inodes.inode n) none;
-      list = filesystem.files.numbers;
-      listed = λ n. once n ∙ ap (λ b. cond b 1 0) (sym (same_there n));
-      as_many = counted.count;
-    };
-    once = once;
-  };
-  same = counted.node;
-  in_order = tree.tree.in_order;
+    → Counts.IsCounted (inode_uses world filesystem) filesystem.files.tree.node inodes
+start_counts world filesystem inodes tree used counted = record {
+  uses_are = counted.uses;
+  in_use = λ n there.
+      let e = counted.uses n in
+      let all : times (nat_eq n) (used_in nat_eq world filesystem) ≡ times_in n (used_in nat_eq world filesystem) = times_is n (used_in nat_eq world filesystem) in
+      let some = among_times n (used_in nat_eq world filesystem)
+      (passes (is_inode_used world filesystem) filesystem.files.numbers used n (among_numbers n filesystem.files.numbers (tree.numbers n ∙ sym (same_there n) ∙ there))) in
+      omega arith;
+  kept = λ n there. sym (counted.node n);
+  emptied = λ n none. ap targets_in (sym (counted.node n)) ∙ no_targets (inodes.inode n) none;
+  list = filesystem.files.numbers;
+  listed = λ n. once_or_none n filesystem.files.numbers counted.once ∙ ap (λ b. cond b 1 0) (tree.numbers n ∙ sym (same_there n));
+  as_many = counted.count;
 }
   where
-    there_in : (o : Option (Inode ℕ)) → is_some (node_in o) ≡ is_some o
-    there_in None = refl
-    there_in (Some inode) = refl
-
     same_there : (n : ℕ) → is_some (inodes.inode n) ≡ is_some (filesystem.files.tree.node n)
     same_there n = sym (there_in (inodes.inode n)) ∙ ap is_some (counted.node n)
 
@@ -192,8 +189,19 @@ counted_start world filesystem inodes plain tree used counted = record {
     no_targets None e = refl
     no_targets (Some inode) e = cc
 
-    once : (n : ℕ) → times_in n filesystem.files.numbers ≡ cond (is_some (filesystem.files.tree.node n)) 1 0
-    once n = once_or_none n filesystem.files.numbers counted.once ∙ ap (λ b. cond b 1 0) (tree.numbers n)
+-- The counted inodes before a change
+pub counted_start : (world : World ℕ) (filesystem : Filesystem ℕ) (inodes : Inodes ℕ) → LettingGo.IsPlain world → IsListedTree filesystem.files
+    → list_all (is_inode_used world filesystem) filesystem.files.numbers ≡ true → IsCounted world filesystem inodes
+    → IsStart (base_of world filesystem) filesystem.files.tree.node filesystem.files.numbers inodes
+counted_start world filesystem inodes plain tree used counted = record {
+  tallied = record {
+    counted = other_uses (inode_uses world filesystem) (uses_of (base_of world filesystem) filesystem.files.tree.node filesystem.files.numbers) filesystem.files.tree.node inodes
+        (plain_uses_are world plain filesystem) (start_counts world filesystem inodes tree used counted);
+    once = λ n. once_or_none n filesystem.files.numbers counted.once ∙ ap (λ b. cond b 1 0) (tree.numbers n);
+  };
+  same = counted.node;
+  in_order = tree.tree.in_order;
+}
 
 -- The sweep
 module _ (world : World ℕ) (number : ℕ) (files : FileTree ℕ) (in_use : AllInUse world) (plain : LettingGo.IsPlain world)

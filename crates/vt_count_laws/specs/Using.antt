@@ -7,7 +7,7 @@ use Rattle.vt_spec.specs.Machine.World.{World, all_locations, filesystem_numbere
 use Rattle.vt_spec.specs.OneTree.Inodes.{Inodes, one_directory, pinned, unpinned}
 use Rattle.vt_spec.specs.Tree.{new_directory}
 use Rattle.vt_letting_go.specs.Counts.{inode_uses, mounts_showing, times}
-use Rattle.vt_letting_go.specs.InUse.{HasTrees}
+use Rattle.vt_letting_go.specs.InUse.{HasTrees, InodesInUse}
 use Rattle.vt_letting_go.specs.Mounting.{inode_at}
 use Rattle.vt_letting_go.specs.OneByOne.{Inode, let_go_inodes}
 use Rattle.vt_count_laws.specs.Counted.{IsCounted, IsPlain}
@@ -38,11 +38,11 @@ abbrev pub AreThere : ℕ → Inodes ℕ → List Inode → Type 0
 AreThere filesystem inodes gained =
     list_all (λ inode. not (nat_eq filesystem inode.0) || is_some (inodes.inode inode.1)) gained ≡ true
 
--- The inodes that lost a use are looked at in the world; counted inodes are pinned and then unpinned.
+-- Where all inodes were in use: those that lost a use are looked at in the world; counted inodes are pinned, and then unpinned.
 abbrev pub UsesAreExchanged : Type 0
 UsesAreExchanged =
     (world after : World ℕ) (gained lost : List Inode) (filesystem : ℕ) (inodes : Inodes ℕ)
-    → HasTrees world → IsPlain after → Exchanges gained lost filesystem world after
+    → HasTrees world → InodesInUse world → IsPlain after → Exchanges gained lost filesystem world after
     → IsCounted world (filesystem_numbered nat_eq world filesystem) inodes → AreThere filesystem inodes gained
     → IsCounted (let_go_inodes after lost) (filesystem_numbered nat_eq (let_go_inodes after lost) filesystem)
     (exchanged filesystem gained lost inodes)
