@@ -1,37 +1,33 @@
 -- Each change that fits, with the sweep after it.
-use Rattle.std.proofs.Common.{◌≡◌, ◌≢◌, refl, sym, ap, subst, ◌∙◌, ⊎_elim, ℕ, ◌≤◌, nat_eq, eq-eqb, ne_eqb, Bool, true, false, true≢false, cond, not, List, [], ◌∷◌, map, Option, Some, None, is_some, arith}
-use Rattle.std.specs.Prelude.{⊤}
+use Rattle.std.proofs.Common.{◌≡◌, ◌≢◌, refl, sym, ap, subst, ◌∙◌, ⊎_elim, ℕ, nat_eq, Bool, true, false, cond, not, List, [], ◌∷◌, map, Option, Some, None, is_some, arith}
 use Rattle.std.proofs.lemmas.Bool.Decides.{eqb_tells}
 use Rattle.std.specs.List.{list_all}
 use Rattle.vt_spec.specs.FileTree.{FileTree}
 use Rattle.vt_spec.specs.Language.Changes as Changes
 use Rattle.vt_spec.specs.Language.Changes.{Change, content_with_mark, node_with_attr, node_with_mark, node_with_parent}
 use Rattle.vt_spec.specs.Language.Changes.Change.{AddName, CopyUp, Make, Move, Remove, SetAttr, SetBytes, SetMark}
-use Rattle.vt_spec.specs.Lists.{Fresh, any_pair, is_among, is_empty_list}
-use Rattle.vt_spec.specs.Machine.Filesystems.{filesystem_changed, with_change, with_files}
+use Rattle.vt_spec.specs.Lists.{Fresh, is_among, is_empty_list}
+use Rattle.vt_spec.specs.Machine.Filesystems.{filesystem_changed, with_files}
 use Rattle.vt_spec.specs.Machine.Mounts.{Location}
-use Rattle.vt_spec.specs.Machine.SameWorlds.{SameFilesystem, SameFilesystems, SameWorlds, without_changes}
 use Rattle.vt_spec.specs.Machine.Settled.{settled}
-use Rattle.vt_spec.specs.Machine.World.{Filesystem, Overlay, World, filesystem_at, filesystem_numbered, is_overlay, replaced_if_numbered}
-use Rattle.vt_spec.specs.Machine.WorldLaws.{IsWorld, ListsNumbers}
+use Rattle.vt_spec.specs.Machine.World.{Filesystem, Overlay, World, filesystem_at, filesystem_numbered, is_overlay}
+use Rattle.vt_spec.specs.Machine.WorldLaws.{IsWorld}
 use Rattle.vt_spec.specs.OneTree.Fits.{Fits, MayReplace}
 use Rattle.vt_spec.specs.OneTree.Inodes.{Inodes, changed, node_in, tree_of, with_changed, without_replaced}
 use Rattle.vt_spec.specs.OneTree.Rules.{is_filled}
 use Rattle.vt_spec.specs.Tree.{Content, Entries, Node, entries_in, entries_of, entry_named, is_directory_node, node_with_bytes, node_with_entry, with_bytes}
 use Rattle.vt_spec.specs.Tree.Content.{Directory, Regular, Symlink, Whiteout}
-use Rattle.vt_letting_go.specs.InUse.{AllInUse, HasTrees, IsListedTree, is_inode_used}
+use Rattle.vt_letting_go.specs.InUse.{AllInUse, IsListedTree, is_inode_used}
 use Rattle.vt_letting_go.specs.OneByOne as LettingGo
 use Rattle.vt_letting_go.specs.TreeChanges.{with_tree}
 use Rattle.vt_letting_go.proofs.InUse.{what_is_left_is_in_use}
 use Rattle.vt_letting_go.proofs.Lists.{Among, among_from_all, fails}
 use Rattle.vt_letting_go.proofs.OfWorlds.{uppers_of_worlds_are_plain, worlds_have_trees}
 use Rattle.vt_one_text.specs.OneTree.{times_in}
-use Rattle.vt_one_text.proofs.OneTreeEntries.{one_if, one_if_some}
+use Rattle.vt_one_text.proofs.OneTreeEntries.{one_if}
 use Rattle.vt_one_text.proofs.OneTreeCounts.{other_if}
-use Rattle.vt_one_text.proofs.OneTreeNames.{at_place}
-use Rattle.vt_count_laws.specs.Changing.{CountedChangesAreSwept, CountsFollowChanges, IsChange, LinksWhatIsThere, OnlyFilesChange, OtherCountsStay, after_change, place_of}
+use Rattle.vt_count_laws.specs.Changing.{CountsFollowChanges, IsChange, LinksWhatIsThere, OnlyFilesChange, OtherCountsStay, after_change, place_of}
 use Rattle.vt_count_laws.specs.Counted.{IsCounted}
-use Rattle.vt_count_laws.proofs.Listed.{same_numbers_are_permuted}
 use Rattle.vt_count_laws.proofs.NameCounts as Names
 use Rattle.vt_count_laws.proofs.Swept as Swept
 use Rattle.vt_count_laws.proofs.Swept.{base_of, counted_start, found_is, plain_of, there_if_counted}

@@ -1,11 +1,11 @@
 -- Inodes that get some uses and lose some.
 use Rattle.std.proofs.Common.{◌≡◌, ◌≢◌, refl, sym, ap, subst, ◌∙◌, ⊎_elim, inl, inr, ◌⊎◌, ℕ, ◌+◌, ◌≤◌, nat_eq, eqb-true, eq-eqb, ne_eqb, Bool, true, false, true≢false, cond, not, ◌&&◌, ◌||◌, List, [], ◌∷◌, ◌++◌, length, map, filter, find, flat_map, Option, Some, None, is_some, unwrap_or, arith}
-use Rattle.std.specs.List.{list_all, list_any}
+use Rattle.std.specs.List.{list_all}
 use Rattle.std.proofs.lemmas.Bool.{and_parts, or_cases}
 use Rattle.std.proofs.lemmas.Bool.Decides.{eqb_tells}
 use Rattle.vt_spec.specs.FileTree.{targets_in}
 use Rattle.vt_spec.specs.Lists.{folded, is_among}
-use Rattle.vt_spec.specs.Machine.Settled.{located_in, named_in, used_in}
+use Rattle.vt_spec.specs.Machine.Settled.{named_in, used_in}
 use Rattle.vt_spec.specs.Machine.World.{Filesystem, World, filesystem_numbered, is_overlay, no_filesystem}
 use Rattle.vt_spec.specs.OneTree.Inodes.{Inodes, node_in, uses_in}
 use Rattle.vt_spec.specs.OneTree.Inodes as Trees
@@ -22,12 +22,12 @@ use Rattle.vt_one_text.proofs.OneTreeCounts.{counted_pinned, some_inode}
 use Rattle.vt_one_text.proofs.OneTreeDescriptors.{counted_some}
 use Rattle.vt_one_text.proofs.OneTreeEntries.{one_if}
 use Rattle.vt_one_text.proofs.OneTreeSettled.{times_filter}
-use Rattle.vt_one_text.proofs.OneTreeTrees.{among_times, as_long, times_among}
+use Rattle.vt_one_text.proofs.OneTreeTrees.{among_times, as_long}
 use Rattle.vt_count_laws.specs.Counted.{IsCounted, IsPlain}
 use Rattle.vt_count_laws.specs.Using.{AreThere, Exchanges, ExchangesTurn, UsesAreExchanged, exchanged, is_inode, pinned_if, unpinned_if}
 use Rattle.vt_count_laws.proofs.Listed.{no_repeats, times_is}
 use Rattle.vt_count_laws.proofs.Swept.{base_of, found_is, found_number, plain_of, plain_uses_are, start_counts, there_if_counted, there_if_some}
-use Rattle.vt_count_laws.proofs.TreeCounts.{other_uses, own_one, unpinned_counts, uses_of}
+use Rattle.vt_count_laws.proofs.TreeCounts.{other_uses, unpinned_counts}
 
 -- one if the test passes
 abbrev pub one_when : Bool → ℕ

@@ -5,3 +5,5 @@ pub mod Swept
 pub mod Changes
 pub mod SameAfter
 pub mod Exchanged
+pub mod Places
+pub mod Gone

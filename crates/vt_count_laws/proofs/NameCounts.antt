@@ -1,5 +1,5 @@
 -- The counts of a tree's inodes where names come, go and move, before anything is swept.
-use Rattle.std.proofs.Common.{◌≡◌, ◌≢◌, refl, sym, ap, subst, ◌∙◌, ⊎_elim, inl, inr, ◌⊎◌, ℕ, zero, suc, ◌+◌, ◌≤◌, nat_eq, eq-eqb, ne_eqb, Bool, true, false, true≢false, cond, not, List, [], ◌∷◌, ◌++◌, map, Option, Some, None, is_some, arith}
+use Rattle.std.proofs.Common.{◌≡◌, ◌≢◌, refl, sym, ap, subst, ◌∙◌, ⊎_elim, inl, inr, ◌⊎◌, ℕ, zero, suc, ◌+◌, ◌≤◌, nat_eq, eq-eqb, ne_eqb, Bool, true, false, true≢false, cond, not, List, [], ◌∷◌, ◌++◌, Option, Some, None, is_some, arith}
 use Rattle.std.specs.Cmp.Lexicographic.{bytes_decides, texts_ties}
 use Rattle.std.specs.FinMap.Entries.{find-where_key, is_sorted}
 use Rattle.std.specs.Str.{bytes_eq}
@@ -7,16 +7,16 @@ use Rattle.std.proofs.lemmas.Bool.Decides.{eqb_tells}
 use Rattle.vt_spec.specs.Language.Changes.{node_with_parent, node_without_entry, without_entry}
 use Rattle.vt_spec.specs.FileTree.{targets_in}
 use Rattle.vt_spec.specs.Laws.Trees.{IsNewIn}
-use Rattle.vt_spec.specs.OneTree.Inodes.{Inode, Inodes, inode_with_node, node_in, unpinned, uses_in, with_changed, with_moved, with_new, without_name, without_replaced}
+use Rattle.vt_spec.specs.OneTree.Inodes.{Inodes, inode_with_node, node_in, with_changed, with_new, without_name, without_replaced}
 use Rattle.vt_spec.specs.Rights.{is_directory}
 use Rattle.vt_spec.specs.Tree.{Content, Entries, Node, entries_in, entries_of, entry_named, is_directory_node, kind_of, name_cmp, new_directory, node_with_entry, with_entry}
 use Rattle.vt_spec.specs.Tree.Content.{Directory, Regular, Symlink, Whiteout}
 use Rattle.vt_one_text.specs.OneTree.{times_in}
 use Rattle.vt_one_text.proofs.OneTreeCounts as Counts
 use Rattle.vt_one_text.proofs.OneTreeCounts.{counted_new, other_if}
-use Rattle.vt_one_text.proofs.OneTreeEntries.{changed_at, found_target, named_apart, named_by, named_changed, named_of, one_if, one_if_some, sorted_put, sorted_without, targets, times_put, times_without}
-use Rattle.vt_one_text.proofs.OneTreeMakes.{directory_with_entry, entries_with_entry}
-use Rattle.vt_one_text.proofs.OneTreeNames.{at_here, at_other, at_place, directory_without, entries_with_parent, entries_without, part_at, some_with, some_with_parent, some_without, sorted_at}
+use Rattle.vt_one_text.proofs.OneTreeEntries.{changed_at, found_target, named_apart, named_by, named_changed, one_if, one_if_some, sorted_without, targets, times_put, times_without}
+use Rattle.vt_one_text.proofs.OneTreeMakes.{entries_with_entry}
+use Rattle.vt_one_text.proofs.OneTreeNames.{at_other, at_place, directory_without, entries_with_parent, entries_without, part_at, some_with, some_with_parent, some_without, sorted_at}
 use Rattle.vt_one_text.proofs.OneTreeTrees.{times_append}
 use Rattle.vt_count_laws.proofs.TreeCounts.{IsStart, IsTallied, added_targets, apart_one, changed_counts, changed_same, once_directory, other_uses, own_one, there_directory, unpinned_counts, uses_of}
 

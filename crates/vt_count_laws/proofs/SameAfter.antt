@@ -2,16 +2,14 @@
 use Rattle.std.proofs.Common.{◌≡◌, refl, sym, ap, subst, ◌∙◌, ℕ, nat_eq, Bool, true, false, cond, List, [], ◌∷◌, map, is_some}
 use Rattle.std.proofs.lemmas.List.Sorted.{IsPermutation-refl}
 use Rattle.vt_spec.specs.FileTree.{FileTree}
-use Rattle.vt_spec.specs.Lists.{is_among}
 use Rattle.vt_spec.specs.Machine.Filesystems.{with_files}
-use Rattle.vt_spec.specs.Machine.SameWorlds.{SameFiles, SameFilesystem, SameFilesystems, SameWorlds}
+use Rattle.vt_spec.specs.Machine.SameWorlds.{SameFilesystem, SameFilesystems, SameWorlds}
 use Rattle.vt_spec.specs.Machine.World.{Filesystem, filesystem_numbered, replaced_if_numbered}
 use Rattle.vt_spec.specs.OneTree.Inodes.{changed, node_in}
 use Rattle.vt_letting_go.specs.TreeChanges.{with_tree}
 use Rattle.vt_count_laws.specs.Changing.{CountedChangesAreSwept, place_of}
 use Rattle.vt_count_laws.proofs.Changes as Changes
 use Rattle.vt_count_laws.proofs.Listed.{among_by_times, same_numbers_are_permuted}
-use Rattle.vt_count_laws.proofs.Swept as Swept
 
 same_filesystem : (f : Filesystem ℕ) → SameFilesystem f f
 same_filesystem f = record { number = refl; files = record { tree = refl; numbers = IsPermutation-refl f.files.numbers }; overlay = refl }

@@ -1,16 +1,16 @@
 -- The sweep after a change of one plain tree, where inodes count their uses.
-use Rattle.std.proofs.Common.{◌≡◌, ◌≢◌, refl, sym, ap, subst, ◌∙◌, ⊎_elim, inl, inr, ◌⊎◌, ℕ, ◌+◌, ◌≤◌, nat_eq, eqb-true, eq-eqb, ne_eqb, Bool, true, false, true≢false, cond, not, ◌&&◌, ◌||◌, List, [], ◌∷◌, ◌++◌, length, map, filter, find, flat_map, Option, Some, None, is_some, option_map, unwrap_or, arith}
-use Rattle.std.specs.List.{list_all, list_any}
+use Rattle.std.proofs.Common.{◌≡◌, ◌≢◌, refl, sym, ap, subst, ◌∙◌, ⊎_elim, inl, inr, ◌⊎◌, ℕ, ◌+◌, ◌≤◌, nat_eq, eqb-true, eq-eqb, ne_eqb, Bool, true, false, true≢false, cond, not, ◌||◌, List, [], ◌∷◌, ◌++◌, map, filter, find, flat_map, Option, Some, None, is_some, option_map, unwrap_or, arith}
+use Rattle.std.specs.List.{list_all}
 use Rattle.std.proofs.lemmas.Bool.{or_cases}
 use Rattle.vt_spec.specs.FileTree.{FileTree, targets_in}
-use Rattle.vt_spec.specs.Lists.{any_pair, is_among}
+use Rattle.vt_spec.specs.Lists.{is_among}
 use Rattle.vt_spec.specs.Machine.Filesystems.{with_files}
 use Rattle.vt_spec.specs.Machine.Settled.{filesystem_lives, is_mounted, layers_in, located_in, named_in, objects_of_overlay, only_among, only_used, only_used_by, real_among, settled, used_in, without_dead_filesystems, without_dead_groups, without_dead_in, without_dead_inodes, without_dead_mounts}
 use Rattle.vt_spec.specs.Machine.World.{Filesystem, Overlay, World, filesystem_numbered, is_overlay, no_filesystem, replaced_if_numbered}
 use Rattle.vt_spec.specs.OneTree.Inodes.{Inode, Inodes, node_in, uses_in}
-use Rattle.vt_spec.specs.Tree.{Node, entries_in, name_cmp}
+use Rattle.vt_spec.specs.Tree.{Node}
 use Rattle.vt_letting_go.specs.Counts.{inode_uses, times}
-use Rattle.vt_letting_go.specs.InUse.{AllInUse, FilesystemsInUse, HasTrees, IsListedTree, is_inode_used}
+use Rattle.vt_letting_go.specs.InUse.{AllInUse, FilesystemsInUse, IsListedTree, is_inode_used}
 use Rattle.vt_letting_go.specs.OneByOne as LettingGo
 use Rattle.vt_letting_go.specs.TreeChanges.{with_tree}
 use Rattle.vt_letting_go.proofs.InUse.{UnusedAreEmpty, filesystems_stay, groups_stay, mounts_stay, named-left}
@@ -22,7 +22,7 @@ use Rattle.vt_one_text.proofs.OneTreeEntries.{named_by, one_if}
 use Rattle.vt_one_text.proofs.OneTreeSettled.{times_filter}
 use Rattle.vt_one_text.proofs.OneTreeTrees.{among_times, as_long, times_among, times_append}
 use Rattle.vt_count_laws.specs.Counted.{IsCounted, IsPlain}
-use Rattle.vt_count_laws.proofs.Listed.{no_repeats, none_times, once_or_none, once_times, times_is}
+use Rattle.vt_count_laws.proofs.Listed.{no_repeats, once_or_none, times_is}
 use Rattle.vt_count_laws.proofs.TreeCounts.{IsStart, IsTallied, other_uses, own_one, uses_of}
 
 pub plain_of : (world : World ℕ) → IsPlain world → LettingGo.IsPlain world

@@ -1,24 +1,18 @@
 -- The counts of a tree's inodes after each change of the tree, before anything is swept.
-use Rattle.std.proofs.Common.{◌≡◌, ◌≢◌, refl, sym, ap, subst, ◌∙◌, ⊎_elim, inl, inr, ◌⊎◌, ℕ, zero, suc, ◌+◌, ◌-◌, ◌≤◌, nat_eq, nat_le, eq-eqb, ne_eqb, Bool, true, false, true≢false, cond, not, List, [], ◌∷◌, ◌++◌, length, map, Option, Some, None, is_some, arith}
-use Rattle.std.specs.Cmp.Lexicographic.{bytes_decides, texts_ties}
-use Rattle.std.specs.FinMap.Entries.{find-where_key, is_sorted}
-use Rattle.std.specs.Str.{bytes_eq}
+use Rattle.std.proofs.Common.{◌≡◌, ◌≢◌, refl, sym, ap, subst, ◌∙◌, ⊎_elim, ℕ, suc, ◌+◌, ◌-◌, ◌≤◌, nat_eq, eq-eqb, Bool, true, false, cond, List, [], ◌∷◌, ◌++◌, length, Option, Some, None, is_some, arith}
+use Rattle.std.specs.FinMap.Entries.{is_sorted}
 use Rattle.std.proofs.lemmas.Bool.Decides.{eqb_tells, leb_tells}
-use Rattle.vt_spec.specs.Language.Changes.{node_with_parent, node_without_entry, without_entry}
 use Rattle.vt_spec.specs.FileTree.{targets_in}
-use Rattle.vt_spec.specs.Laws.Trees.{IsNewIn}
-use Rattle.vt_spec.specs.OneTree.Inodes.{Inode, Inodes, count_after, inode_with_node, node_in, unpinned, used_once_less, uses_in, with_changed, with_inode, with_moved, with_name, with_new, without_name, without_replaced}
-use Rattle.vt_spec.specs.Rights.{is_directory}
-use Rattle.vt_spec.specs.Tree.{Content, Entries, Node, entries_in, entries_of, entry_named, is_directory_node, kind_of, name_cmp, new_directory, node_with_entry, with_entry}
-use Rattle.vt_spec.specs.Tree.Content.{Directory, Regular, Symlink, Whiteout}
+use Rattle.vt_spec.specs.OneTree.Inodes.{Inode, Inodes, count_after, inode_with_node, node_in, unpinned, used_once_less, uses_in, with_changed, with_inode, with_name}
+use Rattle.vt_spec.specs.Tree.{Node, entries_in, entry_named, is_directory_node, name_cmp, node_with_entry, with_entry}
 use Rattle.vt_one_text.specs.OneTree.{times_in}
 use Rattle.vt_one_text.proofs.OneTreeCounts as Counts
 use Rattle.vt_one_text.proofs.OneTreeCounts.{at_or, counted_changed, counted_new, counted_pinned, other_if, some_inode}
 use Rattle.vt_one_text.proofs.OneTreeDescriptors.{counted_some}
-use Rattle.vt_one_text.proofs.OneTreeEntries.{changed_at, found_target, named_apart, named_by, named_changed, named_of, one_if, one_if_some, sorted_put, sorted_without, targets, times_put, times_without}
-use Rattle.vt_one_text.proofs.OneTreeMakes.{directory_with_entry, entries_with_entry}
-use Rattle.vt_one_text.proofs.OneTreeNames.{at_here, at_other, at_place, directory_with_parent, directory_without, entries_with_parent, entries_without, part_at, some_with, some_with_parent, some_without, sorted_at}
-use Rattle.vt_one_text.proofs.OneTreeTrees.{length_removed, removed, times_append, times_removed}
+use Rattle.vt_one_text.proofs.OneTreeEntries.{named_by, named_changed, one_if, one_if_some, targets, times_put}
+use Rattle.vt_one_text.proofs.OneTreeMakes.{entries_with_entry}
+use Rattle.vt_one_text.proofs.OneTreeNames.{at_place, part_at, some_with}
+use Rattle.vt_one_text.proofs.OneTreeTrees.{length_removed, removed, times_removed}
 
 abbrev pub uses_of : (ℕ → ℕ) → (ℕ → Option (Node ℕ)) → List ℕ → ℕ → ℕ
 uses_of base node numbers n = base n + times_in n (named_by node numbers)
