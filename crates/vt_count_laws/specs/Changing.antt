@@ -78,3 +78,21 @@ CountedChangesAreSwept =
     → (files : FileTree ℕ) → files.tree ≡ tree_of (changed nat_eq inodes change)
     → any_pair nat_eq files.numbers ≡ false → ListsNumbers nat_eq files
     → SameWorlds (with_tree world (place_of world location) files) (after_change fresh world location change)
+
+-- bytes, attributes, new names and new inodes: no name goes
+abbrev pub TakesNoName : Change ℕ → Type 0
+TakesNoName (Remove directory name object) = ⊥
+TakesNoName (Move from old to new object) = ⊥
+TakesNoName (Make directory name number node) = ⊤
+TakesNoName (AddName directory name object) = ⊤
+TakesNoName (SetBytes file bytes) = ⊤
+TakesNoName (SetAttr object attr) = ⊤
+TakesNoName (SetMark directory opaque) = ⊤
+TakesNoName (CopyUp object) = ⊤
+
+-- Then nothing goes: open(2) with O_CREAT has its descriptor on the new inode before the sweep.
+abbrev pub NamesKeepAll : Type 0
+NamesKeepAll =
+    (fresh : Fresh ℕ) (world : World ℕ) (location : Location ℕ) (inodes : Inodes ℕ) (change : Change ℕ)
+    → IsChange world location inodes change → TakesNoName change
+    → after_change fresh world location change ≡ with_change nat_eq fresh world location change
