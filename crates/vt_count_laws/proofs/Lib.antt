@@ -10,3 +10,5 @@ pub mod Gone
 pub mod KeptAll
 pub mod Sweeps
 pub mod Alike
+pub mod Looks
+pub mod MountRoots

@@ -8,7 +8,7 @@ use Rattle.vt_spec.specs.Lists.{any_pair, is_among}
 use Rattle.vt_spec.specs.Machine.Locked.{of_overlay}
 use Rattle.vt_spec.specs.Machine.Mounts.{Location, Mount, mount_in, no_mount, root_of}
 use Rattle.vt_spec.specs.Machine.Settled.{layers_in, located_in, named_in, objects_of_overlay, used_in}
-use Rattle.vt_spec.specs.Machine.World.{Filesystem, World, all_locations, filesystem_numbered, layers_of, new_plain, no_filesystem, root_attr}
+use Rattle.vt_spec.specs.Machine.World.{first_mount, first_place, opening, Filesystem, World, all_locations, filesystem_numbered, layers_of, new_plain, no_filesystem, root_attr}
 use Rattle.vt_spec.specs.OneTree.Inodes.{node_in, uses_in}
 use Rattle.vt_spec.specs.Tree.{new_directory}
 use Rattle.vt_letting_go.specs.Counts.{inode_uses, mounts_showing, times}
@@ -19,8 +19,9 @@ use Rattle.vt_letting_go.proofs.PlacesLeft.{found_itself, no_layers_of, no_objec
 use Rattle.vt_one_text.specs.OneTree.{times_in}
 use Rattle.vt_one_text.proofs.OneTreeEntries.{one_if}
 use Rattle.vt_one_text.proofs.OneTreeTrees.{times_append}
+use Rattle.vt_count_laws.specs.Counted.{IsCounted}
 use Rattle.vt_count_laws.specs.Going.{LocationsUseMounts, MountsUseFilesystems}
-use Rattle.vt_count_laws.specs.Using.{ExchangesFollow, MountIsPlaced, OthersUseNothing, LocationsAreUses, MountsAreUses, NewTreeIsCounted, is_inode, is_on, one_counted, places_of}
+use Rattle.vt_count_laws.specs.Using.{ExchangesFollow, MountIsPlaced, OthersUseNothing, LocationsAreUses, MountsAreUses, NewTreeIsCounted, OpeningIsCounted, is_inode, is_on, one_counted, places_of, root_counted}
 use Rattle.vt_count_laws.proofs.Listed.{times_is}
 use Rattle.vt_count_laws.proofs.Swept.{base_of, found_number, plain_of, plain_uses_are}
 use Rattle.vt_count_laws.proofs.TreeCounts.{uses_of}
@@ -441,3 +442,59 @@ new_tree_is_counted world number root plain one own outside = record {
             ≡ cond b 1 0 + cond b (mounts_showing world number) 0
         by true e = refl
         by false e = refl
+
+-- The opening world
+pub opening_is_counted : OpeningIsCounted
+opening_is_counted fresh = subst (λ f. IsCounted world f (one_counted root 4)) (sym found) (record {
+  root = refl;
+  node = λ n. nodes (nat_eq n root);
+  uses = λ n. uses n;
+  count = refl;
+  once = refl;
+})
+  where
+    world : World ℕ
+    world = opening nat_eq fresh
+
+    root : ℕ
+    root = fresh 3
+
+    tree : Filesystem ℕ
+    tree = new_plain nat_eq (fresh 2) root
+
+    found : filesystem_numbered nat_eq world (fresh 2) ≡ tree
+    found = ap (λ b. unwrap_or (cond b (Some tree) None) (no_filesystem (fresh 2))) (eq-eqb (fresh 2) (fresh 2) refl)
+
+    nodes : (b : Bool) → node_in (cond b (Some (root_counted root 4)) None) ≡ cond b (Some (record { attr = root_attr; content = new_directory root })) None
+    nodes true = refl
+    nodes false = refl
+
+    here : Location ℕ
+    here = first_place nat_eq fresh
+
+    is_shown : shown world.mounts (fresh 2) 0 here ≡ true
+    is_shown =
+        ap (λ b. nat_eq (fresh 2) (unwrap_or (cond b (Some (first_mount nat_eq fresh)) None) (no_mount (fresh 0))).filesystem) (eq-eqb (fresh 0) (fresh 0) refl)
+        ∙ eq-eqb (fresh 2) (fresh 2) refl
+
+    one_here : (n : ℕ) (rest : List (Location ℕ)) → count_in world.mounts (fresh 2) n (here ∷ rest) ≡ one_if n root + count_in world.mounts (fresh 2) n rest
+    one_here n rest = ap (λ b. times_in n (map (λ location. location.node) (cond b (here ∷ filter (shown world.mounts (fresh 2) n) rest) (filter (shown world.mounts (fresh 2) n) rest)))) is_shown
+
+    uses : (n : ℕ) → uses_in ((one_counted root 4).inode n) ≡ inode_uses world tree n
+    uses n =
+        by (nat_eq n root)
+        ∙ sym (let split = uses_split world tree n in
+        let bare : times_in n (named_in tree.files) ≡ 0 = ap (λ b. times_in n (targets_in (cond b (Some (record { attr = root_attr; content = new_directory root })) None) ++ [])) (eq-eqb root root refl) in
+        let layers : times_in n (layers_in nat_eq world (fresh 2)) ≡ 0 = refl in
+        let objects : times_in n (flat_map (objects_of_overlay nat_eq (fresh 2)) world.filesystems) ≡ 0 = refl in
+        let a : times_in n (located_in nat_eq world (fresh 2)) ≡ count_in world.mounts (fresh 2) n (here ∷ here ∷ here ∷ []) = refl in
+        let b = one_here n (here ∷ here ∷ []) in
+        let c = one_here n (here ∷ []) in
+        let d = one_here n [] in
+        let none : count_in world.mounts (fresh 2) n [] ≡ 0 = refl in
+        let all : inode_uses world tree n ≡ one_if n root + (one_if n root + (one_if n root + one_if n root)) = omega arith in
+        all)
+      where
+        by : (b : Bool) → uses_in (cond b (Some (root_counted root 4)) None) ≡ cond b 1 0 + (cond b 1 0 + (cond b 1 0 + cond b 1 0))
+        by true = refl
+        by false = refl

@@ -4,3 +4,4 @@ pub mod Changing
 pub mod Using
 pub mod Going
 pub mod Sweeping
+pub mod Looking

@@ -1,6 +1,6 @@
 //! Locations and mounts that come and go, with the counts of inodes.
 ghost use Rattle.vt_count_laws.specs.Sweeping.{SameWorldsCountAlike, UsesAreSwept};
-ghost use Rattle.vt_count_laws.specs.Using.{ExchangesFollow, ExchangesTurn, LocationsAreUses, MountIsPlaced, MountsAreUses, NewTreeIsCounted, OthersUseNothing, UsesAreExchanged};
+ghost use Rattle.vt_count_laws.specs.Using.{ExchangesFollow, ExchangesTurn, LocationsAreUses, LocationsOfWorldsStand, MountIsPlaced, MountsAreUses, MountsLeaveTheirRoots, NewTreeIsCounted, OpeningIsCounted, OthersUseNothing, PlacesStand, UsesAreExchanged};
 
 /// Where inodes get some uses and lose some, those go that are left with none, and the others count on.
 ///
@@ -24,9 +24,17 @@ pub fn locations_and_mounts_are_uses()
     ensures others { OthersUseNothing }
 {}
 
-/// A new tree counts its root, and each mount that shows it.
+/// Locations are on mounts that are there, and a mount on which there is none goes with one use of its root.
+pub fn mounts_leave_their_roots()
+    ensures locations { LocationsOfWorldsStand }
+    ensures places { PlacesStand }
+    ensures root { MountsLeaveTheirRoots }
+{}
+
+/// A new tree counts its root, and each mount that shows it. In the opening world the one task stands there, too.
 pub fn a_new_tree_is_counted()
-    ensures { NewTreeIsCounted }
+    ensures shown { NewTreeIsCounted }
+    ensures opening { OpeningIsCounted }
 {}
 
 /// Worlds that differ in change numbers and in the order of numbers alone have the same counts.
