@@ -26,7 +26,7 @@ use Rattle.vt_letting_go.proofs.OfWorlds.{uppers_of_worlds_are_plain, worlds_hav
 use Rattle.vt_one_text.specs.OneTree.{times_in}
 use Rattle.vt_one_text.proofs.OneTreeEntries.{one_if}
 use Rattle.vt_one_text.proofs.OneTreeCounts.{other_if}
-use Rattle.vt_count_laws.specs.Changing.{CountsFollowChanges, IsChange, LinksWhatIsThere, OnlyFilesChange, OtherCountsStay, after_change, place_of}
+use Rattle.vt_count_laws.specs.Changing.{CountsFollowChanges, IsChange, LinksWhatIsThere, OnlyFilesChange, OtherCountsStay, after_change, filesystem_of}
 use Rattle.vt_count_laws.specs.Counted.{IsCounted}
 use Rattle.vt_count_laws.proofs.NameCounts as Names
 use Rattle.vt_count_laws.proofs.Swept as Swept
@@ -155,7 +155,7 @@ world_in_use world is = subst AllInUse is.nothing_unused (what_is_left_is_in_use
 
 module _ (fresh : Fresh ℕ) (world : World ℕ) (location : Location ℕ) (inodes : Inodes ℕ) (change : Change ℕ) (is : IsChange world location inodes change) where
   abbrev pub number : ℕ
-  number = place_of world location
+  number = filesystem_of world location
 
   abbrev pub old : Filesystem ℕ
   old = filesystem_numbered nat_eq world number

@@ -35,9 +35,9 @@ pub record IsChange (world : World ℕ) (location : Location ℕ) (inodes : Inod
   pub fits : Fits inodes change
   pub links : LinksWhatIsThere inodes change
 
--- the filesystem that a location is in, by its number
-abbrev pub place_of : World ℕ → Location ℕ → ℕ
-place_of world location = (mount_at nat_eq world location).filesystem
+-- the number of the filesystem that a location is in
+abbrev pub filesystem_of : World ℕ → Location ℕ → ℕ
+filesystem_of world location = (mount_at nat_eq world location).filesystem
 
 -- the world after a change at a location, swept
 abbrev pub after_change : Fresh ℕ → World ℕ → Location ℕ → Change ℕ → World ℕ
@@ -49,7 +49,7 @@ OnlyFilesChange =
     (fresh : Fresh ℕ) (world : World ℕ) (location : Location ℕ) (inodes : Inodes ℕ) (change : Change ℕ)
     → IsChange world location inodes change
     → after_change fresh world location change
-    ≡ with_tree world (place_of world location)
+    ≡ with_tree world (filesystem_of world location)
     (filesystem_at nat_eq (after_change fresh world location change) location).files
 
 -- The changed inodes are those of the filesystem then, with the counts of their uses.
@@ -65,7 +65,7 @@ abbrev pub OtherCountsStay : Type 0
 OtherCountsStay =
     (fresh : Fresh ℕ) (world : World ℕ) (location : Location ℕ) (inodes : Inodes ℕ) (change : Change ℕ)
     → IsChange world location inodes change
-    → (other : ℕ) (others : Inodes ℕ) → other ≢ place_of world location
+    → (other : ℕ) (others : Inodes ℕ) → other ≢ filesystem_of world location
     → IsCounted world (filesystem_numbered nat_eq world other) others
     → IsCounted (after_change fresh world location change)
     (filesystem_numbered nat_eq (after_change fresh world location change) other) others
@@ -77,7 +77,7 @@ CountedChangesAreSwept =
     → IsChange world location inodes change
     → (files : FileTree ℕ) → files.tree ≡ tree_of (changed nat_eq inodes change)
     → any_pair nat_eq files.numbers ≡ false → ListsNumbers nat_eq files
-    → SameWorlds (with_tree world (place_of world location) files) (after_change fresh world location change)
+    → SameWorlds (with_tree world (filesystem_of world location) files) (after_change fresh world location change)
 
 -- bytes, attributes, new names and new inodes: no name goes
 abbrev pub TakesNoName : Change ℕ → Type 0
