@@ -1,7 +1,12 @@
+pub mod AlikeAnswered
+pub mod AlikeApplied
 pub mod AlikeAttached
 pub mod AlikeChanges
+pub mod AlikeListed
 pub mod AlikeMounts
 pub mod AlikeNamespaces
+pub mod AlikeSettled
 pub mod AlikeWorlds
 pub mod Each
 pub mod Permuted
+pub mod TaskChanges
