@@ -8,5 +8,6 @@ pub mod AlikeNamespaces
 pub mod AlikeSettled
 pub mod AlikeWorlds
 pub mod Each
+pub mod Allotted
 pub mod Permuted
 pub mod TaskChanges
