@@ -9,7 +9,7 @@ use Rattle.vt_run_laws.proofs.AlikeApplied.{OutcomesAlike, apply_alike}
 use Rattle.vt_run_laws.proofs.AlikeApplied as applied
 use Rattle.vt_run_laws.proofs.AlikeChanges.{task_alike}
 use Rattle.vt_run_laws.proofs.AlikeSettled.{raised_alike, settled_alike}
-use Rattle.vt_run_laws.proofs.AlikeWorlds.{Alike, SameTask, alike_from_same, bare_task, plain_from_alike, same_from_alike}
+use Rattle.vt_run_laws.proofs.AlikeWorlds.{Alike, SameTask, alike_from_same, plain_from_alike, same_from_alike}
 use Rattle.vt_run_laws.proofs.Each.{IfAny}
 use Rattle.vt_run_laws.proofs.TaskChanges.{judged_bare}
 use Rattle.vt_run_laws.specs.Answered.{SameWorldsAreAnsweredAlike}
@@ -22,7 +22,7 @@ use Rattle.vt_spec.specs.Machine.Judge.{Judgement, judge_in}
 use Rattle.vt_spec.specs.Machine.Looks.{looks_of}
 use Rattle.vt_spec.specs.Machine.Outcomes.{Outcome, after}
 use Rattle.vt_spec.specs.Machine.Permits.{Permit}
-use Rattle.vt_spec.specs.Machine.Permits.Permit.{Allowed, ToMountOverlay}
+use Rattle.vt_spec.specs.Machine.Permits.Permit.{ToMountOverlay}
 use Rattle.vt_spec.specs.Machine.Policy.{filesystems_changed_by, finished, finished_by, only_looks, policy}
 use Rattle.vt_spec.specs.Machine.World.{Task, World, task_called}
 use Rattle.vt_tree_laws.specs.Trees.Calls.{mounts_overlay}

@@ -1,7 +1,7 @@
 -- A permit is applied alike in two worlds that are alike.
-use Rattle.std.proofs.Common.{◌≡◌, refl, sym, ap, subst, ◌∙◌, ℕ, nat_eq, Bool, true, false, ◌&&◌, ◌+◌, List, [], ◌∷◌, take, drop, Ok, true≢false}
+use Rattle.std.proofs.Common.{◌≡◌, refl, subst, ◌∙◌, ℕ, nat_eq, Bool, true, false, ◌&&◌, List, [], ◌∷◌, take, drop, Ok, true≢false}
 use Rattle.vt_run_laws.proofs.AlikeAttached.{attach_alike, bind_alike, mounted_alike}
-use Rattle.vt_run_laws.proofs.AlikeChanges.{change_alike, here_alike, mount_same, node_same, with_task_alike}
+use Rattle.vt_run_laws.proofs.AlikeChanges.{change_alike, here_alike, node_same, with_task_alike}
 use Rattle.vt_run_laws.proofs.AlikeListed.{listed_alike}
 use Rattle.vt_run_laws.proofs.AlikeMounts.{flags_alike, lazily_alike, type_alike, unmounted_alike, without_mounts_on_alike, without_replaced_alike}
 use Rattle.vt_run_laws.proofs.AlikeNamespaces.{ended_alike, entered_alike, pivoted_alike, unshared_alike, with_child_alike, without_task_alike}
@@ -24,7 +24,7 @@ use Rattle.vt_spec.specs.Machine.Outcome.Tasks.{child_name, child_of}
 use Rattle.vt_spec.specs.Machine.Outcomes.{Outcome, granted}
 use Rattle.vt_spec.specs.Machine.Permits.{Permit}
 use Rattle.vt_spec.specs.Machine.Permits.Permit.{Allowed, ToBind, ToChange, ToClose, ToEnterNamespace, ToExit, ToFork, ToList, ToListMounts, ToMake, ToMountOverlay, ToMountPlain, ToMove, ToOpen, ToOpenNew, ToPivot, ToRead, ToReadPart, ToRemoveDirectory, ToRename, ToSetCredentials, ToSetDirectory, ToSetFlags, ToSetRoot, ToSetType, ToSetUmask, ToStat, ToUnmount, ToUnmountLazily, ToUnshare, ToWritePart}
-use Rattle.vt_spec.specs.Machine.World.{Task, World, filesystem_at, mount_at, mount_numbered, node_at, without_task}
+use Rattle.vt_spec.specs.Machine.World.{Task, World, mount_at, mount_numbered, node_at, without_task}
 use Rattle.vt_spec.specs.Tree.{bytes_in, names_in}
 
 -- one answer, and worlds that are alike

@@ -1,6 +1,5 @@
 -- What is attached in two worlds that are alike.
-use Rattle.std.proofs.Common.{◌≡◌, refl, ap, subst, ℕ, nat_eq, Bool, true, false, not, ◌&&◌, List, [], ◌∷◌, ◌++◌, length, filter, flat_map, None, is_some}
-use Rattle.std.proofs.lemmas.List.Sorted.{IsPermutation-refl}
+use Rattle.std.proofs.Common.{◌≡◌, refl, ap, subst, ℕ, nat_eq, Bool, true, false, not, ◌&&◌, List, [], ◌∷◌, length, filter, flat_map, None, is_some}
 use Rattle.vt_laws.proofs.SameFiles.{directory_under_same}
 use Rattle.vt_run_laws.proofs.AlikeChanges.{found_alike}
 use Rattle.vt_run_laws.proofs.AlikeMounts.{of_one}

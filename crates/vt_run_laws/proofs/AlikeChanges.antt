@@ -1,9 +1,8 @@
 -- What is found in two worlds that are alike, and changes of their filesystems and tasks.
-use Rattle.std.proofs.Common.{◌≡◌, refl, sym, ap, subst, ◌∙◌, ℕ, nat_eq, Bool, true, false, cond, List, [], ◌∷◌, ◌++◌, map, flat_map, Option, Some, None, is_some}
-use Rattle.std.specs.Prelude.{⊤}
-use Rattle.std.proofs.lemmas.List.Sorted.{IsPermutation-cons, IsPermutation-refl}
-use Rattle.vt_run_laws.proofs.AlikeWorlds.{Alike, AlikeFilesystem, SameNamespace, SameTask, bare_task, files_itself}
-use Rattle.vt_run_laws.proofs.Each.{Each, IfAny, chosen, each_append, each_filter, each_find, each_flat, each_found, each_map}
+use Rattle.std.proofs.Common.{◌≡◌, refl, sym, ap, subst, ℕ, nat_eq, List, map, Option, Some, None}
+use Rattle.std.proofs.lemmas.List.Sorted.{IsPermutation-cons}
+use Rattle.vt_run_laws.proofs.AlikeWorlds.{Alike, AlikeFilesystem, SameTask, files_itself}
+use Rattle.vt_run_laws.proofs.Each.{Each, IfAny, chosen, each_find, each_flat, each_found, each_map}
 use Rattle.vt_spec.specs.FileTree.{FileTree}
 use Rattle.vt_spec.specs.Language.Calls.{TaskName, same_name}
 use Rattle.vt_spec.specs.Language.Changes.{Change, changed, changed_node, node_with_attr, node_with_mark, node_with_parent, node_without_entry, with_inode, without_parent}
@@ -13,7 +12,7 @@ use Rattle.vt_spec.specs.Tree.{Node, entries_in, entry_named, node_with_bytes, n
 use Rattle.vt_spec.specs.Machine.Filesystems.{filesystem_changed, with_change, with_files}
 use Rattle.vt_spec.specs.Machine.Mounts.{Location, mount_in}
 use Rattle.vt_spec.specs.Machine.SameWorlds.{SameFiles}
-use Rattle.vt_spec.specs.Machine.World.{Filesystem, Task, World, all_locations, filesystem_at, filesystem_numbered, locations_of, mount_at, no_filesystem, node_at, replaced_if_called, replaced_if_numbered, task_called, with_filesystem, with_task, without_task}
+use Rattle.vt_spec.specs.Machine.World.{Filesystem, Task, World, all_locations, filesystem_at, filesystem_numbered, locations_of, mount_at, no_filesystem, node_at, replaced_if_called, replaced_if_numbered, task_called, with_filesystem, with_task}
 
 none_alike : (number : ℕ) → AlikeFilesystem (no_filesystem number) (no_filesystem number)
 none_alike number = record {

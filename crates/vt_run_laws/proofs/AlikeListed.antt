@@ -1,12 +1,12 @@
 -- Mounts are listed alike in two worlds that are alike.
-use Rattle.std.proofs.Common.{◌≡◌, refl, ap, ◌∙◌, ℕ, nat_eq, List, [], ◌∷◌, map, is_some, option_map}
+use Rattle.std.proofs.Common.{◌≡◌, ℕ, nat_eq, List, map, is_some, option_map}
 use Rattle.vt_laws.proofs.SameFiles.{path_same}
 use Rattle.vt_run_laws.proofs.AlikeChanges.{found_alike, here_alike}
 use Rattle.vt_run_laws.proofs.AlikeSettled.{overlay_same}
 use Rattle.vt_run_laws.proofs.AlikeWorlds.{Alike, mounts_of_one, with_mounts_of}
 use Rattle.vt_spec.specs.Machine.Listing.{filesystems_seen, groups_seen, mount_line, mount_lines, number_among, spot_of, type_line}
 use Rattle.vt_spec.specs.Machine.Mounts.{Location, Mount}
-use Rattle.vt_spec.specs.Machine.World.{World, filesystem_at, filesystem_numbered, mount_at, mounts_of}
+use Rattle.vt_spec.specs.Machine.World.{World, mount_at, mounts_of}
 
 module _ (one other : World ℕ) (same : Alike one (with_mounts_of one other)) where
   line_same : (mounts : List (Mount ℕ)) (mount : Mount ℕ)
@@ -15,9 +15,11 @@ module _ (one other : World ℕ) (same : Alike one (with_mounts_of one other)) w
       let shown = found_alike one (with_mounts_of one other) same mount.filesystem in
       λ i. record {
         mount_point =
-            option_map (λ (place : Location ℕ). (number_among nat_eq (map (λ (one : Mount ℕ). one.number) mounts) place.mount,
-            spot_of (path_same _ _ (here_alike one (with_mounts_of one other) same place).files
-            (mount_at nat_eq one place).root place.node i)))
+            option_map (λ (place : Location ℕ). (
+              number_among nat_eq (map (λ (one : Mount ℕ). one.number) mounts) place.mount,
+              spot_of (path_same _ _ (here_alike one (with_mounts_of one other) same place).files
+                  (mount_at nat_eq one place).root place.node i),
+            ))
             mount.mount_point;
         overlay = is_some (overlay_same _ _ shown i);
         filesystem = number_among nat_eq (filesystems_seen nat_eq mounts) mount.filesystem;

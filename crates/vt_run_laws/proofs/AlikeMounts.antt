@@ -1,23 +1,18 @@
 -- Calls on mounts and namespaces in two worlds that are alike.
-use Rattle.std.proofs.Common.{◌≡◌, refl, sym, ap, subst, ◌∙◌, ℕ, nat_eq, Bool, true, false, cond, not, ◌&&◌, ◌||◌, List, [], ◌∷◌, ◌++◌, length, map, filter, flat_map, filter_map, Option, Some, None, is_some, option_map}
-use Rattle.std.specs.Prelude.{unwrap_or}
+use Rattle.std.proofs.Common.{◌≡◌, refl, sym, subst, ◌∙◌, ℕ, nat_eq, Bool, true, false, List, [], ◌∷◌, map, filter, flat_map, Option, Some, None, is_some}
 use Rattle.std.specs.List.{list_any}
-use Rattle.vt_laws.proofs.SameFiles.{directory_under_same}
-use Rattle.vt_run_laws.proofs.AlikeChanges.{found_alike, here_alike, replaced_alike, with_task_alike}
-use Rattle.vt_run_laws.proofs.AlikeWorlds.{Alike, AlikeFilesystem, SameNamespace, SameTask, mounts_of_one, with_mounts_of}
-use Rattle.vt_run_laws.proofs.Each.{Each, chosen, each_any, each_append, each_filter, each_map}
+use Rattle.vt_run_laws.proofs.AlikeChanges.{here_alike}
+use Rattle.vt_run_laws.proofs.AlikeWorlds.{Alike, mounts_of_one, with_mounts_of}
+use Rattle.vt_run_laws.proofs.Each.{chosen}
 use Rattle.vt_spec.specs.Language.Calls.{MountFlags, TypeWord}
-use Rattle.vt_spec.specs.Lists.{Fresh, folded, holds_of}
-use Rattle.vt_spec.specs.Machine.Attach.{Copies, Graft, attach, attached_at, bind_tree, bindable_children, bindable_tree, bound, copies_from, graft_of, parts_of, receivers_of}
+use Rattle.vt_spec.specs.Lists.{Fresh, folded}
 use Rattle.vt_spec.specs.Machine.Detach.{after_going, deepest_first, going, is_point, lazily_unmounted, mounts_on, points_of, taken_away, trees_taken_away, unmounted, unmounted_if_there, without_mounts_on}
 use Rattle.vt_spec.specs.Machine.Locked.{overlay_or}
 use Rattle.vt_spec.specs.Machine.Mounts.{Location, Mount, mount_tree, numbers_by, with_mount}
-use Rattle.vt_spec.specs.Machine.Namespaces.{entered_at, has_tasks, is_in_ended, namespace_entered, namespace_root, namespaces_ended, pivoted, pivoted_task, unshared, unshared_task}
-use Rattle.vt_spec.specs.Machine.Outcome.Mounting.{bound_at, mounted, new_mount, with_new_filesystem}
 use Rattle.vt_spec.specs.Machine.Outcome.Removing.{without_replaced}
-use Rattle.vt_spec.specs.Machine.Receives.{inheriting, heir, lost_a_group, regrouped, regrouped_by}
+use Rattle.vt_spec.specs.Machine.Receives.{lost_a_group, regrouped, regrouped_by}
 use Rattle.vt_spec.specs.Machine.Types.{named_mounts, retyped_mount, with_new_groups, with_type}
-use Rattle.vt_spec.specs.Machine.World.{Filesystem, Namespace, Task, World, filesystem_at, files_at, mount_at, mount_numbered, mounts_of, with_mounts}
+use Rattle.vt_spec.specs.Machine.World.{World, filesystem_at, mount_numbered, with_mounts}
 
 -- worlds that are alike, with other mounts
 pub with_mounts_alike : (one other : World ℕ) → Alike one other → (mounts again : List (Mount ℕ)) → mounts ≡ again

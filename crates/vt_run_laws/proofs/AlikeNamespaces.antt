@@ -1,18 +1,17 @@
 -- Calls on namespaces and tasks in two worlds that are alike.
-use Rattle.std.proofs.Common.{◌≡◌, refl, ap, subst, ℕ, nat_eq, Bool, true, false, cond, not, ◌&&◌, List, [], ◌∷◌, ◌++◌, ◌+◌, map, filter, Option}
+use Rattle.std.proofs.Common.{◌≡◌, refl, ap, ℕ, nat_eq, not, ◌&&◌, [], ◌∷◌, ◌++◌, ◌+◌, map, filter}
 use Rattle.std.specs.Prelude.{unwrap_or}
 use Rattle.std.specs.List.{list_any}
 use Rattle.vt_run_laws.proofs.AlikeChanges.{replaced_alike, with_task_alike, with_tasks_alike}
 use Rattle.vt_run_laws.proofs.AlikeMounts.{of_one, taken_alike}
 use Rattle.vt_run_laws.proofs.AlikeWorlds.{Alike, SameNamespace, SameTask, with_mounts_of}
-use Rattle.vt_run_laws.proofs.Each.{Each, chosen, each_any, each_append, each_filter, each_map}
+use Rattle.vt_run_laws.proofs.Each.{chosen, each_any, each_append, each_filter, each_map}
 use Rattle.vt_spec.specs.Language.Calls.{TaskName, same_name}
 use Rattle.vt_spec.specs.Lists.{Fresh, evens, holds_of, odds}
 use Rattle.vt_spec.specs.Machine.Mounts.{Location, Mount, numbers_by}
 use Rattle.vt_spec.specs.Machine.Namespaces.{copied_mount, entered_at, has_tasks, is_in_ended, namespace_entered, namespace_root, namespaces_ended, pivoted, pivoted_location, pivoted_task, unshared, unshared_task}
 use Rattle.vt_spec.specs.Machine.Outcome.Tasks.{with_child}
-use Rattle.vt_spec.specs.Machine.World.{Namespace, Task, World, mount_at, mount_numbered, mounts_of, without_task}
-use Rattle.vt_spec.specs.Rights.{Credentials}
+use Rattle.vt_spec.specs.Machine.World.{Namespace, Task, World, mounts_of, without_task}
 
 -- Tasks
 pub without_task_alike : (name : TaskName) (one other : World ℕ) → Alike one other

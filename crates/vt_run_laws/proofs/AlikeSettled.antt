@@ -1,12 +1,12 @@
 -- What nothing uses goes alike in two worlds that are alike.
-use Rattle.std.proofs.Common.{◌≡◌, refl, sym, ap, subst, ◌∙◌, ℕ, nat_eq, Bool, true, false, cond, not, ◌&&◌, ◌||◌, List, [], ◌∷◌, ◌++◌, map, filter, filter_map, flat_map, Option, Some, None, is_some, option_map, if◌then◌else◌}
+use Rattle.std.proofs.Common.{◌≡◌, sym, ap, subst, ◌∙◌, ℕ, nat_eq, Bool, true, false, cond, not, ◌&&◌, ◌||◌, List, [], ◌∷◌, ◌++◌, map, filter, filter_map, flat_map, None, is_some, option_map, if◌then◌else◌}
 use Rattle.std.specs.List.{list_all, list_any}
 use Rattle.std.specs.List.Sorted.{IsPermutation}
 use Rattle.std.proofs.lemmas.List.Sorted.{IsPermutation-append_left, IsPermutation-cons, list_any-IsPermutation}
 use Rattle.vt_run_laws.proofs.AlikeChanges.{locations_same}
 use Rattle.vt_run_laws.proofs.AlikeMounts.{with_mounts_alike}
 use Rattle.vt_run_laws.proofs.AlikeWorlds.{Alike, AlikeFilesystem, SameNamespace, SameTask}
-use Rattle.vt_run_laws.proofs.Each.{Each, each_any, each_filter, each_flat, each_map}
+use Rattle.vt_run_laws.proofs.Each.{each_any, each_filter, each_flat, each_map}
 use Rattle.vt_run_laws.proofs.Permuted.{IsPermutation-filter, IsPermutation-flat_map, list_all-IsPermutation}
 use Rattle.vt_spec.specs.FileTree.{FileTree, targets_in}
 use Rattle.vt_spec.specs.Language.Calls.{TaskName}
@@ -18,7 +18,7 @@ use Rattle.vt_spec.specs.Machine.Policy.{numbers_raised, raised_namespace, raise
 use Rattle.vt_spec.specs.Machine.Receives.{has_members}
 use Rattle.vt_spec.specs.Machine.SameWorlds.{SameFiles}
 use Rattle.vt_spec.specs.Machine.Settled.{filesystem_lives, has_layer_on, layers_in, located_in, objects_of_overlay, only_among, only_used, only_used_by, only_used_of, real_among, settled, used_in, without_dead_filesystems, without_dead_groups, without_dead_in, without_dead_inodes, without_dead_mounts}
-use Rattle.vt_spec.specs.Machine.World.{Filesystem, Namespace, Overlay, Task, World, all_locations, is_overlay, layers_of, upper_object}
+use Rattle.vt_spec.specs.Machine.World.{Filesystem, Namespace, Overlay, Task, World, is_overlay, layers_of, upper_object}
 
 -- both have no overlay
 pub overlay_same : (a b : Filesystem ℕ) → AlikeFilesystem a b → a.overlay ≡ b.overlay

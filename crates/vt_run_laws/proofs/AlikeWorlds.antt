@@ -1,14 +1,12 @@
 -- Worlds of plain filesystems that are the same but for change numbers and the order of numbers beside trees.
-use Rattle.std.proofs.Common.{◌≡◌, refl, sym, ap, subst, ◌∙◌, ℕ, nat_eq, true≢false, Bool, true, false, cond, List, [], ◌∷◌, map, Option, Some, None, is_some, arith}
+use Rattle.std.proofs.Common.{◌≡◌, refl, sym, ap, subst, ◌∙◌, ℕ, true≢false, false, List, [], ◌∷◌, Option, Some, None, is_some, arith}
 use Rattle.std.specs.Prelude.{All}
-use Rattle.std.specs.List.Sorted.{IsPermutation}
 use Rattle.std.proofs.lemmas.List.Elements.{All-cons, All-head, All-tail}
 use Rattle.std.proofs.lemmas.List.Sorted.{IsPermutation-refl, IsPermutation-sym, IsPermutation-trans}
-use Rattle.vt_run_laws.proofs.Each.{Each, each_back, each_itself, each_onward, each_to_one, each_told}
+use Rattle.vt_run_laws.proofs.Each.{Each, each_back, each_onward, each_to_one, each_told}
 use Rattle.vt_run_laws.specs.Answered.{IsPlain, SameWorldsArePlainAlike, SamenessIsAnEquivalence}
 use Rattle.vt_spec.specs.FileTree.{FileTree}
-use Rattle.vt_spec.specs.Machine.Mounts.{Mount}
-use Rattle.vt_spec.specs.Machine.SameWorlds.{SameFiles, SameFilesystem, SameFilesystems, SameWorlds, without_changes}
+use Rattle.vt_spec.specs.Machine.SameWorlds.{SameFiles, SameFilesystem, SameFilesystems, SameWorlds}
 use Rattle.vt_spec.specs.Machine.World.{Filesystem, Namespace, Overlay, Task, World, is_overlay}
 
 abbrev pub bare_task : Task ℕ → Task ℕ
@@ -206,11 +204,11 @@ alike_onward one other last same next = record {
   master = same.master ∙ next.master;
   filesystems =
       each_onward AlikeFilesystem (λ a b c first second. record {
-    number = first.number ∙ second.number;
-    files = files_onward a.files b.files c.files first.files second.files;
-    plain = first.plain;
-    plain_too = second.plain_too;
-  }) one.filesystems other.filesystems last.filesystems same.filesystems next.filesystems;
+        number = first.number ∙ second.number;
+        files = files_onward a.files b.files c.files first.files second.files;
+        plain = first.plain;
+        plain_too = second.plain_too;
+      }) one.filesystems other.filesystems last.filesystems same.filesystems next.filesystems;
   namespaces =
       each_onward SameNamespace (λ a b c first second. first ∙ second) one.namespaces other.namespaces
       last.namespaces same.namespaces next.namespaces;

@@ -1,11 +1,11 @@
 -- Counts and the number of an inode are a supply with room.
-use Rattle.std.proofs.Common.{◌≡◌, ◌≢◌, refl, sym, ap, ◌∙◌, subst, true≢false, ℕ, nat_eq, nat_le, nat_lt, ◌==◌, ◌+◌, ◌-◌, ◌*◌, ◌/◌, ◌%◌, ◌<◌, ◌≤◌, Bool, true, false, cond, not, ◌&&◌, ◌||◌, arith, ◌⊎◌, inl, inr, ⊎_elim, eq-eqb, ne_eqb, eqb-true, ltb-true}
+use Rattle.std.proofs.Common.{◌≡◌, ◌≢◌, refl, sym, ap, ◌∙◌, true≢false, ℕ, nat_le, nat_lt, ◌==◌, ◌+◌, ◌-◌, ◌*◌, ◌/◌, ◌%◌, ◌<◌, ◌≤◌, Bool, true, false, cond, not, ◌&&◌, ◌||◌, arith, ◌⊎◌, inl, inr, ⊎_elim, eq-eqb, ne_eqb, eqb-true, ltb-true}
 use Rattle.std.proofs.lemmas.Bool.{eqb-false, le-leb, leb-true}
 use Rattle.vt_laws.proofs.NamedWorlds.{named_is_kept}
-use Rattle.vt_laws.specs.Numbers.{Allotment, KeepsTo, Lot, ServesWithRoom, is_in_hand, is_in_hand_lot, is_kept, is_kept_lot}
+use Rattle.vt_laws.specs.Numbers.{Allotment, KeepsTo, Lot, is_in_hand, is_in_hand_lot, is_kept, is_kept_lot}
 use Rattle.vt_laws.specs.Numbers.Lot.{Kept, LeftOver, New}
 use Rattle.vt_run_laws.specs.Handed.{AllottedNumbersServe, AllottedNumbersServeNamed, EndlessAreNeverGiven, NumbersAreAllotted, handed_from, is_counted_later, is_named_before, lot_from, may_be_given, never_given}
-use Rattle.vt_run_laws.specs.Runs.{LeavesEndless, ServesInHand}
+use Rattle.vt_run_laws.specs.Runs.{ServesInHand}
 use Rattle.vt_spec.specs.Machine.World.{World}
 
 three : (p q r : Bool) → (p && q && r) ≡ true → (p ≡ true) × (q ≡ true) × (r ≡ true)

@@ -1,5 +1,5 @@
 -- Two lists of which each two elements at one place stand in a relation.
-use Rattle.std.proofs.Common.{◌≡◌, refl, sym, ap, subst, Bool, true, false, cond, ◌||◌, List, [], ◌∷◌, ◌++◌, map, filter, find, flat_map, Option, Some, None}
+use Rattle.std.proofs.Common.{◌≡◌, refl, subst, Bool, true, false, cond, ◌||◌, List, [], ◌∷◌, ◌++◌, map, filter, find, flat_map, Option, Some, None}
 use Rattle.std.specs.Prelude.{unwrap_or, ⊤}
 use Rattle.std.specs.List.{list_any}
 

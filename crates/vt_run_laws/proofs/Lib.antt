@@ -11,3 +11,7 @@ pub mod Each
 pub mod Allotted
 pub mod Permuted
 pub mod TaskChanges
+pub mod Seats
+pub mod AlikeLines
+pub mod AlikeRenamed
+pub mod RunsTold
