@@ -8,11 +8,12 @@ use Rattle.vt_laws.proofs.SameMany.{same_worlds_judge_alike}
 use Rattle.vt_run_laws.proofs.AlikeApplied.{OutcomesAlike, apply_alike}
 use Rattle.vt_run_laws.proofs.AlikeApplied as applied
 use Rattle.vt_run_laws.proofs.AlikeChanges.{task_alike}
+use Rattle.vt_run_laws.proofs.AlikeDirected.{directed_alike}
 use Rattle.vt_run_laws.proofs.AlikeSettled.{raised_alike, settled_alike}
 use Rattle.vt_run_laws.proofs.AlikeWorlds.{Alike, SameTask, alike_from_same, plain_from_alike, same_from_alike}
 use Rattle.vt_run_laws.proofs.Each.{IfAny}
 use Rattle.vt_run_laws.proofs.TaskChanges.{judged_bare}
-use Rattle.vt_run_laws.specs.Answered.{SameWorldsAreAnsweredAlike}
+use Rattle.vt_run_laws.specs.Answered.{SameWorldsAreAnsweredAlike, SameWorldsAreDirectedAlike}
 use Rattle.vt_spec.specs.declared.errors.Rule.TheVariants.{S2}
 use Rattle.vt_spec.specs.Errors.{denial}
 use Rattle.vt_spec.specs.Language.Calls.{Call, TaskName}
@@ -105,6 +106,15 @@ module _ (fresh : Fresh ℕ) (one other : World ℕ) (same : Alike one other) (c
 pub same_worlds_are_answered_alike : SameWorldsAreAnsweredAlike
 same_worlds_are_answered_alike one other same plain fresh name call no_mount =
     let alike = policy_alike fresh one other (alike_from_same one other same plain) call no_mount name in
+    record {
+      answer = alike.answer;
+      worlds = same_from_alike _ _ alike.worlds;
+      plain = plain_from_alike _ _ alike.worlds;
+    }
+
+pub same_worlds_are_directed_alike : SameWorldsAreDirectedAlike
+same_worlds_are_directed_alike one other same plain directive =
+    let alike = directed_alike one other (alike_from_same one other same plain) directive in
     record {
       answer = alike.answer;
       worlds = same_from_alike _ _ alike.worlds;

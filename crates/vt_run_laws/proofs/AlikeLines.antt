@@ -2,8 +2,9 @@
 use Rattle.std.proofs.Common.{◌≡◌, refl, ap, ℕ, nat_eq, nat_lt, true≢false, Bool, true, false, List, length, Option, Some, None}
 use Rattle.vt_run_laws.proofs.AlikeAnswered.{policy_alike}
 use Rattle.vt_run_laws.proofs.AlikeApplied.{OutcomesAlike}
+use Rattle.vt_run_laws.proofs.AlikeDirected.{directed_alike}
 use Rattle.vt_run_laws.proofs.AlikeWorlds.{Alike}
-use Rattle.vt_run_laws.specs.Runs.{asks_for_more}
+use Rattle.vt_run_laws.specs.Runs.{asks_for_overlay}
 use Rattle.vt_spec.specs.Language.Limits.{longest_line}
 use Rattle.vt_spec.specs.Language.Printed.{reply_line}
 use Rattle.vt_spec.specs.Language.Script.{Grammar, Request, is_silent, request_of}
@@ -24,21 +25,21 @@ module _ (one other : World ℕ) (same : Alike one other) where
   answered outcome again alike =
       record { text = λ number. ap (reply_line number) alike.answer; worlds = alike.worlds }
 
-  requested_alike : (request : Option Request) (fresh : Fresh ℕ) → asks_for_more request ≡ false
+  requested_alike : (request : Option Request) (fresh : Fresh ℕ) → asks_for_overlay request ≡ false
       → OutcomesAlike (requested nat_eq one request fresh) (requested nat_eq other request fresh)
   requested_alike None fresh plain = record { answer = refl; worlds = same }
   requested_alike (Some (Calling task call)) fresh plain = policy_alike fresh one other same call plain task
-  requested_alike (Some (Asking directive)) fresh plain = absurd (true≢false plain)
+  requested_alike (Some (Asking directive)) fresh plain = directed_alike one other same directive
 
   spoken_alike : (grammar : Grammar) (line : List ℕ) (fresh : Option (Fresh ℕ))
-      → asks_for_more (request_of grammar line) ≡ false
+      → asks_for_overlay (request_of grammar line) ≡ false
       → StepsAlike one other (spoken_step nat_eq grammar one line fresh) (spoken_step nat_eq grammar other line fresh)
   spoken_alike grammar line None plain = answered _ _ (record { answer = refl; worlds = same })
   spoken_alike grammar line (Some fresh) plain =
       answered _ _ (requested_alike (request_of grammar line) fresh plain)
 
   pub line_step_alike : (grammar : Grammar) (line : List ℕ) (fresh : Option (Fresh ℕ))
-      → asks_for_more (request_of grammar line) ≡ false
+      → asks_for_overlay (request_of grammar line) ≡ false
       → StepsAlike one other (line_step nat_eq grammar one line fresh) (line_step nat_eq grammar other line fresh)
   line_step_alike grammar line fresh plain = by (nat_lt longest_line (length line)) (is_silent line)
     where

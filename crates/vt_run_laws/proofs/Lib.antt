@@ -15,3 +15,5 @@ pub mod Seats
 pub mod AlikeLines
 pub mod AlikeRenamed
 pub mod RunsTold
+pub mod AlikeDirected
+pub mod GrammarsPlain

@@ -17,7 +17,7 @@ use Rattle.vt_run_laws.proofs.AlikeRenamed.{same_renamed}
 use Rattle.vt_run_laws.proofs.AlikeWorlds.{Alike, alike_back, alike_from_same, alike_onward, plain_from_alike, sameness_is_an_equivalence}
 use Rattle.vt_run_laws.proofs.Seats.{started}
 use Rattle.vt_run_laws.specs.Answered.{IsPlain}
-use Rattle.vt_run_laws.specs.Runs.{RunsHaveOneText, TellsAlike, asks_for_more}
+use Rattle.vt_run_laws.specs.Runs.{RunsHaveOneText, TellsAlike, asks_for_overlay}
 use Rattle.vt_spec.specs.Language.Script.{Grammar, lines_of, request_of}
 use Rattle.vt_spec.specs.Lists.{Fresh}
 use Rattle.vt_spec.specs.Machine.Renaming.{renamed}
@@ -106,7 +106,7 @@ module _ (grammar : Grammar) (in_hand : ℕ → Bool) where
   }
 
   abbrev Asks : List ℕ → Type 0
-  Asks line = asks_for_more (request_of grammar line) ≡ false
+  Asks line = asks_for_overlay (request_of grammar line) ≡ false
 
   told_alike : (lines : List (List ℕ)) (refused : List Bool) (m number : ℕ) (renaming : Renaming ℕ ℕ)
       (world other : World ℕ) (mine : ℕ → Bool)

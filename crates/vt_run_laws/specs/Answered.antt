@@ -1,11 +1,12 @@
 -- Worlds that are the same but for change numbers, and for the order of the numbers that stand beside trees, are answered
 -- alike.
 use Rattle.std.specs.Prelude.{All, false, nat_eq, ℕ, ◌≡◌}
-use Rattle.vt_spec.specs.Language.Calls.{Call, TaskName}
+use Rattle.vt_spec.specs.Language.Calls.{Call, Directive, TaskName}
 use Rattle.vt_spec.specs.Lists.{Fresh}
 use Rattle.vt_spec.specs.Machine.Outcomes.{Outcome}
 use Rattle.vt_spec.specs.Machine.Policy.{policy}
 use Rattle.vt_spec.specs.Machine.SameWorlds.{SameWorlds}
+use Rattle.vt_spec.specs.Machine.Sealed.{directed}
 use Rattle.vt_spec.specs.Machine.World.{World, is_overlay}
 use Rattle.vt_tree_laws.specs.Trees.Calls.{mounts_overlay}
 
@@ -35,3 +36,9 @@ SameWorldsAreAnsweredAlike =
     (one other : World ℕ) → SameWorlds one other → IsPlain one → (fresh : Fresh ℕ) (name : TaskName) (call : Call)
     → mounts_overlay call ≡ false
     → AreAlike (policy nat_eq fresh one name call) (policy nat_eq fresh other name call)
+
+-- So has each directive.
+abbrev pub SameWorldsAreDirectedAlike : Type 0
+SameWorldsAreDirectedAlike =
+    (one other : World ℕ) → SameWorlds one other → IsPlain one → (directive : Directive)
+    → AreAlike (directed nat_eq one directive) (directed nat_eq other directive)

@@ -2,6 +2,7 @@
 -- the one text of its script.
 use Rattle.std.specs.Prelude.{All, Bool, List, None, Option, Some, [], false, nat_eq, true, ℕ, ◌++◌, ◌+◌, ◌<◌, ◌∷◌, ◌≡◌}
 use Rattle.vt_laws.specs.Numbers.{Allotment, ServesWithRoom, is_in_hand}
+use Rattle.vt_spec.specs.Language.Calls.{Call}
 use Rattle.vt_spec.specs.Language.Script.{Grammar, Request, lines_of, request_of}
 use Rattle.vt_spec.specs.Language.Script.Request.{Asking, Calling}
 use Rattle.vt_spec.specs.Lists.{Fresh}
@@ -43,20 +44,26 @@ pub record OpensInHand (in_hand : ℕ → Bool) (fresh : Fresh ℕ) : Type 0 whe
   pub given : (k : ℕ) → k < 4 → in_hand (fresh k) ≡ true
   pub apart : (j k : ℕ) → j < 4 → k < 4 → fresh j ≡ fresh k → j ≡ k
 
--- a line mounts an overlay, or is a directive
-abbrev pub asks_for_more : Option Request → Bool
-asks_for_more None = false
-asks_for_more (Some (Calling task call)) = mounts_overlay call
-asks_for_more (Some (Asking directive)) = true
+-- a line asks for the mount of an overlay
+abbrev pub asks_for_overlay : Option Request → Bool
+asks_for_overlay None = false
+asks_for_overlay (Some (Calling task call)) = mounts_overlay call
+asks_for_overlay (Some (Asking directive)) = false
 
-abbrev pub AreCallsOfPlainWorlds : Grammar → List (List ℕ) → Type 0
-AreCallsOfPlainWorlds grammar lines = All (λ line. asks_for_more (request_of grammar line) ≡ false) lines
+abbrev pub HasNoOverlays : Grammar → List (List ℕ) → Type 0
+HasNoOverlays grammar lines = All (λ line. asks_for_overlay (request_of grammar line) ≡ false) lines
 
--- So from any opening world whose numbers are in hand a script has its one text, whatever numbers of those in hand each
--- line is handed.
+-- No line does, where the grammar has no such call.
+abbrev pub GrammarsKeepOverlaysOut : Type 0
+GrammarsKeepOverlaysOut =
+    (grammar : Grammar) → ((call : Call) → grammar.has call ≡ true → mounts_overlay call ≡ false)
+    → (lines : List (List ℕ)) → HasNoOverlays grammar lines
+
+-- So from any opening world whose numbers are in hand a script without overlays has its one text, whatever numbers of those
+-- in hand each line is handed.
 abbrev pub RunsHaveOneText : Type 0
 RunsHaveOneText =
     (grammar : Grammar) (refused : List Bool) (script text : List ℕ) (in_hand : ℕ → Bool) (fresh : Fresh ℕ)
-    → LeavesEndless in_hand → OpensInHand in_hand fresh → AreCallsOfPlainWorlds grammar (lines_of script)
+    → LeavesEndless in_hand → OpensInHand in_hand fresh → HasNoOverlays grammar (lines_of script)
     → TellsAlike grammar in_hand (opening nat_eq fresh) 1 (lines_of script) refused text
     → text ≡ text_of grammar refused script
