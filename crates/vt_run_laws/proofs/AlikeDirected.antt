@@ -1,5 +1,5 @@
 -- Directives are answered alike in two worlds that are alike.
-use Rattle.std.proofs.Common.{◌≡◌, refl, sym, ap, subst, ◌∙◌, ℕ, nat_eq, true≢false, Bool, true, false, cond, not, ◌&&◌, ◌||◌, ◌+◌, List, [], ◌∷◌, ◌++◌, map, filter, flat_map, Option, Some, None, Ok, is_some, option_map}
+use Rattle.std.proofs.Common.{◌≡◌, refl, sym, ap, subst, ◌∙◌, ℕ, nat_eq, Bool, true, false, cond, not, ◌&&◌, ◌||◌, ◌+◌, List, [], ◌∷◌, ◌++◌, map, filter, flat_map, Option, Some, None, Ok, is_some, option_map}
 use Rattle.std.specs.List.{list_all, list_any}
 use Rattle.vt_run_laws.proofs.AlikeApplied.{OutcomesAlike}
 use Rattle.vt_run_laws.proofs.AlikeChanges.{found_alike, task_alike}
@@ -9,15 +9,15 @@ use Rattle.vt_run_laws.proofs.Each.{Each, IfAny, each_any, each_filter, each_fla
 use Rattle.vt_spec.specs.declared.errors.Rule.TheVariants.{S2}
 use Rattle.vt_spec.specs.Language.Answers.{PeerLine}
 use Rattle.vt_spec.specs.Language.Answers.Answer.{PeerList, YesNo}
-use Rattle.vt_spec.specs.Language.Calls.{Directive, TaskName, same_name}
+use Rattle.vt_spec.specs.Language.Calls.{Directive, TaskName}
 use Rattle.vt_spec.specs.Language.Calls.Directive.{AskPeers, AskSealed}
-use Rattle.vt_spec.specs.Lists.{counted_from, each_once, holds_of, is_among}
-use Rattle.vt_spec.specs.Machine.Listing.{all_attached, attached_in, groups_seen, is_slave_of, number_among, peer_lines}
+use Rattle.vt_spec.specs.Lists.{counted_from, each_once, holds_of}
+use Rattle.vt_spec.specs.Machine.Listing.{attached_in, groups_seen, is_slave_of, number_among, peer_lines}
 use Rattle.vt_spec.specs.Machine.Locked.{overlay_or, overlays}
 use Rattle.vt_spec.specs.Machine.Mounts.{Location, Mount}
 use Rattle.vt_spec.specs.Machine.Outcomes.{granted, judged}
 use Rattle.vt_spec.specs.Machine.Receives.{is_member_of}
-use Rattle.vt_spec.specs.Machine.Sealed.{all_named, change_layers, directed, holds_all_tasks, has_no_link, is_linked, is_lower_root, is_member_task, is_own_namespace, locations, members, no_outsider_on, no_outsider_on_mounts, no_such_task, other_mounts, outsiders, own_mounts, sealed, used_alone, used_directly, used_filesystems, wholly_locked}
+use Rattle.vt_spec.specs.Machine.Sealed.{all_named, change_layers, directed, holds_all_tasks, has_no_link, is_linked, is_lower_root, is_member_task, is_own_namespace, locations, members, no_outsider_on, no_outsider_on_mounts, no_such_task, outsiders, sealed, used_alone, used_directly, used_filesystems, wholly_locked}
 use Rattle.vt_spec.specs.Machine.World.{Filesystem, Layer, Namespace, Overlay, Task, World, filesystem_numbered, is_overlay, locations_of, mount_at, task_called}
 
 -- Peers

@@ -1,5 +1,5 @@
 -- Each line is answered alike in two worlds that are alike.
-use Rattle.std.proofs.Common.{◌≡◌, refl, ap, ℕ, nat_eq, nat_lt, true≢false, Bool, true, false, List, length, Option, Some, None}
+use Rattle.std.proofs.Common.{◌≡◌, refl, ap, ℕ, nat_eq, nat_lt, Bool, true, false, List, length, Option, Some, None}
 use Rattle.vt_run_laws.proofs.AlikeAnswered.{policy_alike}
 use Rattle.vt_run_laws.proofs.AlikeApplied.{OutcomesAlike}
 use Rattle.vt_run_laws.proofs.AlikeDirected.{directed_alike}

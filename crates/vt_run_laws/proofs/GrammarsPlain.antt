@@ -3,7 +3,7 @@ use Rattle.std.proofs.Common.{◌≡◌, refl, ℕ, Bool, true, false, cond, Lis
 use Rattle.std.proofs.lemmas.List.Elements.{All-cons}
 use Rattle.vt_run_laws.specs.Runs.{GrammarsKeepOverlaysOut, HasNoOverlays, asks_for_overlay}
 use Rattle.vt_spec.specs.Language.Calls.{Call, Directive, TaskName}
-use Rattle.vt_spec.specs.Language.Script.{Grammar, Request, Who, asked_by, call_asked, call_words, directive_asked, directive_words, each_of, raw_tokens, request_of, request_of_texts, token_text, who_of}
+use Rattle.vt_spec.specs.Language.Script.{Grammar, Who, asked_by, call_asked, call_words, directive_asked, directive_words, each_of, raw_tokens, request_of, request_of_texts, token_text, who_of}
 use Rattle.vt_spec.specs.Language.Script.Request.{Asking, Calling}
 use Rattle.vt_spec.specs.Language.Script.Who.{Nobody, Someone}
 use Rattle.vt_spec.specs.Lists.{then_some, when}

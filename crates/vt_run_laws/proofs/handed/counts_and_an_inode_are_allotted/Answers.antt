@@ -1,4 +1,4 @@
-use Rattle.vt_run_laws.proofs.Allotted.{allotted_numbers_serve, allotted_numbers_serve_named, endless_are_never_given, numbers_are_allotted}
+use Rattle.vt_run_laws.proofs.InodesAllotted.{allotted_numbers_serve, allotted_numbers_serve_named, numbers_are_allotted}
 use Rattle.vt_run_laws.proofs.handed.counts_and_an_inode_are_allotted.Goals as goal
 
 pub returns-clause-allotted : goal.returns-clause-allotted
@@ -9,6 +9,3 @@ returns-clause-serves c = allotted_numbers_serve
 
 pub returns-clause-named : goal.returns-clause-named
 returns-clause-named c = allotted_numbers_serve_named
-
-pub returns-clause-endless : goal.returns-clause-endless
-returns-clause-endless c = endless_are_never_given
