@@ -23,3 +23,6 @@ pub mod OfWorlds
 pub mod MountingLosers
 pub mod MountingTaken
 pub mod MountingMoved
+pub mod Attached
+pub mod AttachedSwept
+pub mod Pivoted

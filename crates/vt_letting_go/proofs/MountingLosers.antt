@@ -1,5 +1,5 @@
 -- Which things may have lost a use after a change of mounts and tasks.
-use Rattle.std.proofs.Common.{◌≡◌, refl, sym, ap, subst, ◌∙◌, ◌⊎◌, ⊎_elim, ℕ, nat_eq, eqb-true, eq-eqb, Bool, true, false, ◌||◌, ◌&&◌, List, filter, map, true≢false, flat_map, ◌++◌, Option, Some, is_some}
+use Rattle.std.proofs.Common.{◌≡◌, refl, sym, ap, subst, ◌∙◌, ◌⊎◌, inl, ⊎_elim, ℕ, nat_eq, eqb-true, eq-eqb, Bool, true, false, ◌||◌, ◌&&◌, List, [], filter, map, true≢false, flat_map, ◌++◌, Option, Some, is_some}
 use Rattle.std.specs.Prelude.{filter_map}
 use Rattle.std.specs.List.{list_all}
 use Rattle.std.proofs.lemmas.Bool.{or_cases, or_parts}
@@ -9,10 +9,12 @@ use Rattle.vt_spec.specs.Machine.Receives.{is_member_of}
 use Rattle.vt_spec.specs.Machine.Settled.{filesystem_lives, is_located, is_mounted, layers_in, located_in, mount_lives, named_in, objects_of_overlay, settled, without_dead_filesystems, without_dead_mounts}
 use Rattle.vt_spec.specs.Machine.World.{Filesystem, Namespace, Task, World, all_locations, mount_at, mount_numbered}
 use Rattle.vt_spec.specs.Machine.WorldLaws.{is_nowhere_or_attached}
-use Rattle.vt_letting_go.specs.InUse.{is_inode_used}
+use Rattle.vt_letting_go.specs.InUse.{FilesystemsInUse, GroupsInUse, InodesInUse, is_inode_used}
+use Rattle.vt_letting_go.specs.Keeping.{has_only_named}
 use Rattle.vt_letting_go.specs.Leaving.{IsSettledPlain}
 use Rattle.vt_letting_go.specs.Mounting.{inode_at, root_inode, used_by_mounts}
-use Rattle.vt_letting_go.specs.OneByOne.{FilesystemsInUseBut, GroupsInUseBut, Inode, InodesInUseBut, Losers, MountsInUseBut, is_inode_among, is_used_or_among, let_go}
+use Rattle.vt_letting_go.specs.OneByOne.{AllInUseBut, FilesystemsInUseBut, GroupsInUseBut, Inode, InodesInUseBut, Losers, MountsInUseBut, is_inode_among, is_used_or_among, let_go}
+use Rattle.vt_letting_go.proofs.InUse.{filesystems_stay, mounts_stay, nothing_goes}
 use Rattle.vt_letting_go.proofs.Inodes.{all_goes_one_by_one}
 use Rattle.vt_letting_go.proofs.Lists.{Among, all_from_among, all_pass, among-append, among-append_left, among-append_right, among-filter, among-filter_map, among-from_filter, among-from_filter_map, among-from_map, among-map, among_from_all, among_numbers, any-filter, any_passes, decided, is_among_left, is_among_numbers, is_among_right, one_passes, or_first, or_second, passes}
 use Rattle.vt_letting_go.proofs.PlacesLeft.{found_in_filter, found_itself, no_layers, nowhere_parts, plain_uses, private_is_no_member}
@@ -29,23 +31,42 @@ Image mounts mount = (image : Mount ℕ) × (Among image mounts × ((root_of ima
 abbrev pub StillAPlace : List (Mount ℕ) → List ℕ → Location ℕ → Type 0
 StillAPlace mounts gone place = (mount : Mount ℕ) × (Among mount mounts × ((mount.mount_point ≡ Some place) × (is_among nat_eq place.mount gone ≡ false)))
 
+abbrev pub changed_with : World ℕ → List (Mount ℕ) → (ℕ → Option ℕ) → List (Filesystem ℕ) → List (Namespace ℕ) → List (Task ℕ) → World ℕ
+changed_with world mounts master filesystems namespaces tasks =
+    record world { mounts = mounts; master = master; filesystems = filesystems; namespaces = namespaces; tasks = tasks }
+
 abbrev pub changed : World ℕ → List (Mount ℕ) → (ℕ → Option ℕ) → List (Namespace ℕ) → List (Task ℕ) → World ℕ
-changed world mounts master namespaces tasks = record world { mounts = mounts; master = master; namespaces = namespaces; tasks = tasks }
+changed world mounts master namespaces tasks = changed_with world mounts master world.filesystems namespaces tasks
+
+-- the root of a mount that is none of those that may go
+abbrev pub IsARoot : List (Mount ℕ) → List ℕ → Location ℕ → Type 0
+IsARoot mounts gone location = (mount : Mount ℕ) × (Among mount mounts × ((root_of mount ≡ location) × (is_among nat_eq mount.number gone ≡ false)))
+
+-- a location of a task still, or the root of a mount that stays
+abbrev pub StillALocation : World ℕ → List ℕ → Location ℕ → Type 0
+StillALocation after gone location = Among location (all_locations after) ⊎ IsARoot after.mounts gone location
+
+-- a new filesystem, which a mount in use shows, and of which each inode is the root or has a name
+abbrev pub IsNew : World ℕ → Filesystem ℕ → Type 0
+IsNew after filesystem =
+    (mount : Mount ℕ) × (Among mount after.mounts × ((mount_lives nat_eq after mount ≡ true) × ((nat_eq filesystem.number mount.filesystem ≡ true) × (has_only_named filesystem ≡ true))))
 
 pub record Loses (world after : World ℕ) (gone : List ℕ) (left : List (Location ℕ)) : Type 0 where
   pub images : (mount : Mount ℕ) → Among mount world.mounts → Image after.mounts mount
   pub shown : (location : Location ℕ) → Among location (places_of world) → (mount_at nat_eq after location).filesystem ≡ (mount_at nat_eq world location).filesystem
   pub live : (mount : Mount ℕ) → Among mount after.mounts → is_among nat_eq mount.number gone ≡ false → mount_lives nat_eq after mount ≡ true
-  pub locations : (location : Location ℕ) → Among location (all_locations world) → Among location (all_locations after) ⊎ Among location left
+  pub locations : (location : Location ℕ) → Among location (all_locations world) → StillALocation after gone location ⊎ Among location left
   pub places : (mount : Mount ℕ) → Among mount world.mounts → (place : Location ℕ) → mount.mount_point ≡ Some place → StillAPlace after.mounts gone place ⊎ Among place left
   pub nowhere : list_all is_nowhere_or_attached after.mounts ≡ true
 
-module _ (world : World ℕ) (mounts : List (Mount ℕ)) (master : ℕ → Option ℕ) (namespaces : List (Namespace ℕ)) (tasks : List (Task ℕ))
-    (gone : List ℕ) (left : List (Location ℕ)) (groups : List ℕ)
-    (settles : IsSettledPlain world) (loses : Loses world (changed world mounts master namespaces tasks) gone left)
-    (hears : GroupsInUseBut groups (changed world mounts master namespaces tasks)) where
+module _ (world : World ℕ) (mounts : List (Mount ℕ)) (master : ℕ → Option ℕ) (filesystems : List (Filesystem ℕ))
+    (namespaces : List (Namespace ℕ)) (tasks : List (Task ℕ)) (gone : List ℕ) (left : List (Location ℕ)) (groups : List ℕ)
+    (settles : IsSettledPlain world) (loses : Loses world (changed_with world mounts master filesystems namespaces tasks) gone left)
+    (hears : GroupsInUseBut groups (changed_with world mounts master filesystems namespaces tasks))
+    (come : (filesystem : Filesystem ℕ) → Among filesystem filesystems
+    → Among filesystem world.filesystems ⊎ IsNew (changed_with world mounts master filesystems namespaces tasks) filesystem) where
   abbrev after : World ℕ
-  after = changed world mounts master namespaces tasks
+  after = changed_with world mounts master filesystems namespaces tasks
 
   abbrev mounted : World ℕ
   mounted = without_dead_mounts nat_eq after
@@ -71,10 +92,18 @@ module _ (world : World ℕ) (mounts : List (Mount ℕ)) (master : ℕ → Optio
   image_lives mount isnt image =
       loses.live image.0 image.1.0 (ap (λ l. is_among nat_eq l.mount gone) image.1.1.0 ∙ isnt)
 
-  filesystems_but : FilesystemsInUseBut losers.filesystems mounted
-  filesystems_but =
-      all_pass (λ filesystem. is_among nat_eq filesystem.number losers.filesystems || filesystem_lives nat_eq mounted filesystem) world.filesystems
-      (λ filesystem m.
+  shown_lives : (filesystem : Filesystem ℕ) (mount : Mount ℕ) → Among mount mounts → mount_lives nat_eq after mount ≡ true
+      → nat_eq filesystem.number mount.filesystem ≡ true
+      → (is_among nat_eq filesystem.number losers.filesystems || filesystem_lives nat_eq mounted filesystem) ≡ true
+  shown_lives filesystem mount m lives shows =
+      or_second (is_among nat_eq filesystem.number losers.filesystems) (filesystem_lives nat_eq mounted filesystem)
+      (or_first (is_mounted nat_eq mounted filesystem.number) _
+      (any_passes (λ x. nat_eq filesystem.number x.filesystem) mounted.mounts mount
+      (among-filter (mount_lives nat_eq after) mounts mount m lives) shows))
+
+  mounted_but : (filesystem : Filesystem ℕ) → Among filesystem world.filesystems
+      → (is_among nat_eq filesystem.number losers.filesystems || filesystem_lives nat_eq mounted filesystem) ≡ true
+  mounted_but filesystem m =
       let lived = passes (filesystem_lives nat_eq world) world.filesystems settles.in_use.filesystems filesystem m in
       let was = ⊎_elim (λ e. e) (λ layered. absurd (true≢false (sym layered ∙ no_layers filesystem.number world world.filesystems settles.plain)))
       (or_cases (is_mounted nat_eq world filesystem.number) _ lived) in
@@ -86,12 +115,14 @@ module _ (world : World ℕ) (mounts : List (Mount ℕ)) (master : ℕ → Optio
       ∙ is_among_numbers (mount_numbered nat_eq world t.0.number).filesystem losers.filesystems
       (among-map (λ n. (mount_numbered nat_eq world n).filesystem) gone t.0.number (among_numbers t.0.number gone is))))
       (λ isnt. let image = loses.images t.0 t.1 in
-      or_second (is_among nat_eq filesystem.number losers.filesystems) (filesystem_lives nat_eq mounted filesystem)
-      (or_first (is_mounted nat_eq mounted filesystem.number) _
-      (any_passes (λ mount. nat_eq filesystem.number mount.filesystem) mounted.mounts image.0
-      (among-filter (mount_lives nat_eq after) mounts image.0 image.1.0 (image_lives t.0 isnt image))
-      (ap (nat_eq filesystem.number) image.1.1.1 ∙ t.2))))
-      (decided (is_among nat_eq t.0.number gone)))
+      shown_lives filesystem image.0 image.1.0 (image_lives t.0 isnt image) (ap (nat_eq filesystem.number) image.1.1.1 ∙ t.2))
+      (decided (is_among nat_eq t.0.number gone))
+
+  filesystems_but : FilesystemsInUseBut losers.filesystems mounted
+  filesystems_but =
+      all_pass (λ filesystem. is_among nat_eq filesystem.number losers.filesystems || filesystem_lives nat_eq mounted filesystem) filesystems
+      (λ filesystem m.
+      ⊎_elim (mounted_but filesystem) (λ new. shown_lives filesystem new.0 new.1.0 new.1.1.0 new.1.1.1.0) (come filesystem m))
 
   groups_but : GroupsInUseBut losers.groups mounted
   groups_but group among none =
@@ -143,18 +174,39 @@ module _ (world : World ℕ) (mounts : List (Mount ℕ)) (master : ℕ → Optio
         (among-append_right (map (root_inode world) gone) (map (inode_at world) left) (inode_at world location) (among-map (inode_at world) left location m))
         e location.node refl
 
+    was_a_place : (location : Location ℕ) → Among location (all_locations world) → Among location (places_of world)
+    was_a_place location m =
+        among-append_left (all_locations world ++ map root_of world.mounts) (filter_map (λ mount. mount.mount_point) world.mounts) location
+        (among-append_left (all_locations world) (map root_of world.mounts) location m)
+
+    located_still : (location : Location ℕ) → Among location (all_locations world) → filesystem.number ≡ (mount_at nat_eq world location).filesystem
+        → Among location (all_locations after) → is_inode_used living filesystem location.node ≡ true
+    located_still location m e stays =
+        used_still location
+        (among-append_left (all_locations after ++ map root_of mounted.mounts) (filter_map (λ mount. mount.mount_point) mounted.mounts) location
+        (among-append_left (all_locations after) (map root_of mounted.mounts) location stays))
+        (e ∙ sym (found_still location (was_a_place location m)
+        (λ mount n same. or_second (is_some mount.namespace) (is_located nat_eq after mount.number)
+        (any_passes (λ l. nat_eq mount.number l.mount) (all_locations after) location stays (eq-eqb mount.number location.mount same)))))
+
+    root_still : (location : Location ℕ) → Among location (all_locations world) → filesystem.number ≡ (mount_at nat_eq world location).filesystem
+        → (mount : Mount ℕ) → Among mount mounts → root_of mount ≡ location → is_among nat_eq mount.number gone ≡ false
+        → is_inode_used living filesystem location.node ≡ true
+    root_still location m e mount n is isnt =
+        used_still location
+        (among-append_left (all_locations after ++ map root_of mounted.mounts) (filter_map (λ x. x.mount_point) mounted.mounts) location
+        (among-append_right (all_locations after) (map root_of mounted.mounts) location
+        (subst (λ l. Among l (map root_of mounted.mounts)) is
+        (among-map root_of mounted.mounts mount (among-filter (mount_lives nat_eq after) mounts mount n (loses.live mount n isnt))))))
+        (e ∙ sym (found_still location (was_a_place location m)
+        (stays_there location.mount (ap (λ (l : Location ℕ). is_among nat_eq l.mount gone) (sym is) ∙ isnt))))
+
     by_location : (location : Location ℕ) → Among location (all_locations world) → filesystem.number ≡ (mount_at nat_eq world location).filesystem
         → is_used_or_among losers.inodes living filesystem location.node ≡ true
     by_location location m e =
         ⊎_elim
         (λ stays. or_second (is_inode_among filesystem.number location.node losers.inodes) _
-        (used_still location (among-append_left (all_locations after ++ map root_of mounted.mounts) (filter_map (λ mount. mount.mount_point) mounted.mounts) location
-        (among-append_left (all_locations after) (map root_of mounted.mounts) location stays))
-        (e ∙ sym (found_still location
-        (among-append_left (all_locations world ++ map root_of world.mounts) (filter_map (λ mount. mount.mount_point) world.mounts) location
-        (among-append_left (all_locations world) (map root_of world.mounts) location m))
-        (λ mount n same. or_second (is_some mount.namespace) (is_located nat_eq after mount.number)
-        (any_passes (λ l. nat_eq mount.number l.mount) (all_locations after) location stays (eq-eqb mount.number location.mount same)))))))
+        (⊎_elim (located_still location m e) (λ root. root_still location m e root.0 root.1.0 root.1.1.0 root.1.1.1) stays))
         (λ gone_from. left_may_go location gone_from e)
         (loses.locations location m)
 
@@ -235,20 +287,77 @@ module _ (world : World ℕ) (mounts : List (Mount ℕ)) (master : ℕ → Optio
             by_place mount.0 mount.1 from.0 mount.2 e)
             (among-append (all_locations world ++ map root_of world.mounts) (filter_map (λ mount. mount.mount_point) world.mounts) from.0 here.0)
 
+    -- an inode of a new filesystem is its root, or has a name
+    by_a_name : (inode : ℕ) → (nat_eq inode filesystem.files.tree.root || is_among nat_eq inode (named_in filesystem.files)) ≡ true
+        → is_used_or_among losers.inodes living filesystem inode ≡ true
+    by_a_name inode is =
+        or_second (is_inode_among filesystem.number inode losers.inodes) _
+        (⊎_elim
+        (or_first (nat_eq inode filesystem.files.tree.root) _)
+        (λ named. or_second (nat_eq inode filesystem.files.tree.root) _
+        (is_among_left inode (named_in filesystem.files ++ located_in nat_eq living filesystem.number ++ layers_in nat_eq living filesystem.number)
+        (flat_map (objects_of_overlay nat_eq filesystem.number) living.filesystems)
+        (is_among_left inode (named_in filesystem.files ++ located_in nat_eq living filesystem.number) (layers_in nat_eq living filesystem.number)
+        (is_among_left inode (named_in filesystem.files) (located_in nat_eq living filesystem.number) named))))
+        (or_cases (nat_eq inode filesystem.files.tree.root) (is_among nat_eq inode (named_in filesystem.files)) is))
+
   inodes_but : InodesInUseBut losers.inodes living
   inodes_but =
       all_from_among (λ f. list_all (is_used_or_among losers.inodes living f) f.files.numbers ≡ true) living.filesystems
-      (λ filesystem m. let was = among-from_filter (filesystem_lives nat_eq mounted) world.filesystems filesystem m in
+      (λ filesystem m. let there = among-from_filter (filesystem_lives nat_eq mounted) filesystems filesystem m in
       all_pass (is_used_or_among losers.inodes living filesystem) filesystem.files.numbers
-      (λ inode n. by_a_use filesystem inode
+      (λ inode n. ⊎_elim
+      (λ was. by_a_use filesystem inode
       (passes (is_inode_used world filesystem) filesystem.files.numbers
-      (among_from_all (λ f. list_all (is_inode_used world f) f.files.numbers ≡ true) world.filesystems settles.in_use.inodes filesystem was.0) inode n)))
+      (among_from_all (λ f. list_all (is_inode_used world f) f.files.numbers ≡ true) world.filesystems settles.in_use.inodes filesystem was) inode n))
+      (λ new. by_a_name filesystem inode
+      (passes (λ k. nat_eq k filesystem.files.tree.root || is_among nat_eq k (named_in filesystem.files)) filesystem.files.numbers new.1.1.1.1 inode n))
+      (come filesystem there.0)))
 
-  -- what lost a use goes, if nothing uses it, and nothing else
-  pub losers_go : settled nat_eq after ≡ let_go after losers
-  losers_go = all_goes_one_by_one after losers settles.plain settles.trees (record {
+  -- all but what lost a use is in use
+  pub all_but_losers : AllInUseBut losers after
+  all_but_losers = record {
     mounts = mounts_but;
     filesystems = filesystems_but;
     inodes = inodes_but;
     groups = groups_but;
-  })
+  }
+
+-- what lost a use goes, if nothing uses it, and nothing else
+pub losers_go : (world : World ℕ) (mounts : List (Mount ℕ)) (master : ℕ → Option ℕ) (namespaces : List (Namespace ℕ)) (tasks : List (Task ℕ))
+    (gone : List ℕ) (left : List (Location ℕ)) (groups : List ℕ) → IsSettledPlain world
+    → Loses world (changed world mounts master namespaces tasks) gone left
+    → GroupsInUseBut groups (changed world mounts master namespaces tasks)
+    → settled nat_eq (changed world mounts master namespaces tasks)
+    ≡ let_go (changed world mounts master namespaces tasks) (used_by_mounts world gone left groups)
+losers_go world mounts master namespaces tasks gone left groups settles loses hears =
+    all_goes_one_by_one (changed world mounts master namespaces tasks) (used_by_mounts world gone left groups) settles.plain settles.trees
+    (all_but_losers world mounts master world.filesystems namespaces tasks gone left groups settles loses hears (λ f m. inl m))
+
+-- where nothing lost a use, nothing goes
+pub nothing_lost : (world : World ℕ) (mounts : List (Mount ℕ)) (master : ℕ → Option ℕ) (filesystems : List (Filesystem ℕ)) → IsSettledPlain world
+    → Loses world (changed_with world mounts master filesystems world.namespaces world.tasks) [] []
+    → GroupsInUse (changed_with world mounts master filesystems world.namespaces world.tasks)
+    → ((filesystem : Filesystem ℕ) → Among filesystem filesystems
+    → Among filesystem world.filesystems ⊎ IsNew (changed_with world mounts master filesystems world.namespaces world.tasks) filesystem)
+    → settled nat_eq (changed_with world mounts master filesystems world.namespaces world.tasks)
+    ≡ changed_with world mounts master filesystems world.namespaces world.tasks
+nothing_lost world mounts master filesystems settles loses groups come =
+    nothing_goes after (record {
+      mounts = but.mounts;
+      filesystems = subst FilesystemsInUse same but.filesystems;
+      inodes = subst InodesInUse all but.inodes;
+      groups = groups;
+    })
+  where
+    after : World ℕ
+    after = changed_with world mounts master filesystems world.namespaces world.tasks
+
+    but : AllInUseBut (used_by_mounts world [] [] []) after
+    but = all_but_losers world mounts master filesystems world.namespaces world.tasks [] [] [] settles loses (λ group among none. groups group none) come
+
+    same : without_dead_mounts nat_eq after ≡ after
+    same = mounts_stay after but.mounts
+
+    all : without_dead_filesystems nat_eq (without_dead_mounts nat_eq after) ≡ after
+    all = filesystems_stay (without_dead_mounts nat_eq after) but.filesystems ∙ same

@@ -32,7 +32,7 @@ loses world moved change master settles moves nowhere = record {
       ap (mount_lives nat_eq world) from.2
       ∙ (λ i. is_some (moves.namespace from.0 i) || is_located nat_eq world (moves.number from.0 i))
       ∙ passes (mount_lives nat_eq world) world.mounts settles.in_use.mounts from.0 from.1;
-  locations = λ location m. inl m;
+  locations = λ location m. inl (inl m);
   places = λ mount m place p. ⊎_elim
       (λ is. inr (among-filter_map (λ x. x.mount_point) (filter (λ x. is_among nat_eq x.number moved) world.mounts) mount place
       (among-filter (λ x. is_among nat_eq x.number moved) world.mounts mount m is) p))

@@ -136,7 +136,7 @@ module _ (world : World ℕ) (gone : List ℕ) (namespaces : List (Namespace ℕ
           ap (mount_lives nat_eq world) from.2
           ∙ (λ i. is_some (same_namespace b from.0 other i) || is_located nat_eq world (same_number b from.0 i))
           ∙ passes (mount_lives nat_eq world) world.mounts settles.in_use.mounts from.0 from.1;
-      locations = λ location m. inl m;
+      locations = λ location m. inl (inl m);
       places = λ mount m place p. ⊎_elim
           (λ is. inr (among-filter_map (λ x. x.mount_point) (filter (loses_its_place gone) world.mounts) mount place
           (among-filter (loses_its_place gone) world.mounts mount m is) p))

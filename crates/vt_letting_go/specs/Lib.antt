@@ -11,3 +11,5 @@ pub mod Keeping
 pub mod Groups
 pub mod Ends
 pub mod Mounting
+pub mod Attaching
+pub mod Pivoting

@@ -1,5 +1,7 @@
 //! What goes after a change of several mounts.
+ghost use Rattle.vt_letting_go.specs.Attaching.{BindsKeepAll, CopiesKeepAll, MovedTreesLetGo, MovesLetGo, NewFilesystemsKeepAll, NewMountsOfTreesKeepAll};
 ghost use Rattle.vt_letting_go.specs.Mounting.{EndingLetsGo, MovingLetsGo, TakingAwayLetsGo};
+ghost use Rattle.vt_letting_go.specs.Pivoting.{PivotedLetsGo, PivotsLetGo};
 
 /// Where any mounts are taken away, the filesystems and inodes go that only they used, or the places that they and the
 /// mounts on them had. Nothing else goes.
@@ -9,4 +11,25 @@ pub fn what_mounts_leave_goes()
     ensures taken_away { TakingAwayLetsGo }
     ensures ended { EndingLetsGo }
     ensures moved { MovingLetsGo }
+{}
+
+/// Where mounts are attached, with a copy at each receiver, nothing goes: a bind, recursive or not, and a mount of a new
+/// filesystem.
+pub fn what_is_attached_keeps_all()
+    ensures copies { CopiesKeepAll }
+    ensures bind { BindsKeepAll }
+    ensures filesystem { NewFilesystemsKeepAll }
+    ensures new_mount { NewMountsOfTreesKeepAll }
+{}
+
+/// Where mounts move, with a copy at each receiver, at the most the inode of the old mount point goes.
+pub fn what_a_move_leaves_goes()
+    ensures trees { MovedTreesLetGo }
+    ensures moves { MovesLetGo }
+{}
+
+/// After `pivot_root` at the most the inode of the new root mount's old mount point goes.
+pub fn what_a_pivot_leaves_goes()
+    ensures pivoted { PivotedLetsGo }
+    ensures pivot { PivotsLetGo }
 {}
