@@ -26,3 +26,4 @@ pub mod MountingMoved
 pub mod Attached
 pub mod AttachedSwept
 pub mod Pivoted
+pub mod Lazily

@@ -20,22 +20,22 @@ use Rattle.vt_letting_go.proofs.MountingLosers.{Loses, changed, losers_go}
 use Rattle.vt_letting_go.proofs.PlacesLeft.{nowhere_parts}
 
 module _ (world : World ℕ) (gone : List ℕ) (namespaces : List (Namespace ℕ)) where
-  abbrev without : World ℕ
+  abbrev pub without : World ℕ
   without = with_mounts world (map (after_going nat_eq world gone) world.mounts)
 
   -- a mount afterwards, where groups were handed on and where none was
-  abbrev change : Bool → Mount ℕ → Mount ℕ
+  abbrev pub change : Bool → Mount ℕ → Mount ℕ
   change true mount = inheriting nat_eq without (after_going nat_eq world gone mount)
   change false mount = after_going nat_eq world gone mount
 
-  abbrev masters : Bool → ℕ → Option ℕ
+  abbrev pub masters : Bool → ℕ → Option ℕ
   masters true = λ group. heir nat_eq without (world.master group)
   masters false = world.master
 
-  abbrev after : Bool → World ℕ
+  abbrev pub after : Bool → World ℕ
   after b = changed world (map (change b) world.mounts) (masters b) namespaces world.tasks
 
-  is_changed : (b : Bool) → record (regrouped_by nat_eq b without) { namespaces = namespaces } ≡ after b
+  pub is_changed : (b : Bool) → record (regrouped_by nat_eq b without) { namespaces = namespaces } ≡ after b
   is_changed true =
       ap (λ mounts. changed world mounts (masters true) namespaces world.tasks)
       (map_twice (inheriting nat_eq without) (after_going nat_eq world gone) world.mounts)
@@ -51,15 +51,15 @@ module _ (world : World ℕ) (gone : List ℕ) (namespaces : List (Namespace ℕ
       by true = down
       by false = up
 
-  same_root : (b : Bool) (mount : Mount ℕ) → root_of (change b mount) ≡ root_of mount
+  pub same_root : (b : Bool) (mount : Mount ℕ) → root_of (change b mount) ≡ root_of mount
   same_root true mount = same_part root_of mount refl refl
   same_root false mount = same_part root_of mount refl refl
 
-  same_number : (b : Bool) (mount : Mount ℕ) → (change b mount).number ≡ mount.number
+  pub same_number : (b : Bool) (mount : Mount ℕ) → (change b mount).number ≡ mount.number
   same_number true mount = same_part (λ m. m.number) mount refl refl
   same_number false mount = same_part (λ m. m.number) mount refl refl
 
-  same_filesystem : (b : Bool) (mount : Mount ℕ) → (change b mount).filesystem ≡ mount.filesystem
+  pub same_filesystem : (b : Bool) (mount : Mount ℕ) → (change b mount).filesystem ≡ mount.filesystem
   same_filesystem true mount = same_part (λ m. m.filesystem) mount refl refl
   same_filesystem false mount = same_part (λ m. m.filesystem) mount refl refl
 
@@ -71,11 +71,11 @@ module _ (world : World ℕ) (gone : List ℕ) (namespaces : List (Namespace ℕ
       (not_found-map (change b) (same_number b) world.mounts number)
 
   -- a mount that does not go
-  stays : (mount : Mount ℕ) → is_going nat_eq gone mount.number ≡ false
+  pub stays : (mount : Mount ℕ) → is_going nat_eq gone mount.number ≡ false
       → after_going nat_eq world gone mount ≡ record mount { mount_point = option_map (mount_point_left nat_eq world gone) mount.mount_point }
   stays mount isnt = ap (λ c. cond c (detached mount) (record mount { mount_point = option_map (mount_point_left nat_eq world gone) mount.mount_point })) isnt
 
-  same_namespace : (b : Bool) (mount : Mount ℕ) → is_going nat_eq gone mount.number ≡ false → (change b mount).namespace ≡ mount.namespace
+  pub same_namespace : (b : Bool) (mount : Mount ℕ) → is_going nat_eq gone mount.number ≡ false → (change b mount).namespace ≡ mount.namespace
   same_namespace true mount isnt = ap (λ m. m.namespace) (stays mount isnt)
   same_namespace false mount isnt = ap (λ m. m.namespace) (stays mount isnt)
 
@@ -90,7 +90,7 @@ module _ (world : World ℕ) (gone : List ℕ) (namespaces : List (Namespace ℕ
       by (suc n) =
           ap (λ (o : Option (Location ℕ)). last_or place (elim o [ None ↦ place ∷ [] | Some b ↦ place ∷ chain n (mount_point_of_parent nat_eq world gone) b ])) ends
 
-  same_place : (b : Bool) (mount : Mount ℕ) (place : Location ℕ) → mount.mount_point ≡ Some place → is_going nat_eq gone mount.number ≡ false
+  pub same_place : (b : Bool) (mount : Mount ℕ) (place : Location ℕ) → mount.mount_point ≡ Some place → is_going nat_eq gone mount.number ≡ false
       → is_going nat_eq gone place.mount ≡ false → (change b mount).mount_point ≡ Some place
   same_place true mount place p isnt on =
       ap (λ m. m.mount_point) (stays mount isnt) ∙ ap (option_map (mount_point_left nat_eq world gone)) p ∙ ap Some (stays_at place on)
@@ -104,7 +104,7 @@ module _ (world : World ℕ) (gone : List ℕ) (namespaces : List (Namespace ℕ
   private_still Private h = h
   private_still Unbindable h = h
 
-  nowhere_after : (b : Bool) (mount : Mount ℕ) → is_nowhere_or_attached mount ≡ true → is_nowhere_or_attached (change b mount) ≡ true
+  pub nowhere_after : (b : Bool) (mount : Mount ℕ) → is_nowhere_or_attached mount ≡ true → is_nowhere_or_attached (change b mount) ≡ true
   nowhere_after b mount h = by b (is_going nat_eq gone mount.number) refl
     where
       no_place : (o : Option (Location ℕ)) → is_some o ≡ false → not (is_some (option_map (mount_point_left nat_eq world gone) o)) ≡ true
@@ -168,7 +168,7 @@ taken_with_namespaces world gone groups namespaces settles hears =
         (places_lost world gone) groups settles (loses world gone namespaces settles b)
         (subst (GroupsInUseBut groups) (is_changed world gone namespaces b) h))
 
-same_namespaces : (world : World ℕ) (b : Bool) → record (regrouped_by nat_eq b world) { namespaces = world.namespaces } ≡ regrouped_by nat_eq b world
+pub same_namespaces : (world : World ℕ) (b : Bool) → record (regrouped_by nat_eq b world) { namespaces = world.namespaces } ≡ regrouped_by nat_eq b world
 same_namespaces world true = refl
 same_namespaces world false = refl
 

@@ -13,3 +13,4 @@ pub mod Ends
 pub mod Mounting
 pub mod Attaching
 pub mod Pivoting
+pub mod Lazily
