@@ -13,9 +13,9 @@ use Rattle.vt_spec.specs.Machine.Settled.{is_located, mount_lives}
 use Rattle.vt_spec.specs.Machine.Types.{master_after}
 use Rattle.vt_spec.specs.Machine.World.{Filesystem, World, all_locations, mount_at}
 use Rattle.vt_spec.specs.Machine.WorldLaws.{is_nowhere_or_attached}
-use Rattle.vt_letting_go.specs.InUse.{GroupsInUse}
+use Rattle.vt_letting_go.specs.InUse.{AllInUse, GroupsInUse}
 use Rattle.vt_letting_go.specs.Keeping.{LocationsStand}
-use Rattle.vt_letting_go.specs.Leaving.{IsSettledPlain, stands_on_attached}
+use Rattle.vt_letting_go.specs.Leaving.{MountsStand, stands_on_attached}
 use Rattle.vt_letting_go.proofs.Lists.{Among, all_pass, among-append, among-append_left, among-append_right, among-flat_map, among-from_filter, among-from_filter_map, among-from_flat_map, among-from_map, among-map, any_passes, is_among_numbers, map_twice, none_passes, or_first, passes}
 use Rattle.vt_letting_go.proofs.MountingLosers.{Loses, StillAPlace, places_of}
 use Rattle.vt_letting_go.proofs.PlacesLeft.{found_is_there, found_itself, nowhere_parts, number_found, one_location}
@@ -81,7 +81,7 @@ masters_stay (one ∷ made) master group none =
     ∙ ap (λ b. cond b one.1 (master group)) (none one (inl refl))
 
 module _ (world : World ℕ) (filesystems : List (Filesystem ℕ)) (new : Copies ℕ) (place : Location ℕ) (moves : Bool)
-    (first : Mount ℕ) (rest : List (Mount ℕ)) (settles : IsSettledPlain world) (located_well : LocationsStand world)
+    (first : Mount ℕ) (rest : List (Mount ℕ)) (in_use : AllInUse world) (stand : MountsStand world) (located_well : LocationsStand world)
     (at_attached : is_some (mount_at nat_eq world place).namespace ≡ true)
     (of_world : moves ≡ true → (mount : Mount ℕ) → Among mount (first ∷ rest) → Among mount world.mounts) where
   abbrev base : World ℕ
@@ -217,8 +217,8 @@ module _ (world : World ℕ) (filesystems : List (Filesystem ℕ)) (new : Copies
 
   one_of_its_number : (a b : Mount ℕ) → Among a world.mounts → Among b world.mounts → a.number ≡ b.number → a ≡ b
   one_of_its_number a b m n e =
-      sym (found_itself world.mounts settles.mounts.one_number a m) ∙ ap (mount_in nat_eq world.mounts) e
-      ∙ found_itself world.mounts settles.mounts.one_number b n
+      sym (found_itself world.mounts stand.one_number a m) ∙ ap (mount_in nat_eq world.mounts) e
+      ∙ found_itself world.mounts stand.one_number b n
 
   went_is : (mount : Mount ℕ) → Among mount world.mounts → Went mount
   went_is mount m = by moves refl
@@ -312,7 +312,7 @@ module _ (world : World ℕ) (filesystems : List (Filesystem ℕ)) (new : Copies
       by : Went mount → (is_some (went mount).namespace || is_located nat_eq world mount.number) ≡ true
       by (stayed e none) =
           ap (λ (x : Mount ℕ). is_some x.namespace || is_located nat_eq world mount.number) e
-          ∙ passes (mount_lives nat_eq world) world.mounts settles.in_use.mounts mount m
+          ∙ passes (mount_lives nat_eq world) world.mounts in_use.mounts mount m
       by (moved b n e) =
           ap (λ (x : Mount ℕ). is_some x.namespace || is_located nat_eq world mount.number) e
           ∙ or_first (is_some destination.namespace) (is_located nat_eq world mount.number) at_attached
@@ -334,7 +334,7 @@ module _ (world : World ℕ) (filesystems : List (Filesystem ℕ)) (new : Copies
       by b f (moved g n e) = at_a_namespace (ap (λ (x : Mount ℕ). is_some x.namespace) e ∙ at_attached)
       by true f (stayed e none) = at_a_namespace (ap (λ (x : Mount ℕ). is_some x.namespace) e ∙ f)
       by false f (stayed e none) =
-          let was : is_nowhere_or_attached mount ≡ true = passes is_nowhere_or_attached world.mounts settles.mounts.nowhere mount m in
+          let was : is_nowhere_or_attached mount ≡ true = passes is_nowhere_or_attached world.mounts stand.nowhere mount m in
           ap (λ x. is_nowhere_or_attached (push x)) e
           ∙ ⊎_elim
           (λ same. ap is_nowhere_or_attached same ∙ was)
@@ -364,7 +364,7 @@ module _ (world : World ℕ) (filesystems : List (Filesystem ℕ)) (new : Copies
       let t = among-from_filter_map (λ x. x.mount_point) world.mounts location at in
       let on = (and_parts (is_some (mount_at nat_eq world location).namespace) true
       (sym (ap (λ o. list_all (λ l. is_some (mount_at nat_eq world l).namespace) (option_to_list o)) t.2)
-      ∙ passes (stands_on_attached world) world.mounts settles.mounts.on_attached t.0 t.1)).0 in
+      ∙ passes (stands_on_attached world) world.mounts stand.on_attached t.0 t.1)).0 in
       ap (λ n. is_among nat_eq n (map (λ x. x.number) world.mounts)) (sym (number_found world.mounts location.mount))
       ∙ numbered (mount_at nat_eq world location) (found_is_there world.mounts location.mount on))
       (among-append (all_locations world ++ map root_of world.mounts) (filter_map (λ mount. mount.mount_point) world.mounts) location m)
@@ -564,7 +564,7 @@ module _ (world : World ℕ) (filesystems : List (Filesystem ℕ)) (new : Copies
       let its = made_has_it part.0 origin.0 made (ap (group_made nat_eq base new tree parts part.0) (sym origin.2) ∙ t.2) in
       true≢false (sym (any_passes (is_member_of nat_eq group) after.mounts stands.0 stands.1
       (is_its_member stands.0 origin.0 part.0 group made.0 stands.2 its same)) ∙ none)))
-      ∙ settles.in_use.groups group
+      ∙ in_use.groups group
       (none_passes (is_member_of nat_eq group) world.mounts (λ mount m.
       false_from_ne_true (is_member_of nat_eq group mount) (λ is.
       true≢false (sym (any_passes (is_member_of nat_eq group) after.mounts (last mount) (old_there mount m) (member_still mount m group is)) ∙ none))))

@@ -10,11 +10,13 @@ use Rattle.vt_spec.specs.Machine.Outcome.Mounting.{new_mount, plain_filesystem, 
 use Rattle.vt_spec.proofs.Lists.{among_from_contains, contains_from_among}
 use Rattle.vt_letting_go.specs.Attaching.{BindsKeepAll, CopiesKeepAll, MovedTreesLetGo, MovesLetGo, NewFilesystemsKeepAll, NewMountsOfTreesKeepAll, inodes_of_place, is_attached}
 use Rattle.vt_letting_go.specs.Keeping.{LocationsStand}
-use Rattle.vt_letting_go.specs.Leaving.{IsSettledPlain}
+use Rattle.vt_letting_go.specs.Leaving.{MountsStand}
+use Rattle.vt_letting_go.specs.InUse.{AllInUse}
 use Rattle.vt_letting_go.specs.OneByOne.{let_go_inodes}
 use Rattle.vt_letting_go.proofs.Attached.{attached_groups, attached_loses, first_shown}
-use Rattle.vt_letting_go.proofs.Lists.{Among, all_from_among, among-append, among-from_filter, among-from_flat_map, among_from_all, or_first}
-use Rattle.vt_letting_go.proofs.MountingLosers.{IsNew, losers_go, nothing_lost}
+use Rattle.vt_letting_go.proofs.Lists.{Among, all_from_among, among-append, among-append_left, among-from_filter, among-from_flat_map, among_from_all, or_first}
+use Rattle.vt_letting_go.proofs.MountingLosers.{Comes, IsNew, losers_go}
+use Rattle.vt_letting_go.proofs.MountingOverlays.{nothing_lost}
 use Rattle.vt_letting_go.proofs.PlacesLeft.{found_is_there}
 
 -- the mounts of a tree are its first and mounts of the list
@@ -31,43 +33,45 @@ tree_among (suc depth) mounts top mount m =
 
 -- a tree of copies, of mounts that show filesystems of the world or a new one
 copies_with : (world : World ℕ) (filesystems : List (Filesystem ℕ)) (new : Copies ℕ) (place : Location ℕ) (first : Mount ℕ) (rest : List (Mount ℕ))
-    → IsSettledPlain world → LocationsStand world → is_attached world place.mount ≡ true
-    → ((filesystem : Filesystem ℕ) → Among filesystem filesystems
-    → Among filesystem world.filesystems ⊎ IsNew (attached_by nat_eq (record world { filesystems = filesystems }) new place false (first ∷ rest)) filesystem)
+    → AllInUse world → MountsStand world → LocationsStand world → is_attached world place.mount ≡ true
+    → Comes world (attached_by nat_eq (record world { filesystems = filesystems }) new place false (first ∷ rest))
     → settled nat_eq (attached_by nat_eq (record world { filesystems = filesystems }) new place false (first ∷ rest))
     ≡ attached_by nat_eq (record world { filesystems = filesystems }) new place false (first ∷ rest)
-copies_with world filesystems new place first rest settles located at_attached come =
-    nothing_lost world after.mounts after.master filesystems settles
-    (attached_loses world filesystems new place false first rest settles located at_attached (λ e. absurd (true≢false (sym e))))
-    (attached_groups world filesystems new place false first rest settles located at_attached (λ e. absurd (true≢false (sym e))))
+copies_with world filesystems new place first rest in_use stand located at_attached come =
+    nothing_lost world after.mounts after.master filesystems in_use stand
+    (attached_loses world filesystems new place false first rest in_use stand located at_attached (λ e. absurd (true≢false (sym e))))
+    (attached_groups world filesystems new place false first rest in_use stand located at_attached (λ e. absurd (true≢false (sym e))))
     come
   where
     after : World ℕ
     after = attached_by nat_eq (record world { filesystems = filesystems }) new place false (first ∷ rest)
 
 pub copies_keep_all : CopiesKeepAll
-copies_keep_all world new place first rest settles located at_attached =
-    copies_with world world.filesystems new place first rest settles located at_attached (λ f m. inl m)
+copies_keep_all world new place first rest in_use stand located at_attached =
+    copies_with world world.filesystems new place first rest in_use stand located at_attached (record { kept = λ f m. m; new = λ f m. inl m })
 
 pub binds_keep_all : BindsKeepAll
-binds_keep_all fresh world task source place false settles located at_attached =
+binds_keep_all fresh world task source place false in_use stand located at_attached =
     copies_keep_all world (copies_from nat_eq fresh (parts_of nat_eq world place) (bind_tree nat_eq world source false)) place (bound nat_eq world source) []
-    settles located at_attached
-binds_keep_all fresh world task source place true settles located at_attached =
+    in_use stand located at_attached
+binds_keep_all fresh world task source place true in_use stand located at_attached =
     copies_keep_all world (copies_from nat_eq fresh (parts_of nat_eq world place) (bind_tree nat_eq world source true)) place (bound nat_eq world source)
     (flat_map (bindable_tree nat_eq (length world.mounts) world.mounts)
     (filter (stands_under nat_eq world source) (bindable_children nat_eq world.mounts source.mount)))
-    settles located at_attached
+    in_use stand located at_attached
 
 pub new_filesystems_keep_all : NewFilesystemsKeepAll
-new_filesystems_keep_all fresh world place filesystem flags settles located at_attached named =
-    copies_with world (world.filesystems ++ (filesystem ∷ [])) new place mount [] settles located at_attached
-    (λ f m. ⊎_elim inl
-    (λ last. ⊎_elim
-    (λ same. inr (subst (IsNew after) (sym same)
-    (shown.0, (shown.1.0, (shown.1.1.0, (eq-eqb filesystem.number shown.0.filesystem (sym shown.1.1.1), named))))))
-    (λ none. absurd none) last)
-    (among-append world.filesystems (filesystem ∷ []) f m))
+new_filesystems_keep_all fresh world place filesystem flags in_use stand located at_attached named =
+    copies_with world (world.filesystems ++ (filesystem ∷ [])) new place mount [] in_use stand located at_attached
+    (record {
+      kept = λ f m. among-append_left world.filesystems (filesystem ∷ []) f m;
+      new = λ f m. ⊎_elim inl
+          (λ last. ⊎_elim
+          (λ same. inr (subst (IsNew after) (sym same)
+          (shown.0, (shown.1.0, (shown.1.1.0, (eq-eqb filesystem.number shown.0.filesystem (sym shown.1.1.1), named))))))
+          (λ none. absurd none) last)
+          (among-append world.filesystems (filesystem ∷ []) f m);
+    })
   where
     mount : Mount ℕ
     mount = new_mount filesystem.number filesystem.files.tree.root flags
@@ -82,12 +86,12 @@ new_filesystems_keep_all fresh world place filesystem flags settles located at_a
     after = attached_by nat_eq base new place false (mount ∷ [])
 
     shown : (x : Mount ℕ) × (Among x after.mounts × ((mount_lives nat_eq after x ≡ true) × (x.filesystem ≡ filesystem.number)))
-    shown = first_shown world (world.filesystems ++ (filesystem ∷ [])) new place false mount [] settles located at_attached
+    shown = first_shown world (world.filesystems ++ (filesystem ∷ [])) new place false mount [] in_use stand located at_attached
         (λ e. absurd (true≢false (sym e))) refl
 
 pub new_mounts_of_trees_keep_all : NewMountsOfTreesKeepAll
-new_mounts_of_trees_keep_all fresh world task place flags settles located at_attached =
-    new_filesystems_keep_all (odds fresh) world place (plain_filesystem nat_eq fresh) flags settles located at_attached
+new_mounts_of_trees_keep_all fresh world task place flags in_use stand located at_attached =
+    new_filesystems_keep_all (odds fresh) world place (plain_filesystem nat_eq fresh) flags in_use stand located at_attached
     (ap (λ b. b && true) (or_first (nat_eq root root) _ (eq-eqb root root refl)))
   where
     root : ℕ
@@ -96,8 +100,8 @@ new_mounts_of_trees_keep_all fresh world task place flags settles located at_att
 pub moved_trees_let_go : MovedTreesLetGo
 moved_trees_let_go world new place first rest settles located at_attached of_world =
     losers_go world after.mounts after.master world.namespaces world.tasks [] (option_to_list first.mount_point) [] settles
-    (attached_loses world world.filesystems new place true first rest settles located at_attached its)
-    (λ group among none. attached_groups world world.filesystems new place true first rest settles located at_attached its group none)
+    (attached_loses world world.filesystems new place true first rest settles.in_use settles.mounts located at_attached its)
+    (λ group among none. attached_groups world world.filesystems new place true first rest settles.in_use settles.mounts located at_attached its group none)
   where
     after : World ℕ
     after = attached_by nat_eq world new place true (first ∷ rest)

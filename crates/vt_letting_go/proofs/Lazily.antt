@@ -3,16 +3,16 @@ use Rattle.std.proofs.Common.{◌≡◌, refl, sym, ap, subst, ◌∙◌, ◌⊎
 use Rattle.std.specs.List.{list_all, list_any}
 use Rattle.std.proofs.lemmas.Bool.{and_parts, false_from_ne_true, or_cases}
 use Rattle.vt_spec.specs.Lists.{folded, holds_of, is_among}
-use Rattle.vt_spec.specs.Machine.Detach.{deepest_first, going, is_going, mount_point_left, mounts_on, taken_away, unmounted, unmounted_if_there}
+use Rattle.vt_spec.specs.Machine.Detach.{deepest_first, going, is_going, lazily_unmounted, mount_point_left, mounts_on, taken_away, unmounted, unmounted_if_there}
 use Rattle.vt_spec.specs.Machine.Mounts.{Location, Mount, Propagation, detached, group_of, mount_in, mount_tree, root_of}
 use Rattle.vt_spec.specs.Machine.Mounts.Propagation.{Private, Shared, Slave, Unbindable}
 use Rattle.vt_spec.specs.Machine.Receives.{has_members, heir, inherited, is_member_of, lost_a_group, regrouped_by}
 use Rattle.vt_spec.specs.Machine.Settled.{is_located, mount_lives, settled}
 use Rattle.vt_spec.specs.Machine.World.{World, mount_at, mount_numbered}
 use Rattle.vt_spec.specs.Machine.WorldLaws.{is_nowhere_or_attached}
-use Rattle.vt_letting_go.specs.InUse.{GroupsInUse}
+use Rattle.vt_letting_go.specs.InUse.{AllInUse, GroupsInUse}
 use Rattle.vt_letting_go.specs.Lazily.{LazyUnmountsLetGo, MountsOnDirectoriesLetGo, TreesLetGo, UnmountsLetGo, detached_between, groups_of_mounts, is_detached_in, numbers_of_trees, used_by_gone}
-use Rattle.vt_letting_go.specs.Leaving.{IsSettledPlain, stands_on_attached}
+use Rattle.vt_letting_go.specs.Leaving.{IsSettledPlain, MountsStand, stands_on_attached}
 use Rattle.vt_letting_go.specs.Mounting.{loses_its_place, places_lost}
 use Rattle.vt_letting_go.specs.OneByOne.{GroupsInUseBut, let_go}
 use Rattle.vt_letting_go.proofs.Detached.{found-map, not_found-map}
@@ -90,8 +90,8 @@ module _ (world : World ℕ) (gone : List ℕ) where
   masters_end true group e = ap (heir nat_eq without) e
   masters_end false group e = e
 
-pub event_groups : (world : World ℕ) (gone : List ℕ) → IsSettledPlain world → GroupsInUseBut (groups_of_mounts world gone) (taken_away nat_eq world gone)
-event_groups world gone settles = subst (GroupsInUseBut (groups_of_mounts world gone)) (sym (one_event world gone b)) then_
+pub event_groups : (world : World ℕ) (gone : List ℕ) → GroupsInUse world → GroupsInUseBut (groups_of_mounts world gone) (taken_away nat_eq world gone)
+event_groups world gone in_use = subst (GroupsInUseBut (groups_of_mounts world gone)) (sym (one_event world gone b)) then_
   where
     b : Bool
     b = hands_on world gone
@@ -101,7 +101,7 @@ event_groups world gone settles = subst (GroupsInUseBut (groups_of_mounts world 
 
     then_ : GroupsInUseBut (groups_of_mounts world gone) after
     then_ =
-        groups_but world after gone settles.in_use.groups
+        groups_but world after gone in_use
         (λ mount m isnt group is.
         any_passes (is_member_of nat_eq group) after.mounts (change world gone b mount) (among-map (change world gone b) world.mounts mount m)
         (stays_member world gone b mount isnt group is))
@@ -110,7 +110,7 @@ event_groups world gone settles = subst (GroupsInUseBut (groups_of_mounts world 
 one_event_lets_go : (world : World ℕ) (gone : List ℕ) → IsSettledPlain world
     → settled nat_eq (taken_away nat_eq world gone) ≡ let_go (taken_away nat_eq world gone) (used_by_gone world gone)
 one_event_lets_go world gone settles =
-    taking_away_lets_go world gone (groups_of_mounts world gone) settles (event_groups world gone settles)
+    taking_away_lets_go world gone (groups_of_mounts world gone) settles (event_groups world gone settles.in_use.groups)
 
 pub unmounts_let_go : UnmountsLetGo
 unmounts_let_go fresh world task mount settles = one_event_lets_go world (going nat_eq world (mount_numbered nat_eq world mount)) settles
@@ -126,28 +126,28 @@ mounts_on_directories_let_go world directory settles =
 
 -- What a world is after some: each mount is in its namespace or in none, and what is in one keeps its place while the
 -- mount that it is on is in one
-record Faded (world now : World ℕ) : Type 0 where
-  change : Mount ℕ → Mount ℕ
-  is : now ≡ changed world (map change world.mounts) now.master world.namespaces world.tasks
-  number : (mount : Mount ℕ) → (change mount).number ≡ mount.number
-  root : (mount : Mount ℕ) → root_of (change mount) ≡ root_of mount
-  filesystem : (mount : Mount ℕ) → (change mount).filesystem ≡ mount.filesystem
-  place : (mount : Mount ℕ) (at : Location ℕ) → mount.mount_point ≡ Some at → is_some (change mount).namespace ≡ true
+pub record Faded (world now : World ℕ) : Type 0 where
+  pub change : Mount ℕ → Mount ℕ
+  pub is : now ≡ changed world (map change world.mounts) now.master world.namespaces world.tasks
+  pub number : (mount : Mount ℕ) → (change mount).number ≡ mount.number
+  pub root : (mount : Mount ℕ) → root_of (change mount) ≡ root_of mount
+  pub filesystem : (mount : Mount ℕ) → (change mount).filesystem ≡ mount.filesystem
+  pub place : (mount : Mount ℕ) (at : Location ℕ) → mount.mount_point ≡ Some at → is_some (change mount).namespace ≡ true
       → is_some (change (mount_at nat_eq world at)).namespace ≡ true → (change mount).mount_point ≡ Some at
-  nowhere : (mount : Mount ℕ) → Among mount world.mounts → is_nowhere_or_attached (change mount) ≡ true
-  member : (mount : Mount ℕ) → is_some (change mount).namespace ≡ true → (group : ℕ) → is_member_of nat_eq group mount ≡ true
+  pub nowhere : (mount : Mount ℕ) → Among mount world.mounts → is_nowhere_or_attached (change mount) ≡ true
+  pub member : (mount : Mount ℕ) → is_some (change mount).namespace ≡ true → (group : ℕ) → is_member_of nat_eq group mount ≡ true
       → is_member_of nat_eq group (change mount) ≡ true
-  master : (group : ℕ) → world.master group ≡ None → now.master group ≡ None
+  pub master : (group : ℕ) → world.master group ≡ None → now.master group ≡ None
 
-begun : (world : World ℕ) → IsSettledPlain world → Faded world world
-begun world settles = record {
+begun : (world : World ℕ) → MountsStand world → Faded world world
+begun world stand = record {
   change = λ mount. mount;
   is = ap (λ mounts. changed world mounts world.master world.namespaces world.tasks) (sym (map_same (λ mount. mount) world.mounts (λ mount m. refl)));
   number = λ mount. refl;
   root = λ mount. refl;
   filesystem = λ mount. refl;
   place = λ mount at e here there. e;
-  nowhere = λ mount m. passes is_nowhere_or_attached world.mounts settles.mounts.nowhere mount m;
+  nowhere = λ mount m. passes is_nowhere_or_attached world.mounts stand.nowhere mount m;
   member = λ mount here group is. is;
   master = λ group e. e;
 }
@@ -214,7 +214,7 @@ all_events world (mount ∷ mounts) now faded =
     by true = fades world now faded (going nat_eq now (mount_numbered nat_eq now mount.number))
     by false = faded
 
-module _ (world now : World ℕ) (settles : IsSettledPlain world) (faded : Faded world now) where
+module _ (world now : World ℕ) (in_use : AllInUse world) (stand : MountsStand world) (faded : Faded world now) where
   abbrev last : World ℕ
   last = changed world (map faded.change world.mounts) now.master world.namespaces world.tasks
 
@@ -223,7 +223,7 @@ module _ (world now : World ℕ) (settles : IsSettledPlain world) (faded : Faded
 
   found_now : (mount : Mount ℕ) → Among mount world.mounts → mount_numbered nat_eq now mount.number ≡ faded.change mount
   found_now mount m =
-      let itself = found_itself world.mounts settles.mounts.one_number mount m in
+      let itself = found_itself world.mounts stand.one_number mount m in
       ap (λ w. mount_numbered nat_eq w mount.number) faded.is
       ∙ found-map faded.change faded.number world.mounts mount.number mount m itself refl
       ∙ ap faded.change itself
@@ -246,7 +246,7 @@ module _ (world now : World ℕ) (settles : IsSettledPlain world) (faded : Faded
   placed_in_one mount m at p =
       ⊎_elim (λ is. is)
       (λ out. absurd (true≢false
-      (sym (ap is_some p) ∙ (nowhere_parts mount (passes is_nowhere_or_attached world.mounts settles.mounts.nowhere mount m) out).0)))
+      (sym (ap is_some p) ∙ (nowhere_parts mount (passes is_nowhere_or_attached world.mounts stand.nowhere mount m) out).0)))
       (decided (is_some mount.namespace))
 
   stands_in_one : (mount : Mount ℕ) → Among mount world.mounts → (at : Location ℕ) → mount.mount_point ≡ Some at
@@ -254,13 +254,13 @@ module _ (world now : World ℕ) (settles : IsSettledPlain world) (faded : Faded
   stands_in_one mount m at p =
       (and_parts (is_some (mount_at nat_eq world at).namespace) true
       (sym (ap (λ o. list_all (λ l. is_some (mount_at nat_eq world l).namespace) (option_to_list o)) p)
-      ∙ passes (stands_on_attached world) world.mounts settles.mounts.on_attached mount m)).0
+      ∙ passes (stands_on_attached world) world.mounts stand.on_attached mount m)).0
 
   member_is_in_one : (mount : Mount ℕ) → Among mount world.mounts → (group : ℕ) → is_member_of nat_eq group mount ≡ true → is_some mount.namespace ≡ true
   member_is_in_one mount m group is =
       ⊎_elim (λ in_one. in_one)
       (λ out. absurd (true≢false
-      (sym is ∙ private_is_no_member group mount (nowhere_parts mount (passes is_nowhere_or_attached world.mounts settles.mounts.nowhere mount m) out).1)))
+      (sym is ∙ private_is_no_member group mount (nowhere_parts mount (passes is_nowhere_or_attached world.mounts stand.nowhere mount m) out).1)))
       (decided (is_some mount.namespace))
 
   lives : (mount : Mount ℕ) → Among mount world.mounts → is_among nat_eq mount.number lost ≡ false → mount_lives nat_eq last (faded.change mount) ≡ true
@@ -269,7 +269,7 @@ module _ (world now : World ℕ) (settles : IsSettledPlain world) (faded : Faded
       (λ in_one. or_first (is_some (faded.change mount).namespace) (is_located nat_eq last (faded.change mount).number) (in_one_still mount m in_one isnt))
       (λ at. or_second (is_some (faded.change mount).namespace) (is_located nat_eq last (faded.change mount).number)
       (ap (is_located nat_eq world) (faded.number mount) ∙ at))
-      (or_cases (is_some mount.namespace) (is_located nat_eq world mount.number) (passes (mount_lives nat_eq world) world.mounts settles.in_use.mounts mount m))
+      (or_cases (is_some mount.namespace) (is_located nat_eq world mount.number) (passes (mount_lives nat_eq world) world.mounts in_use.mounts mount m))
 
   place_still : (mount : Mount ℕ) → Among mount world.mounts → (at : Location ℕ) → mount.mount_point ≡ Some at
       → StillAPlace last.mounts lost at ⊎ Among at (places_lost world lost)
@@ -294,7 +294,7 @@ module _ (world now : World ℕ) (settles : IsSettledPlain world) (faded : Faded
       ))
       (decided (loses_its_place lost mount))
 
-  loses : Loses world last lost (places_lost world lost)
+  pub loses : Loses world last lost (places_lost world lost)
   loses = record {
     images = λ mount m. (faded.change mount, (among-map faded.change world.mounts mount m, (faded.root mount, faded.filesystem mount)));
     shown = λ location m. ⊎_elim (λ e. e)
@@ -310,22 +310,29 @@ module _ (world now : World ℕ) (settles : IsSettledPlain world) (faded : Faded
         let from = among-from_map faded.change world.mounts x m in ap is_nowhere_or_attached from.2 ∙ faded.nowhere from.0 from.1);
   }
 
-  groups : GroupsInUseBut (groups_of_mounts world lost) last
+  pub groups : GroupsInUseBut (groups_of_mounts world lost) last
   groups =
-      groups_but world last lost settles.in_use.groups
+      groups_but world last lost in_use.groups
       (λ mount m isnt group is.
       any_passes (is_member_of nat_eq group) last.mounts (faded.change mount) (among-map faded.change world.mounts mount m)
       (faded.member mount (in_one_still mount m (member_is_in_one mount m group is) isnt) group is))
       faded.master
 
-  faded_lets_go : settled nat_eq now ≡ let_go now (used_by_gone world lost)
-  faded_lets_go =
-      subst (λ w. settled nat_eq w ≡ let_go w (used_by_gone world lost)) (sym faded.is)
-      (losers_go world last.mounts now.master world.namespaces world.tasks lost (places_lost world lost) (groups_of_mounts world lost) settles loses groups)
+pub faded_lets_go : (world now : World ℕ) → IsSettledPlain world → Faded world now
+    → settled nat_eq now ≡ let_go now (used_by_gone world (detached_between world now))
+faded_lets_go world now settles faded =
+    subst (λ w. settled nat_eq w ≡ let_go w (used_by_gone world gone)) (sym faded.is)
+    (losers_go world (map faded.change world.mounts) now.master world.namespaces world.tasks gone (places_lost world gone) (groups_of_mounts world gone) settles
+    (loses world now settles.in_use settles.mounts faded) (groups world now settles.in_use settles.mounts faded))
+  where
+    gone : List ℕ
+    gone = detached_between world now
+
+-- a lazy unmount is several events
+pub lazily_fades : (world : World ℕ) (number : ℕ) → MountsStand world → Faded world (lazily_unmounted nat_eq world number)
+lazily_fades world number stand =
+    all_events world (deepest_first nat_eq world (mount_tree nat_eq world.mounts (mount_numbered nat_eq world number))) world (begun world stand)
 
 pub lazy_unmounts_let_go : LazyUnmountsLetGo
 lazy_unmounts_let_go fresh world task number settles =
-    faded_lets_go world (folded (unmounted_if_there nat_eq) world events) settles (all_events world events world (begun world settles))
-  where
-    events : List (Mount ℕ)
-    events = deepest_first nat_eq world (mount_tree nat_eq world.mounts (mount_numbered nat_eq world number))
+    faded_lets_go world (lazily_unmounted nat_eq world number) settles (lazily_fades world number settles.mounts)

@@ -21,6 +21,7 @@ pub mod MountsAdded
 pub mod LookedUp
 pub mod OfWorlds
 pub mod MountingLosers
+pub mod MountingOverlays
 pub mod MountingTaken
 pub mod MountingMoved
 pub mod Attached

@@ -11,7 +11,8 @@ use Rattle.vt_spec.specs.Machine.Receives.{heir, inherited, inheriting, lost_a_g
 use Rattle.vt_spec.specs.Machine.Settled.{is_located, mount_lives, settled}
 use Rattle.vt_spec.specs.Machine.World.{Namespace, World, mount_at, with_mounts}
 use Rattle.vt_spec.specs.Machine.WorldLaws.{is_nowhere_or_attached, is_private}
-use Rattle.vt_letting_go.specs.Leaving.{IsSettledPlain}
+use Rattle.vt_letting_go.specs.InUse.{AllInUse}
+use Rattle.vt_letting_go.specs.Leaving.{IsSettledPlain, MountsStand}
 use Rattle.vt_letting_go.specs.Mounting.{EndingLetsGo, TakingAwayLetsGo, ended_mounts, loses_its_place, places_lost, used_by_mounts}
 use Rattle.vt_letting_go.specs.OneByOne.{GroupsInUseBut, let_go}
 use Rattle.vt_letting_go.proofs.Detached.{found-map, not_found-map}
@@ -126,8 +127,8 @@ module _ (world : World ℕ) (gone : List ℕ) (namespaces : List (Namespace ℕ
           ∙ whole (inherited nat_eq without mount.propagation) (private_still mount.propagation) (is_some mount.namespace) refl
       by false false e = ap is_nowhere_or_attached (stays mount e) ∙ whole mount.propagation (λ p. p) (is_some mount.namespace) refl
 
-  module _ (settles : IsSettledPlain world) where
-    loses : (b : Bool) → Loses world (after b) gone (places_lost world gone)
+  module _ (in_use : AllInUse world) (stand : MountsStand world) where
+    pub loses : (b : Bool) → Loses world (after b) gone (places_lost world gone)
     loses b = record {
       images = λ mount m. (change b mount, (among-map (change b) world.mounts mount m, (same_root b mount, same_filesystem b mount)));
       shown = λ location m. shows_the_same b location.mount;
@@ -135,7 +136,7 @@ module _ (world : World ℕ) (gone : List ℕ) (namespaces : List (Namespace ℕ
           let other : is_going nat_eq gone from.0.number ≡ false = ap (λ n. is_among nat_eq n gone) (sym (same_number b from.0) ∙ ap (λ x. x.number) (sym from.2)) ∙ isnt in
           ap (mount_lives nat_eq world) from.2
           ∙ (λ i. is_some (same_namespace b from.0 other i) || is_located nat_eq world (same_number b from.0 i))
-          ∙ passes (mount_lives nat_eq world) world.mounts settles.in_use.mounts from.0 from.1;
+          ∙ passes (mount_lives nat_eq world) world.mounts in_use.mounts from.0 from.1;
       locations = λ location m. inl (inl m);
       places = λ mount m place p. ⊎_elim
           (λ is. inr (among-filter_map (λ x. x.mount_point) (filter (loses_its_place gone) world.mounts) mount place
@@ -147,7 +148,7 @@ module _ (world : World ℕ) (gone : List ℕ) (namespaces : List (Namespace ℕ
       nowhere = all_pass is_nowhere_or_attached (map (change b) world.mounts) (λ last m.
           let from = among-from_map (change b) world.mounts last m in
           ap is_nowhere_or_attached from.2
-          ∙ nowhere_after b from.0 (passes is_nowhere_or_attached world.mounts settles.mounts.nowhere from.0 from.1));
+          ∙ nowhere_after b from.0 (passes is_nowhere_or_attached world.mounts stand.nowhere from.0 from.1));
     }
 
 -- the world without mounts, with other namespaces
@@ -165,7 +166,7 @@ taken_with_namespaces world gone groups namespaces settles hears =
     by b h =
         subst (λ w. settled nat_eq w ≡ let_go w (used_by_mounts world gone (places_lost world gone) groups)) (sym (is_changed world gone namespaces b))
         (losers_go world (map (change world gone namespaces b) world.mounts) (masters world gone namespaces b) namespaces world.tasks gone
-        (places_lost world gone) groups settles (loses world gone namespaces settles b)
+        (places_lost world gone) groups settles (loses world gone namespaces settles.in_use settles.mounts b)
         (subst (GroupsInUseBut groups) (is_changed world gone namespaces b) h))
 
 pub same_namespaces : (world : World ℕ) (b : Bool) → record (regrouped_by nat_eq b world) { namespaces = world.namespaces } ≡ regrouped_by nat_eq b world

@@ -8,15 +8,15 @@ use Rattle.vt_spec.specs.Machine.Settled.{is_located, mount_lives}
 use Rattle.vt_spec.specs.Machine.World.{Task, World, all_locations, locations_of, mount_numbered}
 use Rattle.vt_spec.specs.Machine.WorldLaws.{is_nowhere_or_attached}
 use Rattle.vt_letting_go.specs.Attaching.{is_attached}
-use Rattle.vt_letting_go.specs.InUse.{GroupsInUse}
-use Rattle.vt_letting_go.specs.Leaving.{IsSettledPlain}
+use Rattle.vt_letting_go.specs.InUse.{AllInUse, GroupsInUse}
+use Rattle.vt_letting_go.specs.Leaving.{MountsStand}
 use Rattle.vt_letting_go.specs.Pivoting.{PivotedLetsGo, PivotsLetGo}
 use Rattle.vt_letting_go.proofs.Detached.{found-map, not_found-map}
 use Rattle.vt_letting_go.proofs.Lists.{Among, all_pass, among-flat_map, among-from_flat_map, among-from_map, among-map, any-map, any_passes, one_passes, or_first, or_second, passes}
 use Rattle.vt_letting_go.proofs.MountingLosers.{Loses, StillALocation, StillAPlace, losers_go}
 use Rattle.vt_letting_go.proofs.PlacesLeft.{found_is_there, found_itself, one_location}
 
-module _ (world : World ℕ) (namespace old new : ℕ) (put : Location ℕ) (settles : IsSettledPlain world)
+module _ (world : World ℕ) (namespace old new : ℕ) (put : Location ℕ) (in_use : AllInUse world) (stand : MountsStand world)
     (old_attached : is_attached world old ≡ true) (new_attached : is_attached world new ≡ true) where
   abbrev root : Mount ℕ
   root = mount_numbered nat_eq world old
@@ -38,8 +38,8 @@ module _ (world : World ℕ) (namespace old new : ℕ) (put : Location ℕ) (set
 
   itself : (a b : Mount ℕ) → Among a world.mounts → Among b world.mounts → nat_eq a.number b.number ≡ true → a ≡ b
   itself a b m n e =
-      sym (found_itself world.mounts settles.mounts.one_number a m) ∙ ap (mount_in nat_eq world.mounts) (eqb-true a.number b.number e)
-      ∙ found_itself world.mounts settles.mounts.one_number b n
+      sym (found_itself world.mounts stand.one_number a m) ∙ ap (mount_in nat_eq world.mounts) (eqb-true a.number b.number e)
+      ∙ found_itself world.mounts stand.one_number b n
 
   -- a mount keeps all but its place
   keeps : {A : Type 0} (part : Mount ℕ → A) → ((mount : Mount ℕ) (at : Option (Location ℕ)) → part (record mount { mount_point = at }) ≡ part mount)
@@ -132,7 +132,7 @@ module _ (world : World ℕ) (namespace old new : ℕ) (put : Location ℕ) (set
       ∙ old_attached))
       (still t.0 t.1))
       (or_cases (is_some mount.namespace) (is_located nat_eq world mount.number)
-      (passes (mount_lives nat_eq world) world.mounts settles.in_use.mounts mount m))
+      (passes (mount_lives nat_eq world) world.mounts in_use.mounts mount m))
 
   nowhere : (mount : Mount ℕ) → Among mount world.mounts → is_nowhere_or_attached (change mount) ≡ true
   nowhere mount m = by (which mount m)
@@ -143,7 +143,7 @@ module _ (world : World ℕ) (namespace old new : ℕ) (put : Location ℕ) (set
       by : Is mount → is_nowhere_or_attached (change mount) ≡ true
       by (is_target e) = in_one (ap (λ (x : Mount ℕ). is_some x.namespace) e ∙ new_attached)
       by (is_root e) = in_one (ap (λ (x : Mount ℕ). is_some x.namespace) e ∙ old_attached)
-      by (is_other e) = ap is_nowhere_or_attached e ∙ passes is_nowhere_or_attached world.mounts settles.mounts.nowhere mount m
+      by (is_other e) = ap is_nowhere_or_attached e ∙ passes is_nowhere_or_attached world.mounts stand.nowhere mount m
 
   place_still : (mount : Mount ℕ) → Among mount world.mounts → (place : Location ℕ) → mount.mount_point ≡ Some place
       → StillAPlace after.mounts [] place ⊎ Among place (option_to_list target.mount_point)
@@ -156,7 +156,7 @@ module _ (world : World ℕ) (namespace old new : ℕ) (put : Location ℕ) (set
           inl (change target, (among-map change world.mounts target target_there, (target_gets ∙ ap (λ (x : Mount ℕ). x.mount_point) (sym e) ∙ p, refl)))
       by (is_other e) = inl (change mount, (among-map change world.mounts mount m, (ap (λ (x : Mount ℕ). x.mount_point) e ∙ p, refl)))
 
-  loses : Loses world after [] (option_to_list target.mount_point)
+  pub loses : Loses world after [] (option_to_list target.mount_point)
   loses = record {
     images = λ mount m. (
       change mount,
@@ -173,16 +173,16 @@ module _ (world : World ℕ) (namespace old new : ℕ) (put : Location ℕ) (set
         let from = among-from_map change world.mounts last m in ap is_nowhere_or_attached from.2 ∙ nowhere from.0 from.1);
   }
 
-  groups : GroupsInUse after
+  pub groups : GroupsInUse after
   groups group none =
-      settles.in_use.groups group
+      in_use.groups group
       (sym (any-map (is_member_of nat_eq group) change world.mounts (λ mount. keeps (is_member_of nat_eq group) (λ x at. refl) mount)) ∙ none)
 
 pub pivoted_lets_go : PivotedLetsGo
 pivoted_lets_go world namespace old new put settles old_attached new_attached =
     losers_go world last.mounts world.master world.namespaces last.tasks [] (option_to_list (mount_numbered nat_eq world new).mount_point) [] settles
-    (loses world namespace old new put settles old_attached new_attached)
-    (λ group among none. groups world namespace old new put settles old_attached new_attached group none)
+    (loses world namespace old new put settles.in_use settles.mounts old_attached new_attached)
+    (λ group among none. groups world namespace old new put settles.in_use settles.mounts old_attached new_attached group none)
   where
     last : World ℕ
     last = pivoted nat_eq world namespace (mount_numbered nat_eq world old) (mount_numbered nat_eq world new) put

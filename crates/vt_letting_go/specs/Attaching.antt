@@ -10,7 +10,8 @@ use Rattle.vt_spec.specs.Machine.Permits.Permit.{ToBind, ToMountPlain, ToMove}
 use Rattle.vt_spec.specs.Machine.Settled.{settled}
 use Rattle.vt_spec.specs.Machine.World.{Filesystem, Task, World, mount_numbered}
 use Rattle.vt_letting_go.specs.Keeping.{LocationsStand, has_only_named}
-use Rattle.vt_letting_go.specs.Leaving.{IsSettledPlain}
+use Rattle.vt_letting_go.specs.InUse.{AllInUse}
+use Rattle.vt_letting_go.specs.Leaving.{IsSettledPlain, MountsStand}
 use Rattle.vt_letting_go.specs.Mounting.{inode_at}
 use Rattle.vt_letting_go.specs.OneByOne.{Inode, let_go_inodes}
 
@@ -18,12 +19,12 @@ use Rattle.vt_letting_go.specs.OneByOne.{Inode, let_go_inodes}
 abbrev pub is_attached : World ℕ → ℕ → Bool
 is_attached world number = is_some (mount_numbered nat_eq world number).namespace
 
--- Where a tree of copies is attached at a mount in a namespace, nothing goes. A mount that stood at the place of a
+-- Where a tree of copies is attached at a mount in a namespace, nothing goes, in any world in which all was in use. A mount that stood at the place of a
 -- receiver leaves it to the first copy, on which it is then.
 abbrev pub CopiesKeepAll : Type 0
 CopiesKeepAll =
     (world : World ℕ) (new : Copies ℕ) (place : Location ℕ) (first : Mount ℕ) (rest : List (Mount ℕ))
-    → IsSettledPlain world → LocationsStand world → is_attached world place.mount ≡ true
+    → AllInUse world → MountsStand world → LocationsStand world → is_attached world place.mount ≡ true
     → settled nat_eq (attached_by nat_eq world new place false (first ∷ rest))
     ≡ attached_by nat_eq world new place false (first ∷ rest)
 
@@ -31,7 +32,7 @@ CopiesKeepAll =
 abbrev pub BindsKeepAll : Type 0
 BindsKeepAll =
     (fresh : Fresh ℕ) (world : World ℕ) (task : Task ℕ) (source place : Location ℕ) (recursive : Bool)
-    → IsSettledPlain world → LocationsStand world → is_attached world place.mount ≡ true
+    → AllInUse world → MountsStand world → LocationsStand world → is_attached world place.mount ≡ true
     → settled nat_eq (apply nat_eq fresh world task (ToBind source place recursive)).world
     ≡ (apply nat_eq fresh world task (ToBind source place recursive)).world
 
@@ -39,7 +40,7 @@ BindsKeepAll =
 abbrev pub NewFilesystemsKeepAll : Type 0
 NewFilesystemsKeepAll =
     (fresh : Fresh ℕ) (world : World ℕ) (place : Location ℕ) (filesystem : Filesystem ℕ) (flags : MountFlags)
-    → IsSettledPlain world → LocationsStand world → is_attached world place.mount ≡ true
+    → AllInUse world → MountsStand world → LocationsStand world → is_attached world place.mount ≡ true
     → has_only_named filesystem ≡ true
     → settled nat_eq (mounted nat_eq fresh world place filesystem flags)
     ≡ mounted nat_eq fresh world place filesystem flags
@@ -48,7 +49,7 @@ NewFilesystemsKeepAll =
 abbrev pub NewMountsOfTreesKeepAll : Type 0
 NewMountsOfTreesKeepAll =
     (fresh : Fresh ℕ) (world : World ℕ) (task : Task ℕ) (place : Location ℕ) (flags : MountFlags)
-    → IsSettledPlain world → LocationsStand world → is_attached world place.mount ≡ true
+    → AllInUse world → MountsStand world → LocationsStand world → is_attached world place.mount ≡ true
     → settled nat_eq (apply nat_eq fresh world task (ToMountPlain place flags)).world
     ≡ (apply nat_eq fresh world task (ToMountPlain place flags)).world
 
