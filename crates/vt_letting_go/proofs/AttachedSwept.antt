@@ -31,6 +31,13 @@ tree_among (suc depth) mounts top mount m =
     inr (⊎_elim (λ e. subst (λ x. Among x mounts) (sym e) child.0) (λ l. l) (tree_among depth mounts under.0 mount under.2)))
     m
 
+-- the mounts of the tree of a mount in a namespace are those of the world
+pub of_tree : (world : World ℕ) (number : ℕ) → is_attached world number ≡ true → (depth : ℕ) (mount : Mount ℕ)
+    → Among mount (tree_from nat_eq depth world.mounts (mount_numbered nat_eq world number)) → Among mount world.mounts
+of_tree world number is depth mount m =
+    ⊎_elim (λ e. subst (λ x. Among x world.mounts) (sym e) (found_is_there world.mounts number is)) (λ l. l)
+    (tree_among depth world.mounts (mount_numbered nat_eq world number) mount m)
+
 -- a tree of copies, of mounts that show filesystems of the world or a new one
 copies_with : (world : World ℕ) (filesystems : List (Filesystem ℕ)) (new : Copies ℕ) (place : Location ℕ) (first : Mount ℕ) (rest : List (Mount ℕ))
     → AllInUse world → MountsStand world → LocationsStand world → is_attached world place.mount ≡ true
@@ -115,21 +122,17 @@ moves_let_go fresh world task number place settles located at_attached is = by (
     mount : Mount ℕ
     mount = mount_numbered nat_eq world number
 
-    there : Among mount world.mounts
-    there = found_is_there world.mounts number is
-
-    of_tree : (depth : ℕ) → All (Contains world.mounts) (tree_from nat_eq depth world.mounts mount)
-    of_tree depth =
+    all_of_world : (depth : ℕ) → All (Contains world.mounts) (tree_from nat_eq depth world.mounts mount)
+    all_of_world depth =
         all_from_among (Contains world.mounts) (tree_from nat_eq depth world.mounts mount) (λ x m.
-        contains_from_among world.mounts x
-        (⊎_elim (λ e. subst (λ y. Among y world.mounts) (sym e) there) (λ l. l) (tree_among depth world.mounts mount x m)))
+        contains_from_among world.mounts x (of_tree world number is depth x m))
 
     new : List (Mount ℕ) → Copies ℕ
     new mounts = copies_from nat_eq fresh (parts_of nat_eq world place) mounts
 
     by : (depth : ℕ) → settled nat_eq (attach nat_eq world fresh place true (tree_from nat_eq depth world.mounts mount))
         ≡ let_go_inodes (attach nat_eq world fresh place true (tree_from nat_eq depth world.mounts mount)) (inodes_of_place world mount)
-    by zero = moved_trees_let_go world (new (mount ∷ [])) place mount [] settles located at_attached (of_tree zero)
+    by zero = moved_trees_let_go world (new (mount ∷ [])) place mount [] settles located at_attached (all_of_world zero)
     by (suc depth) =
         moved_trees_let_go world (new (tree_from nat_eq (suc depth) world.mounts mount)) place mount
-        (flat_map (tree_from nat_eq depth world.mounts) (children nat_eq world.mounts mount.number)) settles located at_attached (of_tree (suc depth))
+        (flat_map (tree_from nat_eq depth world.mounts) (children nat_eq world.mounts mount.number)) settles located at_attached (all_of_world (suc depth))

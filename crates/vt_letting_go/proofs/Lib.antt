@@ -28,3 +28,4 @@ pub mod Attached
 pub mod AttachedSwept
 pub mod Pivoted
 pub mod Lazily
+pub mod MountingWithOverlays

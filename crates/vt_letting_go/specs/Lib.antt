@@ -11,7 +11,7 @@ pub mod Keeping
 pub mod Groups
 pub mod Ends
 pub mod Mounting
-pub mod MountingOverlays
 pub mod Attaching
 pub mod Pivoting
 pub mod Lazily
+pub mod MountingOverlays
