@@ -11,6 +11,7 @@ pub mod OverlaysGone
 pub mod LeftWithOverlays
 pub mod PlacesLeft
 pub mod TreesChanged
+pub mod TreesWithOverlays
 pub mod LeftOneByOne
 pub mod GroupsHandedOn
 pub mod NamespacesEnd

@@ -6,6 +6,7 @@ pub mod Leaving
 pub mod LeavingOverlays
 pub mod Worlds
 pub mod TreeChanges
+pub mod TreesOverlays
 pub mod Detaching
 pub mod Keeping
 pub mod Groups

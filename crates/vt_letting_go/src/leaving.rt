@@ -4,6 +4,7 @@ ghost use Rattle.vt_letting_go.specs.Keeping.{FlagsAreOfOne, FlagsKeepAll, NewMo
 ghost use Rattle.vt_letting_go.specs.Leaving.{LeavingLetsGo, OneSweepForSeveral, StayingKeepsAll};
 ghost use Rattle.vt_letting_go.specs.LeavingOverlays.{LeavingOverlaysLetsGo, StayingKeepsOverlays};
 ghost use Rattle.vt_letting_go.specs.TreeChanges.{NamedStay, UnnamedGo};
+ghost use Rattle.vt_letting_go.specs.TreesOverlays.{ChangedTreesKeepAll, ChangedTreesLetGo, UnnamedGoWithOverlays};
 
 /// Where tasks left places, what nothing uses any more goes of what they used there, and nothing else.
 ///
@@ -24,6 +25,14 @@ pub fn what_tasks_leave_goes_with_overlays()
 pub fn what_loses_its_name_goes()
     ensures unnamed { UnnamedGo }
     ensures named { NamedStay }
+{}
+
+/// Where trees changed in a world with overlays, the inodes go that lost their last name or overlay and where nothing is,
+/// with their real objects, and nothing else.
+pub fn what_loses_its_name_goes_with_overlays()
+    ensures trees { ChangedTreesLetGo }
+    ensures kept { ChangedTreesKeepAll }
+    ensures plain { UnnamedGoWithOverlays }
 {}
 
 /// Where a mount on which no other stands leaves its place, it goes with its last use, its filesystem with its last
