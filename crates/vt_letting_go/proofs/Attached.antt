@@ -2,23 +2,23 @@
 use Rattle.std.proofs.Common.{◌≡◌, refl, sym, ap, subst, ◌∙◌, ◌⊎◌, inl, inr, ⊎_elim, ℕ, nat_eq, append_assoc, eqb-true, eq-eqb, Bool, true, false, cond, not, ◌||◌, ◌&&◌, List, [], ◌∷◌, find, map, true≢false, flat_map, ◌++◌, Option, Some, None, is_some, option_map, option_to_list, unwrap_or}
 use Rattle.std.specs.Prelude.{filter_map}
 use Rattle.std.specs.List.{list_all, list_any}
-use Rattle.std.proofs.lemmas.Bool.{and_parts, false_from_ne_true}
+use Rattle.std.proofs.lemmas.Bool.{false_from_ne_true}
 use Rattle.std.proofs.lemmas.Option.{same_Some}
 use Rattle.vt_spec.specs.Lists.{folded, holds_of, is_among, rest_of, then_some, when}
 use Rattle.vt_spec.specs.Machine.Attach.{Copies, Graft, Twig, added_mounts, all_groups_made, attached_by, copies_at, copy_at, copy_type, graft_of, group_made, image, is_destination, masters_with, nearest_image, parts_of, place_on_copy, pushed_onto, pushed_up, receiver_below, receivers_of, takes_part, top_of_copies, twig_of, twig_master, type_at, with_moved_mounts}
-use Rattle.vt_spec.specs.Machine.Mounts.{Location, Mount, Propagation, group_of, is_shared, mount_in, no_mount, replaced_if_same, root_of, stands_at, with_mount}
+use Rattle.vt_spec.specs.Machine.Mounts.{Location, Mount, Propagation, group_of, is_shared, mount_in, no_mount, replaced_if_same, stands_at, with_mount}
 use Rattle.vt_spec.specs.Machine.Mounts.Propagation.{Private, Shared, Slave, Unbindable}
 use Rattle.vt_spec.specs.Machine.Receives.{is_member_of}
 use Rattle.vt_spec.specs.Machine.Settled.{is_located, mount_lives}
 use Rattle.vt_spec.specs.Machine.Types.{master_after}
-use Rattle.vt_spec.specs.Machine.World.{Filesystem, World, all_locations, mount_at}
+use Rattle.vt_spec.specs.Machine.World.{Filesystem, World, mount_at}
 use Rattle.vt_spec.specs.Machine.WorldLaws.{is_nowhere_or_attached}
 use Rattle.vt_letting_go.specs.InUse.{AllInUse, GroupsInUse}
 use Rattle.vt_letting_go.specs.Keeping.{LocationsStand}
-use Rattle.vt_letting_go.specs.Leaving.{MountsStand, stands_on_attached}
-use Rattle.vt_letting_go.proofs.Lists.{Among, all_pass, among-append, among-append_left, among-append_right, among-flat_map, among-from_filter, among-from_filter_map, among-from_flat_map, among-from_map, among-map, any_passes, is_among_numbers, map_twice, none_passes, or_first, passes}
-use Rattle.vt_letting_go.proofs.MountingLosers.{Loses, StillAPlace, places_of}
-use Rattle.vt_letting_go.proofs.PlacesLeft.{found_is_there, found_itself, nowhere_parts, number_found, one_location}
+use Rattle.vt_letting_go.specs.Leaving.{MountsStand}
+use Rattle.vt_letting_go.proofs.Lists.{Among, all_pass, among-append, among-append_left, among-append_right, among-flat_map, among-from_filter, among-from_filter_map, among-from_flat_map, among-from_map, among-map, any_passes, map_twice, none_passes, or_first, passes}
+use Rattle.vt_letting_go.proofs.MountingLosers.{Loses, StillAPlace, places_of, places_stand}
+use Rattle.vt_letting_go.proofs.PlacesLeft.{found_itself, nowhere_parts, number_found, one_location}
 
 -- what is found is there and passes
 found_in : (test : Mount ℕ → Bool) (mounts : List (Mount ℕ)) (found : Mount ℕ) → find test mounts ≡ Some found
@@ -349,25 +349,6 @@ module _ (world : World ℕ) (filesystems : List (Filesystem ℕ)) (new : Copies
       by x (came part origin there n e) = ap is_nowhere_or_attached e ∙ or_first (is_some part.namespace) _ there
 
   -- Locations show what they showed
-  numbered : (mount : Mount ℕ) → Among mount world.mounts → is_among nat_eq mount.number (map (λ m. m.number) world.mounts) ≡ true
-  numbered mount m = is_among_numbers mount.number (map (λ x. x.number) world.mounts) (among-map (λ x. x.number) world.mounts mount m)
-
-  located : (location : Location ℕ) → Among location (places_of world) → is_among nat_eq location.mount (map (λ m. m.number) world.mounts) ≡ true
-  located location m =
-      ⊎_elim
-      (λ front. ⊎_elim
-      (λ at. passes (λ l. is_among nat_eq l.mount (map (λ x. x.number) world.mounts)) (all_locations world) located_well location at)
-      (λ root. let t = among-from_map root_of world.mounts location root in
-      ap (λ l. is_among nat_eq l.mount (map (λ x. x.number) world.mounts)) t.2 ∙ numbered t.0 t.1)
-      (among-append (all_locations world) (map root_of world.mounts) location front))
-      (λ at.
-      let t = among-from_filter_map (λ x. x.mount_point) world.mounts location at in
-      let on = (and_parts (is_some (mount_at nat_eq world location).namespace) true
-      (sym (ap (λ o. list_all (λ l. is_some (mount_at nat_eq world l).namespace) (option_to_list o)) t.2)
-      ∙ passes (stands_on_attached world) world.mounts stand.on_attached t.0 t.1)).0 in
-      ap (λ n. is_among nat_eq n (map (λ x. x.number) world.mounts)) (sym (number_found world.mounts location.mount))
-      ∙ numbered (mount_at nat_eq world location) (found_is_there world.mounts location.mount on))
-      (among-append (all_locations world ++ map root_of world.mounts) (filter_map (λ mount. mount.mount_point) world.mounts) location m)
 
   -- a mount of the world is found among those that are changed, where each keeps its number
   found_changed : (mounts others : List (Mount ℕ)) (number : ℕ) → ((mount : Mount ℕ) → Among mount mounts → Among mount world.mounts)
@@ -393,7 +374,7 @@ module _ (world : World ℕ) (filesystems : List (Filesystem ℕ)) (new : Copies
       ap (λ old. (mount_in nat_eq (mounts_by old) location.mount).filesystem) old_mounts
       ∙ ap (λ list. (mount_in nat_eq list location.mount).filesystem)
       (append_assoc (map last world.mounts) (added_mounts moves (copies destination)) (flat_map copies (rest_of parts)))
-      ∙ found_changed world.mounts more location.mount (λ x n. n) (located location m)
+      ∙ found_changed world.mounts more location.mount (λ x n. n) (places_stand world stand located_well location m)
 
   -- Places
   abbrev pub left_by : Bool → List (Location ℕ)
@@ -429,8 +410,8 @@ module _ (world : World ℕ) (filesystems : List (Filesystem ℕ)) (new : Copies
   place_still mount m at e =
       ⊎_elim
       (λ there. inl (⊎_elim
-      (λ same. (last mount, (old_there mount m, (ap (λ (x : Mount ℕ). x.mount_point) same ∙ there, refl))))
-      (λ up. (copy up.0 first, (copy_at_receiver up.0 (copy up.0 first) up.1 (copy_there up.0 first (inl refl)), (first_copy up.0 ∙ sym up.2 ∙ there, refl))))
+      (λ same. (last mount, (old_there mount m, (ap (λ (x : Mount ℕ). x.mount_point) same ∙ there, inl refl))))
+      (λ up. (copy up.0 first, (copy_at_receiver up.0 (copy up.0 first) up.1 (copy_there up.0 first (inl refl)), (first_copy up.0 ∙ sym up.2 ∙ there, inl refl))))
       (pushed (went mount))))
       inr
       (place_went mount m at e)

@@ -288,7 +288,7 @@ module _ (world now : World ℕ) (in_use : AllInUse world) (stand : MountsStand 
             faded.place mount at p (in_one_still mount m (placed_in_one mount m at p) parts.0)
                 (in_one_still (mount_at nat_eq world at) (found_is_there world.mounts at.mount parent) parent
                 (ap (λ n. is_among nat_eq n lost) (number_found world.mounts at.mount) ∙ on)),
-            on,
+            inl on,
           ),
         ),
       ))

@@ -30,3 +30,4 @@ pub mod AttachedSwept
 pub mod Pivoted
 pub mod Lazily
 pub mod MountingWithOverlays
+pub mod TasksEnd

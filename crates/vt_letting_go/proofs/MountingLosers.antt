@@ -1,8 +1,8 @@
 -- Which things may have lost a use after a change of mounts and tasks.
-use Rattle.std.proofs.Common.{◌≡◌, refl, sym, ap, subst, ◌∙◌, ◌⊎◌, inl, inr, ⊎_elim, ℕ, nat_eq, eqb-true, eq-eqb, Bool, true, false, ◌||◌, ◌&&◌, List, filter, map, true≢false, flat_map, ◌++◌, Option, Some, is_some}
+use Rattle.std.proofs.Common.{◌≡◌, refl, sym, ap, subst, ◌∙◌, ◌⊎◌, inl, inr, ⊎_elim, ℕ, nat_eq, eqb-true, eq-eqb, Bool, true, false, ◌||◌, ◌&&◌, List, filter, map, true≢false, flat_map, ◌++◌, Option, Some, is_some, option_to_list}
 use Rattle.std.specs.Prelude.{filter_map}
 use Rattle.std.specs.List.{list_all}
-use Rattle.std.proofs.lemmas.Bool.{or_cases, or_parts}
+use Rattle.std.proofs.lemmas.Bool.{and_parts, or_cases, or_parts}
 use Rattle.vt_spec.specs.Lists.{is_among}
 use Rattle.vt_spec.specs.Machine.Mounts.{Location, Mount, mount_in, root_of}
 use Rattle.vt_spec.specs.Machine.Receives.{is_member_of}
@@ -10,25 +10,55 @@ use Rattle.vt_spec.specs.Machine.Settled.{filesystem_lives, is_located, is_mount
 use Rattle.vt_spec.specs.Machine.World.{Filesystem, Namespace, Task, World, all_locations, mount_at, mount_numbered}
 use Rattle.vt_spec.specs.Machine.WorldLaws.{is_nowhere_or_attached}
 use Rattle.vt_letting_go.specs.InUse.{AllInUse, is_inode_used}
-use Rattle.vt_letting_go.specs.Keeping.{has_only_named}
-use Rattle.vt_letting_go.specs.Leaving.{IsSettledPlain, MountsStand}
+use Rattle.vt_letting_go.specs.Keeping.{LocationsStand, has_only_named}
+use Rattle.vt_letting_go.specs.Leaving.{IsSettledPlain, MountsStand, stands_on_attached}
 use Rattle.vt_letting_go.specs.Mounting.{inode_at, root_inode, used_by_mounts}
 use Rattle.vt_letting_go.specs.OneByOne.{AllInUseBut, FilesystemsInUseBut, GroupsInUseBut, Inode, InodesInUseBut, IsPlain, Losers, MountsInUseBut, is_inode_among, is_used_or_among, let_go}
 use Rattle.vt_letting_go.proofs.Inodes.{all_goes_one_by_one}
 use Rattle.vt_letting_go.proofs.Lists.{Among, all_from_among, all_pass, among-append, among-append_left, among-append_right, among-filter, among-filter_map, among-from_filter, among-from_filter_map, among-from_map, among-map, among_from_all, among_numbers, any-filter, any_passes, decided, is_among_left, is_among_numbers, is_among_right, one_passes, or_first, or_second, passes}
-use Rattle.vt_letting_go.proofs.PlacesLeft.{found_in_filter, found_itself, no_layers, nowhere_parts, plain_uses, private_is_no_member}
+use Rattle.vt_letting_go.proofs.PlacesLeft.{found_in_filter, found_is_there, found_itself, no_layers, nowhere_parts, number_found, plain_uses, private_is_no_member}
 
 -- the roots, working directories and descriptors, the roots of mounts and the places of a world
 abbrev pub places_of : World ℕ → List (Location ℕ)
 places_of world = all_locations world ++ map root_of world.mounts ++ filter_map (λ mount. mount.mount_point) world.mounts
 
+-- where locations stand, each of these is on a mount that is there
+pub places_stand : (world : World ℕ) → MountsStand world → LocationsStand world → (location : Location ℕ) → Among location (places_of world)
+    → is_among nat_eq location.mount (map (λ mount. mount.number) world.mounts) ≡ true
+places_stand world stand located_well location m =
+    ⊎_elim
+    (λ front. ⊎_elim
+    (λ at. passes (λ l. is_among nat_eq l.mount numbers) (all_locations world) located_well location at)
+    (λ root. let t = among-from_map root_of world.mounts location root in
+    ap (λ l. is_among nat_eq l.mount numbers) t.2 ∙ numbered t.0 t.1)
+    (among-append (all_locations world) (map root_of world.mounts) location front))
+    (λ at.
+    let t = among-from_filter_map (λ x. x.mount_point) world.mounts location at in
+    let on = (and_parts (is_some (mount_at nat_eq world location).namespace) true
+    (sym (ap (λ o. list_all (λ l. is_some (mount_at nat_eq world l).namespace) (option_to_list o)) t.2)
+    ∙ passes (stands_on_attached world) world.mounts stand.on_attached t.0 t.1)).0 in
+    ap (λ n. is_among nat_eq n numbers) (sym (number_found world.mounts location.mount))
+    ∙ numbered (mount_at nat_eq world location) (found_is_there world.mounts location.mount on))
+    (among-append (all_locations world ++ map root_of world.mounts) (filter_map (λ mount. mount.mount_point) world.mounts) location m)
+  where
+    numbers : List ℕ
+    numbers = map (λ (mount : Mount ℕ). mount.number) world.mounts
+
+    numbered : (mount : Mount ℕ) → Among mount world.mounts → is_among nat_eq mount.number numbers ≡ true
+    numbered mount n = is_among_numbers mount.number numbers (among-map (λ (x : Mount ℕ). x.number) world.mounts mount n)
+
 -- what a mount is afterwards: another record of its number, with what it shows
 abbrev pub Image : List (Mount ℕ) → Mount ℕ → Type 0
 Image mounts mount = (image : Mount ℕ) × (Among image mounts × ((root_of image ≡ root_of mount) × (image.filesystem ≡ mount.filesystem)))
 
--- a place that a mount in use has still, on a mount that is none of those that may go
+-- the mounts of a number are none of those that may go, or in a namespace
+abbrev pub Stays : List (Mount ℕ) → List ℕ → ℕ → Type 0
+Stays mounts gone number =
+    (is_among nat_eq number gone ≡ false) ⊎ ((mount : Mount ℕ) → Among mount mounts → mount.number ≡ number → is_some mount.namespace ≡ true)
+
+-- a place that a mount in use has still, on a mount that stays
 abbrev pub StillAPlace : List (Mount ℕ) → List ℕ → Location ℕ → Type 0
-StillAPlace mounts gone place = (mount : Mount ℕ) × (Among mount mounts × ((mount.mount_point ≡ Some place) × (is_among nat_eq place.mount gone ≡ false)))
+StillAPlace mounts gone place = (mount : Mount ℕ) × (Among mount mounts × ((mount.mount_point ≡ Some place) × Stays mounts gone place.mount))
 
 abbrev pub changed_with : World ℕ → List (Mount ℕ) → (ℕ → Option ℕ) → List (Filesystem ℕ) → List (Namespace ℕ) → List (Task ℕ) → World ℕ
 changed_with world mounts master filesystems namespaces tasks =
@@ -246,7 +276,8 @@ module _ (world : World ℕ) (mounts : List (Mount ℕ)) (master : ℕ → Optio
         (e ∙ sym (found_still place
         (among-append_right (all_locations world ++ map root_of world.mounts) (filter_map (λ x. x.mount_point) world.mounts) place
         (among-filter_map (λ x. x.mount_point) world.mounts mount place m p))
-        (stays_there place.mount still.1.1.1)))))
+        (⊎_elim (stays_there place.mount)
+        (λ in_one other n same. or_first (is_some other.namespace) (is_located nat_eq after other.number) (in_one other n same)) still.1.1.1)))))
         (λ gone_from. left_may_go place gone_from e)
         (loses.places mount m place p)
       where

@@ -36,7 +36,7 @@ loses world moved change master in_use moves nowhere = record {
   places = λ mount m place p. ⊎_elim
       (λ is. inr (among-filter_map (λ x. x.mount_point) (filter (λ x. is_among nat_eq x.number moved) world.mounts) mount place
       (among-filter (λ x. is_among nat_eq x.number moved) world.mounts mount m is) p))
-      (λ isnt. inl (change mount, (among-map change world.mounts mount m, (moves.mount_point mount isnt ∙ p, refl))))
+      (λ isnt. inl (change mount, (among-map change world.mounts mount m, (moves.mount_point mount isnt ∙ p, inl refl))))
       (decided (is_among nat_eq mount.number moved));
   nowhere = nowhere;
 }

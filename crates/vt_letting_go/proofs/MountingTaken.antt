@@ -143,7 +143,7 @@ module _ (world : World ℕ) (gone : List ℕ) (namespaces : List (Namespace ℕ
           (among-filter (loses_its_place gone) world.mounts mount m is) p))
           (λ isnt. let parts = or_parts (is_going nat_eq gone mount.number) (holds_of (λ l. is_going nat_eq gone l.mount) mount.mount_point) isnt in
           let on : is_going nat_eq gone place.mount ≡ false = sym (ap (holds_of (λ l. is_going nat_eq gone l.mount)) p) ∙ parts.1 in
-          inl (change b mount, (among-map (change b) world.mounts mount m, (same_place b mount place p parts.0 on, on))))
+          inl (change b mount, (among-map (change b) world.mounts mount m, (same_place b mount place p parts.0 on, inl on))))
           (decided (loses_its_place gone mount));
       nowhere = all_pass is_nowhere_or_attached (map (change b) world.mounts) (λ last m.
           let from = among-from_map (change b) world.mounts last m in

@@ -153,8 +153,8 @@ module _ (world : World ℕ) (namespace old new : ℕ) (put : Location ℕ) (in_
       by (is_target e) =
           inr (subst (λ o. Among place (option_to_list o)) (sym p ∙ ap (λ (x : Mount ℕ). x.mount_point) e) (inl refl))
       by (is_root e) =
-          inl (change target, (among-map change world.mounts target target_there, (target_gets ∙ ap (λ (x : Mount ℕ). x.mount_point) (sym e) ∙ p, refl)))
-      by (is_other e) = inl (change mount, (among-map change world.mounts mount m, (ap (λ (x : Mount ℕ). x.mount_point) e ∙ p, refl)))
+          inl (change target, (among-map change world.mounts target target_there, (target_gets ∙ ap (λ (x : Mount ℕ). x.mount_point) (sym e) ∙ p, inl refl)))
+      by (is_other e) = inl (change mount, (among-map change world.mounts mount m, (ap (λ (x : Mount ℕ). x.mount_point) e ∙ p, inl refl)))
 
   pub loses : Loses world after [] (option_to_list target.mount_point)
   loses = record {

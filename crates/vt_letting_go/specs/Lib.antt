@@ -16,3 +16,4 @@ pub mod Attaching
 pub mod Pivoting
 pub mod Lazily
 pub mod MountingOverlays
+pub mod EndingTasks
