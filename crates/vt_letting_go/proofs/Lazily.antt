@@ -23,25 +23,34 @@ use Rattle.vt_letting_go.proofs.MountingTaken
 use Rattle.vt_letting_go.proofs.PlacesLeft.{found_is_there, found_itself, nowhere_parts, number_found, private_is_no_member}
 use Rattle.std.proofs.lemmas.Bool.{or_parts}
 
--- Where the other mounts stay in their groups, groups but those of the mounts that went have members or no master
-groups_but : (world after : World ℕ) (gone : List ℕ) → GroupsInUse world
+-- Where the other mounts stay in their groups, a group that is none of those of the mounts that went and has no members
+-- had none, and no master
+pub no_members : (world after : World ℕ) (gone : List ℕ) → GroupsInUse world
     → ((mount : Mount ℕ) → Among mount world.mounts → is_among nat_eq mount.number gone ≡ false → (group : ℕ)
     → is_member_of nat_eq group mount ≡ true → has_members nat_eq after.mounts group ≡ true)
-    → ((group : ℕ) → world.master group ≡ None → after.master group ≡ None)
-    → GroupsInUseBut (groups_of_mounts world gone) after
-groups_but world after gone in_use stay masters group among none =
-    masters group (in_use group
+    → (group : ℕ) → is_among nat_eq group (groups_of_mounts world gone) ≡ false → has_members nat_eq after.mounts group ≡ false
+    → world.master group ≡ None
+no_members world after gone in_use stay group among none =
+    in_use group
     (none_passes (is_member_of nat_eq group) world.mounts (λ mount m. false_from_ne_true (is_member_of nat_eq group mount) (λ is.
     ⊎_elim
     (λ went. true≢false (sym (is_among_numbers group (groups_of_mounts world gone)
     (among-filter_map (λ x. group_of x.propagation) (filter (λ x. is_among nat_eq x.number gone) world.mounts) mount group
     (among-filter (λ x. is_among nat_eq x.number gone) world.mounts mount m went) (its_group (group_of mount.propagation) is))) ∙ among))
     (λ kept. true≢false (sym (stay mount m kept group is) ∙ none))
-    (decided (is_among nat_eq mount.number gone))))))
+    (decided (is_among nat_eq mount.number gone)))))
   where
     its_group : (own : Option ℕ) → holds_of (nat_eq group) own ≡ true → own ≡ Some group
     its_group None e = absurd (true≢false (sym e))
     its_group (Some one) e = ap Some (sym (eqb-true group one e))
+
+-- So all other groups have members or no master
+groups_but : (world after : World ℕ) (gone : List ℕ) → GroupsInUse world
+    → ((mount : Mount ℕ) → Among mount world.mounts → is_among nat_eq mount.number gone ≡ false → (group : ℕ)
+    → is_member_of nat_eq group mount ≡ true → has_members nat_eq after.mounts group ≡ true)
+    → ((group : ℕ) → world.master group ≡ None → after.master group ≡ None)
+    → GroupsInUseBut (groups_of_mounts world gone) after
+groups_but world after gone in_use stay masters group among none = masters group (no_members world after gone in_use stay group among none)
 
 module _ (world : World ℕ) (gone : List ℕ) where
   abbrev without : World ℕ

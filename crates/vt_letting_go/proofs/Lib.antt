@@ -31,3 +31,4 @@ pub mod Pivoted
 pub mod Lazily
 pub mod MountingWithOverlays
 pub mod TasksEnd
+pub mod Retyped

@@ -1,20 +1,21 @@
 -- What goes after a change of mounts in worlds with overlays.
-use Rattle.std.proofs.Common.{◌≡◌, sym, ap, subst, ◌∙◌, ◌⊎◌, inl, inr, ⊎_elim, ℕ, nat_eq, eqb-true, eq-eqb, true, cond, ◌||◌, ◌&&◌, List, [], ◌∷◌, filter, map, flat_map, ◌++◌, Option}
+use Rattle.std.proofs.Common.{not, ◌≡◌, sym, ap, subst, ◌∙◌, ◌⊎◌, inl, inr, ⊎_elim, ℕ, nat_eq, eqb-true, eq-eqb, true, cond, ◌||◌, ◌&&◌, List, [], ◌∷◌, filter, map, flat_map, ◌++◌, Option}
 use Rattle.std.specs.List.{list_all}
 use Rattle.std.proofs.lemmas.Bool.{and_parts, or_cases}
 use Rattle.std.proofs.lemmas.List.Folds.{list_any-append}
 use Rattle.vt_spec.specs.Lists.{is_among}
 use Rattle.vt_spec.specs.Machine.Locked.{of_overlay}
 use Rattle.vt_spec.specs.Machine.Mounts.{Location, Mount}
-use Rattle.vt_spec.specs.Machine.Settled.{filesystem_lives, has_layer_on, is_mounted, layers_in, located_in, named_in, objects_of_overlay, settled, without_dead_filesystems, without_dead_mounts}
-use Rattle.vt_spec.specs.Machine.World.{Filesystem, Layer, Namespace, Task, World, layers_of, mount_numbered}
-use Rattle.vt_letting_go.specs.InUse.{AllInUse, FilesystemsInUse, GroupsInUse, InodesInUse, is_inode_used}
+use Rattle.vt_spec.specs.Machine.Settled.{filesystem_lives, has_layer_on, is_mounted, layers_in, located_in, named_in, objects_of_overlay, settled, without_dead_filesystems, without_dead_groups, without_dead_in, without_dead_inodes, without_dead_mounts}
+use Rattle.vt_spec.specs.Machine.World.{Filesystem, Layer, Namespace, Task, World, is_overlay, layers_of, mount_numbered}
+use Rattle.vt_letting_go.specs.InUse.{AllInUse, GroupsInUse, InodesInUse, is_inode_used}
 use Rattle.vt_letting_go.specs.Leaving.{MountsStand}
 use Rattle.vt_letting_go.specs.LeavingOverlays.{IsSettled, filesystems_of_layers}
 use Rattle.vt_letting_go.specs.MountingOverlays.{filesystems_of_mount, used_by_mounts_with_layers}
-use Rattle.vt_letting_go.specs.OneByOne.{AllInUseBut, FilesystemsInUseBut, GroupsInUseBut, Inode, InodesInUseBut, Losers, is_inode_among, is_used_or_among}
+use Rattle.vt_letting_go.specs.OneByOne.{AllInUseBut, FilesystemsInUseBut, GroupsInUseBut, Inode, InodesInUseBut, Losers, is_inode_among, is_used_or_among, let_go_groups}
 use Rattle.vt_letting_go.specs.Overlays.{let_go_all, used_by_filesystems}
-use Rattle.vt_letting_go.proofs.InUse.{filesystems_stay, layers_on, mounts_stay, nothing_goes}
+use Rattle.vt_letting_go.proofs.InUse.{filesystems_stay, inodes_stay, layers_on, mounts_stay}
+use Rattle.vt_letting_go.proofs.OneByOne.{groups_go_one_by_one}
 use Rattle.vt_letting_go.proofs.Lists.{Among, all_from_among, all_pass, among-filter, among-flat_map, among-from_filter, among-from_flat_map, among-from_map, among-map, among_from_all, among_numbers, any_passes, is_among_left, is_among_numbers, is_among_right, one_passes, or_first, or_second, passes}
 use Rattle.vt_letting_go.proofs.MountingLosers.{Comes, Loses, by_a_name, by_located, changed, changed_with, groups_but, inodes, mounts_but, shown_is_mounted, still_mounted}
 use Rattle.vt_letting_go.proofs.OverlaysGone.{filesystems_take_their_uses}
@@ -166,6 +167,36 @@ all_losers_go world mounts master namespaces tasks gone left groups settles lose
     (all_but_those world mounts master world.filesystems namespaces tasks gone left groups settles.in_use settles.mounts loses hears
     (record { kept = λ f m. m; new = λ f m. inl m }))
 
+-- where only groups lost members, only they go
+pub only_groups_go : (world : World ℕ) (mounts : List (Mount ℕ)) (master : ℕ → Option ℕ) (filesystems : List (Filesystem ℕ)) (groups : List ℕ)
+    → AllInUse world → MountsStand world
+    → Loses world (changed_with world mounts master filesystems world.namespaces world.tasks) [] []
+    → GroupsInUseBut groups (changed_with world mounts master filesystems world.namespaces world.tasks)
+    → Comes world (changed_with world mounts master filesystems world.namespaces world.tasks)
+    → settled nat_eq (changed_with world mounts master filesystems world.namespaces world.tasks)
+    ≡ let_go_groups (changed_with world mounts master filesystems world.namespaces world.tasks) groups
+only_groups_go world mounts master filesystems groups in_use stand loses hears come =
+    ap (without_dead_groups nat_eq)
+    (ap (without_dead_inodes nat_eq) all
+    ∙ ap (without_dead_in nat_eq (λ filesystem. not (is_overlay filesystem))) (inodes_stay is_overlay after_all inodes)
+    ∙ inodes_stay (λ filesystem. not (is_overlay filesystem)) after_all inodes)
+    ∙ groups_go_one_by_one after_all groups hears
+  where
+    after_all : World ℕ
+    after_all = changed_with world mounts master filesystems world.namespaces world.tasks
+
+    but : AllInUseBut (record { mounts = []; filesystems = []; inodes = []; groups = groups }) after_all
+    but = all_but_those world mounts master filesystems world.namespaces world.tasks [] [] groups in_use stand loses hears come
+
+    same : without_dead_mounts nat_eq after_all ≡ after_all
+    same = mounts_stay after_all but.mounts
+
+    all : without_dead_filesystems nat_eq (without_dead_mounts nat_eq after_all) ≡ after_all
+    all = filesystems_stay (without_dead_mounts nat_eq after_all) but.filesystems ∙ same
+
+    inodes : InodesInUse after_all
+    inodes = subst InodesInUse all but.inodes
+
 -- where nothing lost a use, nothing goes
 pub nothing_lost : (world : World ℕ) (mounts : List (Mount ℕ)) (master : ℕ → Option ℕ) (filesystems : List (Filesystem ℕ)) → AllInUse world → MountsStand world
     → Loses world (changed_with world mounts master filesystems world.namespaces world.tasks) [] []
@@ -174,21 +205,4 @@ pub nothing_lost : (world : World ℕ) (mounts : List (Mount ℕ)) (master : ℕ
     → settled nat_eq (changed_with world mounts master filesystems world.namespaces world.tasks)
     ≡ changed_with world mounts master filesystems world.namespaces world.tasks
 nothing_lost world mounts master filesystems in_use stand loses groups come =
-    nothing_goes after_all (record {
-      mounts = but.mounts;
-      filesystems = subst FilesystemsInUse same but.filesystems;
-      inodes = subst InodesInUse all but.inodes;
-      groups = groups;
-    })
-  where
-    after_all : World ℕ
-    after_all = changed_with world mounts master filesystems world.namespaces world.tasks
-
-    but : AllInUseBut (record { mounts = []; filesystems = []; inodes = []; groups = [] }) after_all
-    but = all_but_those world mounts master filesystems world.namespaces world.tasks [] [] [] in_use stand loses (λ group among none. groups group none) come
-
-    same : without_dead_mounts nat_eq after_all ≡ after_all
-    same = mounts_stay after_all but.mounts
-
-    all : without_dead_filesystems nat_eq (without_dead_mounts nat_eq after_all) ≡ after_all
-    all = filesystems_stay (without_dead_mounts nat_eq after_all) but.filesystems ∙ same
+    only_groups_go world mounts master filesystems [] in_use stand loses (λ group among none. groups group none) come

@@ -17,3 +17,4 @@ pub mod Pivoting
 pub mod Lazily
 pub mod MountingOverlays
 pub mod EndingTasks
+pub mod Retyping

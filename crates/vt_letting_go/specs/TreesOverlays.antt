@@ -1,16 +1,18 @@
 -- What goes when trees change in worlds with overlays: a call on an overlay changes its merged tree, the real objects of
 -- its inodes, and the tree of its upper layer. unlink(2), rmdir(2), rename(2), the kernel's overlayfs document.
-use Rattle.std.specs.Prelude.{All, List, [], false, flat_map, map, nat_eq, true, ℕ, ◌||◌, ◌≡◌}
+use Rattle.std.specs.Prelude.{All, List, [], false, flat_map, map, nat_eq, true, ℕ, ◌++◌, ◌||◌, ◌≡◌}
 use Rattle.std.specs.List.{list_all}
 use Rattle.vt_spec.specs.FileTree.{FileTree}
 use Rattle.vt_spec.specs.Lists.{any_pair, is_among}
+use Rattle.vt_spec.specs.Machine.Detach.{taken_away}
 use Rattle.vt_spec.specs.Machine.Locked.{of_overlay}
-use Rattle.vt_spec.specs.Machine.Settled.{named_in, objects_of_overlay, settled}
+use Rattle.vt_spec.specs.Machine.Settled.{named_in, objects_of_overlay, settled, without_dead_filesystems, without_dead_mounts}
 use Rattle.vt_spec.specs.Machine.World.{Filesystem, World, filesystem_numbered, is_overlay, layers_of}
 use Rattle.vt_letting_go.specs.InUse.{HasTrees, UppersArePlain}
 use Rattle.vt_letting_go.specs.LeavingOverlays.{IsSettled}
-use Rattle.vt_letting_go.specs.OneByOne.{Inode, is_inode_among}
-use Rattle.vt_letting_go.specs.Overlays.{RealsAreThere, let_go_all_inodes}
+use Rattle.vt_letting_go.specs.MountingOverlays.{used_by_gone_with_layers}
+use Rattle.vt_letting_go.specs.OneByOne.{Inode, Losers, is_inode_among}
+use Rattle.vt_letting_go.specs.Overlays.{RealsAreThere, let_go_all, let_go_all_inodes}
 use Rattle.vt_letting_go.specs.TreeChanges.{ChangesTree, with_tree}
 
 -- the world with each filesystem changed
@@ -67,3 +69,26 @@ UnnamedGoWithOverlays =
     → ChangesTree (filesystem_numbered nat_eq world number).files files unnamed
     → settled nat_eq (with_tree world number files)
     ≡ let_go_all_inodes (with_tree world number files) (map (λ inode. (number, inode)) unnamed)
+
+-- the world without mounts and filesystems that nothing uses
+abbrev pub in_use_of : World ℕ → World ℕ
+in_use_of world = without_dead_filesystems nat_eq (without_dead_mounts nat_eq world)
+
+-- with more inodes that may have lost uses
+abbrev pub with_lost : Losers → List Inode → Losers
+with_lost losers lost = record losers { inodes = losers.inodes ++ lost }
+
+-- Where mounts are taken away and filesystems change in one call, that goes of what both took uses from which nothing
+-- uses any more: rmdir(2) and rename(2) take the mounts on the directory that they remove or replace.
+abbrev pub TakenAndChangedLetsGo : Type 0
+TakenAndChangedLetsGo =
+    (world : World ℕ) (gone : List ℕ) (change : Filesystem ℕ → Filesystem ℕ) (lost : List Inode) → IsSettled world
+    → HasTrees (with_filesystems (taken_away nat_eq world gone) change)
+    → UppersArePlain (with_filesystems (taken_away nat_eq world gone) change)
+    → RealsAreThere (with_filesystems (taken_away nat_eq world gone) change)
+    → All (λ filesystem.
+    ChangesFilesystem (in_use_of (with_filesystems (taken_away nat_eq world gone) change)) lost filesystem (change filesystem))
+    world.filesystems
+    → settled nat_eq (with_filesystems (taken_away nat_eq world gone) change)
+    ≡ let_go_all (with_filesystems (taken_away nat_eq world gone) change)
+    (with_lost (used_by_gone_with_layers world gone) lost)

@@ -3,8 +3,9 @@ ghost use Rattle.vt_letting_go.specs.Detaching.{DetachingLetsGo, UnmountIsOfOne}
 ghost use Rattle.vt_letting_go.specs.Keeping.{FlagsAreOfOne, FlagsKeepAll, NewMountsKeepAll, TypesKeepAll};
 ghost use Rattle.vt_letting_go.specs.Leaving.{LeavingLetsGo, OneSweepForSeveral, StayingKeepsAll};
 ghost use Rattle.vt_letting_go.specs.LeavingOverlays.{LeavingOverlaysLetsGo, StayingKeepsOverlays};
+ghost use Rattle.vt_letting_go.specs.Retyping.{SetTypesLetGo};
 ghost use Rattle.vt_letting_go.specs.TreeChanges.{NamedStay, UnnamedGo};
-ghost use Rattle.vt_letting_go.specs.TreesOverlays.{ChangedTreesKeepAll, ChangedTreesLetGo, UnnamedGoWithOverlays};
+ghost use Rattle.vt_letting_go.specs.TreesOverlays.{ChangedTreesKeepAll, ChangedTreesLetGo, TakenAndChangedLetsGo, UnnamedGoWithOverlays};
 
 /// Where tasks left places, what nothing uses any more goes of what they used there, and nothing else.
 ///
@@ -33,6 +34,7 @@ pub fn what_loses_its_name_goes_with_overlays()
     ensures trees { ChangedTreesLetGo }
     ensures kept { ChangedTreesKeepAll }
     ensures plain { UnnamedGoWithOverlays }
+    ensures removed { TakenAndChangedLetsGo }
 {}
 
 /// Where a mount on which no other stands leaves its place, it goes with its last use, its filesystem with its last
@@ -47,6 +49,11 @@ pub fn types_and_flags_keep_all()
     ensures types { TypesKeepAll }
     ensures one { FlagsAreOfOne }
     ensures flags { FlagsKeepAll }
+{}
+
+/// Where types of mounts change, at the most groups lose their masters: those that the mounts left, and new ones.
+pub fn what_a_change_of_types_leaves_goes()
+    ensures { SetTypesLetGo }
 {}
 
 /// Where mounts are added, with the plain filesystems that they show, nothing goes.
