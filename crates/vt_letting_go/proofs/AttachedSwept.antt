@@ -8,7 +8,7 @@ use Rattle.vt_spec.specs.Machine.Settled.{mount_lives, settled}
 use Rattle.vt_spec.specs.Machine.World.{Filesystem, World, mount_numbered}
 use Rattle.vt_spec.specs.Machine.Outcome.Mounting.{new_mount, plain_filesystem, with_new_filesystem}
 use Rattle.vt_spec.proofs.Lists.{among_from_contains, contains_from_among}
-use Rattle.vt_letting_go.specs.Attaching.{BindsKeepAll, CopiesKeepAll, MovedTreesLetGo, MovesLetGo, NewFilesystemsKeepAll, NewMountsOfTreesKeepAll, inodes_of_place, is_attached}
+use Rattle.vt_letting_go.specs.Attaching.{BindsKeepAll, CopiesKeepAll, MovedTreesLetGo, MovesLetGo, NewFilesystemsKeepAll, NewMountsOfTreesKeepAll, inodes_of_mount_point, is_attached}
 use Rattle.vt_letting_go.specs.Keeping.{LocationsStand}
 use Rattle.vt_letting_go.specs.Leaving.{MountsStand}
 use Rattle.vt_letting_go.specs.InUse.{AllInUse}
@@ -131,7 +131,7 @@ moves_let_go fresh world task number place settles located at_attached is = by (
     new mounts = copies_from nat_eq fresh (parts_of nat_eq world place) mounts
 
     by : (depth : ℕ) → settled nat_eq (attach nat_eq world fresh place true (tree_from nat_eq depth world.mounts mount))
-        ≡ let_go_inodes (attach nat_eq world fresh place true (tree_from nat_eq depth world.mounts mount)) (inodes_of_place world mount)
+        ≡ let_go_inodes (attach nat_eq world fresh place true (tree_from nat_eq depth world.mounts mount)) (inodes_of_mount_point world mount)
     by zero = moved_trees_let_go world (new (mount ∷ [])) place mount [] settles located at_attached (all_of_world zero)
     by (suc depth) =
         moved_trees_let_go world (new (tree_from nat_eq (suc depth) world.mounts mount)) place mount

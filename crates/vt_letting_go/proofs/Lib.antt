@@ -28,7 +28,7 @@ pub mod MountingMoved
 pub mod Attached
 pub mod AttachedSwept
 pub mod Pivoted
-pub mod Lazily
+pub mod Unmounted
 pub mod MountingWithOverlays
 pub mod TasksEnd
 pub mod Retyped

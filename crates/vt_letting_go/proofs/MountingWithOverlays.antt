@@ -8,8 +8,8 @@ use Rattle.vt_spec.specs.Machine.Namespaces.{has_tasks, pivoted}
 use Rattle.vt_spec.specs.Machine.Receives.{lost_a_group, regrouped_by}
 use Rattle.vt_spec.specs.Machine.Settled.{settled}
 use Rattle.vt_spec.specs.Machine.World.{Namespace, World, mount_at, mount_numbered}
-use Rattle.vt_letting_go.specs.Attaching.{inodes_of_place}
-use Rattle.vt_letting_go.specs.Lazily.{detached_between, groups_of_mounts, numbers_of_trees}
+use Rattle.vt_letting_go.specs.Attaching.{inodes_of_mount_point}
+use Rattle.vt_letting_go.specs.Unmounting.{detached_between, groups_of_mounts, numbers_of_trees}
 use Rattle.vt_letting_go.specs.LeavingOverlays.{IsSettled}
 use Rattle.vt_letting_go.specs.Mounting.{ended_mounts, places_lost, places_moved}
 use Rattle.vt_letting_go.specs.MountingOverlays.{EndingWithOverlaysLetsGo, LazyUnmountsWithOverlaysLetGo, MountsOnDirectoriesWithOverlaysLetGo, MovesWithOverlaysLetGo, MovingWithOverlaysLetsGo, PivotsWithOverlaysLetGo, TakingAwayWithOverlaysLetsGo, UnmountsWithOverlaysLetGo, used_by_gone_with_layers, used_by_mounts_with_layers}
@@ -17,8 +17,8 @@ use Rattle.vt_letting_go.specs.OneByOne.{GroupsInUseBut, Inode}
 use Rattle.vt_letting_go.specs.Overlays.{let_go_all, let_go_all_inodes}
 use Rattle.vt_letting_go.proofs.Attached.{attached_groups, attached_loses}
 use Rattle.vt_letting_go.proofs.AttachedSwept.{of_tree}
-use Rattle.vt_letting_go.proofs.Lazily
-use Rattle.vt_letting_go.proofs.Lazily.{Faded, event_groups, lazily_fades}
+use Rattle.vt_letting_go.proofs.Unmounted
+use Rattle.vt_letting_go.proofs.Unmounted.{Faded, event_groups, lazily_fades}
 use Rattle.vt_letting_go.proofs.Lists.{Among}
 use Rattle.vt_letting_go.proofs.MountingMoved
 use Rattle.vt_letting_go.proofs.MountingOverlays.{all_losers_go}
@@ -79,7 +79,7 @@ pub lazy_unmounts_with_overlays_let_go : LazyUnmountsWithOverlaysLetGo
 lazy_unmounts_with_overlays_let_go fresh world task number settles =
     subst (λ w. settled nat_eq w ≡ let_go_all w (used_by_gone_with_layers world gone)) (sym faded.is)
     (all_losers_go world (map faded.change world.mounts) now.master world.namespaces world.tasks gone (places_lost world gone) (groups_of_mounts world gone)
-    settles (Lazily.loses world now settles.in_use settles.mounts faded) (Lazily.groups world now settles.in_use settles.mounts faded))
+    settles (Unmounted.loses world now settles.in_use settles.mounts faded) (Unmounted.groups world now settles.in_use settles.mounts faded))
   where
     now : World ℕ
     now = lazily_unmounted nat_eq world number
@@ -103,12 +103,12 @@ moves_with_overlays_let_go fresh world task number place settles located at_atta
 
     moves : (rest : List (Mount ℕ)) → ((x : Mount ℕ) → Among x (mount ∷ rest) → Among x world.mounts)
         → settled nat_eq (attach nat_eq world fresh place true (mount ∷ rest))
-        ≡ let_go_all_inodes (attach nat_eq world fresh place true (mount ∷ rest)) (inodes_of_place world mount)
+        ≡ let_go_all_inodes (attach nat_eq world fresh place true (mount ∷ rest)) (inodes_of_mount_point world mount)
     moves rest there =
         all_losers_go world after.mounts after.master world.namespaces world.tasks [] (option_to_list mount.mount_point) [] settles
         (attached_loses world world.filesystems new place true mount rest settles.in_use settles.mounts located at_attached (λ e. there))
         (λ group among none. attached_groups world world.filesystems new place true mount rest settles.in_use settles.mounts located at_attached (λ e. there) group none)
-        ∙ ap (let_go_all_inodes after) (no_more (inodes_of_place world mount))
+        ∙ ap (let_go_all_inodes after) (no_more (inodes_of_mount_point world mount))
       where
         new : Copies ℕ
         new = copies_from nat_eq fresh (parts_of nat_eq world place) (mount ∷ rest)
@@ -117,7 +117,7 @@ moves_with_overlays_let_go fresh world task number place settles located at_atta
         after = attach nat_eq world fresh place true (mount ∷ rest)
 
     by : (depth : ℕ) → settled nat_eq (attach nat_eq world fresh place true (tree_from nat_eq depth world.mounts mount))
-        ≡ let_go_all_inodes (attach nat_eq world fresh place true (tree_from nat_eq depth world.mounts mount)) (inodes_of_place world mount)
+        ≡ let_go_all_inodes (attach nat_eq world fresh place true (tree_from nat_eq depth world.mounts mount)) (inodes_of_mount_point world mount)
     by zero = moves [] (of_tree world number is zero)
     by (suc depth) = moves (flat_map (tree_from nat_eq depth world.mounts) (children nat_eq world.mounts mount.number)) (of_tree world number is (suc depth))
 
@@ -126,7 +126,7 @@ pivots_with_overlays_let_go fresh world task new put settles old_attached new_at
     all_losers_go world after.mounts world.master world.namespaces after.tasks [] (option_to_list (mount_numbered nat_eq world new).mount_point) [] settles
     (Pivoted.loses world task.namespace task.root.mount new put settles.in_use settles.mounts old_attached new_attached)
     (λ group among none. Pivoted.groups world task.namespace task.root.mount new put settles.in_use settles.mounts old_attached new_attached group none)
-    ∙ ap (let_go_all_inodes after) (no_more (inodes_of_place world (mount_numbered nat_eq world new)))
+    ∙ ap (let_go_all_inodes after) (no_more (inodes_of_mount_point world (mount_numbered nat_eq world new)))
   where
     after : World ℕ
     after = pivoted nat_eq world task.namespace (mount_at nat_eq world task.root) (mount_numbered nat_eq world new) put

@@ -14,13 +14,13 @@ use Rattle.vt_spec.specs.Machine.World.{World, mount_numbered}
 use Rattle.vt_spec.specs.Machine.WorldLaws.{is_nowhere_or_attached, is_private}
 use Rattle.vt_letting_go.specs.Attaching.{is_attached}
 use Rattle.vt_letting_go.specs.InUse.{AllInUse}
-use Rattle.vt_letting_go.specs.Lazily.{groups_of_mounts}
+use Rattle.vt_letting_go.specs.Unmounting.{groups_of_mounts}
 use Rattle.vt_letting_go.specs.Leaving.{MountsStand}
 use Rattle.vt_letting_go.specs.OneByOne.{GroupsInUseBut, let_go_groups}
 use Rattle.vt_letting_go.specs.Retyping.{SetTypesLetGo, groups_of_types}
 use Rattle.vt_letting_go.proofs.AttachedSwept.{of_tree}
 use Rattle.vt_letting_go.proofs.Detached.{found-map, not_found-map}
-use Rattle.vt_letting_go.proofs.Lazily.{no_members}
+use Rattle.vt_letting_go.proofs.Unmounted.{no_members}
 use Rattle.vt_letting_go.proofs.Lists.{Among, all_pass, among-from_filter, among-from_flat_map, among-from_map, among-map, any_passes, decided, is_among_numbers, map_twice, one_passes, or_first, passes}
 use Rattle.vt_letting_go.proofs.MountingLosers.{Loses, changed}
 use Rattle.vt_letting_go.proofs.MountingOverlays.{only_groups_go}
@@ -111,11 +111,10 @@ module _ (fresh : Fresh ℕ) (world : World ℕ) (number : ℕ) (word : TypeWord
   named_of_world = by recursive
     where
       by : (b : Bool) → (mount : Mount ℕ) → Among mount (named_mounts nat_eq world number b) → Among mount world.mounts × (is_some mount.namespace ≡ true)
-      by true mount m =
-          (
-            of_tree world number attached (length world.mounts) mount m,
-            tree_attached world stand (length world.mounts) (mount_numbered nat_eq world number) attached mount m,
-          )
+      by true mount m = (
+        of_tree world number attached (length world.mounts) mount m,
+        tree_attached world stand (length world.mounts) (mount_numbered nat_eq world number) attached mount m,
+      )
       by false mount m =
           ⊎_elim
           (λ e.

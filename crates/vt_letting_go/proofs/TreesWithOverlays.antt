@@ -14,7 +14,7 @@ use Rattle.vt_spec.specs.Machine.Settled.{filesystem_lives, has_layer_on, is_mou
 use Rattle.vt_spec.specs.Machine.World.{Filesystem, Layer, Overlay, World, filesystem_numbered, is_overlay, layers_of, replaced_if_numbered}
 use Rattle.vt_letting_go.specs.InUse.{FilesystemsInUse, HasTrees, IsListedTree, UppersArePlain, has_upper_in, is_inode_used}
 use Rattle.vt_letting_go.specs.LeavingOverlays.{IsSettled}
-use Rattle.vt_letting_go.specs.Lazily.{groups_of_mounts}
+use Rattle.vt_letting_go.specs.Unmounting.{groups_of_mounts}
 use Rattle.vt_letting_go.specs.Mounting.{places_lost}
 use Rattle.vt_letting_go.specs.MountingOverlays.{used_by_gone_with_layers}
 use Rattle.vt_letting_go.specs.OneByOne.{AllInUseBut, FilesystemsInUseBut, GroupsInUseBut, Inode, InodesInUseBut, Losers, is_inode_among, is_used_or_among}
@@ -23,7 +23,7 @@ use Rattle.vt_letting_go.specs.TreeChanges.{ChangesTree}
 use Rattle.vt_letting_go.specs.TreesOverlays.{ChangedTreesKeepAll, ChangedTreesLetGo, ChangesFilesystem, TakenAndChangedLetsGo, UnnamedGoWithOverlays, in_use_of, upper_objects, with_filesystems, with_lost}
 use Rattle.vt_letting_go.proofs.InUse.{filesystems_stay, layers_on, mounts_stay, no_objects}
 use Rattle.vt_letting_go.proofs.Lists.{Among, all_from_among, all_pass, among-filter, among-flat_map, among-from_filter, among-from_flat_map, among-from_map, among-map, among_from_all, among_numbers, any_passes, is_among_left, is_among_numbers, is_among_right, or_first, or_second, passes}
-use Rattle.vt_letting_go.proofs.Lazily.{event_groups}
+use Rattle.vt_letting_go.proofs.Unmounted.{event_groups}
 use Rattle.vt_letting_go.proofs.MountingOverlays.{all_but_those}
 use Rattle.vt_letting_go.proofs.MountingTaken
 use Rattle.vt_letting_go.proofs.MountingTaken.{is_changed, loses, same_namespaces, without}

@@ -19,8 +19,8 @@ use Rattle.vt_letting_go.specs.OneByOne.{Inode, let_go_inodes}
 abbrev pub is_attached : World ℕ → ℕ → Bool
 is_attached world number = is_some (mount_numbered nat_eq world number).namespace
 
--- Where a tree of copies is attached at a mount in a namespace, nothing goes, in any world in which all was in use. A mount that stood at the place of a
--- receiver leaves it to the first copy, on which it is then.
+-- Where a tree of copies is attached at a mount in a namespace, nothing goes, in any world in which all was in use. A
+-- mount that stood at this location of a receiver leaves it to the first copy, on which it is then.
 abbrev pub CopiesKeepAll : Type 0
 CopiesKeepAll =
     (world : World ℕ) (new : Copies ℕ) (place : Location ℕ) (first : Mount ℕ) (rest : List (Mount ℕ))
@@ -53,19 +53,19 @@ NewMountsOfTreesKeepAll =
     → settled nat_eq (apply nat_eq fresh world task (ToMountPlain place flags)).world
     ≡ (apply nat_eq fresh world task (ToMountPlain place flags)).world
 
--- the inode of a mount's place, if it has one
-abbrev pub inodes_of_place : World ℕ → Mount ℕ → List Inode
-inodes_of_place world mount = map (inode_at world) (option_to_list mount.mount_point)
+-- the inode of a mount's mount point, if it has one
+abbrev pub inodes_of_mount_point : World ℕ → Mount ℕ → List Inode
+inodes_of_mount_point world mount = map (inode_at world) (option_to_list mount.mount_point)
 
--- Where mounts move, with copies at receivers, at the most the inode goes that was the place of the first, and nothing
--- else: the others are at the same place of the mount on which they were.
+-- Where mounts move, with copies at receivers, at the most the inode goes that was the mount point of the first, and
+-- nothing else: each other one keeps its mount point.
 abbrev pub MovedTreesLetGo : Type 0
 MovedTreesLetGo =
     (world : World ℕ) (new : Copies ℕ) (place : Location ℕ) (first : Mount ℕ) (rest : List (Mount ℕ))
     → IsSettledPlain world → LocationsStand world → is_attached world place.mount ≡ true
     → All (Contains world.mounts) (first ∷ rest)
     → settled nat_eq (attached_by nat_eq world new place true (first ∷ rest))
-    ≡ let_go_inodes (attached_by nat_eq world new place true (first ∷ rest)) (inodes_of_place world first)
+    ≡ let_go_inodes (attached_by nat_eq world new place true (first ∷ rest)) (inodes_of_mount_point world first)
 
 -- So it is of a move: the mount and all mounts below it.
 abbrev pub MovesLetGo : Type 0
@@ -74,4 +74,4 @@ MovesLetGo =
     → IsSettledPlain world → LocationsStand world → is_attached world place.mount ≡ true → is_attached world mount ≡ true
     → settled nat_eq (apply nat_eq fresh world task (ToMove mount place)).world
     ≡ let_go_inodes (apply nat_eq fresh world task (ToMove mount place)).world
-    (inodes_of_place world (mount_numbered nat_eq world mount))
+    (inodes_of_mount_point world (mount_numbered nat_eq world mount))

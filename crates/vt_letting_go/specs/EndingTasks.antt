@@ -9,7 +9,7 @@ use Rattle.vt_spec.specs.Machine.Permits.Permit.{ToEnterNamespace, ToExit, ToUns
 use Rattle.vt_spec.specs.Machine.Settled.{settled}
 use Rattle.vt_spec.specs.Machine.World.{Task, World, locations_of, without_task}
 use Rattle.vt_letting_go.specs.Keeping.{LocationsStand}
-use Rattle.vt_letting_go.specs.Lazily.{groups_of_mounts}
+use Rattle.vt_letting_go.specs.Unmounting.{groups_of_mounts}
 use Rattle.vt_letting_go.specs.Leaving.{IsSettledPlain, only_these_are_left, with_tasks}
 use Rattle.vt_letting_go.specs.LeavingOverlays.{IsSettled}
 use Rattle.vt_letting_go.specs.Mounting.{ended_mounts, places_lost, used_by_mounts}
@@ -21,7 +21,7 @@ use Rattle.vt_letting_go.specs.Overlays.{let_go_all}
 abbrev pub gone_with : List (Location ℕ) → World ℕ → List ℕ
 gone_with left ending = map (λ location. location.mount) left ++ ended_mounts ending
 
--- What they used, with the locations themselves, and the places that mounts of ended namespaces and mounts on them had
+-- What they used, with the locations themselves, and the mount points of mounts of ended namespaces and of mounts on them
 abbrev pub used_by_ended : World ℕ → List (Location ℕ) → World ℕ → Losers
 used_by_ended world left ending =
     used_by_mounts world (gone_with left ending) (places_lost world (ended_mounts ending) ++ left)

@@ -14,7 +14,7 @@ pub mod Ends
 pub mod Mounting
 pub mod Attaching
 pub mod Pivoting
-pub mod Lazily
+pub mod Unmounting
 pub mod MountingOverlays
 pub mod EndingTasks
 pub mod Retyping

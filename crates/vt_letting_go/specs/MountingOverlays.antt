@@ -11,10 +11,10 @@ use Rattle.vt_spec.specs.Machine.Permits.Permit.{ToMove, ToPivot, ToUnmount, ToU
 use Rattle.vt_spec.specs.Machine.Settled.{settled}
 use Rattle.vt_spec.specs.Machine.World.{Task, World, mount_numbered}
 use Rattle.vt_spec.specs.Machine.WorldLaws.{is_nowhere_or_attached}
-use Rattle.vt_letting_go.specs.Attaching.{inodes_of_place, is_attached}
+use Rattle.vt_letting_go.specs.Attaching.{inodes_of_mount_point, is_attached}
 use Rattle.vt_letting_go.specs.Detaching.{with_changed}
 use Rattle.vt_letting_go.specs.Keeping.{LocationsStand}
-use Rattle.vt_letting_go.specs.Lazily.{detached_between, groups_of_mounts, numbers_of_trees}
+use Rattle.vt_letting_go.specs.Unmounting.{detached_between, groups_of_mounts, numbers_of_trees}
 use Rattle.vt_letting_go.specs.LeavingOverlays.{IsSettled, filesystems_of_layers}
 use Rattle.vt_letting_go.specs.Mounting.{MovesSome, ended_mounts, inode_at, places_lost, places_moved, root_inode}
 use Rattle.vt_letting_go.specs.OneByOne.{GroupsInUseBut, Losers}
@@ -26,7 +26,7 @@ filesystems_of_mount world number =
     (mount_numbered nat_eq world number).filesystem
     ∷ filesystems_of_layers world (mount_numbered nat_eq world number).filesystem
 
--- What mounts used that may go, and what overlays among that used, and the inodes of places that were left
+-- What mounts used that may go, and what overlays among that used, and the inodes of mount points that were left
 abbrev pub used_by_mounts_with_layers : World ℕ → List ℕ → List (Location ℕ) → List ℕ → Losers
 used_by_mounts_with_layers world gone places groups = record {
   mounts = gone;
@@ -53,7 +53,7 @@ EndingWithOverlaysLetsGo =
     ≡ let_go_all (namespaces_ended nat_eq world)
     (used_by_mounts_with_layers world (ended_mounts world) (places_lost world (ended_mounts world)) groups)
 
--- Where some mounts get other places, at the most the inodes of their old places go.
+-- Where some mounts get other mount points, at the most the inodes of their old ones go.
 abbrev pub MovingWithOverlaysLetsGo : Type 0
 MovingWithOverlaysLetsGo =
     (world : World ℕ) (moved groups : List ℕ) (change : Mount ℕ → Mount ℕ) (master : ℕ → Option ℕ)
@@ -100,13 +100,13 @@ MovesWithOverlaysLetGo =
     → IsSettled world → LocationsStand world → is_attached world place.mount ≡ true → is_attached world mount ≡ true
     → settled nat_eq (apply nat_eq fresh world task (ToMove mount place)).world
     ≡ let_go_all_inodes (apply nat_eq fresh world task (ToMove mount place)).world
-    (inodes_of_place world (mount_numbered nat_eq world mount))
+    (inodes_of_mount_point world (mount_numbered nat_eq world mount))
 
--- and pivot_root: at the most the inode of one place, with its upper inode.
+-- and pivot_root: at the most the inode of one mount point, with its upper inode.
 abbrev pub PivotsWithOverlaysLetGo : Type 0
 PivotsWithOverlaysLetGo =
     (fresh : Fresh ℕ) (world : World ℕ) (task : Task ℕ) (new : ℕ) (put : Location ℕ)
     → IsSettled world → is_attached world task.root.mount ≡ true → is_attached world new ≡ true
     → settled nat_eq (apply nat_eq fresh world task (ToPivot new put)).world
     ≡ let_go_all_inodes (apply nat_eq fresh world task (ToPivot new put)).world
-    (inodes_of_place world (mount_numbered nat_eq world new))
+    (inodes_of_mount_point world (mount_numbered nat_eq world new))

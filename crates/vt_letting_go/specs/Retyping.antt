@@ -10,7 +10,7 @@ use Rattle.vt_spec.specs.Machine.Types.{named_mounts}
 use Rattle.vt_spec.specs.Machine.World.{Task, World}
 use Rattle.vt_letting_go.specs.Attaching.{is_attached}
 use Rattle.vt_letting_go.specs.InUse.{AllInUse}
-use Rattle.vt_letting_go.specs.Lazily.{groups_of_mounts}
+use Rattle.vt_letting_go.specs.Unmounting.{groups_of_mounts}
 use Rattle.vt_letting_go.specs.Leaving.{MountsStand}
 use Rattle.vt_letting_go.specs.OneByOne.{let_go_groups}
 

@@ -1,6 +1,6 @@
 //! What goes after a change of several mounts.
 ghost use Rattle.vt_letting_go.specs.Attaching.{BindsKeepAll, CopiesKeepAll, MovedTreesLetGo, MovesLetGo, NewFilesystemsKeepAll, NewMountsOfTreesKeepAll};
-ghost use Rattle.vt_letting_go.specs.Lazily.{LazyUnmountsLetGo, MountsOnDirectoriesLetGo, TreesLetGo, UnmountsLetGo};
+ghost use Rattle.vt_letting_go.specs.Unmounting.{LazyUnmountsLetGo, MountsOnDirectoriesLetGo, TreesLetGo, UnmountsLetGo};
 ghost use Rattle.vt_letting_go.specs.Mounting.{EndingLetsGo, MovingLetsGo, TakingAwayLetsGo};
 ghost use Rattle.vt_letting_go.specs.Pivoting.{PivotedLetsGo, PivotsLetGo};
 
@@ -36,7 +36,7 @@ pub fn what_a_pivot_leaves_goes()
 {}
 
 /// After an unmount with its receivers, a lazy one, or the end of the mounts on a removed directory, that goes which nothing
-/// uses any more of what the detached mounts used, and of the places that they and the mounts on them had.
+/// uses any more of what the detached mounts used, and of their mount points and those of the mounts on them.
 pub fn what_an_unmount_leaves_goes()
     ensures unmount { UnmountsLetGo }
     ensures lazy { LazyUnmountsLetGo }

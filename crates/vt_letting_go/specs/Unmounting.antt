@@ -18,7 +18,7 @@ abbrev pub groups_of_mounts : World ℕ → List ℕ → List ℕ
 groups_of_mounts world numbers =
     filter_map (λ mount. group_of mount.propagation) (filter (λ mount. is_among nat_eq mount.number numbers) world.mounts)
 
--- What mounts that go used: filesystems and roots, the places that they and the mounts on them had, and their groups
+-- What mounts that go used: filesystems and roots, mount points, also of mounts on them, and groups
 abbrev pub used_by_gone : World ℕ → List ℕ → Losers
 used_by_gone world gone = used_by_mounts world gone (places_lost world gone) (groups_of_mounts world gone)
 

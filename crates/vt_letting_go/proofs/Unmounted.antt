@@ -11,7 +11,7 @@ use Rattle.vt_spec.specs.Machine.Settled.{is_located, mount_lives, settled}
 use Rattle.vt_spec.specs.Machine.World.{World, mount_at, mount_numbered}
 use Rattle.vt_spec.specs.Machine.WorldLaws.{is_nowhere_or_attached}
 use Rattle.vt_letting_go.specs.InUse.{AllInUse, GroupsInUse}
-use Rattle.vt_letting_go.specs.Lazily.{LazyUnmountsLetGo, MountsOnDirectoriesLetGo, TreesLetGo, UnmountsLetGo, detached_between, groups_of_mounts, is_detached_in, numbers_of_trees, used_by_gone}
+use Rattle.vt_letting_go.specs.Unmounting.{LazyUnmountsLetGo, MountsOnDirectoriesLetGo, TreesLetGo, UnmountsLetGo, detached_between, groups_of_mounts, is_detached_in, numbers_of_trees, used_by_gone}
 use Rattle.vt_letting_go.specs.Leaving.{IsSettledPlain, MountsStand, stands_on_attached}
 use Rattle.vt_letting_go.specs.Mounting.{loses_its_place, places_lost}
 use Rattle.vt_letting_go.specs.OneByOne.{GroupsInUseBut, let_go}
