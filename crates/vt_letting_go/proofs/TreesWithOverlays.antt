@@ -13,15 +13,17 @@ use Rattle.vt_spec.specs.Machine.Locked.{of_overlay, overlay_or}
 use Rattle.vt_spec.specs.Machine.Settled.{filesystem_lives, has_layer_on, is_mounted, layers_in, located_in, named_in, objects_of_overlay, settled, without_dead_filesystems, without_dead_mounts}
 use Rattle.vt_spec.specs.Machine.World.{Filesystem, Layer, Overlay, World, filesystem_numbered, is_overlay, layers_of, replaced_if_numbered}
 use Rattle.vt_letting_go.specs.InUse.{FilesystemsInUse, HasTrees, IsListedTree, UppersArePlain, has_upper_in, is_inode_used}
-use Rattle.vt_letting_go.specs.LeavingOverlays.{IsSettled}
+use Rattle.vt_letting_go.specs.LeavingOverlays.{IsSettled, used_with_layers}
+use Rattle.vt_letting_go.specs.Leaving.{with_tasks}
 use Rattle.vt_letting_go.specs.Unmounting.{groups_of_mounts}
 use Rattle.vt_letting_go.specs.Mounting.{places_lost}
 use Rattle.vt_letting_go.specs.MountingOverlays.{used_by_gone_with_layers}
 use Rattle.vt_letting_go.specs.OneByOne.{AllInUseBut, FilesystemsInUseBut, GroupsInUseBut, Inode, InodesInUseBut, Losers, is_inode_among, is_used_or_among}
 use Rattle.vt_letting_go.specs.Overlays.{RealsAreThere, let_go_all_inodes, real_in}
 use Rattle.vt_letting_go.specs.TreeChanges.{ChangesTree}
-use Rattle.vt_letting_go.specs.TreesOverlays.{ChangedTreesKeepAll, ChangedTreesLetGo, ChangesFilesystem, TakenAndChangedLetsGo, UnnamedGoWithOverlays, in_use_of, upper_objects, with_filesystems, with_lost}
+use Rattle.vt_letting_go.specs.TreesOverlays.{ChangedTreesKeepAll, ChangedTreesLetGo, ChangesFilesystem, LeftAndChangedLetsGo, OpenedKeepsAll, TakenAndChangedLetsGo, UnnamedGoWithOverlays, in_use_of, upper_objects, with_filesystems, with_lost}
 use Rattle.vt_letting_go.proofs.InUse.{filesystems_stay, layers_on, mounts_stay, no_objects}
+use Rattle.vt_letting_go.proofs.LeftWithOverlays.{leaving_but}
 use Rattle.vt_letting_go.proofs.Lists.{Among, all_from_among, all_pass, among-filter, among-flat_map, among-from_filter, among-from_flat_map, among-from_map, among-map, among_from_all, among_numbers, any_passes, is_among_left, is_among_numbers, is_among_right, or_first, or_second, passes}
 use Rattle.vt_letting_go.proofs.Unmounted.{event_groups}
 use Rattle.vt_letting_go.proofs.MountingOverlays.{all_but_those}
@@ -466,3 +468,13 @@ taken_and_changed_lets_go world gone change lost settles trees uppers reals chan
 
     event : taken_away nat_eq world gone ≡ taken
     event = sym (same_namespaces (without world gone world.namespaces) b) ∙ is_changed world gone world.namespaces b
+
+-- Tasks that go to other locations, and trees that change, at once
+pub left_and_changed_lets_go : LeftAndChangedLetsGo
+left_and_changed_lets_go world tasks left change lost settles only trees uppers reals changes =
+    with_overlays_all_goes (with_filesystems (with_tasks world tasks) change) (with_lost (used_with_layers world left) lost) trees uppers reals
+    (all_but_changed (with_tasks world tasks) (used_with_layers world left) (leaving_but world tasks left settles.in_use settles.mounts only) change lost changes)
+
+pub opened_keeps_all : OpenedKeepsAll
+opened_keeps_all world tasks change settles only trees uppers reals changes =
+    left_and_changed_lets_go world tasks [] change [] settles only trees uppers reals changes

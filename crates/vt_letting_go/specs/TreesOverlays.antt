@@ -6,10 +6,12 @@ use Rattle.vt_spec.specs.FileTree.{FileTree}
 use Rattle.vt_spec.specs.Lists.{any_pair, is_among}
 use Rattle.vt_spec.specs.Machine.Detach.{taken_away}
 use Rattle.vt_spec.specs.Machine.Locked.{of_overlay}
+use Rattle.vt_spec.specs.Machine.Mounts.{Location}
 use Rattle.vt_spec.specs.Machine.Settled.{named_in, objects_of_overlay, settled, without_dead_filesystems, without_dead_mounts}
-use Rattle.vt_spec.specs.Machine.World.{Filesystem, World, filesystem_numbered, is_overlay, layers_of}
+use Rattle.vt_spec.specs.Machine.World.{Filesystem, Task, World, filesystem_numbered, is_overlay, layers_of}
 use Rattle.vt_letting_go.specs.InUse.{HasTrees, UppersArePlain}
-use Rattle.vt_letting_go.specs.LeavingOverlays.{IsSettled}
+use Rattle.vt_letting_go.specs.Leaving.{only_these_are_left, with_tasks}
+use Rattle.vt_letting_go.specs.LeavingOverlays.{IsSettled, used_with_layers}
 use Rattle.vt_letting_go.specs.MountingOverlays.{used_by_gone_with_layers}
 use Rattle.vt_letting_go.specs.OneByOne.{Inode, Losers, is_inode_among}
 use Rattle.vt_letting_go.specs.Overlays.{RealsAreThere, let_go_all, let_go_all_inodes}
@@ -92,3 +94,31 @@ TakenAndChangedLetsGo =
     → settled nat_eq (with_filesystems (taken_away nat_eq world gone) change)
     ≡ let_go_all (with_filesystems (taken_away nat_eq world gone) change)
     (with_lost (used_by_gone_with_layers world gone) lost)
+
+-- Where tasks go to other locations and filesystems change in one call: the same, of the locations that were left.
+abbrev pub LeftAndChangedLetsGo : Type 0
+LeftAndChangedLetsGo =
+    (world : World ℕ) (tasks : List (Task ℕ)) (left : List (Location ℕ)) (change : Filesystem ℕ → Filesystem ℕ)
+    (lost : List Inode) → IsSettled world → only_these_are_left world tasks left ≡ true
+    → HasTrees (with_filesystems (with_tasks world tasks) change)
+    → UppersArePlain (with_filesystems (with_tasks world tasks) change)
+    → RealsAreThere (with_filesystems (with_tasks world tasks) change)
+    → All (λ filesystem.
+    ChangesFilesystem (in_use_of (with_filesystems (with_tasks world tasks) change)) lost filesystem (change filesystem))
+    world.filesystems
+    → settled nat_eq (with_filesystems (with_tasks world tasks) change)
+    ≡ let_go_all (with_filesystems (with_tasks world tasks) change) (with_lost (used_with_layers world left) lost)
+
+-- A call by which no location, no name and no overlay was lost leaves all: open(2) that makes or copies up a file.
+abbrev pub OpenedKeepsAll : Type 0
+OpenedKeepsAll =
+    (world : World ℕ) (tasks : List (Task ℕ)) (change : Filesystem ℕ → Filesystem ℕ)
+    → IsSettled world → only_these_are_left world tasks [] ≡ true
+    → HasTrees (with_filesystems (with_tasks world tasks) change)
+    → UppersArePlain (with_filesystems (with_tasks world tasks) change)
+    → RealsAreThere (with_filesystems (with_tasks world tasks) change)
+    → All (λ filesystem.
+    ChangesFilesystem (in_use_of (with_filesystems (with_tasks world tasks) change)) [] filesystem (change filesystem))
+    world.filesystems
+    → settled nat_eq (with_filesystems (with_tasks world tasks) change)
+    ≡ with_filesystems (with_tasks world tasks) change

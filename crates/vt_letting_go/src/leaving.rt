@@ -5,7 +5,7 @@ ghost use Rattle.vt_letting_go.specs.Leaving.{LeavingLetsGo, OneSweepForSeveral,
 ghost use Rattle.vt_letting_go.specs.LeavingOverlays.{LeavingOverlaysLetsGo, StayingKeepsOverlays};
 ghost use Rattle.vt_letting_go.specs.Retyping.{SetTypesLetGo};
 ghost use Rattle.vt_letting_go.specs.TreeChanges.{NamedStay, UnnamedGo};
-ghost use Rattle.vt_letting_go.specs.TreesOverlays.{ChangedTreesKeepAll, ChangedTreesLetGo, TakenAndChangedLetsGo, UnnamedGoWithOverlays};
+ghost use Rattle.vt_letting_go.specs.TreesOverlays.{ChangedTreesKeepAll, ChangedTreesLetGo, LeftAndChangedLetsGo, OpenedKeepsAll, TakenAndChangedLetsGo, UnnamedGoWithOverlays};
 
 /// Where tasks left places, what nothing uses any more goes of what they used there, and nothing else.
 ///
@@ -34,7 +34,14 @@ pub fn what_loses_its_name_goes_with_overlays()
     ensures trees { ChangedTreesLetGo }
     ensures kept { ChangedTreesKeepAll }
     ensures plain { UnnamedGoWithOverlays }
+{}
+
+/// Where mounts are taken away or tasks leave locations, and trees change in the same call, that goes of what both took uses
+/// from which nothing uses any more.
+pub fn what_one_call_leaves_goes_with_overlays()
     ensures removed { TakenAndChangedLetsGo }
+    ensures left { LeftAndChangedLetsGo }
+    ensures opened { OpenedKeepsAll }
 {}
 
 /// Where a mount on which no other stands leaves its place, it goes with its last use, its filesystem with its last

@@ -1,4 +1,4 @@
-use Rattle.vt_letting_go.proofs.TreesWithOverlays.{changed_trees_keep_all, changed_trees_let_go, taken_and_changed_lets_go, unnamed_go_with_overlays}
+use Rattle.vt_letting_go.proofs.TreesWithOverlays.{changed_trees_keep_all, changed_trees_let_go, unnamed_go_with_overlays}
 use Rattle.vt_letting_go.proofs.leaving.what_loses_its_name_goes_with_overlays.Goals as goal
 
 pub returns-clause-trees : goal.returns-clause-trees
@@ -9,6 +9,3 @@ returns-clause-kept c = changed_trees_keep_all
 
 pub returns-clause-plain : goal.returns-clause-plain
 returns-clause-plain c = unnamed_go_with_overlays
-
-pub returns-clause-removed : goal.returns-clause-removed
-returns-clause-removed c = taken_and_changed_lets_go
