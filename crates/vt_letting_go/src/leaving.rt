@@ -63,7 +63,7 @@ pub fn what_a_change_of_types_leaves_goes()
     ensures { SetTypesLetGo }
 {}
 
-/// Where mounts are added, with the plain filesystems that they show, nothing goes.
+/// Where mounts are added, with the filesystems that they show, nothing goes.
 pub fn new_mounts_keep_all()
     ensures { NewMountsKeepAll }
 {}
