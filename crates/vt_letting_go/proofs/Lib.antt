@@ -32,3 +32,4 @@ pub mod Unmounted
 pub mod MountingWithOverlays
 pub mod TasksEnd
 pub mod Retyped
+pub mod NamesKept

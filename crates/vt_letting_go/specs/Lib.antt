@@ -18,3 +18,4 @@ pub mod Unmounting
 pub mod MountingOverlays
 pub mod EndingTasks
 pub mod Retyping
+pub mod FileChanges

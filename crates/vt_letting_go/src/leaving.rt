@@ -1,5 +1,6 @@
 //! What goes with the uses that a change took away.
 ghost use Rattle.vt_letting_go.specs.Detaching.{DetachingLetsGo, UnmountIsOfOne};
+ghost use Rattle.vt_letting_go.specs.FileChanges.{ChangesKeepNames, FileChangesLetGo};
 ghost use Rattle.vt_letting_go.specs.Keeping.{FlagsAreOfOne, FlagsKeepAll, NewMountsKeepAll, TypesKeepAll};
 ghost use Rattle.vt_letting_go.specs.Leaving.{LeavingLetsGo, OneSweepForSeveral, StayingKeepsAll};
 ghost use Rattle.vt_letting_go.specs.LeavingOverlays.{LeavingOverlaysLetsGo, StayingKeepsOverlays};
@@ -26,6 +27,13 @@ pub fn what_tasks_leave_goes_with_overlays()
 pub fn what_loses_its_name_goes()
     ensures unnamed { UnnamedGo }
     ensures named { NamedStay }
+{}
+
+/// After a call that changed a plain tree at the most the inode goes that lost a name: the one that was removed, or that
+/// another one replaced.
+pub fn what_a_file_call_leaves_goes()
+    ensures names { ChangesKeepNames }
+    ensures change { FileChangesLetGo }
 {}
 
 /// Where trees changed in a world with overlays, the inodes go that lost their last name or overlay and where nothing is,

@@ -1,0 +1,68 @@
+-- What goes when a call changes a plain tree: mkdir(2), open(2) with O_CREAT, link(2), symlink(2), unlink(2), rmdir(2),
+-- rename(2), write(2), chmod(2), chown(2).
+use Rattle.std.specs.Prelude.{List, None, Some, [], false, map, nat_eq, option_to_list, true, ℕ, ⊤, ◌≡◌}
+use Rattle.vt_spec.specs.FileTree.{FileTree}
+use Rattle.vt_spec.specs.Language.Changes.{Change, changed}
+use Rattle.vt_spec.specs.Language.Changes.Change.{AddName, CopyUp, Make, Move, Remove, SetAttr, SetBytes, SetMark}
+use Rattle.vt_spec.specs.Lists.{Fresh, any_pair, is_among}
+use Rattle.vt_spec.specs.Machine.Filesystems.{with_change}
+use Rattle.vt_spec.specs.Machine.Mounts.{Location}
+use Rattle.vt_spec.specs.Machine.Settled.{settled}
+use Rattle.vt_spec.specs.Machine.World.{Filesystem, World, filesystem_at, files_at, is_overlay, mount_at}
+use Rattle.vt_spec.specs.Tree.{is_directory_node}
+use Rattle.vt_spec.specs.TreeLaws.{entry_at}
+use Rattle.vt_letting_go.specs.InUse.{IsListedTree}
+use Rattle.vt_letting_go.specs.LeavingOverlays.{IsSettled}
+use Rattle.vt_letting_go.specs.Overlays.{let_go_all_inodes}
+use Rattle.vt_letting_go.specs.TreeChanges.{ChangesTree}
+
+-- what loses a name by a change: what had the name that another object gets, or that is removed
+abbrev pub names_lost : FileTree ℕ → Change ℕ → List ℕ
+names_lost files (Make directory name number node) = option_to_list (entry_at files.tree directory name)
+names_lost files (AddName directory name object) = option_to_list (entry_at files.tree directory name)
+names_lost files (Remove directory name object) = option_to_list (entry_at files.tree directory name)
+names_lost files (Move from old to new object) = option_to_list (entry_at files.tree to new)
+names_lost files (SetBytes file bytes) = []
+names_lost files (SetAttr object attr) = []
+names_lost files (SetMark directory opaque) = []
+names_lost files (CopyUp object) = []
+
+-- A new inode has a new number and a directory for its name; what moves has the old name, and a directory for the new
+-- one. The rules of the calls ask for it.
+pub record IsMade (files : FileTree ℕ) (directory number : ℕ) : Type 0 where
+  pub in_directory : is_directory_node (files.tree.node directory) ≡ true
+  pub is_new : files.tree.node number ≡ None
+
+pub record IsMoved (files : FileTree ℕ) (from : ℕ) (old : List ℕ) (to object : ℕ) : Type 0 where
+  pub named : entry_at files.tree from old ≡ Some object
+  pub in_directory : is_directory_node (files.tree.node to) ≡ true
+
+abbrev pub MayChange : FileTree ℕ → Change ℕ → Type 0
+MayChange files (Make directory name number node) = IsMade files directory number
+MayChange files (AddName directory name object) = ⊤
+MayChange files (Remove directory name object) = ⊤
+MayChange files (Move from old to new object) = IsMoved files from old to object
+MayChange files (SetBytes file bytes) = ⊤
+MayChange files (SetAttr object attr) = ⊤
+MayChange files (SetMark directory opaque) = ⊤
+MayChange files (CopyUp object) = ⊤
+
+-- Each change keeps the root, and all names but those.
+abbrev pub ChangesKeepNames : Type 0
+ChangesKeepNames =
+    (files : FileTree ℕ) (change : Change ℕ) → IsListedTree files → IsListedTree (changed nat_eq files change)
+    → MayChange files change → ChangesTree files (changed nat_eq files change) (names_lost files change)
+
+-- After a call that changes a plain tree, in a world with overlays or without, at the most the inode goes that lost a
+-- name.
+abbrev pub FileChangesLetGo : Type 0
+FileChangesLetGo =
+    (fresh : Fresh ℕ) (world : World ℕ) (location : Location ℕ) (change : Change ℕ) → IsSettled world
+    → any_pair (λ (a b : Filesystem ℕ). nat_eq a.number b.number) world.filesystems ≡ false
+    → is_among nat_eq (mount_at nat_eq world location).filesystem (map (λ filesystem. filesystem.number) world.filesystems)
+    ≡ true
+    → is_overlay (filesystem_at nat_eq world location) ≡ false
+    → IsListedTree (changed nat_eq (files_at nat_eq world location) change) → MayChange (files_at nat_eq world location) change
+    → settled nat_eq (with_change nat_eq fresh world location change)
+    ≡ let_go_all_inodes (with_change nat_eq fresh world location change)
+    (map (λ inode. ((mount_at nat_eq world location).filesystem, inode)) (names_lost (files_at nat_eq world location) change))
