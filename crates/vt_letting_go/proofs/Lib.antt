@@ -33,3 +33,4 @@ pub mod MountingWithOverlays
 pub mod TasksEnd
 pub mod Retyped
 pub mod NamesKept
+pub mod FilesChanged

@@ -64,7 +64,7 @@ module _ (world : World ℕ) (gone : List ℕ) (namespaces : List (Namespace ℕ
   same_filesystem true mount = same_part (λ m. m.filesystem) mount refl refl
   same_filesystem false mount = same_part (λ m. m.filesystem) mount refl refl
 
-  shows_the_same : (b : Bool) (number : ℕ) → (mount_in nat_eq (map (change b) world.mounts) number).filesystem ≡ (mount_in nat_eq world.mounts number).filesystem
+  pub shows_the_same : (b : Bool) (number : ℕ) → (mount_in nat_eq (map (change b) world.mounts) number).filesystem ≡ (mount_in nat_eq world.mounts number).filesystem
   shows_the_same b number =
       ⊎_elim (λ e. e)
       (λ found. ap (λ x. x.filesystem) (found-map (change b) (same_number b) world.mounts number found.0 found.1 found.2 found.3)

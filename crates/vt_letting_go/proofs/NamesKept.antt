@@ -1,5 +1,5 @@
 -- What changes of a tree do to names.
-use Rattle.std.proofs.Common.{◌≡◌, refl, sym, ap, subst, ◌∙◌, ◌⊎◌, inl, inr, ⊎_elim, ℕ, nat_eq, Bool, true, false, cond, not, ◌||◌, List, [], ◌∷◌, map, true≢false, Option, Some, None, is_some, option_to_list}
+use Rattle.std.proofs.Common.{◌≡◌, refl, sym, ap, subst, ◌∙◌, ◌⊎◌, inl, inr, ⊎_elim, ℕ, nat_eq, Bool, true, false, cond, not, ◌||◌, List, [], ◌∷◌, true≢false, Option, Some, None, is_some, option_to_list}
 use Rattle.std.specs.List.{list_all}
 use Rattle.std.proofs.lemmas.Bool.{and_parts, false_from_ne_true}
 use Rattle.std.proofs.lemmas.Bool.Decides.{eqb_tells}
@@ -18,20 +18,14 @@ use Rattle.vt_spec.specs.FileTree.{FileTree, targets_in}
 use Rattle.vt_spec.specs.Language.Changes.{changed, changed_node, node_with_attr, node_with_mark, node_with_parent, node_without_entry, with_inode, with_name, without_entry, without_name, without_parent}
 use Rattle.vt_spec.specs.Language.Changes.Change.{AddName, CopyUp, Make, Move, Remove, SetAttr, SetBytes, SetMark}
 use Rattle.vt_spec.specs.Lists.{is_among}
-use Rattle.vt_spec.specs.Machine.Filesystems.{filesystem_changed, with_change}
-use Rattle.vt_spec.specs.Machine.Settled.{named_in, settled}
-use Rattle.vt_spec.specs.Machine.World.{Filesystem, Overlay, filesystem_at, filesystem_numbered, files_at, mount_at}
+use Rattle.vt_spec.specs.Machine.Settled.{named_in}
 use Rattle.vt_spec.specs.Tree.{Content, Entries, Node, entries_in, entry_named, is_directory_node, name_cmp, node_with_bytes, node_with_entry, with_entry}
 use Rattle.vt_spec.specs.Tree.Content.{Directory, Regular, Symlink, Whiteout}
 use Rattle.vt_spec.specs.TreeLaws.{entry_at}
-use Rattle.vt_letting_go.specs.FileChanges.{ChangesKeepNames, FileChangesLetGo, IsMade, IsMoved, names_lost}
+use Rattle.vt_letting_go.specs.FileChanges.{ChangesKeepNames, IsMade, IsMoved}
 use Rattle.vt_letting_go.specs.InUse.{IsListedTree}
-use Rattle.vt_letting_go.specs.TreeChanges.{ChangesTree, with_tree}
-use Rattle.vt_letting_go.specs.OneByOne.{Inode}
-use Rattle.vt_letting_go.specs.Overlays.{let_go_all_inodes}
-use Rattle.vt_letting_go.proofs.OfWorlds.{found_filesystem}
-use Rattle.vt_letting_go.proofs.TreesWithOverlays.{unnamed_go_with_overlays}
-use Rattle.vt_letting_go.proofs.Lists.{Among, all_pass, among-filter, among-flat_map, among-from_flat_map, among-from_map, among-map, among_from_all, among_numbers, decided, is_among_numbers, or_first, or_second}
+use Rattle.vt_letting_go.specs.TreeChanges.{ChangesTree}
+use Rattle.vt_letting_go.proofs.Lists.{Among, all_pass, among-filter, among-flat_map, among-from_flat_map, among-from_map, among-map, among_numbers, decided, is_among_numbers, or_first, or_second}
 
 abbrev Entry : Type 0
 Entry = List ℕ × ℕ
@@ -486,35 +480,3 @@ changes_keep_names files (SetAttr object attr) listed after may =
 changes_keep_names files (SetMark directory opaque) listed after may =
     all_stay files (changed nat_eq files (SetMark directory opaque)) after refl refl (same_entries files directory (node_with_mark opaque) (same_entries_mark opaque))
 changes_keep_names files (CopyUp object) listed after may = all_stay files files after refl refl (λ d. refl)
-
-pub file_changes_let_go : FileChangesLetGo
-file_changes_let_go fresh world location change settles one there plain after may =
-    by (filesystem_at nat_eq world location).overlay refl
-  where
-    number : ℕ
-    number = (mount_at nat_eq world location).filesystem
-
-    files : FileTree ℕ
-    files = files_at nat_eq world location
-
-    lost : List Inode
-    lost = map (λ inode. (number, inode)) (names_lost files change)
-
-    listed : IsListedTree files
-    listed =
-        let t = among-from_map (λ (f : Filesystem ℕ). f.number) world.filesystems number
-        (among_numbers number (map (λ (f : Filesystem ℕ). f.number) world.filesystems) there) in
-        let same : filesystem_numbered nat_eq world number ≡ t.0 = ap (filesystem_numbered nat_eq world) t.2 ∙ found_filesystem world.filesystems one t.0 t.1 in
-        subst (λ (f : Filesystem ℕ). IsListedTree f.files) (sym same) (among_from_all (λ (g : Filesystem ℕ). IsListedTree g.files) world.filesystems settles.trees t.0 t.1)
-
-    goes : settled nat_eq (with_tree world number (changed nat_eq files change)) ≡ let_go_all_inodes (with_tree world number (changed nat_eq files change)) lost
-    goes =
-        unnamed_go_with_overlays world number (changed nat_eq files change) (names_lost files change) settles one there plain
-        (changes_keep_names files change listed after may)
-
-    by : (o : Option (Overlay ℕ)) → (filesystem_at nat_eq world location).overlay ≡ o
-        → settled nat_eq (with_change nat_eq fresh world location change) ≡ let_go_all_inodes (with_change nat_eq fresh world location change) lost
-    by None e =
-        subst (λ w. settled nat_eq w ≡ let_go_all_inodes w lost)
-        (sym (ap (λ o. filesystem_changed nat_eq fresh world (filesystem_at nat_eq world location) o change) e)) goes
-    by (Some overlay) e = absurd (true≢false (sym (ap is_some e) ∙ plain))

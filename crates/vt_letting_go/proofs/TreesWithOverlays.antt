@@ -334,7 +334,7 @@ module _ (world : World ℕ) (number : ℕ) (files : FileTree ℕ) (unnamed : Li
   abbrev new : Filesystem ℕ
   new = with_files old files
 
-  abbrev swap : Filesystem ℕ → Filesystem ℕ
+  abbrev pub swap : Filesystem ℕ → Filesystem ℕ
   swap = replaced_if_numbered nat_eq new
 
   abbrev then_ : World ℕ
@@ -387,16 +387,16 @@ module _ (world : World ℕ) (number : ℕ) (files : FileTree ℕ) (unnamed : Li
       all_from_among P then_.filesystems (λ x m. let from = among-from_map swap world.filesystems x m in
       subst P (sym from.2) (for_each P here others from.0 from.1))
 
-  trees_after : HasTrees then_
+  pub trees_after : HasTrees then_
   trees_after =
       for_all (λ f. IsListedTree f.files) changes.tree (λ f m. among_from_all (λ g. IsListedTree g.files) world.filesystems settles.trees f m)
 
-  reals_after : RealsAreThere then_
+  pub reals_after : RealsAreThere then_
   reals_after =
       for_all (λ f. (k : ℕ) → f.files.tree.node k ≡ None → real_in f k ≡ None) (λ k e. no_real new plain k)
       (among_from_all (λ f. (k : ℕ) → f.files.tree.node k ≡ None → real_in f k ≡ None) world.filesystems settles.reals)
 
-  uppers_after : UppersArePlain then_
+  pub uppers_after : UppersArePlain then_
   uppers_after =
       for_all (λ f. is_overlay f ≡ true → All (λ g. has_upper_in f.number g ≡ false) then_.filesystems)
       (λ is. absurd (true≢false (sym is ∙ plain)))
@@ -412,13 +412,13 @@ module _ (world : World ℕ) (number : ℕ) (files : FileTree ℕ) (unnamed : Li
       (among-map (λ k. (number, k)) unnamed inode (among_numbers inode unnamed is))
       (ap (λ b. b && nat_eq inode inode) (eq-eqb old.number number old_number) ∙ eq-eqb inode inode refl)
 
-  of_old : ChangesFilesystem then_ without_name old new
-  of_old = record {
+  of_old : (after : World ℕ) → ChangesFilesystem after without_name old new
+  of_old after = record {
     number = refl;
     root = changes.root;
     layers = refl;
-    inodes = all_pass (λ k. is_among nat_eq k old.files.numbers || is_among nat_eq k (named_in files) || is_among nat_eq k (upper_objects then_ new.number))
-        files.numbers (λ k m. or_first (is_among nat_eq k old.files.numbers || is_among nat_eq k (named_in files)) (is_among nat_eq k (upper_objects then_ new.number))
+    inodes = all_pass (λ k. is_among nat_eq k old.files.numbers || is_among nat_eq k (named_in files) || is_among nat_eq k (upper_objects after new.number))
+        files.numbers (λ k m. or_first (is_among nat_eq k old.files.numbers || is_among nat_eq k (named_in files)) (is_among nat_eq k (upper_objects after new.number))
         (passes (λ n. is_among nat_eq n old.files.numbers || is_among nat_eq n (named_in files)) files.numbers changes.inodes k m));
     names = all_pass (λ k. is_among nat_eq k (named_in files) || is_inode_among old.number k without_name) (named_in old.files) (λ k m.
         ⊎_elim (or_first (is_among nat_eq k (named_in files)) (is_inode_among old.number k without_name))
@@ -429,16 +429,16 @@ module _ (world : World ℕ) (number : ℕ) (files : FileTree ℕ) (unnamed : Li
         (no_objects world target old plain);
   }
 
-  all_change : All (λ f. ChangesFilesystem then_ without_name f (swap f)) world.filesystems
-  all_change = all_from_among (λ f. ChangesFilesystem then_ without_name f (swap f)) world.filesystems (λ f m. by f (which f m))
+  pub all_change : (after : World ℕ) → All (λ f. ChangesFilesystem after without_name f (swap f)) world.filesystems
+  all_change after = all_from_among (λ f. ChangesFilesystem after without_name f (swap f)) world.filesystems (λ f m. by f (which f m))
     where
-      by : (f : Filesystem ℕ) → Is f → ChangesFilesystem then_ without_name f (swap f)
+      by : (f : Filesystem ℕ) → Is f → ChangesFilesystem after without_name f (swap f)
       by f (is_the_one e s) =
-          subst (λ x. ChangesFilesystem then_ without_name x (swap f)) (sym e) (subst (ChangesFilesystem then_ without_name old) (sym s) of_old)
-      by f (is_another s) = subst (ChangesFilesystem then_ without_name f) (sym s) (unchanged then_ without_name f)
+          subst (λ x. ChangesFilesystem after without_name x (swap f)) (sym e) (subst (ChangesFilesystem after without_name old) (sym s) (of_old after))
+      by f (is_another s) = subst (ChangesFilesystem after without_name f) (sym s) (unchanged after without_name f)
 
   unnamed_goes : settled nat_eq then_ ≡ let_go_all_inodes then_ without_name
-  unnamed_goes = trees_change world swap without_name settles trees_after uppers_after reals_after all_change
+  unnamed_goes = trees_change world swap without_name settles trees_after uppers_after reals_after (all_change then_)
 
 pub unnamed_go_with_overlays : UnnamedGoWithOverlays
 unnamed_go_with_overlays world number files unnamed settles one there plain changes =

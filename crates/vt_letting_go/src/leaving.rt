@@ -1,6 +1,6 @@
 //! What goes with the uses that a change took away.
 ghost use Rattle.vt_letting_go.specs.Detaching.{DetachingLetsGo, UnmountIsOfOne};
-ghost use Rattle.vt_letting_go.specs.FileChanges.{ChangesKeepNames, FileChangesLetGo};
+ghost use Rattle.vt_letting_go.specs.FileChanges.{ChangesKeepNames, FileChangesLetGo, RemovedDirectoriesLetGo, ReplacingLetsGo, TakenAndFileChangesLetGo};
 ghost use Rattle.vt_letting_go.specs.Keeping.{FlagsAreOfOne, FlagsKeepAll, NewMountsKeepAll, TypesKeepAll};
 ghost use Rattle.vt_letting_go.specs.Leaving.{LeavingLetsGo, OneSweepForSeveral, StayingKeepsAll};
 ghost use Rattle.vt_letting_go.specs.LeavingOverlays.{LeavingOverlaysLetsGo, StayingKeepsOverlays};
@@ -30,10 +30,13 @@ pub fn what_loses_its_name_goes()
 {}
 
 /// After a call that changed a plain tree at the most the inode goes that lost a name: the one that was removed, or that
-/// another one replaced.
+/// another one replaced. With a directory that was removed or replaced that goes which only the mounts on it used.
 pub fn what_a_file_call_leaves_goes()
     ensures names { ChangesKeepNames }
     ensures change { FileChangesLetGo }
+    ensures with_mounts { TakenAndFileChangesLetGo }
+    ensures rmdir { RemovedDirectoriesLetGo }
+    ensures rename { ReplacingLetsGo }
 {}
 
 /// Where trees changed in a world with overlays, the inodes go that lost their last name or overlay and where nothing is,
