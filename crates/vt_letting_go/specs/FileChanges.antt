@@ -1,18 +1,19 @@
 -- What goes when a call changes a plain tree: mkdir(2), open(2) with O_CREAT, link(2), symlink(2), unlink(2), rmdir(2),
 -- rename(2), write(2), chmod(2), chown(2).
-use Rattle.std.specs.Prelude.{List, None, Some, [], false, map, nat_eq, option_to_list, true, ℕ, ⊤, ◌≡◌}
+use Rattle.std.specs.Prelude.{Contains, List, None, Some, [], false, map, nat_eq, option_to_list, true, ℕ, ⊤, ◌≡◌}
 use Rattle.vt_spec.specs.FileTree.{FileTree}
+use Rattle.vt_spec.specs.Language.Calls.{Access, same_name}
 use Rattle.vt_spec.specs.Language.Changes.{Change, changed}
 use Rattle.vt_spec.specs.Language.Changes.Change.{AddName, CopyUp, Make, Move, Remove, SetAttr, SetBytes, SetMark}
-use Rattle.vt_spec.specs.Lists.{Fresh, any_pair, is_among}
+use Rattle.vt_spec.specs.Lists.{Fresh, any_pair, evens, is_among}
 use Rattle.vt_spec.specs.Machine.Apply.{apply}
 use Rattle.vt_spec.specs.Machine.Detach.{mounts_on, taken_away}
 use Rattle.vt_spec.specs.Machine.Filesystems.{with_change}
 use Rattle.vt_spec.specs.Machine.Mounts.{Location}
-use Rattle.vt_spec.specs.Machine.Permits.Permit.{ToRemoveDirectory, ToRename}
+use Rattle.vt_spec.specs.Machine.Permits.Permit.{ToMake, ToOpenNew, ToRemoveDirectory, ToRename}
 use Rattle.vt_spec.specs.Machine.Settled.{settled}
 use Rattle.vt_spec.specs.Machine.World.{Filesystem, Task, World, filesystem_at, files_at, is_overlay, mount_at}
-use Rattle.vt_spec.specs.Tree.{is_directory_node}
+use Rattle.vt_spec.specs.Tree.{Node, is_directory_node}
 use Rattle.vt_spec.specs.TreeLaws.{entry_at}
 use Rattle.vt_letting_go.specs.InUse.{IsListedTree}
 use Rattle.vt_letting_go.specs.LeavingOverlays.{IsSettled}
@@ -122,3 +123,34 @@ ReplacingLetsGo =
     ≡ let_go_all (apply nat_eq fresh world task (ToRename from old to new object (Some replaced))).world
     (with_lost (used_by_gone_with_layers world (numbers_of_trees world (mounts_on nat_eq world replaced)))
     (inodes_lost world from (Move from.node old to.node new object.node)))
+
+-- A call that makes an inode under a free name takes nothing away: mkdir(2), symlink(2), mknod(2).
+abbrev pub MadeKeepsAll : Type 0
+MadeKeepsAll =
+    (fresh : Fresh ℕ) (world : World ℕ) (task : Task ℕ) (directory : Location ℕ) (name : List ℕ) (node : Node ℕ)
+    → IsSettled world
+    → any_pair (λ (a b : Filesystem ℕ). nat_eq a.number b.number) world.filesystems ≡ false
+    → is_among nat_eq (mount_at nat_eq world directory).filesystem (map (λ filesystem. filesystem.number) world.filesystems)
+    ≡ true
+    → is_overlay (filesystem_at nat_eq world directory) ≡ false
+    → IsListedTree (changed nat_eq (files_at nat_eq world directory) (Make directory.node name (evens fresh 0) node))
+    → IsMade (files_at nat_eq world directory) directory.node (evens fresh 0)
+    → entry_at (files_at nat_eq world directory).tree directory.node name ≡ None
+    → settled nat_eq (apply nat_eq fresh world task (ToMake directory name node)).world
+    ≡ (apply nat_eq fresh world task (ToMake directory name node)).world
+
+-- Nor does one by which a task of the world opens a new file: open(2) with O_CREAT.
+abbrev pub OpenedNewKeepsAll : Type 0
+OpenedNewKeepsAll =
+    (fresh : Fresh ℕ) (world : World ℕ) (task : Task ℕ) (directory : Location ℕ) (name : List ℕ) (node : Node ℕ)
+    (access : Access) → IsSettled world
+    → any_pair (λ (a b : Filesystem ℕ). nat_eq a.number b.number) world.filesystems ≡ false
+    → any_pair (λ (a b : Task ℕ). same_name a.name b.name) world.tasks ≡ false → Contains world.tasks task
+    → is_among nat_eq (mount_at nat_eq world directory).filesystem (map (λ filesystem. filesystem.number) world.filesystems)
+    ≡ true
+    → is_overlay (filesystem_at nat_eq world directory) ≡ false
+    → IsListedTree (changed nat_eq (files_at nat_eq world directory) (Make directory.node name (evens fresh 0) node))
+    → IsMade (files_at nat_eq world directory) directory.node (evens fresh 0)
+    → entry_at (files_at nat_eq world directory).tree directory.node name ≡ None
+    → settled nat_eq (apply nat_eq fresh world task (ToOpenNew directory name node access)).world
+    ≡ (apply nat_eq fresh world task (ToOpenNew directory name node access)).world

@@ -1,6 +1,6 @@
 //! What goes with the uses that a change took away.
 ghost use Rattle.vt_letting_go.specs.Detaching.{DetachingLetsGo, UnmountIsOfOne};
-ghost use Rattle.vt_letting_go.specs.FileChanges.{ChangesKeepNames, FileChangesLetGo, RemovedDirectoriesLetGo, ReplacingLetsGo, TakenAndFileChangesLetGo};
+ghost use Rattle.vt_letting_go.specs.FileChanges.{ChangesKeepNames, FileChangesLetGo, MadeKeepsAll, OpenedNewKeepsAll, RemovedDirectoriesLetGo, ReplacingLetsGo, TakenAndFileChangesLetGo};
 ghost use Rattle.vt_letting_go.specs.Keeping.{FlagsAreOfOne, FlagsKeepAll, NewMountsKeepAll, TypesKeepAll};
 ghost use Rattle.vt_letting_go.specs.Leaving.{LeavingLetsGo, OneSweepForSeveral, StayingKeepsAll};
 ghost use Rattle.vt_letting_go.specs.LeavingOverlays.{LeavingOverlaysLetsGo, StayingKeepsOverlays};
@@ -37,6 +37,12 @@ pub fn what_a_file_call_leaves_goes()
     ensures with_mounts { TakenAndFileChangesLetGo }
     ensures rmdir { RemovedDirectoriesLetGo }
     ensures rename { ReplacingLetsGo }
+{}
+
+/// After a call that made an inode in a plain tree, and may have opened it, nothing goes.
+pub fn what_is_made_keeps_all()
+    ensures make { MadeKeepsAll }
+    ensures open { OpenedNewKeepsAll }
 {}
 
 /// Where trees changed in a world with overlays, the inodes go that lost their last name or overlay and where nothing is,
