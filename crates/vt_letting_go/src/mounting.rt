@@ -1,8 +1,8 @@
 //! What goes after a change of several mounts.
 ghost use Rattle.vt_letting_go.specs.Attaching.{BindsKeepAll, CopiesKeepAll, MovedTreesLetGo, MovesLetGo, NewFilesystemsKeepAll, NewMountsOfTreesKeepAll};
-ghost use Rattle.vt_letting_go.specs.Unmounting.{LazyUnmountsLetGo, MountsOnDirectoriesLetGo, TreesLetGo, UnmountsLetGo};
 ghost use Rattle.vt_letting_go.specs.Mounting.{EndingLetsGo, MovingLetsGo, TakingAwayLetsGo};
 ghost use Rattle.vt_letting_go.specs.Pivoting.{PivotedLetsGo, PivotsLetGo};
+ghost use Rattle.vt_letting_go.specs.Unmounting.{LazyUnmountsLetGo, MountsOnDirectoriesLetGo, TreesLetGo, UnmountsLetGo};
 
 /// Where any mounts are taken away, the filesystems and inodes go that only they used, or the places that they and the
 /// mounts on them had. Nothing else goes.
