@@ -132,12 +132,12 @@ inode_test f g a b a_small b_small =
     two : (nat_eq f g && nat_eq a b) ≡ true → (f ≡ g) × (a ≡ b)
     two e = (eqb-true f g (both-first (nat_eq f g) (nat_eq a b) e), eqb-true a b (both-second (nat_eq f g) (nat_eq a b) e))
 
-pub nodes_test : (a b : NodeRef) → a.node < 18446744073709551616 → b.node < 18446744073709551616
-    → nat_eq (number_of a) (number_of b) ≡ (nat_eq a.filesystem b.filesystem && nat_eq a.node b.node)
-nodes_test a b a_small b_small = inode_test a.filesystem b.filesystem a.node b.node a_small b_small
+pub nodes_test : (a b : NodeRef) → a.slot < 18446744073709551616 → b.slot < 18446744073709551616
+    → nat_eq (number_of a) (number_of b) ≡ (nat_eq a.filesystem.count b.filesystem.count && nat_eq a.slot b.slot)
+nodes_test a b a_small b_small = inode_test a.filesystem.count b.filesystem.count a.slot b.slot a_small b_small
 
-pub same_locations : (a b : Location) → a.node.node < 18446744073709551616 → b.node.node < 18446744073709551616
+pub same_locations : (a b : Location) → a.node.slot < 18446744073709551616 → b.node.slot < 18446744073709551616
     → same_location nat_eq (location_of a) (location_of b)
-    ≡ (nat_eq a.mount b.mount && (nat_eq a.node.filesystem b.node.filesystem && nat_eq a.node.node b.node.node))
+    ≡ (nat_eq a.mount.count b.mount.count && (nat_eq a.node.filesystem.count b.node.filesystem.count && nat_eq a.node.slot b.node.slot))
 same_locations a b a_small b_small =
-    (λ i. counted_test a.mount b.mount i && nodes_test a.node b.node a_small b_small i)
+    (λ i. counted_test a.mount.count b.mount.count i && nodes_test a.node b.node a_small b_small i)
