@@ -1,8 +1,9 @@
 //! Where `..` leads: path_resolution(7), and mount_namespaces(7) for the roots of mounts.
 ghost use Rattle.std.specs.Prelude.{◌≡◌, nat_eq, option_map};
 ghost use Rattle.vt_spec.specs.Lists.{last_or};
+ghost use Rattle.vt_spec.specs.Machine.Mounts.{same_location};
 ghost use Rattle.vt_spec.specs.Machine.Walking.{hop, hops, is_lost, is_top, parent_location, up_from};
-ghost use Rattle.vt_location.specs.Locations.{location_of};
+ghost use Rattle.vt_location.specs.Locations.{location_of, number_of};
 ghost use Rattle.vt_task.specs.TaskValue.{task_of};
 ghost use Rattle.vt_walks.specs.WalkValue.{location_result};
 
@@ -11,15 +12,29 @@ use vt_looks::Look;
 use vt_spec::errors::{Deny, Rule};
 use vt_task::Task;
 
+// Whether two locations are the same.
+fn is_same_location(a: Location, b: Location) -> bool
+    ensures { result ≡ same_location nat_eq (location_of a) (location_of b) }
+{
+    a == b
+}
+
+// Whether two inodes are the same.
+fn is_same_inode(a: NodeRef, b: NodeRef) -> bool
+    ensures { result ≡ nat_eq (number_of a) (number_of b) }
+{
+    a == b
+}
+
 // Where `..` goes on from the root of a mount: its mount point. It stays at the task's root.
 fn hop<L: Look>(world: &L, who: &Task, here: Location) -> Option<Location>
     ensures { option_map location_of result ≡ hop nat_eq (L.looks world.now) (task_of who.now) (location_of here) }
 {
-    if here == who.root {
+    if is_same_location(here, who.root) {
         return None;
     }
     let mount = world.mount(here.mount)?;
-    if here.node == mount.root {
+    if is_same_inode(here.node, mount.root) {
         mount.mount_point
     } else {
         None
@@ -45,11 +60,11 @@ fn hopped<L: Look>(world: &L, who: &Task, start: Location) -> Location
 fn is_top<L: Look>(world: &L, who: &Task, here: Location) -> bool
     ensures { result ≡ is_top nat_eq (L.looks world.now) (task_of who.now) (location_of here) }
 {
-    if here == who.root {
+    if is_same_location(here, who.root) {
         return true;
     }
     match world.mount(here.mount) {
-        Some(mount) => here.node == mount.root,
+        Some(mount) => is_same_inode(here.node, mount.root),
         None => false,
     }
 }
