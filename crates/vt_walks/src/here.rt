@@ -51,7 +51,8 @@ impl Here {
 
     // The same links left, at another location.
     pub(crate) fn moved(self, location: Location) -> Here
-        ensures { here_of result ≡ standing (location_of location) self.left }
+        ensures value { here_of result ≡ standing (location_of location) self.left }
+        ensures location { result.location ≡ location }
     {
         Here {
             location,

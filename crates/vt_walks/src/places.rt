@@ -69,9 +69,9 @@ pub fn place_walk<'a, L: Look>(
         ≡ place_end (walk_end (place_walk nat_eq (L.looks world.now) (task_of who.now) path.now)) }
     ensures place { IfOk result (λ place. IsPlace (L.looks world.now) (task_of who.now) place) }
 {
-    let (front, last) = front_and_last(path.as_bytes());
-    let start = Here::at_start(who, path.as_bytes());
-    let here = words_walked(world, who, start, front)?;
+    let text = path.as_bytes();
+    let (front, last) = front_and_last(text);
+    let here = words_walked(world, who, Here::at_start(who, text), front)?;
     placed(world, who, here.location, last, path.ends_in_slash())
 }
 
@@ -221,8 +221,8 @@ fn file_walked<'a, L: Look>(
         (walk_start (task_of who.now) path.now) path.now false }
     ensures place { IfOk result (λ place. IsFilePlace (L.looks world.now) (task_of who.now) place) }
 {
-    let mut start = Here::at_start(who, path.as_bytes());
     let mut text = path.as_bytes();
+    let mut start = Here::at_start(who, text);
     let mut slash = false;
     for _link in 0..MOST_LINKS + 1 {
         slash = asks_for_directory(slash, text);

@@ -25,9 +25,9 @@ pub fn object_walk<L: Look>(world: &L, who: &Task, path: &PathText) -> Result<Lo
     ensures { location_result result
         ≡ location_end (walk_end (object_walk nat_eq (L.looks world.now) (task_of who.now) path.now)) }
 {
-    let start = Here::at_start(who, path.as_bytes());
-    let here = words_walked(world, who, start, path.words())?;
-    asked_by_slash(world, path.as_bytes(), here.location)?;
+    let text = path.as_bytes();
+    let here = words_walked(world, who, Here::at_start(who, text), path.words())?;
+    asked_by_slash(world, text, here.location)?;
     Ok(here.location)
 }
 
@@ -57,9 +57,9 @@ pub fn symlink_walk<L: Look>(world: &L, who: &Task, path: &PathText) -> Result<L
     if path.ends_in_slash() {
         return object_walk(world, who, path);
     }
-    let (front, last) = front_and_last(path.as_bytes());
-    let start = Here::at_start(who, path.as_bytes());
-    let here = words_walked(world, who, start, front)?;
+    let text = path.as_bytes();
+    let (front, last) = front_and_last(text);
+    let here = words_walked(world, who, Here::at_start(who, text), front)?;
     Ok(last_walked(world, who, here, last)?.location)
 }
 

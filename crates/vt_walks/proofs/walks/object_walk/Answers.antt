@@ -1,0 +1,27 @@
+use Rattle.std.proofs.Common.{Ok, Err, refl, ◌∙◌}
+use Rattle.std.proofs.lemmas.Result.{err_from_is_err_and}
+use Rattle.vt_task.specs.TaskValue.{task_of}
+use Rattle.vt_walks.specs.WalkValue.{here_of}
+use Rattle.vt_walks.proofs.WalksOfPaths.{object_walk-by, slash-passed, slash-refused}
+use Rattle.vt_walks.proofs.walks.object_walk.Goals as goal
+
+pub returns-in_err-here-clause-value : goal.returns-in_err-here-clause-value
+returns-in_err-here-clause-value g c =
+    let p = err_from_is_err_and c.from_residual.result c.from_residual.ensures.1 in
+    rw (p.1, p.2) (object_walk-by (g.L.Look.looks c.args.world.now) (task_of c.args.who.now) c.args.path.now c.words.ensures.limits c.args.path.now refl
+    (here_of c.at_root.result) c.at_root.ensures.value (Err _) c.words.result c.words.ensures.value c.in_err-here.ensures.value)
+
+pub returns-in_err-asked_by_slash-clause-value : goal.returns-in_err-asked_by_slash-clause-value
+returns-in_err-asked_by_slash-clause-value g c =
+    let looks = g.L.Look.looks c.args.world.now in
+    let p = err_from_is_err_and c.from_residual-in_err-asked_by_slash.result c.from_residual-in_err-asked_by_slash.ensures.1 in
+    rw (p.1, p.2) (slash-refused tree c.args.who.now c.as_bytes.result.now (here_of c.in_ok-here.here) _ c.in_err-asked_by_slash.ensures
+    ∙ object_walk-by tree c.args.who.now c.args.path.now c.words.ensures.limits c.as_bytes.result.now c.as_bytes.ensures.value
+    (here_of c.at_root.result) c.at_root.ensures.value (Ok (here_of c.in_ok-here.here)) c.words.result c.words.ensures.value c.in_ok-here.ensures.value)
+
+pub returns-clause-value : goal.returns-clause-value
+returns-clause-value g c =
+    let looks = g.L.Look.looks c.args.world.now in
+    slash-passed tree c.args.who.now c.as_bytes.result.now (here_of c.in_ok-here.here) c.in_ok-asked_by_slash.ensures
+    ∙ object_walk-by tree c.args.who.now c.args.path.now c.words.ensures.limits c.as_bytes.result.now c.as_bytes.ensures.value
+    (here_of c.at_root.result) c.at_root.ensures.value (Ok (here_of c.in_ok-here.here)) c.words.result c.words.ensures.value c.in_ok-here.ensures.value
