@@ -1,5 +1,6 @@
 use Rattle.std.proofs.Common.{◌-◌, ◌<◌, ap, arith, length, refl, reverse}
 use Rattle.std.proofs.lemmas.Result.{err_from_is_err_and}
+use Rattle.vt_location.specs.Locations.{location_of}
 use Rattle.vt_task.specs.TaskValue.{task_of}
 use Rattle.vt_walks.proofs.PendingWalked.{first-begun, first-denied, link-begun, link-denied, link_passed-as, slash-denied, top-ended, top-refused}
 use Rattle.vt_walks.proofs.LinksWalked.{begun-left}
@@ -11,21 +12,22 @@ pub returns-in_err-here : goal.returns-in_err-here
 returns-in_err-here g c =
     let p = err_from_is_err_and c.from_residual.result c.from_residual.ensures.1 in
     rw (p.1, p.2)
-    (first-denied (g.L.Look.looks c.args.world.now) (task_of c.args.who.now) c.args.link.directory (here_of c.args.met)
-    c.args.link.text.now c.args.link.behind _ c.in_err-here.ensures.value)
+    (first-denied (g.L.Look.looks c.args.world.now) (task_of c.args.who.now) (location_of c.args.link.directory) (here_of c.args.met)
+    c.args.link.text.now c.args.link.behind _ c.in_err-here.ensures)
 
 pub loop-text-init : goal.loop-text-init
 loop-text-init g c =
     let looks = g.L.Look.looks c.args.world.now in
+    let task = task_of c.args.who.now in
     let once = rw c.new-pending.ensures at c.push.ensures.items in
-    let taken = begun-left tree c.args.link.directory (here_of c.args.met) (here_of c.in_ok-here.here)
-    c.args.link.text.now c.in_ok-here.ensures.value in
+    let taken = begun-left looks task (location_of c.args.link.directory) (here_of c.args.met) (here_of c.in_ok-here.here)
+    c.args.link.text.now c.in_ok-here.ensures in
     let none = ap length c.new-pending.ensures in
     let longer = c.push.ensures.len in
     let longest = c.push-2.ensures.len in
     let few = c.args.met.few in (
-      first-begun tree c.args.who.now c.args.link.directory (here_of c.args.met) c.args.link.text.now c.args.link.behind
-          (here_of c.in_ok-here.here) c.in_ok-here.ensures.value _ c.of.result c.push.new.self.items c.push-2.new.self.items once c.push-2.ensures.items
+      first-begun looks task (location_of c.args.link.directory) (here_of c.args.met) c.args.link.text.now c.args.link.behind
+          (here_of c.in_ok-here.here) c.in_ok-here.ensures _ c.of.result c.push.new.self.items c.push-2.new.self.items once c.push-2.ensures.items
           refl refl c.of.ensures.text c.of.ensures.words,
       omega arith,
     )
@@ -49,10 +51,10 @@ returns-in_err-begun-in-Some-link g c =
     let few = c.loop-text.invariant.1 in
     let room : length c.pop.new.self.items < 41 = omega arith in
     rw (p.1, p.2) (link-denied looks task _ (here_of c.loop-text.here) c.loop-text.pending.items c.loop-text.invariant.0
-    c.pop.new.self.items c.in-Some.field-0 c.in-Some.ensures.items c.in-Some-link.link.directory (here_of c.in_ok-reached.field-0.here) c.in-Some-link.link.text.now c.in-Some-link.link.behind
+    c.pop.new.self.items c.in-Some.field-0 c.in-Some.ensures.items (location_of c.in-Some-link.link.directory) (here_of c.in_ok-reached.field-0.here) c.in-Some-link.link.text.now c.in-Some-link.link.behind
     room
     (link_passed-as looks task follow (here_of c.in_ok-reached.field-0.here) _ _ _ c.in-Some-link.is (c.in_ok-reached.ensures.value follow)) _
-    c.in_err-begun-in-Some-link.ensures.value)
+    c.in_err-begun-in-Some-link.ensures)
 
 pub returns-in_err-asked_by_slash-in-None :
     goal.returns-in_err-asked_by_slash-in-None
@@ -76,15 +78,15 @@ loop-text-preserved-in_ok-begun-in-Some-link g c =
     let few = c.loop-text.invariant.1 in
     let room : length c.pop.new.self.items < 41 = omega arith in
     let left = c.in_ok-reached.ensures.left in
-    let taken = begun-left tree c.in-Some-link.link.directory (here_of c.in_ok-reached.field-0.here) (here_of c.in_ok-begun-in-Some-link.begun) c.in-Some-link.link.text.now
-    c.in_ok-begun-in-Some-link.ensures.value in
+    let taken = begun-left looks task (location_of c.in-Some-link.link.directory) (here_of c.in_ok-reached.field-0.here) (here_of c.in_ok-begun-in-Some-link.begun) c.in-Some-link.link.text.now
+    c.in_ok-begun-in-Some-link.ensures in
     let longer = c.push-in-Some-link.ensures.len in
     let longest = c.push-in-Some-link-2.ensures.len in (
       link-begun looks task _ (here_of c.loop-text.here) c.loop-text.pending.items c.loop-text.invariant.0
-          c.pop.new.self.items c.in-Some.field-0 c.in-Some.ensures.items c.in-Some-link.link.directory (here_of c.in_ok-reached.field-0.here) c.in-Some-link.link.text.now c.in-Some-link.link.behind
+          c.pop.new.self.items c.in-Some.field-0 c.in-Some.ensures.items (location_of c.in-Some-link.link.directory) (here_of c.in_ok-reached.field-0.here) c.in-Some-link.link.text.now c.in-Some-link.link.behind
           room
           (link_passed-as looks task follow (here_of c.in_ok-reached.field-0.here) _ _ _ c.in-Some-link.is (c.in_ok-reached.ensures.value follow))
-          (here_of c.in_ok-begun-in-Some-link.begun) c.in_ok-begun-in-Some-link.ensures.value
+          (here_of c.in_ok-begun-in-Some-link.begun) c.in_ok-begun-in-Some-link.ensures
           (record { text = c.in-Some.field-0.text; words = c.in-Some-link.link.behind }) c.of-in-Some-link.result refl refl c.of-in-Some-link.ensures.text c.of-in-Some-link.ensures.words
           c.push-in-Some-link.new.self.items c.push-in-Some-link-2.new.self.items c.push-in-Some-link.ensures.items c.push-in-Some-link-2.ensures.items,
       omega arith,

@@ -1,19 +1,18 @@
 use Rattle.vt_walks.specs.PlainWalks.{followed}
-use Rattle.std.proofs.Common.{Ok, ◌∙◌, reverse}
+use Rattle.std.proofs.Common.{◌∙◌}
 use Rattle.std.proofs.lemmas.Result.{err_from_is_err_and}
 use Rattle.vt_task.specs.TaskValue.{task_of}
 use Rattle.vt_walks.proofs.PendingWalked.{link_passed-as}
-use Rattle.vt_walks.proofs.WhatIsThere.{walked-there}
 use Rattle.vt_walks.specs.WalkValue.{here_of}
 use Rattle.vt_walks.proofs.steps.words_walked.Goals as goal
 
-pub returns-in_err-here-clause-value : goal.returns-in_err-here-clause-value
-returns-in_err-here-clause-value g c =
+pub returns-in_err-here : goal.returns-in_err-here
+returns-in_err-here g c =
     let p = err_from_is_err_and c.from_residual.result c.from_residual.ensures.1 in
     rw (p.1, p.2) (c.in_err-here.ensures.value (followed (g.L.Look.looks c.args.world.now) (task_of c.args.who.now)))
 
-pub returns-in-Some-clause-value : goal.returns-in-Some-clause-value
-returns-in-Some-clause-value g c =
+pub returns-in-Some : goal.returns-in-Some
+returns-in-Some g c =
     let looks = g.L.Look.looks c.args.world.now in
     let task = task_of c.args.who.now in
     let follow = followed looks task in
@@ -21,29 +20,10 @@ returns-in-Some-clause-value g c =
     ∙ link_passed-as looks task follow (here_of c.in_ok-here.field-0.here) _ _ _
     c.in-Some.is (c.in_ok-here.ensures.value follow)
 
-pub returns-in-Some-clause-there : goal.returns-in-Some-clause-there
-returns-in-Some-clause-there c whole start =
-    let looks = g.L.Look.looks c.args.world.now in
-    let task = task_of c.args.who.now in
-    let follow = followed looks task in
-    walked-there looks taskle who (here_of c.args.start) (reverse c.args.words) c.symlink_walked.result start
-    (c.symlink_walked.ensures
-    ∙ link_passed-as looks task follow (here_of c.in_ok-here.field-0.here) _ _ _
-    c.in-Some.is (c.in_ok-here.ensures.value follow))
-
-pub returns-in-None-clause-value : goal.returns-in-None-clause-value
-returns-in-None-clause-value g c =
+pub returns-in-None : goal.returns-in-None
+returns-in-None g c =
     let looks = g.L.Look.looks c.args.world.now in
     let task = task_of c.args.who.now in
     let follow = followed looks task in
     link_passed-as looks task follow (here_of c.in_ok-here.field-0.here) _ _ _
     c.in-None.is (c.in_ok-here.ensures.value follow)
-
-pub returns-in-None-clause-there : goal.returns-in-None-clause-there
-returns-in-None-clause-there c whole start =
-    let looks = g.L.Look.looks c.args.world.now in
-    let task = task_of c.args.who.now in
-    let follow = followed looks task in
-    walked-there looks taskle who (here_of c.args.start) (reverse c.args.words) (Ok c.in_ok-here.field-0.here) start
-    (link_passed-as looks task follow (here_of c.in_ok-here.field-0.here) _ _ _
-    c.in-None.is (c.in_ok-here.ensures.value follow))
