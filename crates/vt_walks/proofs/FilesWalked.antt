@@ -1,16 +1,20 @@
 -- The turns of a file walk, each the walk of a path or of a final link's text.
-use Rattle.std.proofs.Common.{nat_eq, ◌≡◌, ℕ, suc, ◌+◌, ◌-◌, ◌<◌, ◌≤◌, Bool, false, List, None, Some, Result, Ok, Err, sym, ap, ◌∙◌, arith, reverse, ◌||◌}
-use Rattle.vt_spec.specs.Machine.Walking.{Here, LastWord, Place, final_word, follow_rules, symlink_of, symlink_there, walk_start}
+use Rattle.std.proofs.Common.{nat_eq, true, not, is_some, ◌&&◌, [], ◌∷◌, refl, ◌≡◌, ℕ, suc, ◌+◌, ◌-◌, ◌<◌, ◌≤◌, Bool, false, List, None, Some, Result, Ok, Err, sym, ap, ◌∙◌, arith, reverse, ◌||◌}
+use Rattle.vt_spec.specs.Machine.Walking
+use Rattle.vt_spec.specs.Machine.Walking.{file_walk, new_name_rules, stopped_by, then_walk, walk_end, walk_unless, Here, LastWord, Place, final_word, follow_rules, symlink_of, symlink_there, walk_start}
 use Rattle.vt_walks.specs.PlainWalks.{entered, file_or_symlink, file_walked, front_walked, placed, symlink_start}
 use Rattle.vt_spec.specs.declared.errors.Deny.{Deny}
-use Rattle.vt_spec.specs.declared.errors.Rule.TheVariants.{W7}
+use Rattle.vt_spec.specs.declared.errors.Rule.TheVariants.{W7, W8}
 use Rattle.vt_spec.specs.Errors.{and_then, denial, unless}
 use Rattle.vt_spec.specs.Lists.{rest_of}
 use Rattle.vt_spec.specs.PathText.{ends_in_slash, words}
 use Rattle.vt_spec.specs.Machine.World.{Task}
 use Rattle.vt_spec.specs.Machine.Looks.{Looks}
 use Rattle.vt_walks.proofs.RefusalLemmas.{unless-answer, unless-passed, unless-refused}
-use Rattle.vt_walks.proofs.WalksOfPaths.{front_walked-split, walked_from}
+use Rattle.vt_walks.proofs.Trails.{file-plain, place-checked}
+use Rattle.vt_walks.proofs.WalksOfPaths.{front_walked-split, parsed-walkable, walked_from}
+use Rattle.vt_text.specs.Walkable.{IsWalkable}
+use Rattle.vt_walks.specs.WalkValue.{place_end}
 
 module _ (looks : Looks ℕ) (task : Task ℕ) where
   -- what is done at a place: a link there is followed
@@ -89,3 +93,26 @@ module _ (looks : Looks ℕ) (task : Task ℕ) where
                 through (file_walked looks task (41 - (turn + 1)) next inner wanted)
                 (ap (λ s. file_walked looks task (41 - (turn + 1)) s inner wanted) (sym (unless-answer (follow_rules nat_eq looks link inner) (symlink_start looks task here.location link inner) next (sym e)))
                 ∙ sym (unless-passed (follow_rules nat_eq looks link inner) (symlink_start looks task here.location link inner) next _ (sym e)))
+
+-- The whole walk, with what is asked at its end
+module _ (looks : Looks ℕ) (task : Task ℕ) (path : List ℕ) (walkable : IsWalkable path) where
+  pub file_walk-by : (r : Result (Place ℕ) Deny) → r ≡ file_walked looks task 41 (walk_start task path) path false
+      → and_then r (λ place. unless (new_name_rules nat_eq looks place) (Ok place)) ≡ place_end (walk_end (file_walk nat_eq looks task path))
+  file_walk-by r e =
+      (λ i. and_then ((e ∙ sym (file-plain looks task 41 (walk_start task path) path false)) i) (λ place. unless (new_name_rules nat_eq looks place) (Ok place)))
+      ∙ place-checked (Walking.file_walked nat_eq 41 looks task (walk_start task path) path false) (new_name_rules nat_eq looks) (λ place. refl)
+      ∙ sym (ap (λ r. place_end (walk_end (then_walk (stopped_by [] r) (λ text.
+      then_walk (Walking.file_walked nat_eq 41 looks task (walk_start task text) text false) (λ place. walk_unless place.steps (new_name_rules nat_eq looks place) place)))))
+      (parsed-walkable path walkable))
+
+  -- a name is missing in a removed directory, or not
+  module _ (place : Place ℕ) (walked : Ok place ≡ file_walked looks task 41 (walk_start task path) path false) (lacks : Bool)
+      (is : lacks ≡ (not (is_some place.object) && looks.is_removed place.parent)) where
+    by_test : unless ((lacks, W8) ∷ []) (Ok place) ≡ place_end (walk_end (file_walk nat_eq looks task path))
+    by_test = ap (λ b. unless ((b, W8) ∷ []) (Ok place)) is ∙ file_walk-by (Ok place) walked
+
+    pub new-refused : lacks ≡ true → Err (denial W8) ≡ place_end (walk_end (file_walk nat_eq looks task path))
+    new-refused e = sym (ap (λ b. unless ((b, W8) ∷ []) (Ok place)) e) ∙ by_test
+
+    pub new-passed : lacks ≡ false → Ok place ≡ place_end (walk_end (file_walk nat_eq looks task path))
+    new-passed e = sym (ap (λ b. unless ((b, W8) ∷ []) (Ok place)) e) ∙ by_test

@@ -6,6 +6,7 @@ ghost use Rattle.vt_spec.specs.Language.Limits.{most_symlinks};
 ghost use Rattle.vt_spec.specs.PathText.{ends_in_slash};
 ghost use Rattle.vt_location.specs.Locations.{location_of};
 ghost use Rattle.vt_task.specs.TaskValue.{task_of};
+ghost use Rattle.vt_text.specs.Walkable.{IsWalkable};
 ghost use Rattle.vt_walks.specs.PlainWalks.{entered, file_walked, placed};
 ghost use Rattle.vt_walks.specs.WalkValue.{IsFilePlace, IsPlace, here_of, last_of, place_end, place_of, place_result};
 
@@ -169,14 +170,10 @@ pub fn rename_new_walk<'a, L: Look>(
         ≡ place_end (walk_end (rename_new_walk nat_eq (L.looks world.now) (task_of who.now) path.now old_is_directory)) }
     ensures place { IfOk result (λ place. IsPlace (L.looks world.now) (task_of who.now) place) }
 {
-    let place = match new_walk(world, who, path) {
-        Ok(place) => place,
-        Err(deny) => return Err(deny),
-    };
-    if place.slash && !old_is_directory {
-        return Err(Rule::W3.denial());
+    match new_walk(world, who, path) {
+        Ok(place) if place.slash && !old_is_directory => Err(Rule::W3.denial()),
+        walked => walked,
     }
-    Ok(place)
 }
 
 // A slash behind this text, or behind one before it, asks for a directory.
@@ -219,6 +216,7 @@ fn file_walked<'a, L: Look>(
 ) -> Result<Place<'a>, Deny>
     ensures value { place_result result ≡ file_walked (L.looks world.now) (task_of who.now) (most_symlinks + 1)
         (walk_start (task_of who.now) path.now) path.now false }
+    ensures limits { IsWalkable path.now }
     ensures place { IfOk result (λ place. IsFilePlace (L.looks world.now) (task_of who.now) place) }
 {
     let mut text = path.as_bytes();
@@ -255,8 +253,12 @@ pub fn file_walk<'a, L: Look>(
         ≡ place_end (walk_end (file_walk nat_eq (L.looks world.now) (task_of who.now) path.now)) }
     ensures place { IfOk result (λ place. IsFilePlace (L.looks world.now) (task_of who.now) place) }
 {
-    match file_walked(world, who, path) {
-        Ok(place) if lacks_parent(world, &place) => Err(Rule::W8.denial()),
-        walked => walked,
+    let place = match file_walked(world, who, path) {
+        Ok(place) => place,
+        Err(deny) => return Err(deny),
+    };
+    if lacks_parent(world, &place) {
+        return Err(Rule::W8.denial());
     }
+    Ok(place)
 }
