@@ -11,7 +11,7 @@ use Rattle.vt_spec.specs.Machine.Walking.LastWord.{Dot, DotDot, Named, NoWord}
 use Rattle.vt_spec.specs.Machine.World.{Task}
 use Rattle.vt_spec.specs.PathText.{ends_in_slash, words}
 use Rattle.vt_walks.proofs.RefusalLemmas.{unless-and_then}
-use Rattle.vt_walks.specs.PlainWalks.{Follow, entered, file_or_symlink, file_walked, followed, front_walked, if_link, last_walked, placed, standing, symlink_start, symlink_walked, word_walked, words_walked}
+use Rattle.vt_walks.specs.PlainWalks.{Follow, file_or_symlink, file_walked, followed, front_walked, if_link, last_walked, placed, standing, symlink_start, symlink_walked, word_walked, words_walked}
 use Rattle.vt_walks.specs.WalkValue.{location_end, place_end, without_steps}
 
 abbrev pub plain : Here ℕ → Here ℕ

@@ -1,5 +1,5 @@
 -- What the definitions see of the code's walks.
-use Rattle.std.specs.Prelude.{Err, Ok, Option, Result, Some, [], false, nat_eq, option_map, true, ℕ, ◌≡◌}
+use Rattle.std.specs.Prelude.{Err, Ok, Option, Result, [], false, nat_eq, option_map, true, ℕ, ◌≡◌}
 use Rattle.vt_spec.specs.declared.errors.Deny.{Deny}
 use Rattle.vt_spec.specs.Errors.{and_then}
 use Rattle.vt_spec.specs.Machine.Looks.{Looks, is_directory_at, topmost}

@@ -84,11 +84,7 @@ fn lacks_parent<L: Look>(world: &L, place: &Place) -> bool
 }
 
 /// As `place_walk`, of a name that may be made: where it is missing, the parent is not removed, else W8 (ENOENT).
-pub fn new_walk<'a, L: Look>(
-    world: &L,
-    who: &Task,
-    path: &PathText<'a>,
-) -> Result<Place<'a>, Deny>
+pub fn new_walk<'a, L: Look>(world: &L, who: &Task, path: &PathText<'a>) -> Result<Place<'a>, Deny>
     ensures value { place_result result
         ≡ place_end (walk_end (new_walk nat_eq (L.looks world.now) (task_of who.now) path.now)) }
     ensures place { IfOk result (λ place. IsPlace (L.looks world.now) (task_of who.now) place) }
@@ -116,11 +112,7 @@ pub fn new_leaf_walk<'a, L: Look>(
 }
 
 /// As `place_walk`, of a name that must be there, else W6 (ENOENT).
-pub fn old_walk<'a, L: Look>(
-    world: &L,
-    who: &Task,
-    path: &PathText<'a>,
-) -> Result<Place<'a>, Deny>
+pub fn old_walk<'a, L: Look>(world: &L, who: &Task, path: &PathText<'a>) -> Result<Place<'a>, Deny>
     ensures value { place_result result
         ≡ place_end (walk_end (old_walk nat_eq (L.looks world.now) (task_of who.now) path.now)) }
     ensures place { IfOk result (λ place. IsPlace (L.looks world.now) (task_of who.now) place) }

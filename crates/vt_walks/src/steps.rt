@@ -46,7 +46,12 @@ pub(crate) fn searched<'a, L: Look>(
     if !directory.is_directory() {
         return Err(Rule::W3.denial());
     }
-    if !allows(&who.cred, &directory.attr(), directory.kind(), Rights::SEARCH) {
+    if !allows(
+        &who.cred,
+        &directory.attr(),
+        directory.kind(),
+        Rights::SEARCH,
+    ) {
         return Err(Rule::W4.denial());
     }
     Ok(directory)

@@ -1,4 +1,4 @@
-use Rattle.std.proofs.Common.{◌≡◌, ℕ, option_copied}
+use Rattle.std.proofs.Common.{◌≡◌, option_copied}
 use Rattle.vt_task.specs.TaskValue.{task_of}
 use Rattle.vt_walks.specs.PlainWalks.{Follow}
 use Rattle.vt_walks.specs.WalkValue.{IsNodeAt, here_of}
