@@ -7,3 +7,4 @@ mod PendingWalked
 mod Trails
 mod WalksOfPaths
 mod FilesWalked
+pub mod WalkEnds

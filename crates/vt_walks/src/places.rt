@@ -44,10 +44,7 @@ fn placed<'a, L: Look>(
         });
     }
     let directory = searched(world, who, here, world.node(here))?;
-    let object = match object_named(world, who, here, directory, last) {
-        Ok(object) => object,
-        Err(deny) => return Err(deny),
-    };
+    let object = object_named(world, who, here, directory, last)?;
     Ok(Place {
         parent: here,
         last,
@@ -77,7 +74,7 @@ pub fn place_walk<'a, L: Look>(
 }
 
 // Whether a name is missing in a removed directory, which takes no new name.
-fn lacks_parent<L: Look>(world: &L, place: &Place) -> bool
+fn takes_no_name<L: Look>(world: &L, place: &Place) -> bool
     ensures { result ≡ (not (is_some (place_of place.now).object) && (L.looks world.now).is_removed (place_of place.now).parent) }
 {
     place.object.is_none() && world.is_removed(place.parent)
@@ -90,7 +87,7 @@ pub fn new_walk<'a, L: Look>(world: &L, who: &Task, path: &PathText<'a>) -> Resu
     ensures place { IfOk result (λ place. IsPlace (L.looks world.now) (task_of who.now) place) }
 {
     match place_walk(world, who, path) {
-        Ok(place) if lacks_parent(world, &place) => Err(Rule::W8.denial()),
+        Ok(place) if takes_no_name(world, &place) => Err(Rule::W8.denial()),
         walked => walked,
     }
 }
@@ -218,10 +215,7 @@ fn file_walked<'a, L: Look>(
         slash = asks_for_directory(slash, text);
         let (front, last) = front_and_last(text);
         let here = words_walked(world, who, start, front)?;
-        let place = match placed(world, who, here.location, last, slash) {
-            Ok(place) => place,
-            Err(deny) => return Err(deny),
-        };
+        let place = placed(world, who, here.location, last, slash)?;
         let Some(inner) = symlink_there(world, &place) else {
             return Ok(entered(world, place));
         };
@@ -245,11 +239,8 @@ pub fn file_walk<'a, L: Look>(
         ≡ place_end (walk_end (file_walk nat_eq (L.looks world.now) (task_of who.now) path.now)) }
     ensures place { IfOk result (λ place. IsFilePlace (L.looks world.now) (task_of who.now) place) }
 {
-    let place = match file_walked(world, who, path) {
-        Ok(place) => place,
-        Err(deny) => return Err(deny),
-    };
-    if lacks_parent(world, &place) {
+    let place = file_walked(world, who, path)?;
+    if takes_no_name(world, &place) {
         return Err(Rule::W8.denial());
     }
     Ok(place)

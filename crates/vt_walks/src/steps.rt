@@ -105,10 +105,7 @@ pub(crate) fn object_named<L: Look>(
 {
     match last {
         LastWord::NoWord | LastWord::Dot => Ok(Some(here)),
-        LastWord::DotDot => match step_up(world, who, here) {
-            Ok(parent) => Ok(Some(parent)),
-            Err(deny) => Err(deny),
-        },
+        LastWord::DotDot => Ok(Some(step_up(world, who, here)?)),
         LastWord::Named(name) => Ok(entry_location(here, directory, name)),
     }
 }
@@ -125,10 +122,8 @@ fn word_led<L: Look>(
     ensures { location_result result
         ≡ word_led (L.looks world.now) (task_of who.now) (location_of here) (last_of word.entry) }
 {
-    match searched(world, who, here, node) {
-        Ok(directory) => stepped(world, who, here, directory, word),
-        Err(deny) => Err(deny),
-    }
+    let directory = searched(world, who, here, node)?;
+    stepped(world, who, here, directory, word)
 }
 
 // The last word of a path walked, a final link itself.
@@ -145,10 +140,8 @@ pub(crate) fn last_walked<L: Look>(
         LastWord::NoWord => Ok(here),
         _ => {
             let node = world.node(here.location);
-            match word_led(world, who, here.location, node, last) {
-                Ok(location) => Ok(here.moved(location)),
-                Err(deny) => Err(deny),
-            }
+            let next = word_led(world, who, here.location, node, last)?;
+            Ok(here.moved(next))
         }
     }
 }
@@ -231,10 +224,7 @@ fn walked_to_link<'a, L: Look>(
     let mut node = world.node(here.location);
     while let Some(word) = words.next() {
         let directory = here.location;
-        let next = match word_led(world, who, directory, node, LastWord::of(word)) {
-            Ok(next) => next,
-            Err(deny) => return Err(deny),
-        };
+        let next = word_led(world, who, directory, node, LastWord::of(word))?;
         here = here.moved(next);
         node = world.node(next);
         if let Some(text) = symlink_text(node) {

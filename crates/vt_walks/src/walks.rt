@@ -83,10 +83,7 @@ pub fn destination_walk<L: Look>(world: &L, who: &Task, path: &PathText) -> Resu
         ≡ location_end (walk_end (destination_walk nat_eq (L.looks world.now) (task_of who.now) path.now)) }
     ensures removed { IfOk result (λ place. (L.looks world.now).is_removed (location_of place) ≡ false) }
 {
-    let source = match source_walk(world, who, path) {
-        Ok(source) => source,
-        Err(deny) => return Err(deny),
-    };
+    let source = source_walk(world, who, path)?;
     let place = world.topmost(source);
     if world.is_removed(place) {
         return Err(Rule::W8.denial());

@@ -18,12 +18,13 @@ returns-in_err-here-clause-value g c =
     c.asks_for_directory-slash.result c.asks_for_directory-slash.ensures split.result.0 (last_of split.result.1) split.ensures.front split.ensures.last
     (Err _) c.in_err-here.ensures ∙ c.loop-link.invariant)
 
-pub returns-in-Err-clause-value : goal.returns-in-Err-clause-value
-returns-in-Err-clause-value g c =
+pub returns-in_err-place-clause-value : goal.returns-in_err-place-clause-value
+returns-in_err-place-clause-value g c =
     let split = c.front_and_last-front in
-    place-refused (g.L.Look.looks c.args.world.now) (task_of c.args.who.now) c.loop-link._link c.loop-link-test.true (here_of c.loop-link.start) c.loop-link.text.now c.loop-link.slash
+    let p = err_from_is_err_and c.from_residual-in_err-place.result c.from_residual-in_err-place.ensures.1 in
+    rw (p.1, p.2) (place-refused (g.L.Look.looks c.args.world.now) (task_of c.args.who.now) c.loop-link._link c.loop-link-test.true (here_of c.loop-link.start) c.loop-link.text.now c.loop-link.slash
     c.asks_for_directory-slash.result c.asks_for_directory-slash.ensures split.result.0 (last_of split.result.1) split.ensures.front split.ensures.last
-    (here_of c.in_ok-here.here) c.in_ok-here.ensures c.in-Err.deny c.in-Err.ensures.value ∙ c.loop-link.invariant
+    (here_of c.in_ok-here.here) c.in_ok-here.ensures _ c.in_err-place.ensures.value ∙ c.loop-link.invariant)
 
 pub returns-in_default-clause-value : goal.returns-in_default-clause-value
 returns-in_default-clause-value g c =
@@ -31,7 +32,7 @@ returns-in_default-clause-value g c =
     ap (λ place. Ok place) c.entered.ensures
     ∙ place-ended (g.L.Look.looks c.args.world.now) (task_of c.args.who.now) c.loop-link._link c.loop-link-test.true (here_of c.loop-link.start) c.loop-link.text.now c.loop-link.slash
     c.asks_for_directory-slash.result c.asks_for_directory-slash.ensures split.result.0 (last_of split.result.1) split.ensures.front split.ensures.last
-    (here_of c.in_ok-here.here) c.in_ok-here.ensures (place_of c.in-Ok.place) c.in-Ok.ensures.value c.in_default.ensures ∙ c.loop-link.invariant
+    (here_of c.in_ok-here.here) c.in_ok-here.ensures (place_of c.in_ok-place.place) c.in_ok-place.ensures.value c.in_default.ensures ∙ c.loop-link.invariant
 
 pub returns-in_err-start-clause-value : goal.returns-in_err-start-clause-value
 returns-in_err-start-clause-value g c =
@@ -39,7 +40,7 @@ returns-in_err-start-clause-value g c =
     let p = err_from_is_err_and c.from_residual-in_err-start.result c.from_residual-in_err-start.ensures.1 in
     rw (p.1, p.2) (link-refused (g.L.Look.looks c.args.world.now) (task_of c.args.who.now) c.loop-link._link c.loop-link-test.true (here_of c.loop-link.start) c.loop-link.text.now c.loop-link.slash
     c.asks_for_directory-slash.result c.asks_for_directory-slash.ensures split.result.0 (last_of split.result.1) split.ensures.front split.ensures.last
-    (here_of c.in_ok-here.here) c.in_ok-here.ensures (place_of c.in-Ok.place) c.in-Ok.ensures.value
+    (here_of c.in_ok-here.here) c.in_ok-here.ensures (place_of c.in_ok-place.place) c.in_ok-place.ensures.value
     c.in-Some.inner.now (here_of c.symlink_of-link.result) c.in-Some.ensures c.symlink_of-link.ensures
     _ c.in_err-start.ensures ∙ c.loop-link.invariant)
 
@@ -48,7 +49,7 @@ loop-link-preserved g c =
     let split = c.front_and_last-front in
     next-turn (g.L.Look.looks c.args.world.now) (task_of c.args.who.now) c.loop-link._link c.loop-link-test.true (here_of c.loop-link.start) c.loop-link.text.now c.loop-link.slash
     c.asks_for_directory-slash.result c.asks_for_directory-slash.ensures split.result.0 (last_of split.result.1) split.ensures.front split.ensures.last
-    (here_of c.in_ok-here.here) c.in_ok-here.ensures (place_of c.in-Ok.place) c.in-Ok.ensures.value
+    (here_of c.in_ok-here.here) c.in_ok-here.ensures (place_of c.in_ok-place.place) c.in_ok-place.ensures.value
     c.in-Some.inner.now (here_of c.symlink_of-link.result) c.in-Some.ensures c.symlink_of-link.ensures
     (here_of c.in_ok-start.start) c.in_ok-start.ensures ∙ c.loop-link.invariant
 
