@@ -1,0 +1,10 @@
+mod Chains
+mod NodeLemmas
+mod RefusalLemmas
+mod LeftToRight
+mod LinksWalked
+mod PendingWalked
+mod Trails
+mod WalksOfPaths
+mod FilesWalked
+pub mod WalkEnds
