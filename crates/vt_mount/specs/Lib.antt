@@ -1,0 +1,3 @@
+pub mod MountsValue
+pub mod Listed
+pub mod Indexes

@@ -1,0 +1,68 @@
+//! Trees of mounts.
+ghost use Rattle.std.specs.Prelude.{◌≡◌, map, nat_eq, IfErr, IfOk};
+ghost use Rattle.vt_spec.specs.declared.errors.Rule.TheVariants.{S5};
+ghost use Rattle.vt_spec.specs.Errors.{denial};
+ghost use Rattle.vt_spec.specs.Machine.Mounts.{mount_in, mount_tree};
+ghost use Rattle.vt_location.specs.Numbers.{counted};
+ghost use Rattle.vt_mount.specs.MountsValue.{mounts_in};
+
+use crate::mounts::Mounts;
+use std::alloc::AllocError;
+use vt_location::MountId;
+use vt_spec::errors::{Deny, Rule};
+
+// A mount whose tree is still to come, and how deep that tree may be.
+#[derive(Clone, Copy, Debug)]
+struct Branch {
+    mount: MountId,
+    depth: usize,
+}
+
+impl Mounts {
+    /// A mount and all its descendants: each mount before its children, those in the order in which they were attached.
+    ///
+    /// S5 (ENOMEM): memory was refused.
+    pub fn tree(&self, id: MountId) -> Result<Vec<MountId>, Deny>
+        ensures ok { IfOk result (λ tree. map counted tree.items
+            ≡ map (λ mount. mount.number) (mount_tree nat_eq (mounts_in self.now) (mount_in nat_eq (mounts_in self.now) (counted id)))) }
+        ensures memory { IfErr result (λ deny. deny ≡ denial S5) }
+    {
+        let Ok(tree) = self.tree_of(id) else {
+            return Err(Rule::S5.denial());
+        };
+        Ok(tree)
+    }
+
+    // The tree of a mount. No tree is deeper than there are mounts.
+    fn tree_of(&self, id: MountId) -> Result<Vec<MountId>, AllocError> {
+        let alloc = *self.by_number.allocator();
+        let mut tree = Vec::new(alloc);
+        let mut waiting = Vec::new(alloc);
+        waiting.push(Branch {
+            mount: id,
+            depth: self.len(),
+        })?;
+        while let Some(next) = waiting.pop() {
+            tree.push(next.mount)?;
+            if next.depth > 0 {
+                push_reversed(&mut waiting, self.children(next.mount), next.depth - 1)?;
+            }
+        }
+        Ok(tree)
+    }
+}
+
+// Puts the children of a mount on a stack, the last one first.
+fn push_reversed(
+    waiting: &mut Vec<Branch>,
+    children: &[MountId],
+    depth: usize,
+) -> Result<(), AllocError> {
+    for mount in children.iter().rev() {
+        waiting.push(Branch {
+            mount: *mount,
+            depth,
+        })?;
+    }
+    Ok(())
+}
