@@ -40,47 +40,13 @@ is_at location mount = holds_of (same_place location) mount.mount_point
 abbrev pub is_over : NodeRef → Mount → Bool
 is_over inode mount = holds_of (λ place. same_inode inode place.node) mount.mount_point
 
+-- a list, with a number behind the others or without it
 abbrev pub pushed : Bool → ℕ → List ℕ → List ℕ
 pushed here number list = if here then list ++ number ∷ [] else list
 
 abbrev pub taken : Bool → ℕ → List ℕ → List ℕ
 taken here number list = if here then filter (λ other. not (nat_eq other number)) list else list
 
--- what each list becomes
-abbrev pub IsChanged : (Bool → List ℕ → List ℕ) → Mount → Indexes → Indexes → Type 0
-IsChanged change mount old new =
-    ((q : ℕ) → listed_in new q ≡ change (is_in q mount) (listed_in old q))
-    × ((q : ℕ) → listed_on new q ≡ change (is_on q mount) (listed_on old q))
-    × ((q : Location) → listed_at new q ≡ change (is_at q mount) (listed_at old q))
-    × ((q : NodeRef) → listed_over new q ≡ change (is_over q mount) (listed_over old q))
-
-abbrev pub IsEntered : Mount → Indexes → Indexes → Type 0
-IsEntered mount old new = IsChanged (λ here. pushed here mount.number) mount old new
-
-abbrev pub IsLeft : Mount → Indexes → Indexes → Type 0
-IsLeft mount old new = IsChanged (λ here. taken here mount.number) mount old new
-
-abbrev pub IsSameIndex : Indexes → Indexes → Type 0
-IsSameIndex old new =
-    ((q : ℕ) → listed_in new q ≡ listed_in old q)
-    × ((q : ℕ) → listed_on new q ≡ listed_on old q)
-    × ((q : Location) → listed_at new q ≡ listed_at old q)
-    × ((q : NodeRef) → listed_over new q ≡ listed_over old q)
-
-abbrev pub IsEmptyIndex : Indexes → Type 0
-IsEmptyIndex indexes =
-    ((q : ℕ) → listed_in indexes q ≡ [])
-    × ((q : ℕ) → listed_on indexes q ≡ [])
-    × ((q : Location) → listed_at indexes q ≡ [])
-    × ((q : NodeRef) → listed_over indexes q ≡ [])
-
--- a number that is in none of the lists
+-- the number is not in the list
 abbrev pub lacks : ℕ → List ℕ → Type 0
 lacks number list = filter (λ other. not (nat_eq other number)) list ≡ list
-
-abbrev pub is_out : Mount → Indexes → Type 0
-is_out mount indexes =
-    ((q : ℕ) → lacks mount.number (listed_in indexes q))
-    × ((q : ℕ) → lacks mount.number (listed_on indexes q))
-    × ((q : Location) → lacks mount.number (listed_at indexes q))
-    × ((q : NodeRef) → lacks mount.number (listed_over indexes q))

@@ -1,3 +1,4 @@
 pub mod MountsValue
 pub mod Listed
 pub mod Indexes
+pub mod Indexed

@@ -57,9 +57,16 @@ impl<K: Eq + Hash + Copy + Drop> MountsBy<K> {
         let Some(list) = self.lists.get_mut(key) else {
             return;
         };
-        list.retain(|other| *other != mount);
+        take(list, mount);
         if list.is_empty() {
             self.lists.swap_remove(key);
         }
     }
+}
+
+// Takes a mount from a list.
+fn take(list: &mut Vec<MountId>, mount: MountId)
+    ensures { list.new.items ≡ filter (λ other. not (nat_eq other mount)) list.old.items }
+{
+    list.retain(|other| *other != mount);
 }

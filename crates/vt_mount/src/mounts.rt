@@ -35,6 +35,11 @@ impl Model for Mounts {
     ghost Value = { List MountEntry };
 
     ghost view = { λ m. entries_of m.by_number.entries };
+
+    ghost use Rattle.vt_mount.specs.MountsValue.{in_order};
+    ghost use Rattle.vt_mount.specs.Indexed.{IsIndexed};
+
+    ghost invariant = { λ m. IsIndexed m.indexes (in_order m.by_number.entries) };
 }
 
 impl Mounts {
