@@ -1,3 +1,6 @@
 pub mod ListLemmas
 pub mod OrderLemmas
 pub mod EntryLemmas
+pub mod IndexLemmas
+pub mod WriteLemmas
+pub mod PlaceLemmas

@@ -1,16 +1,18 @@
--- Numbers that are put behind others, and taken out.
-use Rattle.std.proofs.Common.{◌≡◌, ℕ, ◌+◌, Bool, true, false, cond, List, [], ◌∷◌, ◌++◌, filter, not, nat_eq, refl, sym, ap, ◌∙◌, eq-eqb}
+-- Mounts that are put behind others, and taken out.
+use Rattle.std.proofs.Common.{◌≡◌, Bool, true, false, cond, List, [], ◌∷◌, ◌++◌, filter, not, refl, sym, ap, ◌∙◌, eq-eqb}
+use Rattle.vt_location.specs.declared.numbers.MountId.{MountId}
 use Rattle.vt_mount.specs.Indexes.{lacks, pushed, taken}
+use Rattle.vt_mount.specs.Listed.{same_id}
 
-abbrev pub others : ℕ → List ℕ → List ℕ
-others number list = filter (λ other. not (nat_eq other number)) list
+abbrev pub others : MountId → List MountId → List MountId
+others id list = filter (λ other. not (same_id other id)) list
 
-others-pushed : (number : ℕ) (list : List ℕ) → others number (list ++ number ∷ []) ≡ others number list
-others-pushed number [] = ap (λ b. cond (not b) (number ∷ []) []) (eq-eqb number number refl)
-others-pushed number (x ∷ list) = ap (λ rest. cond (not (nat_eq x number)) (x ∷ rest) rest) (others-pushed number list)
+others-pushed : (id : MountId) (list : List MountId) → others id (list ++ id ∷ []) ≡ others id list
+others-pushed id [] = ap (λ b. cond (not b) (id ∷ []) []) (eq-eqb id.count id.count refl)
+others-pushed id (x ∷ list) = ap (λ rest. cond (not (same_id x id)) (x ∷ rest) rest) (others-pushed id list)
 
 -- what was put in is taken out again
-pub undone : (here : Bool) (number : ℕ) (old middle new : List ℕ) → middle ≡ pushed here number old → new ≡ taken here number middle
-    → lacks number old → new ≡ old
-undone true number old middle new put is apart = is ∙ ap (others number) put ∙ others-pushed number old ∙ apart
-undone false number old middle new put is apart = is ∙ put
+pub undone : (here : Bool) (id : MountId) (old middle new : List MountId) → middle ≡ pushed here id old → new ≡ taken here id middle
+    → lacks id old → new ≡ old
+undone true id old middle new put is apart = is ∙ ap (others id) put ∙ others-pushed id old ∙ apart
+undone false id old middle new put is apart = is ∙ put

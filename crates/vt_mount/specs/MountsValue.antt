@@ -2,9 +2,11 @@
 use Rattle.std.specs.Prelude.{Bool, List, Option, [], filter, find, if◌then◌else◌, map, nat_eq, not, option_map, unwrap_or, ℕ, ◌+◌, ◌-◌, ◌∷◌}
 use Rattle.std.specs.FinMap.Entries.{put}
 use Rattle.std.specs.Ordering.{nat_cmp}
+use Rattle.std.specs.declared.cmp.Ordering.{Ordering}
 use Rattle.vt_spec.specs.Lists.{holds_of}
 use Rattle.vt_spec.specs.Machine.Mounts as meant
 use Rattle.vt_location.specs.declared.mounts.Mount.{Mount}
+use Rattle.vt_location.specs.declared.numbers.MountId.{MountId}
 use Rattle.vt_location.specs.MountValue.{mount_of}
 use Rattle.vt_mount.specs.declared.mounted.Mounted.{Mounted}
 
@@ -49,7 +51,7 @@ stands_over inode mount = holds_of (λ place. nat_eq place.node inode) mount.mou
 -- Mounts as they are kept
 
 -- the mount that is kept under a number
-abbrev pub mount_kept : ℕ → Mounted → Mount
+abbrev pub mount_kept : MountId → Mounted → Mount
 mount_kept number kept = record {
   number = number;
   namespace = kept.namespace;
@@ -59,13 +61,23 @@ mount_kept number kept = record {
   propagation = kept.propagation;
 }
 
-abbrev pub entry_of : ℕ × Mounted → MountEntry
+-- one with one use more or less, which is open for writing or not
+abbrev pub held_kept : Bool → Mounted → Mounted
+held_kept writes kept = record kept { uses = kept.uses + 1; writers = kept.writers + (if writes then 1 else 0) }
+
+abbrev pub released_kept : Bool → Mounted → Mounted
+released_kept writes kept = record kept { uses = kept.uses - 1; writers = kept.writers - (if writes then 1 else 0) }
+
+abbrev pub entry_of : MountId × Mounted → MountEntry
 entry_of kept = record { mount = mount_of (mount_kept kept.0 kept.1); uses = kept.1.uses; writers = kept.1.writers }
 
--- what is kept, in the order of the numbers, in whatever order it is kept
-abbrev pub in_order : List (ℕ × Mounted) → List (ℕ × Mounted)
-in_order [] = []
-in_order (kept ∷ rest) = put nat_cmp kept.0 kept.1 (in_order rest)
+abbrev pub id_cmp : MountId → MountId → Ordering
+id_cmp a b = nat_cmp a.count b.count
 
-abbrev pub entries_of : List (ℕ × Mounted) → List MountEntry
+-- what is kept, in the order of the numbers, in whatever order it is kept
+abbrev pub in_order : List (MountId × Mounted) → List (MountId × Mounted)
+in_order [] = []
+in_order (kept ∷ rest) = put id_cmp kept.0 kept.1 (in_order rest)
+
+abbrev pub entries_of : List (MountId × Mounted) → List MountEntry
 entries_of kept = map entry_of (in_order kept)

@@ -18,10 +18,10 @@ impl Mounts {
     ///
     /// S5 (ENOMEM): memory was refused.
     pub fn attach(&mut self, mount: Mount) -> Result<(), Deny>
-        requires { list_all (λ entry. nat_lt entry.mount.number (counted mount.number)) self.old ≡ true }
+        requires { list_all (λ entry. nat_lt entry.mount.number (counted mount.number.count)) self.old ≡ true }
         ensures ok { OnOk result (self.new ≡ self.old ++ record { mount = mount_of mount; uses = 0; writers = 0 } ∷ []) }
         // taken out again, the mounts are as they were
-        ensures undone { OnOk result (without (counted mount.number) self.new ≡ self.old) }
+        ensures undone { OnOk result (without (counted mount.number.count) self.new ≡ self.old) }
         ensures memory { IfErr result (λ deny. deny ≡ denial S5) }
         ensures err { OnErr result (self.new ≡ self.old) }
     {
@@ -34,8 +34,8 @@ impl Mounts {
 
     /// Takes a mount out, and tells what it was. It takes no memory.
     pub fn remove(&mut self, id: MountId) -> Option<Mount>
-        ensures value { option_map mount_of result ≡ find (λ mount. nat_eq (counted id) mount.number) (mounts_in self.old) }
-        ensures rest { self.new ≡ without (counted id) self.old }
+        ensures value { option_map mount_of result ≡ find (λ mount. nat_eq (counted id.count) mount.number) (mounts_in self.old) }
+        ensures rest { self.new ≡ without (counted id.count) self.old }
     {
         let kept = self.by_number.swap_remove(&id)?;
         let mount = kept.mount(id);
@@ -46,7 +46,7 @@ impl Mounts {
     /// Detaches a mount: it has no mount point, namespace or peer group any more, and keeps its users: umount(2) with
     /// `MNT_DETACH`. It takes no memory.
     pub fn detach(&mut self, id: MountId)
-        ensures { self.new ≡ changed (counted id) (λ entry. record entry { mount = detached entry.mount }) self.old }
+        ensures { self.new ≡ changed (counted id.count) (λ entry. record entry { mount = detached entry.mount }) self.old }
     {
         let Some(kept) = self.by_number.get_mut(&id) else {
             return;

@@ -1,5 +1,8 @@
 //! What mounts are listed under.
-ghost use Rattle.std.specs.Prelude.{◌≡◌, ℕ, [], nat_eq, OnErr, OnOk};
+ghost use Rattle.std.specs.Prelude.{◌≡◌, [], OnErr, OnOk};
+ghost use Rattle.vt_location.specs.declared.numbers.MountId.{MountId};
+ghost use Rattle.vt_location.specs.declared.numbers.NamespaceId.{NamespaceId};
+ghost use Rattle.vt_mount.specs.Listed.{same_id};
 ghost use Rattle.vt_location.specs.declared.locations.Location.{Location};
 ghost use Rattle.vt_location.specs.declared.locations.NodeRef.{NodeRef};
 ghost use Rattle.vt_mount.specs.Indexes.{is_at, is_in, is_on, is_over, lacks, listed_at, listed_in, listed_on, listed_over, pushed, same_inode, same_place, taken};
@@ -20,8 +23,8 @@ pub(crate) struct Indexes {
 impl Indexes {
     /// No mounts. It takes no memory.
     pub(crate) fn new(alloc: Global) -> Self
-        ensures namespace { (q : ℕ) → listed_in result q ≡ [] }
-        ensures parent { (q : ℕ) → listed_on result q ≡ [] }
+        ensures namespace { (q : NamespaceId) → listed_in result q ≡ [] }
+        ensures parent { (q : MountId) → listed_on result q ≡ [] }
         ensures place { (q : Location) → listed_at result q ≡ [] }
         ensures inode { (q : NodeRef) → listed_over result q ≡ [] }
     {
@@ -35,15 +38,15 @@ impl Indexes {
 
     /// Lists a mount behind all others.
     pub(crate) fn enter(&mut self, mount: &Mount) -> Result<(), AllocError>
-        requires namespace { (q : ℕ) → lacks mount.now.number (listed_in self.old q) }
-        requires parent { (q : ℕ) → lacks mount.now.number (listed_on self.old q) }
+        requires namespace { (q : NamespaceId) → lacks mount.now.number (listed_in self.old q) }
+        requires parent { (q : MountId) → lacks mount.now.number (listed_on self.old q) }
         requires place { (q : Location) → lacks mount.now.number (listed_at self.old q) }
-        ensures namespace_ok { OnOk result ((q : ℕ) → listed_in self.new q ≡ pushed (is_in q mount.now) mount.now.number (listed_in self.old q)) }
-        ensures parent_ok { OnOk result ((q : ℕ) → listed_on self.new q ≡ pushed (is_on q mount.now) mount.now.number (listed_on self.old q)) }
+        ensures namespace_ok { OnOk result ((q : NamespaceId) → listed_in self.new q ≡ pushed (is_in q mount.now) mount.now.number (listed_in self.old q)) }
+        ensures parent_ok { OnOk result ((q : MountId) → listed_on self.new q ≡ pushed (is_on q mount.now) mount.now.number (listed_on self.old q)) }
         ensures place_ok { OnOk result ((q : Location) → listed_at self.new q ≡ pushed (is_at q mount.now) mount.now.number (listed_at self.old q)) }
         ensures inode_ok { OnOk result ((q : NodeRef) → listed_over self.new q ≡ pushed (is_over q mount.now) mount.now.number (listed_over self.old q)) }
-        ensures namespace_err { OnErr result ((q : ℕ) → listed_in self.new q ≡ listed_in self.old q) }
-        ensures parent_err { OnErr result ((q : ℕ) → listed_on self.new q ≡ listed_on self.old q) }
+        ensures namespace_err { OnErr result ((q : NamespaceId) → listed_in self.new q ≡ listed_in self.old q) }
+        ensures parent_err { OnErr result ((q : MountId) → listed_on self.new q ≡ listed_on self.old q) }
         ensures place_err { OnErr result ((q : Location) → listed_at self.new q ≡ listed_at self.old q) }
         ensures inode_err { OnErr result ((q : NodeRef) → listed_over self.new q ≡ listed_over self.old q) }
     {
@@ -63,8 +66,8 @@ impl Indexes {
 
     /// Takes a mount out of the lists. It takes no memory.
     pub(crate) fn leave(&mut self, mount: &Mount)
-        ensures namespace { (q : ℕ) → listed_in self.new q ≡ taken (is_in q mount.now) mount.now.number (listed_in self.old q) }
-        ensures parent { (q : ℕ) → listed_on self.new q ≡ taken (is_on q mount.now) mount.now.number (listed_on self.old q) }
+        ensures namespace { (q : NamespaceId) → listed_in self.new q ≡ taken (is_in q mount.now) mount.now.number (listed_in self.old q) }
+        ensures parent { (q : MountId) → listed_on self.new q ≡ taken (is_on q mount.now) mount.now.number (listed_on self.old q) }
         ensures place { (q : Location) → listed_at self.new q ≡ taken (is_at q mount.now) mount.now.number (listed_at self.old q) }
         ensures inode { (q : NodeRef) → listed_over self.new q ≡ taken (is_over q mount.now) mount.now.number (listed_over self.old q) }
     {
@@ -80,13 +83,13 @@ impl Indexes {
 
     // Lists a mount behind the others that stand there.
     fn enter_place(&mut self, place: Location, mount: MountId) -> Result<(), AllocError>
-        requires parent { (q : ℕ) → lacks mount (listed_on self.old q) }
+        requires parent { (q : MountId) → lacks mount (listed_on self.old q) }
         requires place { (q : Location) → lacks mount (listed_at self.old q) }
         ensures same { self.new.by_namespace ≡ self.old.by_namespace }
-        ensures parent_ok { OnOk result ((q : ℕ) → listed_on self.new q ≡ pushed (nat_eq q place.mount) mount (listed_on self.old q)) }
+        ensures parent_ok { OnOk result ((q : MountId) → listed_on self.new q ≡ pushed (same_id q place.mount) mount (listed_on self.old q)) }
         ensures place_ok { OnOk result ((q : Location) → listed_at self.new q ≡ pushed (same_place q place) mount (listed_at self.old q)) }
         ensures inode_ok { OnOk result ((q : NodeRef) → listed_over self.new q ≡ pushed (same_inode q place.node) mount (listed_over self.old q)) }
-        ensures parent_err { OnErr result ((q : ℕ) → listed_on self.new q ≡ listed_on self.old q) }
+        ensures parent_err { OnErr result ((q : MountId) → listed_on self.new q ≡ listed_on self.old q) }
         ensures place_err { OnErr result ((q : Location) → listed_at self.new q ≡ listed_at self.old q) }
         ensures inode_err { OnErr result ((q : NodeRef) → listed_over self.new q ≡ listed_over self.old q) }
     {

@@ -1,6 +1,6 @@
 //! Mounts, listed under what they stand on.
-ghost use Rattle.std.specs.Prelude.{◌≡◌, ◌++◌, ◌∷◌, [], filter, if◌then◌else◌, nat_eq, not, IfErr, OnErr, OnOk};
-ghost use Rattle.vt_mount.specs.Listed.{listed};
+ghost use Rattle.std.specs.Prelude.{◌≡◌, ◌++◌, ◌∷◌, [], filter, if◌then◌else◌, not, IfErr, OnErr, OnOk};
+ghost use Rattle.vt_mount.specs.Listed.{listed, same_id};
 
 use indexmap::IndexMap;
 use std::alloc::{AllocError, Global};
@@ -52,7 +52,7 @@ impl<K: Eq + Hash + Copy + Drop> MountsBy<K> {
     /// Takes a mount from the list under a key. It takes no memory.
     pub(crate) fn remove(&mut self, key: &K, mount: MountId)
         ensures { (q : K) → listed K.eq q self.new
-            ≡ (if K.eq q key.now then filter (λ other. not (nat_eq other mount)) (listed K.eq q self.old) else listed K.eq q self.old) }
+            ≡ (if K.eq q key.now then filter (λ other. not (same_id other mount)) (listed K.eq q self.old) else listed K.eq q self.old) }
     {
         let Some(list) = self.lists.get_mut(key) else {
             return;
@@ -66,7 +66,7 @@ impl<K: Eq + Hash + Copy + Drop> MountsBy<K> {
 
 // Takes a mount from a list.
 fn take(list: &mut Vec<MountId>, mount: MountId)
-    ensures { list.new.items ≡ filter (λ other. not (nat_eq other mount)) list.old.items }
+    ensures { list.new.items ≡ filter (λ other. not (same_id other mount)) list.old.items }
 {
     list.retain(|other| *other != mount);
 }

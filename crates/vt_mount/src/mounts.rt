@@ -62,7 +62,7 @@ impl Mounts {
 
     /// The mount of this number.
     pub fn get(&self, id: MountId) -> Option<Mount>
-        ensures { option_map mount_of result ≡ find (λ mount. nat_eq (counted id) mount.number) (mounts_in self.now) }
+        ensures { option_map mount_of result ≡ find (λ mount. nat_eq (counted id.count) mount.number) (mounts_in self.now) }
     {
         let kept = self.by_number.get(&id)?;
         Some(kept.mount(id))
@@ -70,7 +70,7 @@ impl Mounts {
 
     /// How many roots, working directories and descriptors are on a mount.
     pub fn uses(&self, id: MountId) -> u64
-        ensures { result ≡ uses_of self.now (counted id) }
+        ensures { result ≡ uses_of self.now (counted id.count) }
     {
         match self.by_number.get(&id) {
             Some(kept) => kept.uses,
@@ -80,7 +80,7 @@ impl Mounts {
 
     /// How many descriptors that are open for writing are on a mount.
     pub fn writers(&self, id: MountId) -> u64
-        ensures { result ≡ writers_of self.now (counted id) }
+        ensures { result ≡ writers_of self.now (counted id.count) }
     {
         match self.by_number.get(&id) {
             Some(kept) => kept.writers,
@@ -90,14 +90,14 @@ impl Mounts {
 
     /// Whether a file is open for writing through a mount: EBUSY of mount(2) with `MS_REMOUNT`.
     pub fn is_written_through(&self, id: MountId) -> bool
-        ensures { result ≡ nat_lt 0 (writers_of self.now (counted id)) }
+        ensures { result ≡ nat_lt 0 (writers_of self.now (counted id.count)) }
     {
         self.writers(id) > 0
     }
 
     /// Sets the flags of one mount: mount(2) with `MS_REMOUNT` and `MS_BIND`. It takes no memory.
     pub fn set_flags(&mut self, id: MountId, flags: MountFlags)
-        ensures { self.new ≡ changed (counted id) (λ entry. record entry { mount = record entry.mount { flags = flags_of flags } }) self.old }
+        ensures { self.new ≡ changed (counted id.count) (λ entry. record entry { mount = record entry.mount { flags = flags_of flags } }) self.old }
     {
         if let Some(kept) = self.by_number.get_mut(&id) {
             kept.flags = flags;
@@ -107,7 +107,7 @@ impl Mounts {
     /// Sets the propagation type of one mount: mount(2) with `MS_PRIVATE` and so on. It takes no memory.
     pub fn set_propagation(&mut self, id: MountId, propagation: Propagation)
         ensures { self.new
-            ≡ changed (counted id) (λ entry. record entry { mount = record entry.mount { propagation = propagation_of propagation } }) self.old }
+            ≡ changed (counted id.count) (λ entry. record entry { mount = record entry.mount { propagation = propagation_of propagation } }) self.old }
     {
         if let Some(kept) = self.by_number.get_mut(&id) {
             kept.propagation = propagation;
@@ -118,30 +118,28 @@ impl Mounts {
     ///
     /// S5 (ENOMEM): 2^64 - 1 are counted.
     pub fn hold(&mut self, id: MountId, writes: bool) -> Result<(), Deny>
-        ensures ok { OnOk result (self.new ≡ changed (counted id) (held writes) self.old) }
-        ensures few { uses_of self.old (counted id) < u64.MAX → writers_of self.old (counted id) < u64.MAX → IsOk result }
+        ensures ok { OnOk result (self.new ≡ changed (counted id.count) (held writes) self.old) }
+        ensures few { uses_of self.old (counted id.count) < u64.MAX → writers_of self.old (counted id.count) < u64.MAX → IsOk result }
         // released again, the mounts are as they were
-        ensures undone { OnOk result (changed (counted id) (released writes) self.new ≡ self.old) }
+        ensures undone { OnOk result (changed (counted id.count) (released writes) self.new ≡ self.old) }
         ensures memory { IfErr result (λ deny. deny ≡ denial S5) }
         ensures err { OnErr result (self.new ≡ self.old) }
     {
         if let Some(kept) = self.by_number.get_mut(&id) {
-            if kept.uses == u64::MAX || kept.writers == u64::MAX {
+            if !kept.has_room() {
                 return Err(Rule::S5.denial());
             }
-            kept.uses += 1;
-            kept.writers += u64::from(writes);
+            kept.hold(writes);
         }
         Ok(())
     }
 
     /// Counts a root, a working directory or a descriptor on a mount no more. It takes no memory.
     pub fn release(&mut self, id: MountId, writes: bool)
-        ensures { self.new ≡ changed (counted id) (released writes) self.old }
+        ensures { self.new ≡ changed (counted id.count) (released writes) self.old }
     {
         if let Some(kept) = self.by_number.get_mut(&id) {
-            kept.uses = kept.uses.saturating_sub(1);
-            kept.writers = kept.writers.saturating_sub(u64::from(writes));
+            kept.release(writes);
         }
     }
 }

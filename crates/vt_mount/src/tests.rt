@@ -4,12 +4,11 @@ use std::test::Fail;
 use vt_location::{
     FilesystemId, Location, Mount, MountFlags, MountId, NamespaceId, NodeRef, Propagation,
 };
-use vt_node::NodeId;
 
 fn inode(slot: usize) -> NodeRef {
     NodeRef {
         filesystem: FilesystemId::new(2),
-        node: NodeId::new(slot),
+        slot,
     }
 }
 

@@ -23,8 +23,8 @@ impl Mounts {
     ///
     /// S5 (ENOMEM): memory was refused.
     pub fn tree(&self, id: MountId) -> Result<Vec<MountId>, Deny>
-        ensures ok { IfOk result (λ tree. map counted tree.items
-            ≡ map (λ mount. mount.number) (mount_tree nat_eq (mounts_in self.now) (mount_in nat_eq (mounts_in self.now) (counted id)))) }
+        ensures ok { IfOk result (λ tree. map (λ id. counted id.count) tree.items
+            ≡ map (λ mount. mount.number) (mount_tree nat_eq (mounts_in self.now) (mount_in nat_eq (mounts_in self.now) (counted id.count)))) }
         ensures memory { IfErr result (λ deny. deny ≡ denial S5) }
     {
         let Ok(tree) = self.tree_of(id) else {

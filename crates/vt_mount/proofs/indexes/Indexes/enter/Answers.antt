@@ -1,5 +1,5 @@
-use Rattle.std.proofs.Common.{◌≡◌, ap, nat_eq, ◌∙◌}
-use Rattle.vt_mount.specs.Indexes.{listed_in, pushed}
+use Rattle.std.proofs.Common.{◌≡◌, ap, ◌∙◌}
+use Rattle.vt_mount.specs.Indexes.{listed_in, pushed, same_namespace}
 use Rattle.vt_mount.specs.Listed.{listed}
 use Rattle.vt_mount.proofs.ListLemmas.{undone}
 use Rattle.vt_mount.proofs.indexes.Indexes.enter.Goals as goal
@@ -11,9 +11,9 @@ returns-in-Some-namespace-clause-namespace_err c =
       | in-Some+in_ok-push w ↦ λ q.
           let same : w.in-Some.namespace ≡ c.in-Some-namespace.namespace = cc in
           undone _ _ (listed_in c.args.self.now q) _ _
-          (ap (listed nat_eq q) (c.enter_place.ensures.same ∙ ap (λ self. self.by_namespace) w.self-is)
+          (ap (listed same_namespace q) (c.enter_place.ensures.same ∙ ap (λ self. self.by_namespace) w.self-is)
           ∙ w.in_ok-push.ensures.ok q
-          ∙ ap (λ namespace. pushed (nat_eq q namespace) c.args.mount.now.number (listed_in c.args.self.now q)) same)
+          ∙ ap (λ namespace. pushed (same_namespace q namespace) c.args.mount.now.number (listed_in c.args.self.now q)) same)
           (c.remove.ensures q) (c.requires.namespace q)
       | in_default w ↦ absurd (w.in_default.not-Some _ c.in-Some-namespace.is)
     ]
