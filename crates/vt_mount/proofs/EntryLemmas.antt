@@ -46,7 +46,7 @@ length-kept es distinct = length-entries (in_order es) ∙ length-in_order es di
 abbrev pub mount_under : MountId → Mounted → meant.Mount ℕ
 mount_under number kept = mount_of (mount_kept number kept)
 
-found-mount : (number : MountId) (kept : List (MountId × Mounted))
+pub found-mount : (number : MountId) (kept : List (MountId × Mounted))
     → seek (λ mount. nat_eq (counted number.count) mount.number) (mounts_in (entries kept)) ≡ option_map (mount_under number) (found number kept)
 found-mount number [] = refl
 found-mount number (one ∷ kept) =

@@ -41,11 +41,11 @@ cons-numbers test one kept = by (passes test one)
     by true = refl
     by false = refl
 
-first : (a b : Bool) → T (a && b) → T a
+pub first : (a b : Bool) → T (a && b) → T a
 first true b p = tt
 first false b p = p
 
-second : (a b : Bool) → T (a && b) → T b
+pub second : (a b : Bool) → T (a && b) → T b
 second true b p = p
 second false b p = absurd p
 
@@ -107,7 +107,7 @@ module _ (test : Mount → Bool) where
           ∙ ap (λ l. one.0 ∷ l) (rest none)
       by false is none rest false = rest none
 
-  below-none : (id : MountId) (kept : List (MountId × Mounted)) → T (below_all id_cmp id kept) → found id kept ≡ None
+  pub below-none : (id : MountId) (kept : List (MountId × Mounted)) → T (below_all id_cmp id kept) → found id kept ≡ None
   below-none id [] below = refl
   below-none id (one ∷ kept) below = by (id_cmp id one.0) refl below (below-none id kept)
     where

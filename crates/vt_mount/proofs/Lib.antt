@@ -4,3 +4,5 @@ pub mod EntryLemmas
 pub mod IndexLemmas
 pub mod WriteLemmas
 pub mod PlaceLemmas
+pub mod KeptLemmas
+pub mod PointLemmas

@@ -15,7 +15,7 @@ use Rattle.vt_location.specs.declared.numbers.MountId.{MountId}
 use Rattle.vt_mount.specs.Listed.{same_id}
 use Rattle.vt_mount.specs.MountsValue.{id_cmp, in_order}
 
-id_cmp_total : IsTotalOrder id_cmp
+pub id_cmp_total : IsTotalOrder id_cmp
 id_cmp_total = record {
   antisymm = λ x y. nat_cmp_total.antisymm x.count y.count;
   trans = λ x y z. nat_cmp_total.trans x.count y.count z.count;

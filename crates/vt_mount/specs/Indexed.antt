@@ -1,5 +1,5 @@
 -- Mounts, and what lists them.
-use Rattle.std.specs.Prelude.{Bool, List, filter, map, nat_lt, option_map, true, unwrap_or, ◌≡◌}
+use Rattle.std.specs.Prelude.{Bool, List, filter, map, true, ◌≡◌}
 use Rattle.std.specs.List.{list_all}
 use Rattle.vt_location.specs.declared.locations.Location.{Location}
 use Rattle.vt_location.specs.declared.locations.NodeRef.{NodeRef}
@@ -8,16 +8,15 @@ use Rattle.vt_location.specs.declared.numbers.MountId.{MountId}
 use Rattle.vt_location.specs.declared.numbers.NamespaceId.{NamespaceId}
 use Rattle.vt_mount.specs.declared.indexes.Indexes.{Indexes}
 use Rattle.vt_mount.specs.declared.mounted.Mounted.{Mounted}
-use Rattle.vt_mount.specs.Indexes.{is_at, is_in, is_on, is_over, listed_at, listed_in, listed_on, listed_over}
+use Rattle.vt_mount.specs.Indexes.{has_slot, is_at, is_in, is_on, is_over, listed_at, listed_in, listed_on, listed_over}
 use Rattle.vt_mount.specs.MountsValue.{mount_kept}
 
 -- the numbers of the mounts that pass a test
 abbrev pub numbers_where : (Mount → Bool) → List (MountId × Mounted) → List MountId
 numbers_where test kept = map (λ one. one.0) (filter (λ one. test (mount_kept one.0 one.1)) kept)
 
--- a mount point's inode is in a slot that there can be
 abbrev pub is_in_slot : MountId × Mounted → Bool
-is_in_slot one = unwrap_or (option_map (λ place. nat_lt place.node.slot 18446744073709551616) one.1.mount_point) true
+is_in_slot one = has_slot (mount_kept one.0 one.1)
 
 -- each list has the mounts that it is for, in the order of their numbers
 pub record IsIndexed (indexes : Indexes) (kept : List (MountId × Mounted)) : Type 0 where

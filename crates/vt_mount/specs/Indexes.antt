@@ -1,5 +1,5 @@
 -- What mounts are listed under.
-use Rattle.std.specs.Prelude.{Bool, List, filter, if◌then◌else◌, nat_eq, not, [], ◌&&◌, ◌++◌, ◌∷◌, ◌≡◌}
+use Rattle.std.specs.Prelude.{Bool, List, filter, if◌then◌else◌, nat_eq, nat_lt, not, option_map, true, unwrap_or, [], ◌&&◌, ◌++◌, ◌∷◌, ◌≡◌}
 use Rattle.vt_spec.specs.Lists.{holds_of}
 use Rattle.vt_location.specs.declared.locations.Location.{Location}
 use Rattle.vt_location.specs.declared.locations.NodeRef.{NodeRef}
@@ -54,3 +54,7 @@ taken here id list = if here then filter (λ other. not (same_id other id)) list
 -- the mount is not in the list
 abbrev pub lacks : MountId → List MountId → Type 0
 lacks id list = filter (λ other. not (same_id other id)) list ≡ list
+
+-- a mount point's inode is in a slot that there can be
+abbrev pub has_slot : Mount → Bool
+has_slot mount = unwrap_or (option_map (λ place. nat_lt place.node.slot 18446744073709551616) mount.mount_point) true

@@ -1,11 +1,11 @@
 //! What mounts are listed under.
-ghost use Rattle.std.specs.Prelude.{◌≡◌, [], OnErr, OnOk};
+ghost use Rattle.std.specs.Prelude.{◌≡◌, [], nat_lt, true, OnErr, OnOk};
 ghost use Rattle.vt_location.specs.declared.numbers.MountId.{MountId};
 ghost use Rattle.vt_location.specs.declared.numbers.NamespaceId.{NamespaceId};
 ghost use Rattle.vt_mount.specs.Listed.{same_id};
 ghost use Rattle.vt_location.specs.declared.locations.Location.{Location};
 ghost use Rattle.vt_location.specs.declared.locations.NodeRef.{NodeRef};
-ghost use Rattle.vt_mount.specs.Indexes.{is_at, is_in, is_on, is_over, lacks, listed_at, listed_in, listed_on, listed_over, pushed, same_inode, same_place, taken};
+ghost use Rattle.vt_mount.specs.Indexes.{has_slot, is_at, is_in, is_on, is_over, lacks, listed_at, listed_in, listed_on, listed_over, pushed, same_inode, same_place, taken};
 
 use crate::lists::MountsBy;
 use std::alloc::{AllocError, Global};
@@ -41,6 +41,7 @@ impl Indexes {
         requires namespace { (q : NamespaceId) → lacks mount.now.number (listed_in self.old q) }
         requires parent { (q : MountId) → lacks mount.now.number (listed_on self.old q) }
         requires place { (q : Location) → lacks mount.now.number (listed_at self.old q) }
+        ensures slot { OnOk result (has_slot mount.now ≡ true) }
         ensures namespace_ok { OnOk result ((q : NamespaceId) → listed_in self.new q ≡ pushed (is_in q mount.now) mount.now.number (listed_in self.old q)) }
         ensures parent_ok { OnOk result ((q : MountId) → listed_on self.new q ≡ pushed (is_on q mount.now) mount.now.number (listed_on self.old q)) }
         ensures place_ok { OnOk result ((q : Location) → listed_at self.new q ≡ pushed (is_at q mount.now) mount.now.number (listed_at self.old q)) }
@@ -85,6 +86,7 @@ impl Indexes {
     fn enter_place(&mut self, place: Location, mount: MountId) -> Result<(), AllocError>
         requires parent { (q : MountId) → lacks mount (listed_on self.old q) }
         requires place { (q : Location) → lacks mount (listed_at self.old q) }
+        ensures slot { nat_lt place.node.slot 18446744073709551616 ≡ true }
         ensures same { self.new.by_namespace ≡ self.old.by_namespace }
         ensures parent_ok { OnOk result ((q : MountId) → listed_on self.new q ≡ pushed (same_id q place.mount) mount (listed_on self.old q)) }
         ensures place_ok { OnOk result ((q : Location) → listed_at self.new q ≡ pushed (same_place q place) mount (listed_at self.old q)) }

@@ -1,8 +1,8 @@
 //! What stands where.
-ghost use Rattle.std.specs.Prelude.{◌≡◌, ◌&&◌, filter, is_some, map, nat_eq, option_map};
+ghost use Rattle.std.specs.Prelude.{◌≡◌, ◌&&◌, filter, find, is_some, map, nat_eq, option_map};
 ghost use Rattle.std.specs.List.{list_any};
 ghost use Rattle.vt_spec.specs.Lists.{holds_of};
-ghost use Rattle.vt_spec.specs.Machine.Mounts.{child_at, children, stands_on, topmost};
+ghost use Rattle.vt_spec.specs.Machine.Mounts.{child_at, children, root_of, stands_on, topmost};
 ghost use Rattle.vt_location.specs.Locations.{location_of, number_of};
 ghost use Rattle.vt_location.specs.Numbers.{counted};
 ghost use Rattle.vt_mount.specs.MountsValue.{mounts_in, stands_over};
@@ -47,10 +47,15 @@ impl Mounts {
     }
 
     // The root of the mount that stands at a location.
-    fn root_over(&self, place: Location) -> Option<Location> {
+    fn root_over(&self, place: Location) -> Option<Location>
+        ensures { option_map location_of result ≡ option_map root_of (child_at nat_eq (mounts_in self.now) (location_of place)) }
+    {
         let child = self.child_at(place)?;
-        let mount = self.get(child)?;
-        Some(mount.root_location())
+        let kept = self.by_number.get(&child)?;
+        Some(Location {
+            mount: child,
+            node: kept.root,
+        })
     }
 
     /// The mounts that stand on an inode, through whatever mount it is seen, in the order in which they were attached.
@@ -65,24 +70,43 @@ impl Mounts {
         ensures { result ≡ list_any (λ mount. stands_over (number_of inode) mount && holds_of (nat_eq (counted namespace.count)) mount.namespace)
             (mounts_in self.now) }
     {
-        self.mounts_on(inode)
+        self.indexes
+            .by_inode
+            .get(&inode)
             .iter()
-            .any(|id| self.namespace_of(*id) == Some(namespace))
+            .any(|id| self.is_in(*id, namespace))
     }
 
     /// Whether a mount of any namespace stands on an inode: EBUSY of rename(2).
     pub fn is_point_anywhere(&self, inode: NodeRef) -> bool
         ensures { result ≡ list_any (λ mount. stands_over (number_of inode) mount && is_some mount.namespace) (mounts_in self.now) }
     {
-        self.mounts_on(inode)
+        self.indexes
+            .by_inode
+            .get(&inode)
             .iter()
-            .any(|id| self.namespace_of(*id).is_some())
+            .any(|id| self.is_attached(*id))
     }
 
-    // The namespace that a mount is attached in.
-    fn namespace_of(&self, id: MountId) -> Option<NamespaceId> {
-        let kept = self.by_number.get(&id)?;
-        kept.namespace
+    // Whether a mount is attached in a namespace.
+    fn is_in(&self, id: MountId, namespace: NamespaceId) -> bool
+        ensures { result ≡ holds_of (λ mount. holds_of (nat_eq (counted namespace.count)) mount.namespace)
+            (find (λ mount. nat_eq (counted id.count) mount.number) (mounts_in self.now)) }
+    {
+        match self.get(id) {
+            Some(mount) => mount.namespace == Some(namespace),
+            None => false,
+        }
+    }
+
+    // Whether a mount is attached in any namespace.
+    fn is_attached(&self, id: MountId) -> bool
+        ensures { result ≡ holds_of (λ mount. is_some mount.namespace) (find (λ mount. nat_eq (counted id.count) mount.number) (mounts_in self.now)) }
+    {
+        match self.get(id) {
+            Some(mount) => mount.namespace.is_some(),
+            None => false,
+        }
     }
 
     /// The mounts that are attached in a namespace, in the order in which they were attached.

@@ -1,5 +1,5 @@
 //! Trees of mounts.
-ghost use Rattle.std.specs.Prelude.{◌≡◌, map, nat_eq, IfErr, IfOk};
+ghost use Rattle.std.specs.Prelude.{◌≡◌, ◌++◌, map, reverse, OnOk, nat_eq, IfErr, IfOk};
 ghost use Rattle.vt_spec.specs.declared.errors.Rule.TheVariants.{S5};
 ghost use Rattle.vt_spec.specs.Errors.{denial};
 ghost use Rattle.vt_spec.specs.Machine.Mounts.{mount_in, mount_tree};
@@ -34,7 +34,10 @@ impl Mounts {
     }
 
     // The tree of a mount. No tree is deeper than there are mounts.
-    fn tree_of(&self, id: MountId) -> Result<Vec<MountId>, AllocError> {
+    fn tree_of(&self, id: MountId) -> Result<Vec<MountId>, AllocError>
+        ensures { IfOk result (λ tree. map (λ id. counted id.count) tree.items
+            ≡ map (λ mount. mount.number) (mount_tree nat_eq (mounts_in self.now) (mount_in nat_eq (mounts_in self.now) (counted id.count)))) }
+    {
         let alloc = *self.by_number.allocator();
         let mut tree = Vec::new(alloc);
         let mut waiting = Vec::new(alloc);
@@ -53,16 +56,11 @@ impl Mounts {
 }
 
 // Puts the children of a mount on a stack, the last one first.
-fn push_reversed(
-    waiting: &mut Vec<Branch>,
-    children: &[MountId],
-    depth: usize,
-) -> Result<(), AllocError> {
-    for mount in children.iter().rev() {
-        waiting.push(Branch {
-            mount: *mount,
-            depth,
-        })?;
-    }
-    Ok(())
+fn push_reversed(waiting: &mut Vec<Branch>, children: &[MountId], depth: usize) -> Result<(), AllocError>
+    ensures { OnOk result (waiting.new.items ≡ waiting.old.items ++ map (λ id. record { mount = id; depth = depth }) (reverse children.now)) }
+{
+    waiting.extend(children.iter().rev().map(|mount| Branch {
+        mount: *mount,
+        depth,
+    }))
 }

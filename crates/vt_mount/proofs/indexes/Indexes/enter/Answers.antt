@@ -1,4 +1,5 @@
-use Rattle.std.proofs.Common.{◌≡◌, ap, ◌∙◌}
+use Rattle.std.proofs.Common.{◌≡◌, ap, nat_lt, option_map, true, ◌∙◌}
+use Rattle.std.specs.Prelude.{unwrap_or}
 use Rattle.vt_mount.specs.Indexes.{listed_in, pushed, same_namespace}
 use Rattle.vt_mount.specs.Listed.{listed}
 use Rattle.vt_mount.proofs.ListLemmas.{undone}
@@ -17,3 +18,7 @@ returns-in-Some-namespace-clause-namespace_err c =
           (c.remove.ensures q) (c.requires.namespace q)
       | in_default w ↦ absurd (w.in_default.not-Some _ c.in-Some-namespace.is)
     ]
+
+pub returns-in_default-enter_place-clause-slot : goal.returns-in_default-enter_place-clause-slot
+returns-in_default-enter_place-clause-slot c =
+    ap (λ point. unwrap_or (option_map (λ place. nat_lt place.node.slot 18446744073709551616) point) true) c.in-Some-mount_point.is ∙ c.enter_place.ensures.slot
