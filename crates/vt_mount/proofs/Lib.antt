@@ -6,3 +6,4 @@ pub mod WriteLemmas
 pub mod PlaceLemmas
 pub mod KeptLemmas
 pub mod PointLemmas
+pub mod TreeLemmas

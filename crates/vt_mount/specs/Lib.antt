@@ -2,3 +2,4 @@ pub mod MountsValue
 pub mod Listed
 pub mod Indexes
 pub mod Indexed
+pub mod Waiting

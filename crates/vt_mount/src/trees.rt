@@ -1,10 +1,11 @@
 //! Trees of mounts.
-ghost use Rattle.std.specs.Prelude.{◌≡◌, ◌++◌, map, reverse, OnOk, nat_eq, IfErr, IfOk};
+ghost use Rattle.std.specs.Prelude.{◌≡◌, ◌++◌, ◌∷◌, [], map, reverse, OnOk, nat_eq, IfErr, IfOk};
 ghost use Rattle.vt_spec.specs.declared.errors.Rule.TheVariants.{S5};
 ghost use Rattle.vt_spec.specs.Errors.{denial};
 ghost use Rattle.vt_spec.specs.Machine.Mounts.{mount_in, mount_tree};
 ghost use Rattle.vt_location.specs.Numbers.{counted};
 ghost use Rattle.vt_mount.specs.MountsValue.{mounts_in};
+ghost use Rattle.vt_mount.specs.Waiting.{to_come};
 
 use crate::mounts::Mounts;
 use std::alloc::AllocError;
@@ -47,15 +48,24 @@ impl Mounts {
         })?;
         while let Some(next) = waiting.pop() {
             tree.push(next.mount)?;
-            if next.depth > 0 {
-                push_reversed(&mut waiting, self.children(next.mount), next.depth - 1)?;
-            }
+            self.push_children(&mut waiting, next)?;
         }
         Ok(tree)
     }
+
+    // Puts the children of a mount on a stack, unless its tree ends with it.
+    fn push_children(&self, waiting: &mut Vec<Branch>, branch: Branch) -> Result<(), AllocError>
+        ensures { OnOk result (to_come (mounts_in self.now) (waiting.old.items ++ branch ∷ [])
+            ≡ counted branch.mount.count ∷ to_come (mounts_in self.now) waiting.new.items) }
+    {
+        if branch.depth == 0 {
+            return Ok(());
+        }
+        push_reversed(waiting, self.children(branch.mount), branch.depth - 1)
+    }
 }
 
-// Puts the children of a mount on a stack, the last one first.
+// Puts mounts on a stack, the last one first.
 fn push_reversed(waiting: &mut Vec<Branch>, children: &[MountId], depth: usize) -> Result<(), AllocError>
     ensures { OnOk result (waiting.new.items ≡ waiting.old.items ++ map (λ id. record { mount = id; depth = depth }) (reverse children.now)) }
 {
