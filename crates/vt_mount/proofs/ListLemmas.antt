@@ -1,5 +1,5 @@
 -- Mounts that are put behind others, and taken out.
-use Rattle.std.proofs.Common.{◌≡◌, Bool, true, false, cond, List, [], ◌∷◌, ◌++◌, filter, not, refl, sym, ap, ◌∙◌, eq-eqb}
+use Rattle.std.proofs.Common.{◌≡◌, Bool, true, false, cond, List, [], ◌∷◌, ◌++◌, filter, not, refl, ap, ◌∙◌, eq-eqb}
 use Rattle.vt_location.specs.declared.numbers.MountId.{MountId}
 use Rattle.vt_mount.specs.Indexes.{lacks, pushed, taken}
 use Rattle.vt_mount.specs.Listed.{same_id}

@@ -1,12 +1,12 @@
 -- What is kept under numbers, in their order, in whatever order it is kept.
-use Rattle.std.proofs.Common.{◌≡◌, ◌<◌, ℕ, suc, ◌+◌, Bool, true, false, cond, ◌&&◌, T, List, [], ◌∷◌, ◌++◌, map, filter, length, not, nat_eq, nat_lt, Option, None, Some, is_some, option_map, refl, sym, ap, subst, ◌∙◌, true≢false, arith, eq-eqb, ne_eqb}
-use Rattle.std.specs.Ordering.{eq_by_cmp, is_lt, nat_cmp}
-use Rattle.std.specs.declared.cmp.Ordering.TheVariants.{Less, Equal, Greater}
+use Rattle.std.proofs.Common.{◌≡◌, ◌<◌, suc, ◌+◌, Bool, true, false, cond, ◌&&◌, T, List, [], ◌∷◌, ◌++◌, map, filter, length, not, nat_eq, nat_lt, Option, None, Some, is_some, option_map, refl, sym, ap, subst, ◌∙◌, true≢false, arith, eq-eqb, ne_eqb}
+use Rattle.std.specs.Ordering.{eq_by_cmp, is_lt}
+use Rattle.std.specs.declared.cmp.Ordering.TheVariants.{Less, Equal}
 use Rattle.std.specs.Cmp.{IsTotalOrder, nat_cmp_is, unsigned_tied}
 use Rattle.std.proofs.lemmas.Cmp.{nat_cmp_total}
 use Rattle.std.proofs.lemmas.Bool.{eqb-true, eqb-false, ltb-true}
 use Rattle.std.specs.FinMap.{nat_cmp-IsAntisymmetric}
-use Rattle.std.specs.FinMap.Entries.{below_all, find, find-append, find-put, find-where_key, is_sorted, is_sorted-put, is_sorted-where_key, length-put, put, same_entries, where_key}
+use Rattle.std.specs.FinMap.Entries.{below_all, find, find-append, find-put, find-where_key, is_sorted, is_sorted-put, is_sorted-where_key, length-put, same_entries}
 use Rattle.std.specs.List.{AllByRecursion, IsDistinct, list_all}
 use Rattle.std.specs.Map.{keys_of, lookup}
 use Rattle.std.proofs.lemmas.Map.Keys.{IsDistinct-head, IsDistinct-tail}

@@ -1,5 +1,5 @@
 -- What stands where, by the lists and by the definitions.
-use Rattle.std.proofs.Common.{◌≡◌, ◌<◌, ℕ, ◌+◌, ◌*◌, Bool, true, false, cond, ◌&&◌, ◌||◌, List, [], ◌∷◌, map, filter, not, nat_eq, nat_lt, length, Option, None, Some, option_map, refl, sym, ap, ◌∙◌, true≢false, arith, eq-eqb, ne_eqb}
+use Rattle.std.proofs.Common.{◌≡◌, ◌<◌, ℕ, Bool, true, false, cond, ◌&&◌, ◌||◌, List, [], ◌∷◌, map, filter, not, nat_eq, nat_lt, length, Option, None, Some, option_map, refl, sym, ap, ◌∙◌, arith, eq-eqb, ne_eqb}
 use Rattle.std.specs.Prelude.{find as seek, slice_get, unwrap_or}
 use Rattle.std.specs.List.{list_all, list_any}
 use Rattle.std.proofs.lemmas.Bool.{eqb-true, eqb-false, ltb-true}
@@ -17,7 +17,7 @@ use Rattle.vt_mount.specs.declared.mounted.Mounted.{Mounted}
 use Rattle.vt_mount.specs.Indexed.{is_in_slot, numbers_where}
 use Rattle.vt_mount.specs.Indexes.{is_at, is_in, is_on, is_over, same_inode, same_namespace, same_place}
 use Rattle.vt_mount.specs.Listed.{same_id}
-use Rattle.vt_mount.specs.MountsValue.{MountEntry, mount_kept, mounts_in, stands_over}
+use Rattle.vt_mount.specs.MountsValue.{mount_kept, mounts_in, stands_over}
 use Rattle.vt_mount.proofs.EntryLemmas.{entries, mount_under, same_count}
 use Rattle.vt_mount.proofs.IndexLemmas.{cons-numbers}
 use Rattle.vt_mount.proofs.OrderLemmas.{both-first, both-second}

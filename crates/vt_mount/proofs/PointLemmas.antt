@@ -1,5 +1,5 @@
 -- A mount is found by its own number.
-use Rattle.std.proofs.Common.{◌≡◌, ◌<◌, ℕ, suc, zero, ◌+◌, Bool, true, false, cond, ◌&&◌, ◌||◌, T, List, [], ◌∷◌, map, filter, not, nat_eq, length, Option, None, Some, option_map, refl, sym, ap, subst, ◌∙◌, arith, eq-eqb, ne_eqb, true≢false}
+use Rattle.std.proofs.Common.{◌≡◌, ℕ, suc, zero, Bool, true, false, cond, ◌&&◌, ◌||◌, T, List, [], ◌∷◌, filter, nat_eq, Option, None, Some, option_map, refl, sym, ap, ◌∙◌, eq-eqb, ne_eqb, true≢false}
 use Rattle.std.specs.declared.cmp.Ordering.{Ordering}
 use Rattle.std.specs.declared.cmp.Ordering.TheVariants.{Less, Equal, Greater}
 use Rattle.std.specs.Prelude.{find as seek}

@@ -1,19 +1,18 @@
 -- What is written to one mount.
-use Rattle.std.proofs.Common.{◌≡◌, ℕ, ◌+◌, ◌-◌, nat_eq, arith, Bool, true, false, cond, List, map, Option, None, Some, option_map, refl, sym, ap, ◌∙◌}
+use Rattle.std.proofs.Common.{◌≡◌, ℕ, ◌+◌, ◌-◌, nat_eq, arith, Bool, true, false, cond, List, map, None, Some, option_map, refl, sym, ap, ◌∙◌}
 use Rattle.std.specs.Prelude.{IsSome, is_some, nat_lt, unwrap_or, ◌&&◌, ◌∷◌, []}
 use Rattle.std.specs.List.{list_all}
 use Rattle.std.specs.Map.{lookup}
-use Rattle.indexmap.specs.IndexMap.{IndexMap, UpdatesBy, WritesThrough, get_by}
+use Rattle.indexmap.specs.IndexMap.{IndexMap, WritesThrough, get_by}
 use Rattle.vt_spec.specs.Lists.{holds_of}
 use Rattle.vt_location.specs.Numbers.{counted}
-use Rattle.vt_location.specs.declared.mounts.Mount.{Mount}
 use Rattle.vt_location.specs.declared.numbers.MountId.{MountId}
 use Rattle.vt_mount.specs.declared.indexes.Indexes.{Indexes}
 use Rattle.vt_mount.specs.declared.mounted.Mounted.{Mounted}
 use Rattle.vt_mount.specs.Indexed.{IsIndexed, is_in_slot, numbers_where}
 use Rattle.vt_mount.specs.Indexes.{is_at, is_in, is_on, is_over, same_inode, same_namespace, same_place}
 use Rattle.vt_mount.specs.Listed.{same_id}
-use Rattle.vt_mount.specs.MountsValue.{MountEntry, changed, entries_of, entry_of, held, in_order, mount_kept, released}
+use Rattle.vt_mount.specs.MountsValue.{MountEntry, changed, entries_of, entry_of, held, in_order, released}
 use Rattle.vt_mount.proofs.EntryLemmas.{kept-changed}
 use Rattle.vt_mount.proofs.IndexLemmas.{numbers-changed, same}
 use Rattle.vt_mount.proofs.OrderLemmas.{change_kept, in_order-changed}

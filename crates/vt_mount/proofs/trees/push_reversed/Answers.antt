@@ -2,7 +2,6 @@ use Rattle.std.proofs.Common.{Err, Ok, OnOk, Result, rules}
 use Rattle.std.proofs.lemmas.Iterator.{YieldsList-from_map}
 use Rattle.std.proofs.lemmas.Iterator.Adapters.{YieldsList-from_rev_slice, items_from_extend}
 use Rattle.vt_location.specs.declared.numbers.MountId.{MountId}
-use Rattle.vt_mount.specs.declared.trees.Branch.{Branch}
 use Rattle.vt_mount.proofs.trees.push_reversed.Goals as goal
 
 on-ok : {A E P Q : Type 0} (r : Result A E) → (P → Q) → OnOk r P → OnOk r Q

@@ -1,4 +1,4 @@
-use Rattle.std.proofs.Common.{ap, map, nat_eq, ◌∙◌}
+use Rattle.std.proofs.Common.{ap, nat_eq, ◌∙◌}
 use Rattle.vt_spec.specs.Machine.Mounts.{children, stands_on}
 use Rattle.vt_location.specs.Numbers.{counted}
 use Rattle.vt_mount.specs.Indexes.{is_on}

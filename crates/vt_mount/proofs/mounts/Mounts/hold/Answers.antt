@@ -1,4 +1,4 @@
-use Rattle.std.proofs.Common.{Bool, Some, false, ap, lt-ltb, nat_lt, option_map, refl, subst, sym, true, true≢false, ℕ, ◌&&◌, ◌<◌, ◌≡◌, ◌∙◌}
+use Rattle.std.proofs.Common.{Bool, Some, false, ap, lt-ltb, nat_lt, option_map, refl, subst, sym, true≢false, ℕ, ◌&&◌, ◌<◌, ◌≡◌, ◌∙◌}
 use Rattle.std.specs.Prelude.{unwrap_or}
 use Rattle.vt_location.specs.Numbers.{counted}
 use Rattle.std.specs.Option.{option_copied_mut}

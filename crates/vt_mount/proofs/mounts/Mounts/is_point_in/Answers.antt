@@ -1,4 +1,4 @@
-use Rattle.std.proofs.Common.{◌<◌, ap, arith, is_some, nat_eq, rules, ◌∙◌, ℕ}
+use Rattle.std.proofs.Common.{◌<◌, ap, arith, nat_eq, rules, ◌∙◌, ℕ}
 use Rattle.std.specs.Prelude.{find}
 use Rattle.std.proofs.lemmas.Iterator.{YieldsList-from_slice}
 use Rattle.std.proofs.lemmas.Iterator.Search.{any_from_yields_List}

@@ -1,4 +1,4 @@
-use Rattle.std.proofs.Common.{Err, Ok, OnOk, Result, ap, arith, suc, sym, ◌+◌, ◌-◌, ◌≡◌, ◌∙◌, ◌∷◌}
+use Rattle.std.proofs.Common.{Err, Ok, OnOk, Result, ap, arith, suc, sym, ◌-◌, ◌≡◌, ◌∙◌, ◌∷◌}
 use Rattle.vt_location.specs.Numbers.{counted}
 use Rattle.vt_mount.specs.MountsValue.{mounts_in}
 use Rattle.vt_mount.specs.Waiting.{to_come}

@@ -1,8 +1,8 @@
-use Rattle.std.proofs.Common.{None, Some, ap, option_map, refl, subst, sym, ◌∙◌}
+use Rattle.std.proofs.Common.{None, Some, ap, option_map, subst, sym, ◌∙◌}
 use Rattle.vt_location.specs.MountValue.{mount_of}
 use Rattle.vt_location.specs.Numbers.{counted}
 use Rattle.vt_mount.specs.Indexed.{IsIndexed}
-use Rattle.vt_mount.specs.MountsValue.{entries_of, in_order, without}
+use Rattle.vt_mount.specs.MountsValue.{in_order, without}
 use Rattle.vt_mount.proofs.EntryLemmas.{kept-without, mount-found}
 use Rattle.vt_mount.proofs.KeptLemmas.{indexed-left, loses-without, slots-without}
 use Rattle.vt_mount.proofs.OrderLemmas.{found-in_order, in_order-removed, rises-in_order}

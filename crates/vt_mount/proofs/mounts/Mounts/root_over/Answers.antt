@@ -1,9 +1,8 @@
-use Rattle.std.proofs.Common.{None, Some, ap, nat_eq, option_map, sym, ◌∙◌}
+use Rattle.std.proofs.Common.{None, Some, ap, option_map, sym, ◌∙◌}
 use Rattle.std.specs.Prelude.{option_copied}
-use Rattle.vt_spec.specs.Machine.Mounts.{child_at, root_of}
+use Rattle.vt_spec.specs.Machine.Mounts.{root_of}
 use Rattle.vt_location.specs.Locations.{location_of}
 use Rattle.vt_location.specs.Numbers.{counted}
-use Rattle.vt_mount.specs.MountsValue.{mounts_in}
 use Rattle.vt_mount.proofs.PointLemmas.{child-found}
 use Rattle.vt_mount.proofs.mounts.Mounts.root_over.Goals as goal
 
