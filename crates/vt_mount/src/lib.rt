@@ -1,0 +1,15 @@
+//! The mounts of all namespaces: mount_namespaces(7).
+#![tactic(auto)]
+
+mod changes;
+mod indexes;
+mod lists;
+mod mounted;
+mod mounts;
+mod places;
+mod trees;
+
+pub use mounts::Mounts;
+
+#[cfg(test)]
+mod tests;
