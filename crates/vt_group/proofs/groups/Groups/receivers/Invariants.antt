@@ -1,0 +1,8 @@
+use Rattle.std.proofs.Common.{◌≡◌, ◌++◌, map}
+use Rattle.vt_group.specs.Steps.{numbered_peer}
+use Rattle.vt_group.proofs.Receiving.{is_up, picked}
+use Rattle.vt_group.proofs.groups.Groups.receivers.Given as goal
+
+abbrev pub invariant-loop-count : goal.invariant-loop-count
+invariant-loop-count l =
+    l.receivers.items ++ picked (is_up l.self l.group) (map numbered_peer l.count-iterator) ≡ picked (is_up l.self l.group) l.self.peers

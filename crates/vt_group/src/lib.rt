@@ -1,0 +1,10 @@
+//! Peer groups of mounts: mount_namespaces(7), and the kernel's document sharedsubtree.
+#![tactic(auto)]
+
+mod groups;
+mod ids;
+mod propagation;
+
+pub use groups::Groups;
+pub use ids::{GroupId, MountId};
+pub use propagation::Propagation;
