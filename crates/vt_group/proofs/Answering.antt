@@ -13,7 +13,7 @@ use Rattle.vt_spec.specs.Machine.Mounts.Propagation.{Private}
 use Rattle.vt_spec.proofs.Lists.{chain_goes_on}
 use Rattle.vt_group.specs.declared.propagation.Propagation.{Propagation}
 use Rattle.vt_group.specs.Grouping.{Grouping, propagation_in}
-use Rattle.vt_group.specs.Numbers.{number_of_count}
+use Rattle.vt_group.specs.Numbers.{counted}
 use Rattle.vt_group.specs.Steps.{is_member, numbered_peer, type_of, type_or_private}
 use Rattle.vt_group.proofs.CountLemmas.{lookup-numbered}
 
@@ -42,13 +42,13 @@ found-type : (o : Option Propagation) → type_or_private o ≡ unwrap_or (optio
 found-type None = refl
 found-type (Some kind) = refl
 
-module _ (count number : ℕ) (es : List (ℕ × Propagation)) (masters : List (ℕ × ℕ)) (groups : Grouping)
-    (counts : number_of_count count ≡ number) (view : record { peers = map numbered_peer es; masters = masters } ≡ groups) where
-  pub shown-type : (old : Option Propagation) → old ≡ lookup (is_at (nat_cmp count)) es → type_or_private old ≡ propagation_in groups number
+module _ (count : ℕ) (es : List (ℕ × Propagation)) (masters : List (ℕ × ℕ)) (groups : Grouping)
+    (view : record { peers = map numbered_peer es; masters = masters } ≡ groups) where
+  pub shown-type : (old : Option Propagation) → old ≡ lookup (is_at (nat_cmp count)) es → type_or_private old ≡ propagation_in groups (counted count)
   shown-type old e =
       ap type_or_private e ∙ found-type _
       ∙ ap (λ o. unwrap_or o Private) (sym (lookup-numbered type_of count es))
-      ∙ (λ i. propagation_in (view i) (counts i))
+      ∙ (λ i. propagation_in (view i) (counted count))
 
 -- an entry that was put in and is taken out again
 pub undone : (group master : ℕ) (masters : List (ℕ × ℕ)) → lookup (nat_eq group) masters ≡ None

@@ -1,12 +1,6 @@
--- The numbers that contracts see of what is counted.
-use Rattle.std.specs.Prelude.{ℕ, ◌*◌, ◌+◌, ◌-◌, ◌/◌, ◌≡◌}
-use Rattle.std.proofs.Common.{arith}
+-- The numbers that the definitions see of what code counts.
+use Rattle.std.specs.Prelude.{ℕ, ◌*◌, ◌+◌}
 
-abbrev pub number_of_count : ℕ → ℕ
-number_of_count count = 4 * count + 1
-
+-- the number of what is counted by `count`
 abbrev pub counted : ℕ → ℕ
-counted number = (number - 1) / 4
-
-pub counted_again : (count : ℕ) → counted (number_of_count count) ≡ count
-counted_again count = omega arith
+counted count = 4 * count + 1

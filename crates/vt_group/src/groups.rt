@@ -1,5 +1,5 @@
 //! Peer groups.
-ghost use Rattle.std.specs.Prelude.{◌≡◌, ℕ, None, Some, false, true, if◌then◌else◌, length, nat_eq, map, Contains, IfOk, IfErr, OnOk, OnErr};
+ghost use Rattle.std.specs.Prelude.{◌≡◌, ℕ, None, Some, false, true, if◌then◌else◌, length, nat_eq, map, Contains, IfOk, IfErr, OnOk, OnErr, option_map};
 ghost use Rattle.vt_spec.specs.Errors.{denial};
 ghost use Rattle.vt_spec.specs.Lists.{chain, is_among};
 ghost use Rattle.vt_spec.specs.Machine.Mounts.Propagation.{Private, Shared as SharedIn, Slave as SlaveOf};
@@ -8,8 +8,8 @@ ghost use Rattle.vt_spec.specs.Machine.Mounts.{group_of};
 ghost use Rattle.vt_spec.specs.Machine.World.{World};
 ghost use Rattle.vt_spec.specs.declared.errors.Rule.TheVariants.{S5};
 ghost use Rattle.vt_group.specs.Grouping.{GroupsLive, Has, below, master_in, no_groups, numbers_of, propagation_in, with_propagation};
-ghost use Rattle.vt_group.specs.Numbers.{number_of_count};
-ghost use Rattle.vt_group.specs.Steps.{ended, ended_if_lost, handed, handed_type, has_peers, retyped, type_of, type_or_private};
+ghost use Rattle.vt_group.specs.Numbers.{counted};
+ghost use Rattle.vt_group.specs.Steps.{ended, ended_if_lost, group_number, handed, handed_type, has_peers, retyped, type_of, type_or_private};
 
 use crate::propagation::hand_over;
 use crate::{GroupId, MountId, Propagation};
@@ -50,16 +50,16 @@ impl Groups {
 
     /// The propagation type of a mount that is in a group or a slave of one. Any other is private or unbindable.
     pub fn propagation_of(&self, mount: MountId) -> Option<Propagation>
-        ensures { type_or_private result ≡ propagation_in self.now mount }
+        ensures { type_or_private result ≡ propagation_in self.now (counted mount.count) }
     {
-        self.mounts.get(&mount.count()).copied()
+        self.mounts.get(&mount.count).copied()
     }
 
     /// The master of a group.
     pub fn master_of(&self, group: GroupId) -> Option<GroupId>
-        ensures { result ≡ master_in self.now group }
+        ensures { option_map group_number result ≡ master_in self.now (counted group.count) }
     {
-        self.above.get(&group.count()).copied()
+        self.above.get(&group.count).copied()
     }
 
     /// The mounts that receive the events of a group, in order of attachment: its members and slaves, and those of every
@@ -68,7 +68,7 @@ impl Groups {
     /// S5 (ENOMEM): memory was refused.
     pub fn receivers(&self, alloc: Global, group: GroupId) -> Result<Vec<MountId>, Deny>
         ensures ok { IfOk result (λ mounts. (world : World ℕ) → Has world self.now → GroupsLive world
-            → mounts.items ≡ map (λ mount. mount.number) (receivers nat_eq world group)) }
+            → map (λ mount. counted mount.count) mounts.items ≡ map (λ mount. mount.number) (receivers nat_eq world (counted group.count))) }
         ensures memory { IfErr result (λ deny. deny ≡ denial S5) }
     {
         let mut receivers = Vec::new(alloc);
@@ -84,7 +84,8 @@ impl Groups {
 
     // Whether a group is this one, or comes up its masters.
     fn is_at_or_below(&self, lower: GroupId, group: GroupId) -> bool
-        ensures { result ≡ is_among nat_eq group (chain (length self.now.peers) (master_in self.now) lower) }
+        ensures { result ≡ is_among nat_eq (counted group.count)
+            (chain (length self.now.peers) (master_in self.now) (counted lower.count)) }
     {
         let mut here = lower;
         for _ in 0..self.mounts.len() {
@@ -103,9 +104,9 @@ impl Groups {
     ///
     /// S5 (ENOMEM): memory was refused.
     pub fn join(&mut self, group: GroupId, mount: MountId) -> Result<(), Deny>
-        ensures ok { OnOk result ((world : World ℕ) → Has world self.old → GroupsLive world → Contains (numbers_of world.mounts) mount
-            → (has_members nat_eq world.mounts group ≡ false → world.master group ≡ None)
-            → Has (regrouped nat_eq (with_propagation world mount (SharedIn group))) self.new) }
+        ensures ok { OnOk result ((world : World ℕ) → Has world self.old → GroupsLive world → Contains (numbers_of world.mounts) (counted mount.count)
+            → (has_members nat_eq world.mounts (counted group.count) ≡ false → world.master (counted group.count) ≡ None)
+            → Has (regrouped nat_eq (with_propagation world (counted mount.count) (SharedIn (counted group.count)))) self.new) }
         ensures memory { IfErr result (λ deny. deny ≡ denial S5) }
         ensures err { OnErr result (self.new ≡ self.old) }
     {
@@ -116,9 +117,9 @@ impl Groups {
     ///
     /// S5 (ENOMEM): memory was refused.
     pub fn make_slave(&mut self, mount: MountId, master: GroupId) -> Result<(), Deny>
-        ensures ok { OnOk result ((world : World ℕ) → Has world self.old → GroupsLive world → Contains (numbers_of world.mounts) mount
-            → has_members nat_eq world.mounts master ≡ true
-            → Has (regrouped nat_eq (with_propagation world mount (SlaveOf master))) self.new) }
+        ensures ok { OnOk result ((world : World ℕ) → Has world self.old → GroupsLive world → Contains (numbers_of world.mounts) (counted mount.count)
+            → has_members nat_eq world.mounts (counted master.count) ≡ true
+            → Has (regrouped nat_eq (with_propagation world (counted mount.count) (SlaveOf (counted master.count)))) self.new) }
         ensures memory { IfErr result (λ deny. deny ≡ denial S5) }
         ensures err { OnErr result (self.new ≡ self.old) }
     {
@@ -128,9 +129,9 @@ impl Groups {
     /// A mount becomes private: it is in no group, and no group's slave. It takes no memory.
     pub fn leave(&mut self, mount: MountId)
         ensures { (world : World ℕ) → Has world self.old → GroupsLive world
-            → Has (regrouped nat_eq (with_propagation world mount Private)) self.new }
+            → Has (regrouped nat_eq (with_propagation world (counted mount.count) Private)) self.new }
     {
-        let old = self.mounts.remove(&mount.count());
+        let old = self.mounts.remove(&mount.count);
         self.end_if_lost(old);
     }
 
@@ -138,18 +139,18 @@ impl Groups {
     ///
     /// S5 (ENOMEM): memory was refused.
     pub fn start_group(&mut self, group: GroupId, mount: MountId, master: GroupId) -> Result<(), Deny>
-        requires { master_in self.old group ≡ None }
-        ensures ok { OnOk result ((world : World ℕ) → Has world self.old → GroupsLive world → Contains (numbers_of world.mounts) mount
-            → has_members nat_eq world.mounts group ≡ false → has_members nat_eq world.mounts master ≡ true
-            → Has (regrouped nat_eq (below (with_propagation world mount (SharedIn group)) group master)) self.new) }
+        requires { master_in self.old (counted group.count) ≡ None }
+        ensures ok { OnOk result ((world : World ℕ) → Has world self.old → GroupsLive world → Contains (numbers_of world.mounts) (counted mount.count)
+            → has_members nat_eq world.mounts (counted group.count) ≡ false → has_members nat_eq world.mounts (counted master.count) ≡ true
+            → Has (regrouped nat_eq (below (with_propagation world (counted mount.count) (SharedIn (counted group.count))) (counted group.count) (counted master.count))) self.new) }
         ensures memory { IfErr result (λ deny. deny ≡ denial S5) }
         ensures err { OnErr result (self.new ≡ self.old) }
     {
-        let Ok(_) = self.above.insert(group.count(), master) else {
+        let Ok(_) = self.above.insert(group.count, master) else {
             return Err(Rule::S5.denial());
         };
-        let Ok(old) = self.mounts.insert(mount.count(), Propagation::Shared(group)) else {
-            self.above.remove(&group.count());
+        let Ok(old) = self.mounts.insert(mount.count, Propagation::Shared(group)) else {
+            self.above.remove(&group.count);
             return Err(Rule::S5.denial());
         };
         self.end_if_lost(old);
@@ -158,11 +159,11 @@ impl Groups {
 
     // A mount gets a type.
     fn set(&mut self, mount: MountId, kind: Propagation) -> Result<(), Deny>
-        ensures ok { OnOk result (self.new ≡ retyped mount (type_of kind) self.old) }
+        ensures ok { OnOk result (self.new ≡ retyped (counted mount.count) (type_of kind) self.old) }
         ensures memory { IfErr result (λ deny. deny ≡ denial S5) }
         ensures err { OnErr result (self.new ≡ self.old) }
     {
-        let Ok(old) = self.mounts.insert(mount.count(), kind) else {
+        let Ok(old) = self.mounts.insert(mount.count, kind) else {
             return Err(Rule::S5.denial());
         };
         self.end_if_lost(old);
@@ -185,7 +186,7 @@ impl Groups {
     }
 
     fn has_members(&self, group: GroupId) -> bool
-        ensures { result ≡ has_peers group self.now }
+        ensures { result ≡ has_peers (counted group.count) self.now }
     {
         for kind in self.mounts.values() {
             if kind.is_in(group) {
@@ -197,19 +198,20 @@ impl Groups {
 
     // A group has no members left: its slaves and lower groups get its master.
     fn end(&mut self, group: GroupId)
-        ensures { self.new ≡ ended group self.old }
+        ensures { self.new ≡ ended (counted group.count) self.old }
     {
         let heir = self.master_of(group);
         self.mounts.retain(
             |_, kind| -> bool
-                ensures { (if result then Some (type_of kind.new) else None) ≡ handed_type group heir (type_of kind.old) }
+                ensures { (if result then Some (type_of kind.new) else None) ≡ handed_type (counted group.count) (option_map group_number heir) (type_of kind.old) }
             { kind.hand_over(group, heir) },
         );
         self.above.retain(
             |count, master| -> bool
-                ensures { (if result then Some master.new else None)
-                    ≡ (if nat_eq (number_of_count count.now) group then None else handed group heir master.old) }
-            { *count != group.count() && hand_over(master, group, heir) },
+                ensures { (if result then Some (group_number master.new) else None)
+                    ≡ (if nat_eq (counted count.now) (counted group.count) then None
+                      else handed (counted group.count) (option_map group_number heir) (group_number master.old)) }
+            { *count != group.count && hand_over(master, group, heir) },
         );
     }
 }

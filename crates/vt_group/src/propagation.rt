@@ -1,6 +1,7 @@
 //! Propagation types of mounts.
-ghost use Rattle.std.specs.Prelude.{◌≡◌, None, Some, nat_eq, if◌then◌else◌};
-ghost use Rattle.vt_group.specs.Steps.{handed, handed_type, type_of};
+ghost use Rattle.std.specs.Prelude.{◌≡◌, None, Some, nat_eq, option_map, if◌then◌else◌};
+ghost use Rattle.vt_group.specs.Numbers.{counted};
+ghost use Rattle.vt_group.specs.Steps.{group_number, handed, handed_type, type_of};
 ghost use Rattle.vt_spec.specs.Lists.{holds_of};
 ghost use Rattle.vt_spec.specs.Machine.Mounts.{group_of, source_of};
 
@@ -16,7 +17,7 @@ pub enum Propagation {
 impl Propagation {
     // The group that the mount is in.
     pub(crate) fn group(self) -> Option<GroupId>
-        ensures { result ≡ group_of (type_of self) }
+        ensures { option_map group_number result ≡ group_of (type_of self) }
     {
         match self {
             Propagation::Shared(group) => Some(group),
@@ -26,7 +27,7 @@ impl Propagation {
 
     // Whether the mount is in this group.
     pub(crate) fn is_in(&self, group: GroupId) -> bool
-        ensures { result ≡ holds_of (nat_eq group) (group_of (type_of self.now)) }
+        ensures { result ≡ holds_of (nat_eq (counted group.count)) (group_of (type_of self.now)) }
     {
         match self {
             Propagation::Shared(own) => group == *own,
@@ -36,7 +37,7 @@ impl Propagation {
 
     // The group that the mount receives from.
     pub(crate) fn source(self) -> GroupId
-        ensures { Some result ≡ source_of (type_of self) }
+        ensures { Some (counted result.count) ≡ source_of (type_of self) }
     {
         match self {
             Propagation::Shared(group) => group,
@@ -46,7 +47,7 @@ impl Propagation {
 
     // Gives a slave of a lost group the heir as its master. Without an heir it is to be private, and the answer is false.
     pub(crate) fn hand_over(&mut self, lost: GroupId, heir: Option<GroupId>) -> bool
-        ensures { (if result then Some (type_of self.new) else None) ≡ handed_type lost heir (type_of self.old) }
+        ensures { (if result then Some (type_of self.new) else None) ≡ handed_type (counted lost.count) (option_map group_number heir) (type_of self.old) }
     {
         match self {
             Propagation::Shared(_) => true,
@@ -57,7 +58,8 @@ impl Propagation {
 
 // Puts the heir of a lost group in its place, and tells whether there is a master then.
 pub(crate) fn hand_over(master: &mut GroupId, lost: GroupId, heir: Option<GroupId>) -> bool
-    ensures { (if result then Some master.new else None) ≡ handed lost heir master.old }
+    ensures { (if result then Some (group_number master.new) else None)
+        ≡ handed (counted lost.count) (option_map group_number heir) (group_number master.old) }
 {
     if *master != lost {
         return true;

@@ -4,6 +4,7 @@ use Rattle.vt_spec.specs.Machine.Mounts.{group_of}
 use Rattle.vt_spec.specs.Machine.Mounts.Propagation.{Private}
 use Rattle.vt_spec.specs.Machine.Receives.{regrouped}
 use Rattle.vt_group.specs.Grouping.{Has, with_propagation}
+use Rattle.vt_group.specs.Numbers.{counted}
 use Rattle.vt_group.specs.Steps.{ended_if_lost, numbered_peer, type_of}
 use Rattle.vt_group.proofs.Answering.{shown-type}
 use Rattle.vt_group.proofs.Changes.{left_regroups}
@@ -13,10 +14,10 @@ use Rattle.vt_group.proofs.groups.Groups.leave.Goals as goal
 pub returns : goal.returns
 returns c world has live =
     let es = c.self.inside.mounts.entries in
-    let count = c.count.result in
-    let old = shown-type count c.args.mount es _ c.args.self.now c.count.ensures c.self.view_is c.remove-old.result c.remove-old.ensures.value in
+    let count = c.args.mount.count in
+    let old = shown-type count es _ c.args.self.now c.self.view_is c.remove-old.result c.remove-old.ensures.value in
     let removed = ap (map numbered_peer) c.remove-old.ensures.entries ∙ removed-numbered type_of count es
-    ∙ (λ i. remove_entry (nat_eq (c.count.ensures i)) (c.self.view_is i).peers) in
+    ∙ (λ i. remove_entry (nat_eq (counted count)) (c.self.view_is i).peers) in
     let new = c.end_if_lost.ensures
     ∙ (λ i. ended_if_lost (group_of (old i)) (record { peers = removed i; masters = (c.self.view_is i).masters })) in
-    subst (Has (regrouped nat_eq (with_propagation world c.args.mount Private))) (sym new) (left_regroups world c.args.self.now has live c.args.mount)
+    subst (Has (regrouped nat_eq (with_propagation world (counted c.args.mount.count) Private))) (sym new) (left_regroups world c.args.self.now has live (counted c.args.mount.count))
