@@ -5,3 +5,5 @@ pub mod Regrouping
 pub mod Changes
 pub mod Receiving
 pub mod Answering
+pub mod Living
+pub mod Showing

@@ -80,6 +80,30 @@ lookup-peer source mount (first ∷ rest) rising m e = ⊎_elim head (λ n. tail
         later (source_of first.propagation) found
         (ne_eqb mount.number first.number (λ same. eqb-false first.number mount.number (above_first first.number rest parts.0 mount n) (sym same)))
 
+-- and any other is not
+pub lookup-absent : (mount : Mount ℕ) (mounts : List (Mount ℕ)) → are_rising (numbers_of mounts) ≡ true → Among mount mounts
+    → source_of mount.propagation ≡ None → lookup (nat_eq mount.number) (peers_of mounts) ≡ None
+lookup-absent mount [] rising m e = refl
+lookup-absent mount (first ∷ rest) rising m e = ⊎_elim head (λ n. tail (lookup-absent mount rest parts.1 n e) n) m
+  where
+    parts : (list_all (nat_lt first.number) (numbers_of rest) ≡ true) × (are_rising (numbers_of rest) ≡ true)
+    parts = and_parts _ _ rising
+
+    head : mount ≡ first → lookup (nat_eq mount.number) (peers_of (first ∷ rest)) ≡ None
+    head same =
+        ap (λ o. lookup (nat_eq mount.number) (cons_option (option_map (λ s. (first.number, first.propagation)) o) (peers_of rest))) (ap (λ x. source_of x.propagation) (sym same) ∙ e)
+        ∙ lookup-below mount.number rest (λ x m. ap (λ n. nat_eq n x.number) (ap (λ x. x.number) same) ∙ above_first first.number rest parts.0 x m)
+
+    later : (found : Option ℕ) → lookup (nat_eq mount.number) (peers_of rest) ≡ None → nat_eq mount.number first.number ≡ false
+        → lookup (nat_eq mount.number) (cons_option (option_map (λ s. (first.number, first.propagation)) found) (peers_of rest)) ≡ None
+    later None found differ = found
+    later (Some s) found differ = ap (λ b. cond b (Some first.propagation) (lookup (nat_eq mount.number) (peers_of rest))) differ ∙ found
+
+    tail : lookup (nat_eq mount.number) (peers_of rest) ≡ None → Among mount rest → lookup (nat_eq mount.number) (peers_of (first ∷ rest)) ≡ None
+    tail found n =
+        later (source_of first.propagation) found
+        (ne_eqb mount.number first.number (λ same. eqb-false first.number mount.number (above_first first.number rest parts.0 mount n) (sym same)))
+
 -- members, told by the peers
 pub members-peers : (group : ℕ) (mounts : List (Mount ℕ)) → list_any (is_member group) (peers_of mounts) ≡ has_members nat_eq mounts group
 members-peers group [] = refl

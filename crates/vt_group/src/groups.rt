@@ -135,17 +135,24 @@ impl Groups {
         self.end_if_lost(old);
     }
 
-    /// A mount becomes the first member of a new group, which has this master.
+    /// A mount becomes the first member of a new group, which has this master. A group that has a master keeps it.
     ///
     /// S5 (ENOMEM): memory was refused.
-    pub fn start_group(&mut self, group: GroupId, mount: MountId, master: GroupId) -> Result<(), Deny>
-        requires { master_in self.old (counted group.count) ≡ None }
+    pub fn start_group(
+        &mut self,
+        group: GroupId,
+        mount: MountId,
+        master: GroupId,
+    ) -> Result<(), Deny>
         ensures ok { OnOk result ((world : World ℕ) → Has world self.old → GroupsLive world → Contains (numbers_of world.mounts) (counted mount.count)
             → has_members nat_eq world.mounts (counted group.count) ≡ false → has_members nat_eq world.mounts (counted master.count) ≡ true
             → Has (regrouped nat_eq (below (with_propagation world (counted mount.count) (SharedIn (counted group.count))) (counted group.count) (counted master.count))) self.new) }
         ensures memory { IfErr result (λ deny. deny ≡ denial S5) }
         ensures err { OnErr result (self.new ≡ self.old) }
     {
+        if self.master_of(group).is_some() {
+            return self.join(group, mount);
+        }
         let Ok(_) = self.above.insert(group.count, master) else {
             return Err(Rule::S5.denial());
         };
@@ -210,7 +217,7 @@ impl Groups {
             |count, master| -> bool
                 ensures { (if result then Some (group_number master.new) else None)
                     ≡ (if nat_eq (counted count.now) (counted group.count) then None
-                      else handed (counted group.count) (option_map group_number heir) (group_number master.old)) }
+                    else handed (counted group.count) (option_map group_number heir) (group_number master.old)) }
             { *count != group.count && hand_over(master, group, heir) },
         );
     }

@@ -1,17 +1,39 @@
-use Rattle.std.proofs.Common.{ap, sym, subst, ◌∙◌, map, nat_eq}
+use Rattle.std.proofs.Common.{◌≡◌, None, Option, Some, ap, cond, false, is_some, map, nat_eq, option_map, subst, sym, true, true≢false, ℕ, ◌∙◌}
 use Rattle.std.specs.BTreeMap.{insert_entry}
 use Rattle.std.specs.Map.{remove_entry}
 use Rattle.std.specs.Ordering.{nat_cmp}
 use Rattle.vt_spec.specs.Machine.Mounts.{group_of}
 use Rattle.vt_spec.specs.Machine.Mounts.Propagation.{Shared}
-use Rattle.vt_spec.specs.Machine.Receives.{regrouped}
-use Rattle.vt_group.specs.Grouping.{Has, below, with_propagation}
+use Rattle.vt_spec.specs.Machine.Receives.{has_members, regrouped}
+use Rattle.vt_spec.specs.Machine.World.{World}
+use Rattle.vt_group.specs.declared.ids.GroupId.{GroupId}
+use Rattle.vt_group.specs.Grouping.{Grouping, Has, below, master_in, with_propagation}
 use Rattle.vt_group.specs.Numbers.{counted}
 use Rattle.vt_group.specs.Steps.{ended_if_lost, group_number, numbered_master, numbered_peer, type_of}
-use Rattle.vt_group.proofs.Answering.{shown-type, undone}
+use Rattle.vt_group.proofs.Answering.{on-ok, shown-type, undone}
 use Rattle.vt_group.proofs.Changes.{start_regroups}
 use Rattle.vt_group.proofs.CountLemmas.{inserted-numbered, removed-numbered}
 use Rattle.vt_group.proofs.groups.Groups.start_group.Goals as goal
+
+-- a group with a master has members
+has_master : (world : World ℕ) (groups : Grouping) (group : ℕ) (found : Option GroupId) → Has world groups → has_members nat_eq world.mounts group ≡ false
+    → option_map group_number found ≡ master_in groups group → is_some found ≡ true → ⊥
+has_master world groups group None has none is some = true≢false (sym some)
+has_master world groups group (Some master) has none is some =
+    true≢false (ap is_some (is ∙ has.masters group ∙ ap (λ b. cond b (world.master group) None) none))
+
+-- none is found
+not_found : (groups : Grouping) (group : ℕ) (found : Option GroupId) → option_map group_number found ≡ master_in groups group → is_some found ≡ false
+    → master_in groups group ≡ None
+not_found groups group None is none = sym is
+not_found groups group (Some master) is none = absurd (true≢false none)
+
+pub returns-then-is_some-clause-ok : goal.returns-then-is_some-clause-ok
+returns-then-is_some-clause-ok c =
+    on-ok c.join.result
+    (λ joined world has live there fresh lives.
+    absurd (has_master world c.args.self.now (counted c.args.group.count) c.master_of.result has fresh c.master_of.ensures (sym c.is_some.ensures ∙ c.if-is_some.true)))
+    c.join.ensures.ok
 
 pub returns-in_default-insert-clause-err : goal.returns-in_default-insert-clause-err
 returns-in_default-insert-clause-err c =
@@ -22,7 +44,8 @@ returns-in_default-insert-clause-err c =
     let removed = ap (map numbered_master) c.remove.ensures.entries ∙ removed-numbered group_number count c.insert.new.self.entries
     ∙ ap (remove_entry (nat_eq group)) inserted
     ∙ (λ i. remove_entry (nat_eq group) (insert_entry nat_cmp (c.self.view_is i).masters group master))
-    ∙ undone group master c.args.self.now.masters c.requires in
+    ∙ undone group master c.args.self.now.masters
+    (not_found c.args.self.now group c.master_of.result c.master_of.ensures (sym c.is_some.ensures ∙ c.if-is_some.false)) in
     (λ i. record { peers = map numbered_peer (c.in_default-insert.ensures.err i); masters = removed i })
     ∙ (λ i. record { peers = (c.self.view_is i).peers; masters = c.args.self.now.masters })
 
