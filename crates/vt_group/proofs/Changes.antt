@@ -2,7 +2,7 @@
 use Rattle.std.proofs.Common.{◌≡◌, ℕ, Bool, true, false, cond, ◌||◌, List, [], ◌∷◌, map, nat_eq, nat_lt, Option, Some, None, is_some, refl, sym, ap, subst, ◌∙◌, arith, true≢false, ne_eqb, eq-eqb, lt-ltb, inl, inr, ⊎_elim, ◌⊎◌}
 use Rattle.std.proofs.lemmas.Bool.{eqb-true, eqb-false, ltb-true, ltb-false, and_parts, and_from}
 use Rattle.std.proofs.lemmas.Option.{same_Some}
-use Rattle.std.specs.Prelude.{Contains, if◌then◌else◌, unwrap_or}
+use Rattle.std.specs.Prelude.{IfSome, Contains, if◌then◌else◌, unwrap_or}
 use Rattle.std.specs.BTreeMap.{insert_entry}
 use Rattle.std.specs.List.{list_all}
 use Rattle.std.specs.Map.{lookup, remove_entry}
@@ -17,7 +17,7 @@ use Rattle.vt_spec.specs.Machine.World.{World}
 use Rattle.vt_spec.specs.Machine.WorldLaws.{HasLivingGroups, Lives}
 use Rattle.vt_spec.specs.Machine.WorldLaws.Lives.{has_master, has_no_master}
 use Rattle.vt_spec.proofs.Lists.{Among, among-from_map, among-map, among_from_all, among_from_contains, any_among, any_from_among, is_among_numbers}
-use Rattle.vt_group.specs.Grouping.{Grouping, GroupsLive, Has, are_rising, below, numbers_of, peers_of, propagation_in, retyped_if, with_propagation}
+use Rattle.vt_group.specs.Grouping.{Grouping, GroupsLive, Has, HasGroup, HasMount, LacksGroup, are_rising, below, numbers_of, peers_of, propagation_in, retyped_if, with_propagation}
 use Rattle.vt_group.specs.Steps.{ended_if_lost, retyped}
 use Rattle.vt_group.proofs.Peers.{lookup-among, lookup-peer, numbers-retyped, peers-left, peers-set, retyped_other, retyped_same}
 use Rattle.vt_group.proofs.Regrouping.{member_shared, regrouped-has, shared_member}
@@ -330,43 +330,61 @@ module _ (group master : ℕ) where
       by false l false s rest =
           and_from _ _ (low-inserted e.0 masters (lt-ltb e.0 group (omega (arith, ltb-false group e.0 l, eqb-false group e.0 s))) parts.0) rest
 
--- A mount is the first member of a new group with a master
-pub start_regroups : (world : World ℕ) (groups : Grouping) → Has world groups → GroupsLive world → (number group master : ℕ)
-    → Contains (numbers_of world.mounts) number → has_members nat_eq world.mounts group ≡ false → has_members nat_eq world.mounts master ≡ true
-    → Has (regrouped nat_eq (below (with_propagation world number (Shared group)) group master))
-    (retyped number (Shared group) (record groups { masters = insert_entry nat_cmp groups.masters group master }))
-start_regroups world groups has live number group master there fresh lives =
-    changed_regroups world groups has live number (Shared group) (with_master nat_eq world.master group (Some master))
-    (insert_entry nat_cmp groups.peers number (Shared group)) (insert_entry nat_cmp groups.masters group master)
+-- A mount is the first member of a new group
+pub start_regroups : (world : World ℕ) (groups : Grouping) → Has world groups → GroupsLive world → (number group : ℕ) (master : Option ℕ) (masters : List (ℕ × ℕ))
+    → are_rising (keys group group masters) ≡ true
+    → ((other : ℕ) → lookup (nat_eq other) masters ≡ cond (nat_eq other group) master (lookup (nat_eq other) groups.masters))
+    → HasMount world number → LacksGroup world group → IfSome master (HasGroup world)
+    → Has (regrouped nat_eq (below (with_propagation world number (Shared group)) group master)) (retyped number (Shared group) (record groups { masters = masters }))
+start_regroups world groups has live number group master masters rising entry there fresh lives =
+    changed_regroups world groups has live number (Shared group) (with_master nat_eq world.master group master)
+    (insert_entry nat_cmp groups.peers number (Shared group)) masters
     (set_peers world groups has live number (Shared group) group refl there)
-    (rising-inserted group master groups.masters has.masters_order)
+    rising
     (joined_by world groups has live number (Shared group) there)
     (λ other e. absurd (shared_no_slave other e))
     (λ other w. elsewhere other (apart_old other w))
-    (λ other above e w f.
-    let same : above ≡ master = sym (same_Some master above (sym (here other (sym (same_Some group other e))) ∙ f)) in
-    ap (has_members nat_eq world.mounts) same ∙ lives)
-    (λ other w. entry other ∙ ap (λ b. cond b (Some master) (lookup (nat_eq other) groups.masters)) (apart_old other w)
+    (λ other above e w f. above_lives_on master lives above (sym (here other (sym (same_Some group other e))) ∙ f))
+    (λ other w. entry other ∙ ap (λ b. cond b master (lookup (nat_eq other) groups.masters)) (apart_old other w)
     ∙ entry_of world groups has live number (Shared group) other true w)
     (λ other w e.
-    entry other ∙ ap (λ b. cond b (Some master) (lookup (nat_eq other) groups.masters)) (eq-eqb other group (sym (same_Some group other e)))
+    entry other ∙ ap (λ b. cond b master (lookup (nat_eq other) groups.masters)) (eq-eqb other group (sym (same_Some group other e)))
     ∙ sym (here other (sym (same_Some group other e))))
     (λ other w apart.
-    entry other ∙ ap (λ b. cond b (Some master) (lookup (nat_eq other) groups.masters)) (ne_eqb other group (λ same. apart (ap Some (sym same))))
+    entry other ∙ ap (λ b. cond b master (lookup (nat_eq other) groups.masters)) (ne_eqb other group (λ same. apart (ap Some (sym same))))
     ∙ entry_of world groups has live number (Shared group) other false w)
   where
     shared_no_slave : (other : ℕ) → Shared group ≡ Slave other → ⊥
     shared_no_slave other e = cc
 
+    above_lives_on : (o : Option ℕ) → IfSome o (HasGroup world) → (above : ℕ) → o ≡ Some above → HasGroup world above
+    above_lives_on None h above e = absurd (true≢false (sym (ap is_some e)))
+    above_lives_on (Some it) h above e = ap (has_members nat_eq world.mounts) (sym (same_Some it above e)) ∙ h
+
     apart_old : (other : ℕ) → has_members nat_eq world.mounts other ≡ true → nat_eq other group ≡ false
     apart_old other w = ne_eqb other group (λ same. true≢false (sym w ∙ ap (has_members nat_eq world.mounts) same ∙ fresh))
 
-    elsewhere : (other : ℕ) → nat_eq other group ≡ false → with_master nat_eq world.master group (Some master) other ≡ world.master other
-    elsewhere other e = ap (λ b. if b then Some master else world.master other) e
+    elsewhere : (other : ℕ) → nat_eq other group ≡ false → with_master nat_eq world.master group master other ≡ world.master other
+    elsewhere other e = ap (λ b. if b then master else world.master other) e
 
-    here : (other : ℕ) → other ≡ group → with_master nat_eq world.master group (Some master) other ≡ Some master
-    here other e = ap (λ b. if b then Some master else world.master other) (eq-eqb other group e)
+    here : (other : ℕ) → other ≡ group → with_master nat_eq world.master group master other ≡ master
+    here other e = ap (λ b. if b then master else world.master other) (eq-eqb other group e)
 
-    entry : (other : ℕ) → lookup (nat_eq other) (insert_entry nat_cmp groups.masters group master)
-        ≡ cond (nat_eq other group) (Some master) (lookup (nat_eq other) groups.masters)
-    entry other = lookup-inserted other group master groups.masters
+pub start_below : (world : World ℕ) (groups : Grouping) → Has world groups → GroupsLive world → (number group master : ℕ)
+    → HasMount world number → LacksGroup world group → HasGroup world master
+    → Has (regrouped nat_eq (below (with_propagation world number (Shared group)) group (Some master)))
+    (retyped number (Shared group) (record groups { masters = insert_entry nat_cmp groups.masters group master }))
+start_below world groups has live number group master there fresh lives =
+    start_regroups world groups has live number group (Some master) (insert_entry nat_cmp groups.masters group master)
+    (rising-inserted group master groups.masters has.masters_order) (λ other. lookup-inserted other group master groups.masters) there fresh lives
+
+pub start_alone : (world : World ℕ) (groups : Grouping) → Has world groups → GroupsLive world → (number group : ℕ)
+    → HasMount world number → LacksGroup world group
+    → Has (regrouped nat_eq (below (with_propagation world number (Shared group)) group None)) (retyped number (Shared group) groups)
+start_alone world groups has live number group there fresh =
+    start_regroups world groups has live number group None groups.masters has.masters_order (λ other. by other (nat_eq other group) refl) there fresh tt
+  where
+    by : (other : ℕ) (b : Bool) → nat_eq other group ≡ b → lookup (nat_eq other) groups.masters ≡ cond b None (lookup (nat_eq other) groups.masters)
+    by other true is =
+        has.masters other ∙ ap (λ b. cond b (world.master other) None) (ap (has_members nat_eq world.mounts) (eqb-true other group is) ∙ fresh)
+    by other false is = refl

@@ -2,7 +2,7 @@
 use Rattle.std.proofs.Common.{◌≡◌, refl, sym, ap, subst, ◌∙◌, true, false, Bool, None, Option, Some, cond, eq-eqb, ne_eqb, find, is_some, length, map, not, true≢false, zero, suc, ℕ, nat_eq}
 use Rattle.std.proofs.lemmas.Bool.{not-false, or_parts}
 use Rattle.std.proofs.lemmas.Option.{same_Some}
-use Rattle.std.specs.Prelude.{if◌then◌else◌}
+use Rattle.std.specs.Prelude.{IfSome, if◌then◌else◌}
 use Rattle.std.specs.List.{list_any}
 use Rattle.vt_spec.specs.Lists.{chain, then_some}
 use Rattle.vt_spec.specs.Machine.Mounts.{Mount, Propagation, source_of}
@@ -13,7 +13,7 @@ use Rattle.vt_spec.specs.Machine.World.{World}
 use Rattle.vt_spec.specs.Machine.WorldLaws.{HasLivingGroups, Lives}
 use Rattle.vt_spec.specs.Machine.WorldLaws.Lives.{has_master, has_no_master}
 use Rattle.vt_spec.proofs.Lists.{Among, all_from_among, among-from_map, among_from_all, any_among, any_from_among, chain_ends, chain_goes_on, none_among}
-use Rattle.vt_group.specs.Grouping.{GroupsLive, retyped_if}
+use Rattle.vt_group.specs.Grouping.{GroupsLive, retyped_if, HasGroup}
 use Rattle.vt_group.specs.Laws.{JoiningKeepsGroups, LeavingKeepsGroups, SlavesKeepGroups, StartingKeepsGroups}
 use Rattle.vt_group.proofs.GroupLemmas.{members-inherited}
 use Rattle.vt_group.proofs.Peers.{retyped_other, retyped_same}
@@ -180,11 +180,18 @@ joining_keeps_groups world mount group live fresh =
 
 pub starting_keeps_groups : StartingKeepsGroups
 starting_keeps_groups world mount group master live fresh h =
-    changed_live world live mount (Shared group) (with_master nat_eq world.master group (Some master)) agrees (λ source e.
-    subst (EndsUp (with_master nat_eq world.master group (Some master))) (same_Some group source e)
-    (goes_up group master (ap (λ b. if b then Some master else world.master group) (eq-eqb group group refl))
-    (lives_end (has_members nat_eq world.mounts) world.master (with_master nat_eq world.master group (Some master)) agrees master (group_lives world live master h))))
+    changed_live world live mount (Shared group) (with_master nat_eq world.master group master) (agrees master) (λ source e.
+    subst (EndsUp (with_master nat_eq world.master group master)) (same_Some group source e) (by master h))
   where
-    agrees : (other : ℕ) → has_members nat_eq world.mounts other ≡ true → with_master nat_eq world.master group (Some master) other ≡ world.master other
-    agrees other w =
-        ap (λ b. if b then Some master else world.master other) (ne_eqb other group (λ is. true≢false (sym w ∙ ap (has_members nat_eq world.mounts) is ∙ fresh)))
+    agrees : (up : Option ℕ) (other : ℕ) → has_members nat_eq world.mounts other ≡ true → with_master nat_eq world.master group up other ≡ world.master other
+    agrees up other w =
+        ap (λ b. if b then up else world.master other) (ne_eqb other group (λ is. true≢false (sym w ∙ ap (has_members nat_eq world.mounts) is ∙ fresh)))
+
+    is_above : (up : Option ℕ) → with_master nat_eq world.master group up group ≡ up
+    is_above up = ap (λ b. if b then up else world.master group) (eq-eqb group group refl)
+
+    by : (up : Option ℕ) → IfSome up (HasGroup world) → EndsUp (with_master nat_eq world.master group up) group
+    by None h = at_top group (is_above None)
+    by (Some up) h =
+        goes_up group up (is_above (Some up))
+        (lives_end (has_members nat_eq world.mounts) world.master (with_master nat_eq world.master group (Some up)) (agrees (Some up)) up (group_lives world live up h))

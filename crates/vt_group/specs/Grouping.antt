@@ -1,10 +1,11 @@
 -- What contracts see of peer groups, and which worlds have them: mount_namespaces(7), and the kernel's document
 -- sharedsubtree.
-use Rattle.std.specs.Prelude.{All, Bool, List, Option, Some, [], filter_map, if◌then◌else◌, map, nat_eq, nat_lt, option_map, true, unwrap_or, ℕ, ◌&&◌, ◌∷◌, ◌≡◌}
+use Rattle.std.specs.Prelude.{All, Bool, Contains, List, Option, [], filter_map, if◌then◌else◌, false, map, nat_eq, nat_lt, option_map, true, unwrap_or, ℕ, ◌&&◌, ◌∷◌, ◌≡◌}
 use Rattle.std.specs.List.{list_all}
 use Rattle.std.specs.Map.{lookup}
 use Rattle.vt_spec.specs.Machine.Mounts.{Mount, Propagation, source_of}
 use Rattle.vt_spec.specs.Machine.Mounts.Propagation.{Private}
+use Rattle.vt_spec.specs.Machine.Receives.{has_members, regrouped}
 use Rattle.vt_spec.specs.Machine.Settled.{without_dead_groups}
 use Rattle.vt_spec.specs.Machine.Types.{with_master}
 use Rattle.vt_spec.specs.Machine.World.{World}
@@ -60,6 +61,21 @@ retyped_if number kind mount = if nat_eq number mount.number then record mount {
 abbrev pub with_propagation : World ℕ → ℕ → Propagation ℕ → World ℕ
 with_propagation world number kind = record world { mounts = map (retyped_if number kind) world.mounts }
 
--- the world with a group that has this master
-abbrev pub below : World ℕ → ℕ → ℕ → World ℕ
-below world group master = record world { master = with_master nat_eq world.master group (Some master) }
+-- the world with this master of a group, or none
+abbrev pub below : World ℕ → ℕ → Option ℕ → World ℕ
+below world group master = record world { master = with_master nat_eq world.master group master }
+
+-- What a change of groups follows: each living world that had the groups, and that the change is of, has those that are
+-- left once it is changed so and regrouped.
+abbrev pub Follows : Grouping → Grouping → (World ℕ → Type 0) → (World ℕ → World ℕ) → Type 0
+Follows old new IsOf change =
+    (world : World ℕ) → Has world old → GroupsLive world → IsOf world → Has (regrouped nat_eq (change world)) new
+
+abbrev pub HasMount : World ℕ → ℕ → Type 0
+HasMount world mount = Contains (numbers_of world.mounts) mount
+
+abbrev pub HasGroup : World ℕ → ℕ → Type 0
+HasGroup world group = has_members nat_eq world.mounts group ≡ true
+
+abbrev pub LacksGroup : World ℕ → ℕ → Type 0
+LacksGroup world group = has_members nat_eq world.mounts group ≡ false

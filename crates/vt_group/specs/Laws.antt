@@ -1,11 +1,11 @@
 -- What a world's groups say of the world, and what the changes of this crate keep.
-use Rattle.std.specs.Prelude.{All, None, true, false, ℕ, nat_eq, ◌≡◌}
+use Rattle.std.specs.Prelude.{All, IfSome, None, Option, ℕ, nat_eq, ◌≡◌}
 use Rattle.vt_spec.specs.Lists.{Fresh}
 use Rattle.vt_spec.specs.Machine.Mounts.{Propagation}
 use Rattle.vt_spec.specs.Machine.Mounts.Propagation.{Private, Shared, Slave, Unbindable}
-use Rattle.vt_spec.specs.Machine.Receives.{has_members, regrouped}
+use Rattle.vt_spec.specs.Machine.Receives.{regrouped}
 use Rattle.vt_spec.specs.Machine.World.{World, opening}
-use Rattle.vt_group.specs.Grouping.{Grouping, GroupsLive, Has, below, master_in, no_groups, propagation_in, with_propagation}
+use Rattle.vt_group.specs.Grouping.{Grouping, GroupsLive, Has, HasGroup, LacksGroup, below, master_in, no_groups, propagation_in, with_propagation}
 
 abbrev pub OpeningHasNoGroups : Type 0
 OpeningHasNoGroups = (fresh : Fresh ℕ) → Has (opening nat_eq fresh) no_groups
@@ -28,7 +28,7 @@ ShowsTypes =
 
 abbrev pub ShowsMasters : Type 0
 ShowsMasters =
-    (world : World ℕ) (groups : Grouping) (group : ℕ) → Has world groups → has_members nat_eq world.mounts group ≡ true
+    (world : World ℕ) (groups : Grouping) (group : ℕ) → Has world groups → HasGroup world group
     → master_in groups group ≡ world.master group
 
 -- Groups live on where a mount leaves,
@@ -38,19 +38,18 @@ LeavingKeepsGroups = (world : World ℕ) (mount : ℕ) → GroupsLive world → 
 -- becomes a slave,
 abbrev pub SlavesKeepGroups : Type 0
 SlavesKeepGroups =
-    (world : World ℕ) (mount master : ℕ) → GroupsLive world → has_members nat_eq world.mounts master ≡ true
+    (world : World ℕ) (mount master : ℕ) → GroupsLive world → HasGroup world master
     → GroupsLive (regrouped nat_eq (with_propagation world mount (Slave master)))
 
 -- joins a group,
 abbrev pub JoiningKeepsGroups : Type 0
 JoiningKeepsGroups =
-    (world : World ℕ) (mount group : ℕ) → GroupsLive world
-    → (has_members nat_eq world.mounts group ≡ false → world.master group ≡ None)
+    (world : World ℕ) (mount group : ℕ) → GroupsLive world → (LacksGroup world group → world.master group ≡ None)
     → GroupsLive (regrouped nat_eq (with_propagation world mount (Shared group)))
 
 -- or is the first member of a new one.
 abbrev pub StartingKeepsGroups : Type 0
 StartingKeepsGroups =
-    (world : World ℕ) (mount group master : ℕ) → GroupsLive world
-    → has_members nat_eq world.mounts group ≡ false → has_members nat_eq world.mounts master ≡ true
+    (world : World ℕ) (mount group : ℕ) (master : Option ℕ) → GroupsLive world → LacksGroup world group
+    → IfSome master (HasGroup world)
     → GroupsLive (regrouped nat_eq (below (with_propagation world mount (Shared group)) group master))

@@ -1,13 +1,13 @@
 //! Peer groups.
-ghost use Rattle.std.specs.Prelude.{◌≡◌, ℕ, None, Some, false, true, if◌then◌else◌, length, nat_eq, map, Contains, IfOk, IfErr, OnOk, OnErr, option_map};
+ghost use Rattle.std.specs.Prelude.{◌≡◌, ⊤, ℕ, None, Some, if◌then◌else◌, length, nat_eq, map, IfOk, IfErr, IfSome, OnOk, OnErr, option_map};
 ghost use Rattle.vt_spec.specs.Errors.{denial};
 ghost use Rattle.vt_spec.specs.Lists.{chain, is_among};
 ghost use Rattle.vt_spec.specs.Machine.Mounts.Propagation.{Private, Shared as SharedIn, Slave as SlaveOf};
-ghost use Rattle.vt_spec.specs.Machine.Receives.{has_members, receivers, regrouped};
+ghost use Rattle.vt_spec.specs.Machine.Receives.{receivers};
 ghost use Rattle.vt_spec.specs.Machine.Mounts.{group_of};
 ghost use Rattle.vt_spec.specs.Machine.World.{World};
 ghost use Rattle.vt_spec.specs.declared.errors.Rule.TheVariants.{S5};
-ghost use Rattle.vt_group.specs.Grouping.{GroupsLive, Has, below, master_in, no_groups, numbers_of, propagation_in, with_propagation};
+ghost use Rattle.vt_group.specs.Grouping.{Follows, GroupsLive, Has, HasGroup, HasMount, LacksGroup, below, master_in, no_groups, numbers_of, propagation_in, with_propagation};
 ghost use Rattle.vt_group.specs.Numbers.{counted};
 ghost use Rattle.vt_group.specs.Steps.{ended, ended_if_lost, group_number, handed, handed_type, has_peers, retyped, type_of, type_or_private};
 
@@ -68,7 +68,7 @@ impl Groups {
     /// S5 (ENOMEM): memory was refused.
     pub fn receivers(&self, alloc: Global, group: GroupId) -> Result<Vec<MountId>, Deny>
         ensures ok { IfOk result (λ mounts. (world : World ℕ) → Has world self.now → GroupsLive world
-            → map (λ mount. counted mount.count) mounts.items ≡ map (λ mount. mount.number) (receivers nat_eq world (counted group.count))) }
+            → map (λ mount. counted mount.count) mounts.items ≡ numbers_of (receivers nat_eq world (counted group.count))) }
         ensures memory { IfErr result (λ deny. deny ≡ denial S5) }
     {
         let mut receivers = Vec::new(alloc);
@@ -104,9 +104,11 @@ impl Groups {
     ///
     /// S5 (ENOMEM): memory was refused.
     pub fn join(&mut self, group: GroupId, mount: MountId) -> Result<(), Deny>
-        ensures ok { OnOk result ((world : World ℕ) → Has world self.old → GroupsLive world → Contains (numbers_of world.mounts) (counted mount.count)
-            → (has_members nat_eq world.mounts (counted group.count) ≡ false → world.master (counted group.count) ≡ None)
-            → Has (regrouped nat_eq (with_propagation world (counted mount.count) (SharedIn (counted group.count)))) self.new) }
+        ensures ok { let mount = counted mount.count in
+            let group = counted group.count in
+            OnOk result (Follows self.old self.new
+            (λ world. HasMount world mount × (LacksGroup world group → world.master group ≡ None))
+            (λ world. with_propagation world mount (SharedIn group))) }
         ensures memory { IfErr result (λ deny. deny ≡ denial S5) }
         ensures err { OnErr result (self.new ≡ self.old) }
     {
@@ -117,9 +119,11 @@ impl Groups {
     ///
     /// S5 (ENOMEM): memory was refused.
     pub fn make_slave(&mut self, mount: MountId, master: GroupId) -> Result<(), Deny>
-        ensures ok { OnOk result ((world : World ℕ) → Has world self.old → GroupsLive world → Contains (numbers_of world.mounts) (counted mount.count)
-            → has_members nat_eq world.mounts (counted master.count) ≡ true
-            → Has (regrouped nat_eq (with_propagation world (counted mount.count) (SlaveOf (counted master.count)))) self.new) }
+        ensures ok { let mount = counted mount.count in
+            let master = counted master.count in
+            OnOk result (Follows self.old self.new
+            (λ world. HasMount world mount × HasGroup world master)
+            (λ world. with_propagation world mount (SlaveOf master))) }
         ensures memory { IfErr result (λ deny. deny ≡ denial S5) }
         ensures err { OnErr result (self.new ≡ self.old) }
     {
@@ -128,30 +132,35 @@ impl Groups {
 
     /// A mount becomes private: it is in no group, and no group's slave. It takes no memory.
     pub fn leave(&mut self, mount: MountId)
-        ensures { (world : World ℕ) → Has world self.old → GroupsLive world
-            → Has (regrouped nat_eq (with_propagation world (counted mount.count) Private)) self.new }
+        ensures { Follows self.old self.new (λ world. ⊤) (λ world. with_propagation world (counted mount.count) Private) }
     {
         let old = self.mounts.remove(&mount.count);
         self.end_if_lost(old);
     }
 
-    /// A mount becomes the first member of a new group, which has this master. A group that has a master keeps it.
+    /// A mount becomes the first member of a new group, which has this master, if any. A group that has a master keeps it.
     ///
     /// S5 (ENOMEM): memory was refused.
     pub fn start_group(
         &mut self,
         group: GroupId,
         mount: MountId,
-        master: GroupId,
+        master: Option<GroupId>,
     ) -> Result<(), Deny>
-        ensures ok { OnOk result ((world : World ℕ) → Has world self.old → GroupsLive world → Contains (numbers_of world.mounts) (counted mount.count)
-            → has_members nat_eq world.mounts (counted group.count) ≡ false → has_members nat_eq world.mounts (counted master.count) ≡ true
-            → Has (regrouped nat_eq (below (with_propagation world (counted mount.count) (SharedIn (counted group.count))) (counted group.count) (counted master.count))) self.new) }
+        ensures ok { let mount = counted mount.count in
+            let group = counted group.count in
+            let master = option_map group_number master in
+            OnOk result (Follows self.old self.new
+            (λ world. HasMount world mount × LacksGroup world group × IfSome master (HasGroup world))
+            (λ world. below (with_propagation world mount (SharedIn group)) group master)) }
         ensures memory { IfErr result (λ deny. deny ≡ denial S5) }
         ensures err { OnErr result (self.new ≡ self.old) }
     {
+        let Some(master) = master else {
+            return self.set(mount, Propagation::Shared(group));
+        };
         if self.master_of(group).is_some() {
-            return self.join(group, mount);
+            return self.set(mount, Propagation::Shared(group));
         }
         let Ok(_) = self.above.insert(group.count, master) else {
             return Err(Rule::S5.denial());
@@ -210,7 +219,8 @@ impl Groups {
         let heir = self.master_of(group);
         self.mounts.retain(
             |_, kind| -> bool
-                ensures { (if result then Some (type_of kind.new) else None) ≡ handed_type (counted group.count) (option_map group_number heir) (type_of kind.old) }
+                ensures { (if result then Some (type_of kind.new) else None)
+                    ≡ handed_type (counted group.count) (option_map group_number heir) (type_of kind.old) }
             { kind.hand_over(group, heir) },
         );
         self.above.retain(

@@ -13,10 +13,10 @@ fn group(count: u64) -> GroupId {
 // Mounts 1 and 2 are in group 10, mount 3 is its slave; mount 4 is in group 11 below it, and mount 5 that group's slave.
 fn family(rt: HostRuntime) -> Result<Groups, Fail> {
     let mut groups = Groups::new(rt.alloc());
-    groups.join(group(10), mount(2))?;
+    groups.start_group(group(10), mount(2), None)?;
     groups.join(group(10), mount(1))?;
     groups.make_slave(mount(3), group(10))?;
-    groups.start_group(group(11), mount(4), group(10))?;
+    groups.start_group(group(11), mount(4), Some(group(10)))?;
     groups.make_slave(mount(5), group(11))?;
     Ok(groups)
 }

@@ -12,7 +12,7 @@ use Rattle.vt_group.proofs.CountLemmas.{removed-numbered}
 use Rattle.vt_group.proofs.groups.Groups.leave.Goals as goal
 
 pub returns : goal.returns
-returns c world has live =
+returns c world has live is =
     let es = c.self.inside.mounts.entries in
     let count = c.args.mount.count in
     let old = shown-type count es _ c.args.self.now c.self.view_is c.remove-old.result c.remove-old.ensures.value in
