@@ -33,7 +33,8 @@ ShowsMasters =
 
 -- Groups live on where a mount leaves,
 abbrev pub LeavingKeepsGroups : Type 0
-LeavingKeepsGroups = (world : World ℕ) (mount : ℕ) → GroupsLive world → GroupsLive (regrouped nat_eq (with_propagation world mount Private))
+LeavingKeepsGroups =
+    (world : World ℕ) (mount : ℕ) → GroupsLive world → GroupsLive (regrouped nat_eq (with_propagation world mount Private))
 
 -- becomes a slave,
 abbrev pub SlavesKeepGroups : Type 0

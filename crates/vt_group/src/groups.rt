@@ -110,6 +110,8 @@ impl Groups {
             (λ world. HasMount world mount × (LacksGroup world group → world.master group ≡ None))
             (λ world. with_propagation world mount (SharedIn group))) }
         ensures memory { IfErr result (λ deny. deny ≡ denial S5) }
+        // a mount that has a type already needs no memory
+        ensures private { OnErr result (propagation_in self.old (counted mount.count) ≡ Private) }
         ensures err { OnErr result (self.new ≡ self.old) }
     {
         self.set(mount, Propagation::Shared(group))
@@ -125,6 +127,8 @@ impl Groups {
             (λ world. HasMount world mount × HasGroup world master)
             (λ world. with_propagation world mount (SlaveOf master))) }
         ensures memory { IfErr result (λ deny. deny ≡ denial S5) }
+        // a mount that has a type already needs no memory
+        ensures private { OnErr result (propagation_in self.old (counted mount.count) ≡ Private) }
         ensures err { OnErr result (self.new ≡ self.old) }
     {
         self.set(mount, Propagation::Slave(master))
@@ -177,6 +181,7 @@ impl Groups {
     fn set(&mut self, mount: MountId, kind: Propagation) -> Result<(), Deny>
         ensures ok { OnOk result (self.new ≡ retyped (counted mount.count) (type_of kind) self.old) }
         ensures memory { IfErr result (λ deny. deny ≡ denial S5) }
+        ensures private { OnErr result (propagation_in self.old (counted mount.count) ≡ Private) }
         ensures err { OnErr result (self.new ≡ self.old) }
     {
         let Ok(old) = self.mounts.insert(mount.count, kind) else {

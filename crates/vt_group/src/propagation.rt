@@ -47,7 +47,8 @@ impl Propagation {
 
     // Gives a slave of a lost group the heir as its master. Without an heir it is to be private, and the answer is false.
     pub(crate) fn hand_over(&mut self, lost: GroupId, heir: Option<GroupId>) -> bool
-        ensures { (if result then Some (type_of self.new) else None) ≡ handed_type (counted lost.count) (option_map group_number heir) (type_of self.old) }
+        ensures { (if result then Some (type_of self.new) else None)
+            ≡ handed_type (counted lost.count) (option_map group_number heir) (type_of self.old) }
     {
         match self {
             Propagation::Shared(_) => true,

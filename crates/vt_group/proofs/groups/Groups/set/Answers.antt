@@ -1,4 +1,4 @@
-use Rattle.std.proofs.Common.{ap, ◌∙◌, map}
+use Rattle.std.proofs.Common.{None, sym, ap, ◌∙◌, map}
 use Rattle.std.specs.BTreeMap.{insert_entry}
 use Rattle.std.specs.Ordering.{nat_cmp}
 use Rattle.vt_spec.specs.Machine.Mounts.{group_of}
@@ -17,3 +17,7 @@ returns-clause-ok c =
     ∙ (λ i. insert_entry nat_cmp (c.self.view_is i).peers (counted count) (type_of c.args.kind)) in
     c.end_if_lost.ensures
     ∙ (λ i. ended_if_lost (group_of (old i)) (record { peers = inserted i; masters = (c.self.view_is i).masters }))
+
+pub returns-in_default-clause-private : goal.returns-in_default-clause-private
+returns-in_default-clause-private c =
+    sym (shown-type c.args.mount.count c.self.inside.mounts.entries _ c.args.self.now c.self.view_is None (sym c.in_default.ensures.absent))
