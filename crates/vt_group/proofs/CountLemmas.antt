@@ -1,0 +1,102 @@
+-- Entries by counts, as contracts see them by numbers.
+use Rattle.std.proofs.Common.{◌≡◌, ◌≢◌, ℕ, Bool, true, false, cond, List, [], ◌∷◌, map, nat_eq, nat_lt, Option, Some, None, option_map, refl, sym, ap, subst, ◌∙◌, arith, eq-eqb, ne_eqb, lt-ltb, le-ltb}
+use Rattle.std.proofs.lemmas.Bool.{eqb-true, eqb-false, ltb-true, ltb-false}
+use Rattle.std.specs.Prelude.{filter_map}
+use Rattle.std.specs.List.{cons_option}
+use Rattle.std.specs.BTreeMap.{insert_entry, is_at}
+use Rattle.std.specs.Map.{lookup, remove_entry}
+use Rattle.std.specs.Map.Calls.{RetainsPairs}
+use Rattle.std.specs.Ordering.{is_eq, match_ordering, nat_cmp}
+use Rattle.vt_group.specs.Numbers.{counted}
+use Rattle.std.specs.declared.cmp.Ordering.{Ordering}
+use Rattle.std.specs.declared.cmp.Ordering.TheVariants.{Less, Equal, Greater}
+
+pub same_count : (a b : ℕ) → nat_eq (counted a) (counted b) ≡ nat_eq a b
+same_count a b = by (nat_eq a b) refl
+  where
+    by : (t : Bool) → nat_eq a b ≡ t → nat_eq (counted a) (counted b) ≡ t
+    by true e = let same : a ≡ b = eqb-true a b e in eq-eqb (counted a) (counted b) (ap counted same)
+    by false e = let differ : a ≢ b = eqb-false a b e in ne_eqb (counted a) (counted b) (λ same. differ (omega (arith, same)))
+
+pub less_count : (a b : ℕ) → nat_lt (counted a) (counted b) ≡ nat_lt a b
+less_count a b = by (nat_lt a b) refl
+  where
+    by : (t : Bool) → nat_lt a b ≡ t → nat_lt (counted a) (counted b) ≡ t
+    by true e = lt-ltb (counted a) (counted b) (omega (arith, ltb-true a b e))
+    by false e = le-ltb (counted a) (counted b) (omega (arith, ltb-false a b e))
+
+pub cmp_count : (a b : ℕ) → nat_cmp (counted a) (counted b) ≡ nat_cmp a b
+cmp_count a b = rw (less_count a b, same_count a b)
+
+pub at_count : (a b : ℕ) → is_at (nat_cmp a) b ≡ nat_eq (counted a) (counted b)
+at_count a b = tied (nat_lt a b) (nat_eq a b) (λ e. ne_eqb a b (λ same. omega (arith, ltb-true a b e, same))) ∙ sym (same_count a b)
+  where
+    tied : (less same : Bool) → (less ≡ true → same ≡ false) → is_eq (cond less Less (cond same Equal Greater)) ≡ same
+    tied true true apart = sym (apart refl)
+    tied true false apart = refl
+    tied false true apart = refl
+    tied false false apart = refl
+
+module _ {V W : Type 0} (f : V → W) where
+  abbrev pub numbered : ℕ × V → ℕ × W
+  numbered entry = (counted entry.0, f entry.1)
+
+  pub lookup-numbered : (count : ℕ) (es : List (ℕ × V))
+      → lookup (nat_eq (counted count)) (map numbered es) ≡ option_map f (lookup (is_at (nat_cmp count)) es)
+  lookup-numbered count [] = refl
+  lookup-numbered count (e ∷ es) =
+      ap (λ b. cond b (Some (f e.1)) (lookup (nat_eq (counted count)) (map numbered es))) (sym (at_count count e.0))
+      ∙ by (is_at (nat_cmp count) e.0) (lookup-numbered count es)
+    where
+      by : (b : Bool) → lookup (nat_eq (counted count)) (map numbered es) ≡ option_map f (lookup (is_at (nat_cmp count)) es)
+          → cond b (Some (f e.1)) (lookup (nat_eq (counted count)) (map numbered es)) ≡ option_map f (cond b (Some e.1) (lookup (is_at (nat_cmp count)) es))
+      by true rest = refl
+      by false rest = rest
+
+  pub inserted-numbered : (count : ℕ) (v : V) (es : List (ℕ × V))
+      → map numbered (insert_entry nat_cmp es count v) ≡ insert_entry nat_cmp (map numbered es) (counted count) (f v)
+  inserted-numbered count v [] = refl
+  inserted-numbered count v (e ∷ es) =
+      by (nat_cmp count e.0) (inserted-numbered count v es)
+      ∙ ap (λ o. match_ordering o (numbered (count, v) ∷ map numbered (e ∷ es)) ((counted e.0, f v) ∷ map numbered es)
+      (numbered e ∷ insert_entry nat_cmp (map numbered es) (counted count) (f v))) (sym (cmp_count count e.0))
+    where
+      by : (o : Ordering) → map numbered (insert_entry nat_cmp es count v) ≡ insert_entry nat_cmp (map numbered es) (counted count) (f v)
+          → map numbered (match_ordering o ((count, v) ∷ e ∷ es) ((e.0, v) ∷ es) (e ∷ insert_entry nat_cmp es count v))
+          ≡ match_ordering o (numbered (count, v) ∷ map numbered (e ∷ es)) ((counted e.0, f v) ∷ map numbered es)
+          (numbered e ∷ insert_entry nat_cmp (map numbered es) (counted count) (f v))
+      by Less rest = refl
+      by Equal rest = refl
+      by Greater rest = ap (λ l. numbered e ∷ l) rest
+
+  pub removed-numbered : (count : ℕ) (es : List (ℕ × V))
+      → map numbered (remove_entry (is_at (nat_cmp count)) es) ≡ remove_entry (nat_eq (counted count)) (map numbered es)
+  removed-numbered count [] = refl
+  removed-numbered count (e ∷ es) =
+      by (is_at (nat_cmp count) e.0) (removed-numbered count es)
+      ∙ ap (λ b. cond b (map numbered es) (numbered e ∷ remove_entry (nat_eq (counted count)) (map numbered es))) (at_count count e.0)
+    where
+      by : (b : Bool) → map numbered (remove_entry (is_at (nat_cmp count)) es) ≡ remove_entry (nat_eq (counted count)) (map numbered es)
+          → map numbered (cond b es (e ∷ remove_entry (is_at (nat_cmp count)) es))
+          ≡ cond b (map numbered es) (numbered e ∷ remove_entry (nat_eq (counted count)) (map numbered es))
+      by true rest = refl
+      by false rest = ap (λ l. numbered e ∷ l) rest
+
+  -- what is left of each entry by a test that changes it
+  pub kept-numbered : {F : Type 0} (T : F → ℕ → V → Bool → V → F → Type 0) (g : ℕ → W → Option W) (test : F)
+      → ((k : ℕ) (v : V) (b : Bool) (w : V) (test' : F) → T test k v b w test' → (cond b (Some (f w)) None ≡ g (counted k) (f v)) × (test' ≡ test))
+      → (es kept : List (ℕ × V)) → RetainsPairs T test es kept
+      → map numbered kept ≡ filter_map (λ entry. option_map (λ x. (entry.0, x)) (g entry.0 entry.1)) (map numbered es)
+  kept-numbered T g test says [] kept r = ap (map numbered) r
+  kept-numbered T g test says (e ∷ es) kept r =
+      let told = says e.0 e.1 r.0 r.1 r.2 r.4 in
+      let rest = kept-numbered T g test says es r.3 (subst (λ u. RetainsPairs T u es r.3) told.1 r.5) in
+      ap (map numbered) r.6
+      ∙ by r.0 rest
+      ∙ ap (λ o. cons_option (option_map (λ x. (counted e.0, x)) o) (filter_map (λ entry. option_map (λ x. (entry.0, x)) (g entry.0 entry.1)) (map numbered es))) told.0
+    where
+      by : (b : Bool) → map numbered r.3 ≡ filter_map (λ entry. option_map (λ x. (entry.0, x)) (g entry.0 entry.1)) (map numbered es)
+          → map numbered (cond b ((e.0, r.1) ∷ r.3) r.3)
+          ≡ cons_option (option_map (λ x. (counted e.0, x)) (cond b (Some (f r.1)) None)) (filter_map (λ entry. option_map (λ x. (entry.0, x)) (g entry.0 entry.1)) (map numbered es))
+      by true rest = ap (λ l. numbered (e.0, r.1) ∷ l) rest
+      by false rest = rest

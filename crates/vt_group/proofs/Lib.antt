@@ -1,0 +1,9 @@
+pub mod CountLemmas
+pub mod GroupLemmas
+pub mod Peers
+pub mod Regrouping
+pub mod Changes
+pub mod Receiving
+pub mod Answering
+pub mod Living
+pub mod Showing

@@ -1,0 +1,4 @@
+pub mod Grouping
+pub mod Numbers
+pub mod Steps
+pub mod Laws

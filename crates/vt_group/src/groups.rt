@@ -1,0 +1,239 @@
+//! Peer groups.
+ghost use Rattle.std.specs.Prelude.{◌≡◌, ⊤, ℕ, None, Some, if◌then◌else◌, length, nat_eq, map, IfOk, IfErr, IfSome, OnOk, OnErr, option_map};
+ghost use Rattle.vt_spec.specs.Errors.{denial};
+ghost use Rattle.vt_spec.specs.Lists.{chain, is_among};
+ghost use Rattle.vt_spec.specs.Machine.Mounts.Propagation.{Private, Shared as SharedIn, Slave as SlaveOf};
+ghost use Rattle.vt_spec.specs.Machine.Receives.{receivers};
+ghost use Rattle.vt_spec.specs.Machine.Mounts.{group_of};
+ghost use Rattle.vt_spec.specs.Machine.World.{World};
+ghost use Rattle.vt_spec.specs.declared.errors.Rule.TheVariants.{S5};
+ghost use Rattle.vt_group.specs.Grouping.{Follows, GroupsLive, Has, HasGroup, HasMount, LacksGroup, below, master_in, no_groups, numbers_of, propagation_in, with_propagation};
+ghost use Rattle.vt_group.specs.Numbers.{counted};
+ghost use Rattle.vt_group.specs.Steps.{ended, ended_if_lost, group_number, handed, handed_type, has_peers, retyped, type_of, type_or_private};
+
+use crate::propagation::hand_over;
+use crate::{GroupId, MountId, Propagation};
+use std::alloc::Global;
+use std::collections::BTreeMap;
+use std::marker::Model;
+use vt_spec::errors::{Deny, Rule};
+
+/// The peer groups: their members and slaves, and their masters.
+#[derive(Debug, Drop)]
+pub struct Groups {
+    // By the counts of the mounts, so that they stand in order of attachment.
+    mounts: BTreeMap<u64, Propagation>,
+    // By the counts of the groups.
+    above: BTreeMap<u64, GroupId>,
+}
+
+impl Model for Groups {
+    ghost use Rattle.std.specs.Prelude.{map};
+    ghost use Rattle.vt_group.specs.Grouping.{Grouping};
+    ghost use Rattle.vt_group.specs.Steps.{numbered_master, numbered_peer};
+
+    ghost Value = { Grouping };
+
+    ghost view = { λ g. record { peers = map numbered_peer g.mounts.entries; masters = map numbered_master g.above.entries } };
+}
+
+impl Groups {
+    /// No groups. It takes no memory.
+    pub fn new(alloc: Global) -> Self
+        ensures { result ≡ no_groups }
+    {
+        Groups {
+            mounts: BTreeMap::new(alloc),
+            above: BTreeMap::new(alloc),
+        }
+    }
+
+    /// The propagation type of a mount that is in a group or a slave of one. Any other is private or unbindable.
+    pub fn propagation_of(&self, mount: MountId) -> Option<Propagation>
+        ensures { type_or_private result ≡ propagation_in self.now (counted mount.count) }
+    {
+        self.mounts.get(&mount.count).copied()
+    }
+
+    /// The master of a group.
+    pub fn master_of(&self, group: GroupId) -> Option<GroupId>
+        ensures { option_map group_number result ≡ master_in self.now (counted group.count) }
+    {
+        self.above.get(&group.count).copied()
+    }
+
+    /// The mounts that receive the events of a group, in order of attachment: its members and slaves, and those of every
+    /// group below it.
+    ///
+    /// S5 (ENOMEM): memory was refused.
+    pub fn receivers(&self, alloc: Global, group: GroupId) -> Result<Vec<MountId>, Deny>
+        ensures ok { IfOk result (λ mounts. (world : World ℕ) → Has world self.now → GroupsLive world
+            → map (λ mount. counted mount.count) mounts.items ≡ numbers_of (receivers nat_eq world (counted group.count))) }
+        ensures memory { IfErr result (λ deny. deny ≡ denial S5) }
+    {
+        let mut receivers = Vec::new(alloc);
+        for (count, kind) in self.mounts.iter() {
+            if self.is_at_or_below(kind.source(), group) {
+                let Ok(_) = receivers.push(MountId::new(*count)) else {
+                    return Err(Rule::S5.denial());
+                };
+            }
+        }
+        Ok(receivers)
+    }
+
+    // Whether a group is this one, or comes up its masters.
+    fn is_at_or_below(&self, lower: GroupId, group: GroupId) -> bool
+        ensures { result ≡ is_among nat_eq (counted group.count)
+            (chain (length self.now.peers) (master_in self.now) (counted lower.count)) }
+    {
+        let mut here = lower;
+        for _ in 0..self.mounts.len() {
+            if here == group {
+                return true;
+            }
+            let Some(master) = self.master_of(here) else {
+                return false;
+            };
+            here = master;
+        }
+        here == group
+    }
+
+    /// A mount becomes a member of a group. A group that is not there is made, without a master.
+    ///
+    /// S5 (ENOMEM): memory was refused.
+    pub fn join(&mut self, group: GroupId, mount: MountId) -> Result<(), Deny>
+        ensures ok { let mount = counted mount.count in
+            let group = counted group.count in
+            OnOk result (Follows self.old self.new
+            (λ world. HasMount world mount × (LacksGroup world group → world.master group ≡ None))
+            (λ world. with_propagation world mount (SharedIn group))) }
+        ensures memory { IfErr result (λ deny. deny ≡ denial S5) }
+        // a mount that has a type already needs no memory
+        ensures private { OnErr result (propagation_in self.old (counted mount.count) ≡ Private) }
+        ensures err { OnErr result (self.new ≡ self.old) }
+    {
+        self.set(mount, Propagation::Shared(group))
+    }
+
+    /// A mount becomes a slave of a group, and is no member of any.
+    ///
+    /// S5 (ENOMEM): memory was refused.
+    pub fn make_slave(&mut self, mount: MountId, master: GroupId) -> Result<(), Deny>
+        ensures ok { let mount = counted mount.count in
+            let master = counted master.count in
+            OnOk result (Follows self.old self.new
+            (λ world. HasMount world mount × HasGroup world master)
+            (λ world. with_propagation world mount (SlaveOf master))) }
+        ensures memory { IfErr result (λ deny. deny ≡ denial S5) }
+        // a mount that has a type already needs no memory
+        ensures private { OnErr result (propagation_in self.old (counted mount.count) ≡ Private) }
+        ensures err { OnErr result (self.new ≡ self.old) }
+    {
+        self.set(mount, Propagation::Slave(master))
+    }
+
+    /// A mount becomes private: it is in no group, and no group's slave. It takes no memory.
+    pub fn leave(&mut self, mount: MountId)
+        ensures { Follows self.old self.new (λ world. ⊤) (λ world. with_propagation world (counted mount.count) Private) }
+    {
+        let old = self.mounts.remove(&mount.count);
+        self.end_if_lost(old);
+    }
+
+    /// A mount becomes the first member of a new group, which has this master, if any. A group that has a master keeps it.
+    ///
+    /// S5 (ENOMEM): memory was refused.
+    pub fn start_group(
+        &mut self,
+        group: GroupId,
+        mount: MountId,
+        master: Option<GroupId>,
+    ) -> Result<(), Deny>
+        ensures ok { let mount = counted mount.count in
+            let group = counted group.count in
+            let master = option_map group_number master in
+            OnOk result (Follows self.old self.new
+            (λ world. HasMount world mount × LacksGroup world group × IfSome master (HasGroup world))
+            (λ world. below (with_propagation world mount (SharedIn group)) group master)) }
+        ensures memory { IfErr result (λ deny. deny ≡ denial S5) }
+        ensures err { OnErr result (self.new ≡ self.old) }
+    {
+        let Some(master) = master else {
+            return self.set(mount, Propagation::Shared(group));
+        };
+        if self.master_of(group).is_some() {
+            return self.set(mount, Propagation::Shared(group));
+        }
+        let Ok(_) = self.above.insert(group.count, master) else {
+            return Err(Rule::S5.denial());
+        };
+        let Ok(old) = self.mounts.insert(mount.count, Propagation::Shared(group)) else {
+            self.above.remove(&group.count);
+            return Err(Rule::S5.denial());
+        };
+        self.end_if_lost(old);
+        Ok(())
+    }
+
+    // A mount gets a type.
+    fn set(&mut self, mount: MountId, kind: Propagation) -> Result<(), Deny>
+        ensures ok { OnOk result (self.new ≡ retyped (counted mount.count) (type_of kind) self.old) }
+        ensures memory { IfErr result (λ deny. deny ≡ denial S5) }
+        ensures private { OnErr result (propagation_in self.old (counted mount.count) ≡ Private) }
+        ensures err { OnErr result (self.new ≡ self.old) }
+    {
+        let Ok(old) = self.mounts.insert(mount.count, kind) else {
+            return Err(Rule::S5.denial());
+        };
+        self.end_if_lost(old);
+        Ok(())
+    }
+
+    // A mount had this type: its group ends if that was the last member.
+    fn end_if_lost(&mut self, old: Option<Propagation>)
+        ensures { self.new ≡ ended_if_lost (group_of (type_or_private old)) self.old }
+    {
+        let Some(kind) = old else {
+            return;
+        };
+        let Some(group) = kind.group() else {
+            return;
+        };
+        if !self.has_members(group) {
+            self.end(group);
+        }
+    }
+
+    fn has_members(&self, group: GroupId) -> bool
+        ensures { result ≡ has_peers (counted group.count) self.now }
+    {
+        for kind in self.mounts.values() {
+            if kind.is_in(group) {
+                return true;
+            }
+        }
+        false
+    }
+
+    // A group has no members left: its slaves and lower groups get its master.
+    fn end(&mut self, group: GroupId)
+        ensures { self.new ≡ ended (counted group.count) self.old }
+    {
+        let heir = self.master_of(group);
+        self.mounts.retain(
+            |_, kind| -> bool
+                ensures { (if result then Some (type_of kind.new) else None)
+                    ≡ handed_type (counted group.count) (option_map group_number heir) (type_of kind.old) }
+            { kind.hand_over(group, heir) },
+        );
+        self.above.retain(
+            |count, master| -> bool
+                ensures { (if result then Some (group_number master.new) else None)
+                    ≡ (if nat_eq (counted count.now) (counted group.count) then None
+                    else handed (counted group.count) (option_map group_number heir) (group_number master.old)) }
+            { *count != group.count && hand_over(master, group, heir) },
+        );
+    }
+}
