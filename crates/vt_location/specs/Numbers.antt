@@ -1,6 +1,6 @@
 -- The numbers that the definitions see of what code counts, and of inodes in their slots. Mounts, peer groups, filesystems
 -- and namespaces have odd numbers, inodes even ones; numbers `4·c + 3` are given to nothing.
-use Rattle.std.specs.Prelude.{Bool, false, if◌then◌else◌, nat_eq, nat_lt, not, ℕ, ◌&&◌, ◌*◌, ◌+◌, ◌-◌, ◌/◌, ◌^◌}
+use Rattle.std.specs.Prelude.{Bool, if◌then◌else◌, nat_eq, nat_lt, not, ℕ, ◌&&◌, ◌*◌, ◌+◌, ◌-◌, ◌/◌}
 
 -- the number of what is counted by `count`
 abbrev pub counted : ℕ → ℕ

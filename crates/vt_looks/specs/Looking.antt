@@ -1,5 +1,5 @@
 -- What the definitions see of what a world shows to code.
-use Rattle.std.specs.Prelude.{Bool, List, None, Option, Some, [], false, nat_eq, option_map, unwrap_or, ℕ, ◌≡◌}
+use Rattle.std.specs.Prelude.{Bool, List, None, Option, [], false, nat_eq, option_map, unwrap_or, ℕ, ◌≡◌}
 use Rattle.std.specs.List.{list_any}
 use Rattle.vt_spec.specs.Language.Changes.{Change}
 use Rattle.vt_spec.specs.Machine.Looks.{Looks}
