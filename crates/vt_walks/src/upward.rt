@@ -2,7 +2,8 @@
 ghost use Rattle.std.specs.Prelude.{◌≡◌, nat_eq, option_map};
 ghost use Rattle.vt_spec.specs.Lists.{last_or};
 ghost use Rattle.vt_spec.specs.Machine.Mounts.{same_location};
-ghost use Rattle.vt_spec.specs.Machine.Walking.{hop, hops, is_lost, is_top, parent_location, up_from};
+ghost use Rattle.vt_spec.specs.Machine.Walking.{hop, hops, is_lost, is_top, parent_location, stepped};
+ghost use Rattle.vt_spec.specs.Machine.Walking.LastWord.{DotDot};
 ghost use Rattle.vt_location.specs.Locations.{location_of, number_of};
 ghost use Rattle.vt_task.specs.TaskValue.{task_of};
 ghost use Rattle.vt_walks.specs.WalkValue.{location_result};
@@ -92,8 +93,7 @@ fn parent_location<L: Look>(world: &L, here: Location) -> Location
 
 // Where `..` leads from a location, through the mounts over the parent. W8: the directory leads nowhere.
 pub(crate) fn step_up<L: Look>(world: &L, who: &Task, start: Location) -> Result<Location, Deny>
-    ensures { location_result result ≡ up_from nat_eq (L.looks world.now) (task_of who.now)
-        (last_or (location_of start) (hops nat_eq (L.looks world.now) (task_of who.now) (location_of start))) }
+    ensures { location_result result ≡ stepped nat_eq (L.looks world.now) (task_of who.now) (location_of start) DotDot }
 {
     let here = hopped(world, who, start);
     if is_top(world, who, here) {
