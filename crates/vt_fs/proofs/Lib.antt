@@ -1,0 +1,4 @@
+pub mod Exchanged
+pub mod Renamed
+pub mod Entries
+pub mod Standing

@@ -1,5 +1,5 @@
 //! `Filesystems`, and the calls that look at them and change them.
-ghost use Rattle.std.specs.Prelude.{◌≡◌, ◌≢◌, [], ◌+◌, ◌-◌, ◌++◌, ◌∷◌, ◌↔◌, ◌⊎◌, nat_eq, length, map, drop, take, false, is_some, None, Ok, Some, IfOk, IfErr, IfSome, IsErrOf, IsOk, IsOkUnless, IsTrue, OnOk, OnErr, ◌<◌, option_copied, option_map};
+ghost use Rattle.std.specs.Prelude.{◌≡◌, ◌≢◌, [], ◌+◌, ◌-◌, ◌++◌, ◌∷◌, ◌↔◌, ◌⊎◌, nat_eq, length, map, drop, take, false, is_some, slice_get, None, Ok, Some, IfOk, IfErr, IfSome, IsErrOf, IsOk, IsOkUnless, IsTrue, OnOk, OnErr, ◌<◌, option_copied, option_map};
 ghost use Rattle.std.specs.Option.{option_copied_mut};
 ghost use Rattle.std.specs.Borrow.{sem};
 ghost use Rattle.vt_spec.specs.Errors.{denial};
@@ -68,7 +68,7 @@ impl Model for Filesystems {
 impl Filesystems {
     ghost use Rattle.vt_fs.specs.FilesystemsValue.{FilesystemEntry, ChangesInodes, IsNew, entry_at, entry_of, files_at, filesystems_seen, inodes_at, inodes_seen, next_seen, node_seen, with_changed, without};
     ghost use Rattle.vt_fs.specs.Laws.{ParentsAreNamed};
-    ghost use Rattle.vt_fs.specs.Lends.{lends_tree};
+    ghost use Rattle.vt_fs.specs.Lends.{lends_tree, lends_tree_at};
 
     /// No filesystems. It takes no memory.
     pub fn new(alloc: Global) -> Self
@@ -116,10 +116,19 @@ impl Filesystems {
         ensures value { option_copied_mut result ≡ option_map (λ entry. entry.tree) (entry_of self.old filesystem) }
         ensures apart { any_pair (λ a b. nat_eq a.count b.count) self.old ≡ false }
     {
-        match self.by_number.get_mut(&filesystem) {
-            Some(found) => Some(found.tree_mut()),
+        match self.by_number.get_index_of(&filesystem) {
+            Some(place) => Some(self.tree_at(place)),
             None => None,
         }
+    }
+
+    // The tree of the filesystem at this place.
+    fn tree_at(&mut self, place: usize) -> &mut Tree
+        requires { place < length self.old }
+        ensures* writes_back { sem 𝓛 (lends_tree_at self.entry place result) }
+        ensures value { option_map (λ entry. entry.tree) (slice_get self.old place) ≡ Some result.now }
+    {
+        self.by_number[place].tree_mut()
     }
 
     /// The node of an inode, its entries and its parent by slots.

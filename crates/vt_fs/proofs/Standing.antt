@@ -1,0 +1,139 @@
+-- A filesystem that is there, with this tree; and what a change of that tree changes.
+use Rattle.std.proofs.Common.{◌≡◌, ◌≢◌, refl, sym, ap, ◌∙◌, true≢false, ℕ, Bool, true, false, cond, ◌||◌, nat_eq, List, [], ◌∷◌, map, filter, not, Option, Some, None, option_map, is_some, unwrap_or}
+use Rattle.std.specs.Prelude.{find, if◌then◌else◌}
+use Rattle.std.specs.List.{list_any}
+use Rattle.std.proofs.lemmas.Bool.{eqb-true}
+use Rattle.vt_spec.specs.Language.Changes.{Change}
+use Rattle.vt_spec.specs.Lists.{any_pair}
+use Rattle.vt_spec.specs.OneTree.Inodes.{Inodes, changed, pinned, unpinned}
+use Rattle.vt_location.specs.Numbers.{exchanged}
+use Rattle.vt_tree.specs.TreeValue.{TreeValue, inodes_of}
+use Rattle.vt_fs.specs.FilesystemsValue.{ChangesInodes, FilesystemEntry, Filesystems, Shown, entry_at, entry_of, inodes_at, inodes_seen, seen_in, shown, shown_entry, shown_if, shown_with, with_changed, with_tree, without}
+use Rattle.vt_fs.proofs.Entries.{absent_changed}
+use Rattle.vt_fs.proofs.Renamed.{by_numbers, changed_by_numbers, pinned_by_numbers, renamed_change, unpinned_by_numbers}
+
+or_first : (a b : Bool) → (a || b) ≡ false → a ≡ false
+or_first true b e = e
+or_first false b e = refl
+
+or_second : (a b : Bool) → (a || b) ≡ false → b ≡ false
+or_second true b e = absurd (true≢false e)
+or_second false b e = e
+
+-- the filesystem of this count is there, with this tree, and no two have one count
+pub record Standing (fs : Filesystems) (f : ℕ) (tree : TreeValue) : Type 0 where
+  pub apart : any_pair (λ a b. nat_eq a.count b.count) fs ≡ false
+  pub found : option_map (λ entry. entry.tree) (entry_of fs f) ≡ Some tree
+
+-- it has the count that it was found by
+pub count_found : (fs : Filesystems) (f : ℕ) (entry : FilesystemEntry) → entry_of fs f ≡ Some entry → entry.count ≡ f
+count_found [] f entry e = absurd cc
+count_found (x ∷ fs) f entry e = by (nat_eq f x.count) (eqb-true f x.count) e (count_found fs f entry)
+  where
+    by : (b : Bool) → (b ≡ true → f ≡ x.count) → cond b (Some x) (entry_of fs f) ≡ Some entry → (entry_of fs f ≡ Some entry → entry.count ≡ f) → entry.count ≡ f
+    by true here e rest = (let is : entry ≡ x = cc in ap (λ n. n.count) is) ∙ sym (here refl)
+    by false here e rest = rest e
+
+-- its inodes by numbers
+pub inodes_there : (fs : Filesystems) (f : ℕ) (tree : TreeValue) → option_map (λ entry. entry.tree) (entry_of fs f) ≡ Some tree → inodes_at fs f ≡ seen_in f tree
+inodes_there fs f tree found = by (entry_of fs f) refl found
+  where
+    by : (o : Option FilesystemEntry) → entry_of fs f ≡ o → option_map (λ entry. entry.tree) o ≡ Some tree → inodes_at fs f ≡ seen_in f tree
+    by None e there = absurd cc
+    by (Some entry) e there =
+        let is : entry.tree ≡ tree = cc in
+        ap (λ o. inodes_seen (unwrap_or o (entry_at [] f))) e ∙ (λ i. seen_in (count_found fs f entry e i) (is i))
+
+-- a filesystem that is not there has none
+pub inodes_nowhere : (fs : Filesystems) (f : ℕ) → entry_of fs f ≡ None → inodes_at fs f ≡ inodes_seen (entry_at [] f)
+inodes_nowhere fs f absent = ap (λ o. inodes_seen (unwrap_or o (entry_at [] f))) absent
+
+pub nowhere : (fs : Filesystems) (f : ℕ) → option_map (λ (entry : FilesystemEntry). entry.tree) (entry_of fs f) ≡ None → entry_of fs f ≡ None
+nowhere fs f absent = by (entry_of fs f) absent
+  where
+    by : (o : Option FilesystemEntry) → option_map (λ (entry : FilesystemEntry). entry.tree) o ≡ None → o ≡ None
+    by None e = refl
+    by (Some entry) e = absurd cc
+
+module _ (f : ℕ) (change : Inodes ℕ → Inodes ℕ) where
+  -- where no filesystem has the count, none is shown changed
+  none_shown : (k : ℕ) (fs : Filesystems) → k ≡ f → list_any (λ other. nat_eq k other.count) fs ≡ false → shown_with f change (shown fs) ≡ shown fs
+  none_shown k [] is none = refl
+  none_shown k (x ∷ fs) is none =
+      let other = ap (λ n. nat_eq n x.count) (sym is) ∙ or_first _ _ none in
+      λ i. (ap (λ b. if b then record (shown_entry x) { inodes = change (inodes_seen x) } else shown_entry x) other) i
+      ∷ none_shown k fs is (or_second (nat_eq k x.count) _ none) i
+
+  none_with : (k : ℕ) (tree : TreeValue) (fs : Filesystems) → k ≡ f → list_any (λ other. nat_eq k other.count) fs ≡ false → with_tree f tree fs ≡ fs
+  none_with k tree [] is none = refl
+  none_with k tree (x ∷ fs) is none =
+      let other = ap (λ n. nat_eq n x.count) (sym is) ∙ or_first _ _ none in
+      λ i. (ap (λ b. if b then record x { tree = tree } else x) other) i ∷ none_with k tree fs is (or_second (nat_eq k x.count) _ none) i
+
+  shown_changed : (new old : TreeValue) (fs : Filesystems) → any_pair (λ a b. nat_eq a.count b.count) fs ≡ false
+      → option_map (λ entry. entry.tree) (entry_of fs f) ≡ Some old → seen_in f new ≡ change (seen_in f old)
+      → shown (with_tree f new fs) ≡ shown_with f change (shown fs)
+  shown_changed new old [] apart found is = absurd cc
+  shown_changed new old (x ∷ fs) apart found is =
+      by (nat_eq f x.count) (eqb-true f x.count) found (λ there. shown_changed new old fs (or_second (list_any (λ other. nat_eq x.count other.count) fs) _ apart) there is)
+    where
+      by : (b : Bool) → (b ≡ true → f ≡ x.count) → option_map (λ entry. entry.tree) (cond b (Some x) (entry_of fs f)) ≡ Some old
+          → (option_map (λ entry. entry.tree) (entry_of fs f) ≡ Some old → shown (with_tree f new fs) ≡ shown_with f change (shown fs))
+          → shown_entry (cond b (record x { tree = new }) x) ∷ shown (with_tree f new fs)
+          ≡ cond b (record (shown_entry x) { inodes = change (inodes_seen x) }) (shown_entry x) ∷ shown_with f change (shown fs)
+      by true here e rest =
+          let old_is : x.tree ≡ old = cc in
+          let count_is : f ≡ x.count = here refl in
+          let none = or_first (list_any (λ (other : FilesystemEntry). nat_eq x.count other.count) fs) _ apart in
+          let seen : seen_in x.count new ≡ change (seen_in x.count x.tree) =
+          (λ i. seen_in (sym count_is i) new) ∙ is ∙ (λ i. change (seen_in (count_is i) (sym old_is i))) in
+          λ i. record { count = x.count; inodes = seen i; mounts = x.mounts }
+          ∷ (ap shown (none_with x.count new fs (sym count_is) none) ∙ sym (none_shown x.count fs (sym count_is) none)) i
+      by false here e rest = ap (λ l. shown_entry x ∷ l) (rest e)
+
+  kept_without : (tree : TreeValue) (fs : Filesystems) → without f (with_tree f tree fs) ≡ without f fs
+  kept_without tree [] = refl
+  kept_without tree (x ∷ fs) = by (nat_eq f x.count) refl (kept_without tree fs)
+    where
+      by : (b : Bool) → nat_eq f x.count ≡ b → without f (with_tree f tree fs) ≡ without f fs
+          → without f (cond b (record x { tree = tree }) x ∷ with_tree f tree fs) ≡ cond (not b) (x ∷ without f fs) (without f fs)
+      by true e rest = ap (λ b. cond (not b) (record x { tree = tree } ∷ without f (with_tree f tree fs)) (without f (with_tree f tree fs))) e ∙ rest
+      by false e rest = ap (λ b. cond (not b) (x ∷ without f (with_tree f tree fs)) (without f (with_tree f tree fs))) e ∙ ap (λ l. x ∷ l) rest
+
+  pub changes_seen : (fs : Filesystems) (new old : TreeValue) → Standing fs f old → seen_in f new ≡ change (seen_in f old) → ChangesInodes f change fs (with_tree f new fs)
+  changes_seen fs new old standing is =
+      record { changed = shown_changed new old fs standing.apart standing.found is; others = kept_without new fs }
+
+  shown_nowhere : (fs : Filesystems) → entry_of fs f ≡ None → shown fs ≡ shown_with f change (shown fs)
+  shown_nowhere [] absent = refl
+  shown_nowhere (x ∷ fs) absent = by (nat_eq f x.count) absent (shown_nowhere fs)
+    where
+      by : (b : Bool) → cond b (Some x) (entry_of fs f) ≡ None → (entry_of fs f ≡ None → shown fs ≡ shown_with f change (shown fs))
+          → shown_entry x ∷ shown fs ≡ cond b (record (shown_entry x) { inodes = change (inodes_seen x) }) (shown_entry x) ∷ shown_with f change (shown fs)
+      by true found rest = absurd cc
+      by false absent rest = ap (λ l. shown_entry x ∷ l) (rest absent)
+
+  -- nothing changes where the filesystem is not there
+  pub nothing_changes : (fs new : Filesystems) → new ≡ fs → option_map (λ (entry : FilesystemEntry). entry.tree) (entry_of fs f) ≡ None → ChangesInodes f change fs new
+  nothing_changes fs new is absent =
+      record { changed = ap shown is ∙ shown_nowhere fs (nowhere fs f absent); others = ap (without f) is }
+
+-- A change of the tree in its slots is the change by numbers.
+module _ (fs : Filesystems) (f : ℕ) (new old : TreeValue) (standing : Standing fs f old) where
+  pub changes : (by_slot by_number : Change ℕ) → renamed_change (exchanged f) (exchanged f) by_slot ≡ by_number
+      → inodes_of new ≡ changed nat_eq (inodes_of old) by_slot → ChangesInodes f (λ inodes. changed nat_eq inodes by_number) fs (with_tree f new fs)
+  changes by_slot by_number same is =
+      changes_seen f (λ inodes. changed nat_eq inodes by_number) fs new old standing
+      (ap (by_numbers f) is ∙ sym (changed_by_numbers f (inodes_of old) by_slot) ∙ ap (changed nat_eq (seen_in f old)) same)
+
+  pub pins : (slot number : ℕ) → exchanged f slot ≡ number
+      → inodes_of new ≡ pinned nat_eq (inodes_of old) slot → ChangesInodes f (λ inodes. pinned nat_eq inodes number) fs (with_tree f new fs)
+  pins slot number same is =
+      changes_seen f (λ inodes. pinned nat_eq inodes number) fs new old standing
+      (ap (by_numbers f) is ∙ sym (pinned_by_numbers f (inodes_of old) slot) ∙ ap (pinned nat_eq (seen_in f old)) same)
+
+  pub unpins : (slot number : ℕ) → exchanged f slot ≡ number
+      → inodes_of new ≡ unpinned nat_eq (inodes_of old) slot → ChangesInodes f (λ inodes. unpinned nat_eq inodes number) fs (with_tree f new fs)
+  unpins slot number same is =
+      changes_seen f (λ inodes. unpinned nat_eq inodes number) fs new old standing
+      (ap (by_numbers f) is ∙ sym (unpinned_by_numbers f (inodes_of old) slot) ∙ ap (unpinned nat_eq (seen_in f old)) same)
