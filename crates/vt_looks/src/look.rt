@@ -2,7 +2,9 @@
 ghost use Rattle.std.specs.Prelude.{◌≡◌, nat_eq, option_copied, option_map, Bool, IfErr, IfOk, ℕ};
 ghost use Rattle.vt_spec.specs.declared.errors.Rule.TheVariants.{S5};
 ghost use Rattle.vt_spec.specs.Errors.{denial};
-ghost use Rattle.vt_spec.specs.Machine.Looks.{Looks, topmost};
+ghost use Rattle.vt_spec.specs.Machine.Looks.{Looks, mount_at, topmost};
+ghost use Rattle.std.specs.List.{list_any};
+ghost use Rattle.vt_spec.specs.Machine.Mounts.{is_unbindable};
 ghost use Rattle.vt_spec.specs.Machine.Permits.{Permit};
 ghost use Rattle.vt_spec.specs.Machine.Rules.Conditions.{is_point_anywhere, is_point_in};
 ghost use Rattle.vt_location.specs.Locations.{location_of, number_of};
@@ -39,11 +41,11 @@ pub trait Look {
 
     /// The namespace of the task of this name, if there is such a task: setns(2).
     fn namespace_called(&self, name: &TaskName) -> Option<NamespaceId>
-        ensures { option_map counted result ≡ (looks self.now).namespace_called name.now };
+        ensures { option_map (λ namespace. counted namespace.count) result ≡ (looks self.now).namespace_called name.now };
 
     /// The mount of this number, if there is one.
     fn mount(&self, id: MountId) -> Option<Mount>
-        ensures { mount_seen id result ≡ (looks self.now).mount (counted id) };
+        ensures { mount_seen id result ≡ (looks self.now).mount (counted id.count) };
 
     /// How many mounts there are.
     fn mount_count(&self) -> usize
@@ -51,7 +53,11 @@ pub trait Look {
 
     /// Whether a mount is this one or a descendant of it: ELOOP of mount(2) with `MS_MOVE`.
     fn is_at_or_below(&self, top: MountId, mount: MountId) -> bool
-        ensures { result ≡ is_at_or_below (looks self.now) (counted top) (counted mount) };
+        ensures { result ≡ is_at_or_below (looks self.now) (counted top.count) (counted mount.count) };
+
+    /// Whether a mount or a descendant of it is unbindable: EINVAL of mount(2) with `MS_MOVE`.
+    fn has_unbindable(&self, top: MountId) -> bool
+        ensures { result ≡ list_any (λ mount. is_unbindable mount.propagation) ((looks self.now).mount_tree (counted top.count)) };
 
     /// The root of the topmost mount over a location, or the location itself.
     fn topmost(&self, at: Location) -> Location
@@ -59,7 +65,7 @@ pub trait Look {
 
     /// Whether a mount of this namespace stands on a directory, through whatever mount that is seen: EBUSY of rmdir(2).
     fn is_point_in(&self, namespace: NamespaceId, at: Location) -> bool
-        ensures { result ≡ is_point_in nat_eq (looks self.now) (counted namespace) (location_of at) };
+        ensures { result ≡ is_point_in nat_eq (looks self.now) (counted namespace.count) (location_of at) };
 
     /// Whether a mount of any namespace stands on a directory: EBUSY of rename(2).
     fn is_point_anywhere(&self, at: Location) -> bool
@@ -69,12 +75,12 @@ pub trait Look {
     ///
     /// S5 (ENOMEM): memory was refused for the receivers of the event.
     fn is_busy(&self, mount: MountId) -> Result<bool, Deny>
-        ensures ok { IfOk result (λ busy. busy ≡ (looks self.now).is_busy (counted mount)) }
+        ensures ok { IfOk result (λ busy. busy ≡ (looks self.now).is_busy (counted mount.count)) }
         ensures memory { IfErr result (λ deny. deny ≡ denial S5) };
 
     /// Whether a file is open for writing through a mount: EBUSY of mount(2) with `MS_REMOUNT`.
     fn is_written_through(&self, mount: MountId) -> bool
-        ensures { result ≡ (looks self.now).is_written_through (counted mount) };
+        ensures { result ≡ (looks self.now).is_written_through (counted mount.count) };
 
     /// The inode at a location.
     fn node(&self, at: Location) -> Option<&Node>
@@ -84,9 +90,13 @@ pub trait Look {
     fn is_removed(&self, at: Location) -> bool
         ensures { result ≡ (looks self.now).is_removed (location_of at) };
 
-    /// Whether a directory is another one, or lies under it: EINVAL of rename(2).
-    fn is_under(&self, top: NodeRef, directory: NodeRef) -> bool
-        ensures { result ≡ (looks self.now).is_under (counted top.filesystem) (number_of top) (number_of directory) };
+    /// Whether a directory of the filesystem that a location is in is the one there, or lies under it: EINVAL of rename(2).
+    fn is_under(&self, top: Location, directory: NodeRef) -> bool
+        ensures { result ≡ (looks self.now).is_under (mount_at (looks self.now) (location_of top)).filesystem (number_of top.node) (number_of directory) };
+
+    /// Whether what is at a location is the root of its mount, or lies under that: ENOENT of `..`.
+    fn is_under_root(&self, at: Location) -> bool
+        ensures { result ≡ (looks self.now).is_under (mount_at (looks self.now) (location_of at)).filesystem (mount_at (looks self.now) (location_of at)).root (number_of at.node) };
 
     /// Whether what is attached would leave a namespace with more than 4,096 mounts: ENOSPC of mount(2).
     ///
