@@ -97,3 +97,14 @@ exchanged_back f n = by (nat_lt n 18446744073709551616) (is_inode_of f n) refl r
     by false true e i =
         let slot = slot_of f n i in
         ap (exchanged f) (at_number f n slot.0 e i slot.2) ∙ exchanged_slot f slot.0 slot.1 ∙ sym slot.2
+
+one_test : (a b : Bool) → (a ≡ true → b ≡ true) → (b ≡ true → a ≡ true) → a ≡ b
+one_test true b there back = sym (there refl)
+one_test false true there back = back refl
+one_test false false there back = refl
+
+-- the tests of code, and those of the definitions
+pub counted_test : (a b : ℕ) → nat_eq (counted a) (counted b) ≡ nat_eq a b
+counted_test a b =
+    one_test _ _ (λ e. eq-eqb a b (counted_same a b (eqb-true (counted a) (counted b) e)))
+    (λ e. eq-eqb (counted a) (counted b) (ap counted (eqb-true a b e)))

@@ -9,16 +9,8 @@ use Rattle.vt_spec.specs.OneTree.Inodes.{Inodes, changed, pinned, unpinned}
 use Rattle.vt_location.specs.Numbers.{exchanged}
 use Rattle.vt_tree.specs.TreeValue.{TreeValue, inodes_of}
 use Rattle.vt_fs.specs.FilesystemsValue.{ChangesInodes, FilesystemEntry, Filesystems, Shown, entry_at, entry_of, inodes_at, inodes_seen, seen_in, shown, shown_entry, shown_if, shown_with, with_changed, with_tree, without}
-use Rattle.vt_fs.proofs.Entries.{absent_changed}
+use Rattle.vt_fs.proofs.Entries.{or_first, or_second}
 use Rattle.vt_fs.proofs.Renamed.{by_numbers, changed_by_numbers, pinned_by_numbers, renamed_change, unpinned_by_numbers}
-
-or_first : (a b : Bool) → (a || b) ≡ false → a ≡ false
-or_first true b e = e
-or_first false b e = refl
-
-or_second : (a b : Bool) → (a || b) ≡ false → b ≡ false
-or_second true b e = absurd (true≢false e)
-or_second false b e = e
 
 -- the filesystem of this count is there, with this tree, and no two have one count
 pub record Standing (fs : Filesystems) (f : ℕ) (tree : TreeValue) : Type 0 where

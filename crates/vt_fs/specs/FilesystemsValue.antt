@@ -8,6 +8,7 @@ use Rattle.vt_spec.specs.OneTree.Inodes.{Inode, Inodes, one_directory, tree_of}
 use Rattle.vt_spec.specs.Tree.{Node}
 use Rattle.vt_one_text.specs.OneTreeNumbers.{renamed_inodes}
 use Rattle.vt_tree.specs.TreeValue.{TreeValue, inodes_of, next_number}
+use Rattle.vt_location.specs.declared.numbers.FilesystemId.{FilesystemId}
 use Rattle.vt_location.specs.Numbers.{counted, exchanged, inode_number}
 use Rattle.vt_fs.specs.declared.filesystems.Filesystem.{Filesystem as Held}
 
@@ -22,10 +23,10 @@ abbrev pub Filesystems : Type 0
 Filesystems = List FilesystemEntry
 
 -- each filesystem under its count
-abbrev pub held_entry : ℕ × Held → FilesystemEntry
-held_entry entry = record { count = entry.0; tree = entry.1.tree; mounts = entry.1.mounts }
+abbrev pub held_entry : FilesystemId × Held → FilesystemEntry
+held_entry entry = record { count = entry.0.count; tree = entry.1.tree; mounts = entry.1.mounts }
 
-abbrev pub held : List (ℕ × Held) → Filesystems
+abbrev pub held : List (FilesystemId × Held) → Filesystems
 held entries = map held_entry entries
 
 -- a tree in the slots of a filesystem: its inodes by their numbers, with their uses

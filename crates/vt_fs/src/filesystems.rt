@@ -95,14 +95,14 @@ impl Filesystems {
 
     /// Whether there is such a filesystem.
     pub fn contains(&self, filesystem: FilesystemId) -> bool
-        ensures { result ≡ is_some (entry_of self.now filesystem) }
+        ensures { result ≡ is_some (entry_of self.now filesystem.count) }
     {
         self.by_number.get(&filesystem).is_some()
     }
 
     /// The tree of a filesystem, with its inodes in their slots.
     pub fn get(&self, filesystem: FilesystemId) -> Option<&Tree>
-        ensures { option_copied result ≡ option_map (λ entry. entry.tree) (entry_of self.now filesystem) }
+        ensures { option_copied result ≡ option_map (λ entry. entry.tree) (entry_of self.now filesystem.count) }
     {
         match self.by_number.get(&filesystem) {
             Some(found) => Some(&found.tree),
@@ -112,8 +112,8 @@ impl Filesystems {
 
     // The tree of a filesystem, for a change.
     fn get_mut(&mut self, filesystem: FilesystemId) -> Option<&mut Tree>
-        ensures* writes_back { sem 𝓛 (lends_tree self.entry filesystem result) }
-        ensures value { option_copied_mut result ≡ option_map (λ entry. entry.tree) (entry_of self.old filesystem) }
+        ensures* writes_back { sem 𝓛 (lends_tree self.entry filesystem.count result) }
+        ensures value { option_copied_mut result ≡ option_map (λ entry. entry.tree) (entry_of self.old filesystem.count) }
         ensures apart { any_pair (λ a b. nat_eq a.count b.count) self.old ≡ false }
     {
         match self.by_number.get_index_of(&filesystem) {
@@ -133,8 +133,8 @@ impl Filesystems {
 
     /// The node of an inode, its entries and its parent by slots.
     pub fn node(&self, inode: NodeRef) -> Option<&Node>
-        ensures { option_map (node_seen inode.filesystem) (option_copied result)
-            ≡ (files_at self.now inode.filesystem).tree.node (number_of inode) }
+        ensures { option_map (node_seen inode.filesystem.count) (option_copied result)
+            ≡ (files_at self.now inode.filesystem.count).tree.node (number_of inode) }
     {
         self.get(inode.filesystem)?.node(slot_of(inode))
     }
@@ -142,7 +142,7 @@ impl Filesystems {
     /// The root directory of a filesystem.
     pub fn root(&self, filesystem: FilesystemId) -> Option<NodeRef>
         ensures number { option_map number_of result
-            ≡ option_map (λ entry. (inodes_seen entry).root) (entry_of self.now filesystem) }
+            ≡ option_map (λ entry. (inodes_seen entry).root) (entry_of self.now filesystem.count) }
         ensures filesystem { IfSome result (λ root. root.filesystem ≡ filesystem) }
     {
         let tree = self.get(filesystem)?;
@@ -151,7 +151,7 @@ impl Filesystems {
 
     /// How many inodes a filesystem has.
     pub fn count(&self, filesystem: FilesystemId) -> usize
-        ensures { result ≡ (inodes_at self.now filesystem).count }
+        ensures { result ≡ (inodes_at self.now filesystem.count).count }
     {
         match self.get(filesystem) {
             Some(tree) => tree.len(),
@@ -161,7 +161,7 @@ impl Filesystems {
 
     /// How often an inode is in use: the names that lead to it, and what is pinned.
     pub fn uses(&self, inode: NodeRef) -> u64
-        ensures { result ≡ uses_in ((inodes_at self.now inode.filesystem).inode (number_of inode)) }
+        ensures { result ≡ uses_in ((inodes_at self.now inode.filesystem.count).inode (number_of inode)) }
     {
         match self.get(inode.filesystem) {
             Some(tree) => tree.uses(slot_of(inode)),
@@ -171,21 +171,21 @@ impl Filesystems {
 
     /// Whether a directory is at or under another of its filesystem: going up by parents meets it.
     pub fn is_under(&self, top: NodeRef, directory: NodeRef) -> bool
-        requires named { ParentsAreNamed (files_at self.now top.filesystem).tree }
+        requires named { ParentsAreNamed (files_at self.now top.filesystem.count).tree }
         requires one_filesystem { directory.filesystem ≡ top.filesystem }
         ensures { result
-            ≡ is_directory_under nat_eq (files_at self.now top.filesystem) (number_of top) (number_of directory) }
+            ≡ is_directory_under nat_eq (files_at self.now top.filesystem.count) (number_of top) (number_of directory) }
     {
         match self.get(top.filesystem) {
             Some(tree) => tree.is_under(slot_of(top), slot_of(directory)),
-            None => top.node == directory.node,
+            None => top.slot == directory.slot,
         }
     }
 
     /// Whether an inode is no directory that has a name, nor the root: rmdir(2) on a directory in use leaves such a one.
     pub fn is_removed(&self, directory: NodeRef) -> bool
-        requires named { ParentsAreNamed (files_at self.now directory.filesystem).tree }
-        ensures { result ≡ is_removed nat_eq (files_at self.now directory.filesystem).tree (number_of directory) }
+        requires named { ParentsAreNamed (files_at self.now directory.filesystem.count).tree }
+        ensures { result ≡ is_removed nat_eq (files_at self.now directory.filesystem.count).tree (number_of directory) }
     {
         let Some(tree) = self.get(directory.filesystem) else {
             return true;
@@ -196,9 +196,9 @@ impl Filesystems {
 
     /// The number that the next inode of a filesystem gets, which no inode has.
     pub fn next_number(&self, filesystem: FilesystemId) -> Option<NodeRef>
-        ensures number { option_map number_of result ≡ option_map next_seen (entry_of self.now filesystem) }
+        ensures number { option_map number_of result ≡ option_map next_seen (entry_of self.now filesystem.count) }
         ensures filesystem { IfSome result (λ next. next.filesystem ≡ filesystem) }
-        ensures vacant { IfSome result (λ next. (inodes_at self.now filesystem).inode (number_of next) ≡ None) }
+        ensures vacant { IfSome result (λ next. (inodes_at self.now filesystem.count).inode (number_of next) ≡ None) }
     {
         let tree = self.get(filesystem)?;
         Some(in_slot(filesystem, tree.next_number()))
@@ -208,9 +208,9 @@ impl Filesystems {
     ///
     /// S5 (ENOMEM): memory was refused.
     pub fn add(&mut self, filesystem: FilesystemId, attr: Attr) -> Result<(), Deny>
-        requires { entry_of self.old filesystem ≡ None }
+        requires { entry_of self.old filesystem.count ≡ None }
         ensures ok { OnOk result
-            ((entry : FilesystemEntry) × (self.new ≡ self.old ++ entry ∷ []) × IsNew filesystem attr entry) }
+            ((entry : FilesystemEntry) × (self.new ≡ self.old ++ entry ∷ []) × IsNew filesystem.count attr entry) }
         ensures memory { IfErr result (λ deny. deny ≡ denial S5) }
         ensures err { OnErr result (self.new ≡ self.old) }
     {
@@ -224,14 +224,14 @@ impl Filesystems {
 
     /// Ends a filesystem, and all its inodes with it. It takes no memory.
     pub fn remove(&mut self, filesystem: FilesystemId)
-        ensures { self.new ≡ without filesystem self.old }
+        ensures { self.new ≡ without filesystem.count self.old }
     {
         self.by_number.shift_remove(&filesystem);
     }
 
     /// How many mounts show a filesystem.
     pub fn mounts(&self, filesystem: FilesystemId) -> u64
-        ensures { result ≡ (entry_at self.now filesystem).mounts }
+        ensures { result ≡ (entry_at self.now filesystem.count).mounts }
     {
         match self.by_number.get(&filesystem) {
             Some(found) => found.mounts,
@@ -244,8 +244,8 @@ impl Filesystems {
     /// S5 (ENOMEM): it has 2^64 - 1 mounts.
     pub fn hold_mount(&mut self, filesystem: FilesystemId) -> Result<(), Deny>
         ensures ok { OnOk result
-            (self.new ≡ with_changed filesystem (λ entry. record entry { mounts = entry.mounts + 1 }) self.old) }
-        ensures limit { IsErrOf result (denial S5) ↔ ((entry_at self.old filesystem).mounts ≡ most_uses) }
+            (self.new ≡ with_changed filesystem.count (λ entry. record entry { mounts = entry.mounts + 1 }) self.old) }
+        ensures limit { IsErrOf result (denial S5) ↔ ((entry_at self.old filesystem.count).mounts ≡ most_uses) }
         ensures memory { IfErr result (λ deny. deny ≡ denial S5) }
         ensures err { OnErr result (self.new ≡ self.old) }
     {
@@ -260,7 +260,7 @@ impl Filesystems {
 
     /// Counts one mount less of a filesystem. It takes no memory.
     pub fn release_mount(&mut self, filesystem: FilesystemId)
-        ensures { self.new ≡ with_changed filesystem (λ entry. record entry { mounts = entry.mounts - 1 }) self.old }
+        ensures { self.new ≡ with_changed filesystem.count (λ entry. record entry { mounts = entry.mounts - 1 }) self.old }
     {
         if let Some(found) = self.by_number.get_mut(&filesystem) {
             found.mounts = found.mounts.saturating_sub(1);
@@ -272,8 +272,8 @@ impl Filesystems {
     /// S5 (ENOMEM): memory was refused. No names need none.
     pub fn list(&self, directory: NodeRef) -> Result<Vec<Vec<u8>>, Deny>
         ensures ok { IfOk result (λ names. map (λ name. name.items) names.items
-            ≡ names_in ((files_at self.now directory.filesystem).tree.node (number_of directory))) }
-        ensures empty { entries_in ((files_at self.now directory.filesystem).tree.node (number_of directory)) ≡ []
+            ≡ names_in ((files_at self.now directory.filesystem.count).tree.node (number_of directory))) }
+        ensures empty { entries_in ((files_at self.now directory.filesystem.count).tree.node (number_of directory)) ≡ []
             → IsOk result }
         ensures memory { IfErr result (λ deny. deny ≡ denial S5) }
     {
@@ -288,11 +288,11 @@ impl Filesystems {
     /// E2 (EISDIR): a directory. S5 (ENOMEM): memory was refused. No bytes need none.
     pub fn read(&self, file: NodeRef) -> Result<Vec<u8>, Deny>
         ensures ok { IfOk result (λ bytes.
-            bytes.items ≡ bytes_in ((files_at self.now file.filesystem).tree.node (number_of file))) }
+            bytes.items ≡ bytes_in ((files_at self.now file.filesystem.count).tree.node (number_of file))) }
         ensures directory { IsErrOf result (denial E2)
-            ↔ IsTrue (is_directory_node ((files_at self.now file.filesystem).tree.node (number_of file))) }
+            ↔ IsTrue (is_directory_node ((files_at self.now file.filesystem.count).tree.node (number_of file))) }
         ensures empty { IsErrOf result (denial S5)
-            → bytes_in ((files_at self.now file.filesystem).tree.node (number_of file)) ≢ [] }
+            → bytes_in ((files_at self.now file.filesystem.count).tree.node (number_of file)) ≢ [] }
         ensures errors { IfErr result (λ deny. (deny ≡ denial E2) ⊎ (deny ≡ denial S5)) }
     {
         match self.get(file.filesystem) {
@@ -306,9 +306,9 @@ impl Filesystems {
     /// S5 (ENOMEM): memory was refused. No bytes need none.
     pub fn read_part(&self, file: NodeRef, offset: usize, size: usize) -> Result<Vec<u8>, Deny>
         ensures ok { IfOk result (λ bytes. bytes.items
-            ≡ take size (drop offset (bytes_in ((files_at self.now file.filesystem).tree.node (number_of file))))) }
+            ≡ take size (drop offset (bytes_in ((files_at self.now file.filesystem.count).tree.node (number_of file))))) }
         ensures empty {
-            take size (drop offset (bytes_in ((files_at self.now file.filesystem).tree.node (number_of file)))) ≡ []
+            take size (drop offset (bytes_in ((files_at self.now file.filesystem.count).tree.node (number_of file)))) ≡ []
             → IsOk result }
         ensures memory { IfErr result (λ deny. deny ≡ denial S5) }
     {
@@ -322,15 +322,15 @@ impl Filesystems {
     ///
     /// E3 (ENOTDIR): no directory. E1 (EEXIST): the name exists. S5 (ENOMEM): memory was refused.
     pub fn create(&mut self, directory: NodeRef, name: Vec<u8>, node: Node) -> Result<NodeRef, Deny>
-        requires { IsNewIn directory.node node }
-        ensures ok { IfOk result (λ made. ChangesInodes directory.filesystem
+        requires { IsNewIn directory.slot node }
+        ensures ok { IfOk result (λ made. ChangesInodes directory.filesystem.count
             (λ inodes. changed nat_eq inodes
-            (Make (number_of directory) name.items (number_of made) (node_seen directory.filesystem node)))
+            (Make (number_of directory) name.items (number_of made) (node_seen directory.filesystem.count node)))
             self.old self.new) }
-        ensures number { IfOk result (λ made. number_of made ≡ next_seen (entry_at self.old directory.filesystem)) }
+        ensures number { IfOk result (λ made. number_of made ≡ next_seen (entry_at self.old directory.filesystem.count)) }
         ensures filesystem { IfOk result (λ made. made.filesystem ≡ directory.filesystem) }
         ensures answer { AnswersBy
-            (make_rules (inodes_at self.old directory.filesystem) (number_of directory) name.items) result }
+            (make_rules (inodes_at self.old directory.filesystem.count) (number_of directory) name.items) result }
         ensures err { OnErr result (self.new ≡ self.old) }
     {
         match self.get_mut(directory.filesystem) {
@@ -349,11 +349,11 @@ impl Filesystems {
     /// was refused, or the inode has 2^64 - 1 uses.
     pub fn link(&mut self, directory: NodeRef, name: Vec<u8>, object: NodeRef) -> Result<(), Deny>
         requires { object.filesystem ≡ directory.filesystem }
-        ensures ok { OnOk result (ChangesInodes directory.filesystem
+        ensures ok { OnOk result (ChangesInodes directory.filesystem.count
             (λ inodes. changed nat_eq inodes (AddName (number_of directory) name.items (number_of object)))
             self.old self.new) }
         ensures answer { AnswersBy
-            (hard_link_rules (inodes_at self.old directory.filesystem) (number_of directory) name.items (number_of object))
+            (hard_link_rules (inodes_at self.old directory.filesystem.count) (number_of directory) name.items (number_of object))
             result }
         ensures err { OnErr result (self.new ≡ self.old) }
     {
@@ -368,11 +368,11 @@ impl Filesystems {
     /// W6 (ENOENT): the name is not the inode's. E4 (ENOTEMPTY): the inode is a directory with entries.
     pub fn unlink(&mut self, directory: NodeRef, name: &[u8], object: NodeRef) -> Result<(), Deny>
         requires { object.filesystem ≡ directory.filesystem }
-        ensures ok { OnOk result (ChangesInodes directory.filesystem
+        ensures ok { OnOk result (ChangesInodes directory.filesystem.count
             (λ inodes. changed nat_eq inodes (Remove (number_of directory) name.now (number_of object)))
             self.old self.new) }
         ensures answer { result ≡ ruling
-            (unlink_rules (inodes_at self.old directory.filesystem) (number_of directory) name.now (number_of object)) }
+            (unlink_rules (inodes_at self.old directory.filesystem.count) (number_of directory) name.now (number_of object)) }
         ensures err { OnErr result (self.new ≡ self.old) }
     {
         match self.get_mut(directory.filesystem) {
@@ -397,19 +397,19 @@ impl Filesystems {
     ) -> Result<(), Deny>
         requires to { to.filesystem ≡ from.filesystem }
         requires object { object.filesystem ≡ from.filesystem }
-        ensures ok { number_at (files_at self.old from.filesystem).tree (number_of to) new.items ≢ Some (number_of object)
-            → OnOk result (ChangesInodes from.filesystem
+        ensures ok { number_at (files_at self.old from.filesystem.count).tree (number_of to) new.items ≢ Some (number_of object)
+            → OnOk result (ChangesInodes from.filesystem.count
             (λ inodes. changed nat_eq inodes (Move (number_of from) old.now (number_of to) new.items (number_of object)))
             self.old self.new) }
         ensures one_object {
-            number_at (files_at self.old from.filesystem).tree (number_of to) new.items ≡ Some (number_of object)
+            number_at (files_at self.old from.filesystem.count).tree (number_of to) new.items ≡ Some (number_of object)
             → OnOk result (self.new ≡ self.old) }
         ensures answer { AnswersBy
-            (rename_rules (inodes_at self.old from.filesystem)
+            (rename_rules (inodes_at self.old from.filesystem.count)
             (number_of from) old.now (number_of to) new.items (number_of object))
             result }
         ensures new_name { IsErrOf result (denial S5)
-            → number_at (files_at self.old from.filesystem).tree (number_of to) new.items ≡ None }
+            → number_at (files_at self.old from.filesystem.count).tree (number_of to) new.items ≡ None }
         ensures err { OnErr result (self.new ≡ self.old) }
     {
         match self.get_mut(from.filesystem) {
@@ -423,11 +423,11 @@ impl Filesystems {
     /// E2 (EISDIR): a directory. E6 (EFBIG): more than 1,048,576 bytes. A symlink, a whiteout and a number without an inode
     /// stay as they are.
     pub fn write(&mut self, file: NodeRef, bytes: Vec<u8>) -> Result<(), Deny>
-        ensures ok { OnOk result (ChangesInodes file.filesystem
+        ensures ok { OnOk result (ChangesInodes file.filesystem.count
             (λ inodes. changed nat_eq inodes (SetBytes (number_of file) bytes.items)) self.old self.new) }
-        ensures answer { IsTrue (is_some (entry_of self.old file.filesystem)) → result ≡ ruling
-            (write_rules (inodes_at self.old file.filesystem) (number_of file) (length bytes.items)) }
-        ensures nowhere { entry_of self.old file.filesystem ≡ None → result ≡ Ok tt }
+        ensures answer { IsTrue (is_some (entry_of self.old file.filesystem.count)) → result ≡ ruling
+            (write_rules (inodes_at self.old file.filesystem.count) (number_of file) (length bytes.items)) }
+        ensures nowhere { entry_of self.old file.filesystem.count ≡ None → result ≡ Ok tt }
         ensures err { OnErr result (self.new ≡ self.old) }
     {
         match self.get_mut(file.filesystem) {
@@ -442,17 +442,17 @@ impl Filesystems {
     /// E2 (EISDIR): a directory. E6 (EFBIG): the bytes would end behind 1,048,576. S5 (ENOMEM): memory was refused. A
     /// symlink, a whiteout and a number without an inode stay as they are.
     pub fn write_at(&mut self, file: NodeRef, offset: usize, bytes: &[u8]) -> Result<(), Deny>
-        ensures ok { OnOk result (ChangesInodes file.filesystem
+        ensures ok { OnOk result (ChangesInodes file.filesystem.count
             (λ inodes. changed nat_eq inodes (SetBytes (number_of file)
-            (overwritten offset bytes.now (bytes_in ((files_at self.old file.filesystem).tree.node (number_of file))))))
+            (overwritten offset bytes.now (bytes_in ((files_at self.old file.filesystem.count).tree.node (number_of file))))))
             self.old self.new) }
-        ensures answer { IsTrue (is_some (entry_of self.old file.filesystem)) → AnswersBy
-            (write_rules (inodes_at self.old file.filesystem) (number_of file) (offset + length bytes.now)) result }
-        ensures nowhere { entry_of self.old file.filesystem ≡ None → result ≡ Ok tt }
+        ensures answer { IsTrue (is_some (entry_of self.old file.filesystem.count)) → AnswersBy
+            (write_rules (inodes_at self.old file.filesystem.count) (number_of file) (offset + length bytes.now)) result }
+        ensures nowhere { entry_of self.old file.filesystem.count ≡ None → result ≡ Ok tt }
         ensures file { IsErrOf result (denial S5)
-            → IsTrue (is_kind_at (files_at self.old file.filesystem).tree (number_of file) File) }
+            → IsTrue (is_kind_at (files_at self.old file.filesystem.count).tree (number_of file) File) }
         ensures longer { IsErrOf result (denial S5)
-            → length (bytes_in ((files_at self.old file.filesystem).tree.node (number_of file)))
+            → length (bytes_in ((files_at self.old file.filesystem.count).tree.node (number_of file)))
             < offset + length bytes.now }
         ensures err { OnErr result (self.new ≡ self.old) }
     {
@@ -464,7 +464,7 @@ impl Filesystems {
 
     /// Sets the owner, group and mode of an inode: chmod(2), chown(2). It takes no memory.
     pub fn set_attr(&mut self, object: NodeRef, attr: Attr)
-        ensures { ChangesInodes object.filesystem
+        ensures { ChangesInodes object.filesystem.count
             (λ inodes. changed nat_eq inodes (SetAttr (number_of object) attr)) self.old self.new }
     {
         if let Some(tree) = self.get_mut(object.filesystem) {
@@ -477,9 +477,9 @@ impl Filesystems {
     /// S5 (ENOMEM): the inode has 2^64 - 1 uses.
     pub fn pin(&mut self, object: NodeRef) -> Result<(), Deny>
         ensures ok { OnOk result
-            (ChangesInodes object.filesystem (λ inodes. pinned nat_eq inodes (number_of object)) self.old self.new) }
+            (ChangesInodes object.filesystem.count (λ inodes. pinned nat_eq inodes (number_of object)) self.old self.new) }
         ensures limit { IsErrOf result (denial S5)
-            ↔ (uses_in ((inodes_at self.old object.filesystem).inode (number_of object)) ≡ most_uses) }
+            ↔ (uses_in ((inodes_at self.old object.filesystem.count).inode (number_of object)) ≡ most_uses) }
         ensures memory { IfErr result (λ deny. deny ≡ denial S5) }
         ensures err { OnErr result (self.new ≡ self.old) }
     {
@@ -491,7 +491,7 @@ impl Filesystems {
 
     /// Counts one use less of an inode, as close(2) does: with its last use it goes. It takes no memory.
     pub fn unpin(&mut self, object: NodeRef)
-        ensures { ChangesInodes object.filesystem
+        ensures { ChangesInodes object.filesystem.count
             (λ inodes. unpinned nat_eq inodes (number_of object)) self.old self.new }
     {
         if let Some(tree) = self.get_mut(object.filesystem) {
@@ -500,21 +500,18 @@ impl Filesystems {
     }
 }
 
-// The slot of an inode in the tree of its filesystem.
+// The number of an inode in the tree of its filesystem.
 fn slot_of(inode: NodeRef) -> NodeId
-    ensures value { result ≡ inode.node }
-    ensures number { exchanged inode.filesystem result ≡ number_of inode }
+    ensures value { result ≡ inode.slot }
+    ensures number { exchanged inode.filesystem.count result ≡ number_of inode }
 {
-    NodeId::new(inode.node.index())
+    inode.node()
 }
 
-// The inode in a slot of a filesystem.
+// The inode of this number in the tree of a filesystem.
 fn in_slot(filesystem: FilesystemId, slot: NodeId) -> NodeRef
-    ensures number { number_of result ≡ exchanged filesystem slot }
-    ensures value { result ≡ record { filesystem = filesystem; node = slot } }
+    ensures value { result ≡ record { filesystem = filesystem; slot = slot } }
+    ensures number { number_of result ≡ exchanged filesystem.count slot }
 {
-    NodeRef {
-        filesystem,
-        node: NodeId::new(slot.index()),
-    }
+    NodeRef::new(filesystem, NodeId::new(slot.index()))
 }
