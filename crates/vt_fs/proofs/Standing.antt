@@ -1,16 +1,19 @@
 -- A filesystem that is there, with this tree; and what a change of that tree changes.
-use Rattle.std.proofs.Common.{◌≡◌, ◌≢◌, refl, sym, ap, ◌∙◌, true≢false, ℕ, Bool, true, false, cond, ◌||◌, nat_eq, List, [], ◌∷◌, map, filter, not, Option, Some, None, option_map, is_some, unwrap_or}
+use Rattle.std.proofs.Common.{◌≡◌, ◌≢◌, refl, sym, ap, ◌∙◌, true≢false, ℕ, Bool, true, false, cond, ◌||◌, nat_eq, List, [], ◌∷◌, map, filter, not, Option, Some, None, option_map, is_some, unwrap_or, Result, Ok, Err, OnOk, OnErr}
 use Rattle.std.specs.Prelude.{find, if◌then◌else◌}
 use Rattle.std.specs.List.{list_any}
 use Rattle.std.proofs.lemmas.Bool.{eqb-true}
 use Rattle.vt_spec.specs.Language.Changes.{Change}
 use Rattle.vt_spec.specs.Lists.{any_pair}
-use Rattle.vt_spec.specs.OneTree.Inodes.{Inodes, changed, pinned, unpinned}
+use Rattle.vt_spec.specs.OneTree.Inodes.{Inodes, changed, pinned, tree_of as tree_of_inodes, unpinned, uses_in}
+use Rattle.vt_spec.specs.Tree.{Node}
+use Rattle.vt_spec.specs.TreeLaws.{entry_at as number_at}
 use Rattle.vt_location.specs.Numbers.{exchanged}
-use Rattle.vt_tree.specs.TreeValue.{TreeValue, inodes_of}
-use Rattle.vt_fs.specs.FilesystemsValue.{ChangesInodes, FilesystemEntry, Filesystems, Shown, entry_at, entry_of, inodes_at, inodes_seen, seen_in, shown, shown_entry, shown_if, shown_with, with_changed, with_tree, without}
+use Rattle.vt_tree.specs.TreeRules.{hard_link_rules, make_rules, rename_rules, unlink_rules, write_rules}
+use Rattle.vt_tree.specs.TreeValue.{TreeValue, inodes_of, tree_of}
+use Rattle.vt_fs.specs.FilesystemsValue.{ChangesInodes, FilesystemEntry, Filesystems, Shown, entry_at, entry_of, files_at, inodes_at, inodes_seen, node_seen, seen_in, shown, shown_entry, shown_if, shown_with, with_changed, with_tree, without}
 use Rattle.vt_fs.proofs.Entries.{or_first, or_second}
-use Rattle.vt_fs.proofs.Renamed.{by_numbers, changed_by_numbers, pinned_by_numbers, renamed_change, unpinned_by_numbers}
+use Rattle.vt_fs.proofs.Renamed.{by_numbers, changed_by_numbers, entry_by_numbers, hard_link_rules_by_numbers, make_rules_by_numbers, node_by_numbers, pinned_by_numbers, plain_by_numbers, rename_rules_by_numbers, renamed_change, unlink_rules_by_numbers, unpinned_by_numbers, uses_by_numbers, write_rules_by_numbers}
 
 -- the filesystem of this count is there, with this tree, and no two have one count
 pub record Standing (fs : Filesystems) (f : ℕ) (tree : TreeValue) : Type 0 where
@@ -129,3 +132,76 @@ module _ (fs : Filesystems) (f : ℕ) (new old : TreeValue) (standing : Standing
   unpins slot number same is =
       changes_seen f (λ inodes. unpinned nat_eq inodes number) fs new old standing
       (ap (by_numbers f) is ∙ sym (unpinned_by_numbers f (inodes_of old) slot) ∙ ap (unpinned nat_eq (seen_in f old)) same)
+
+-- What the filesystem has by numbers is what its tree has by slots.
+module _ (fs : Filesystems) (f : ℕ) (tree : TreeValue) (found : option_map (λ (entry : FilesystemEntry). entry.tree) (entry_of fs f) ≡ Some tree) where
+  is_seen : inodes_at fs f ≡ by_numbers f (inodes_of tree)
+  is_seen = inodes_there fs f tree found
+
+  pub node_there : (slot number : ℕ) → exchanged f slot ≡ number → (files_at fs f).tree.node number ≡ option_map (node_seen f) ((tree_of tree).node slot)
+  node_there slot number same =
+      (λ i. (tree_of_inodes (is_seen i)).node (sym same i)) ∙ node_by_numbers f (inodes_of tree) slot
+
+  pub plain_there : (X : Type 0) (look : (A : Type 0) → Option (Node A) → X) (slot number : ℕ) → exchanged f slot ≡ number
+      → look ℕ ((files_at fs f).tree.node number) ≡ look ℕ ((tree_of tree).node slot)
+  plain_there X look slot number same =
+      (λ i. look ℕ ((tree_of_inodes (is_seen i)).node (sym same i))) ∙ plain_by_numbers f (inodes_of tree) X look slot
+
+  pub uses_there : (slot number : ℕ) → exchanged f slot ≡ number → uses_in ((inodes_at fs f).inode number) ≡ uses_in ((inodes_of tree).inode slot)
+  uses_there slot number same = (λ i. uses_in ((is_seen i).inode (sym same i))) ∙ uses_by_numbers f (inodes_of tree) slot
+
+  pub entry_there : (slot number : ℕ) (name : List ℕ) → exchanged f slot ≡ number
+      → number_at (files_at fs f).tree number name ≡ option_map (exchanged f) (number_at (tree_of tree) slot name)
+  entry_there slot number name same = (λ i. number_at (tree_of_inodes (is_seen i)) (sym same i) name) ∙ entry_by_numbers f (inodes_of tree) slot name
+
+  pub make_rules_there : (slot number : ℕ) (name : List ℕ) → exchanged f slot ≡ number → make_rules (inodes_at fs f) number name ≡ make_rules (inodes_of tree) slot name
+  make_rules_there slot number name same = (λ i. make_rules (is_seen i) (sym same i) name) ∙ make_rules_by_numbers f (inodes_of tree) slot name
+
+  pub hard_link_rules_there : (slot number : ℕ) (name : List ℕ) (object_slot object : ℕ) → exchanged f slot ≡ number → exchanged f object_slot ≡ object
+      → hard_link_rules (inodes_at fs f) number name object ≡ hard_link_rules (inodes_of tree) slot name object_slot
+  hard_link_rules_there slot number name object_slot object same same_object =
+      (λ i. hard_link_rules (is_seen i) (sym same i) name (sym same_object i)) ∙ hard_link_rules_by_numbers f (inodes_of tree) slot name object_slot
+
+  pub unlink_rules_there : (slot number : ℕ) (name : List ℕ) (object_slot object : ℕ) → exchanged f slot ≡ number → exchanged f object_slot ≡ object
+      → unlink_rules (inodes_at fs f) number name object ≡ unlink_rules (inodes_of tree) slot name object_slot
+  unlink_rules_there slot number name object_slot object same same_object =
+      (λ i. unlink_rules (is_seen i) (sym same i) name (sym same_object i)) ∙ unlink_rules_by_numbers f (inodes_of tree) slot name object_slot
+
+  pub rename_rules_there : (from_slot from : ℕ) (old : List ℕ) (to_slot to : ℕ) (new : List ℕ) (object_slot object : ℕ)
+      → exchanged f from_slot ≡ from → exchanged f to_slot ≡ to → exchanged f object_slot ≡ object
+      → rename_rules (inodes_at fs f) from old to new object ≡ rename_rules (inodes_of tree) from_slot old to_slot new object_slot
+  rename_rules_there from_slot from old to_slot to new object_slot object same_from same_to same_object =
+      (λ i. rename_rules (is_seen i) (sym same_from i) old (sym same_to i) new (sym same_object i))
+      ∙ rename_rules_by_numbers f (inodes_of tree) from_slot old to_slot new object_slot
+
+  pub write_rules_there : (slot number end : ℕ) → exchanged f slot ≡ number → write_rules (inodes_at fs f) number end ≡ write_rules (inodes_of tree) slot end
+  write_rules_there slot number end same = (λ i. write_rules (is_seen i) (sym same i) end) ∙ write_rules_by_numbers f (inodes_of tree) slot end
+
+-- A tree that is written back as it was changes nothing.
+written_back : (fs : Filesystems) (f : ℕ) (tree : TreeValue) → any_pair (λ a b. nat_eq a.count b.count) fs ≡ false
+    → option_map (λ (entry : FilesystemEntry). entry.tree) (entry_of fs f) ≡ Some tree → with_tree f tree fs ≡ fs
+written_back [] f tree apart found = refl
+written_back (x ∷ fs) f tree apart found =
+    by (nat_eq f x.count) (eqb-true f x.count) found (written_back fs f tree (or_second (list_any (λ other. nat_eq x.count other.count) fs) _ apart))
+  where
+    by : (b : Bool) → (b ≡ true → f ≡ x.count) → option_map (λ (entry : FilesystemEntry). entry.tree) (cond b (Some x) (entry_of fs f)) ≡ Some tree
+        → (option_map (λ (entry : FilesystemEntry). entry.tree) (entry_of fs f) ≡ Some tree → with_tree f tree fs ≡ fs)
+        → cond b (record x { tree = tree }) x ∷ with_tree f tree fs ≡ x ∷ fs
+    by true here e rest =
+        let is : x.tree ≡ tree = cc in
+        let none = or_first (list_any (λ (other : FilesystemEntry). nat_eq x.count other.count) fs) _ apart in
+        λ i. record x { tree = sym is i } ∷ none_with f (λ inodes. inodes) x.count tree fs (sym (here refl)) none i
+    by false here e rest = ap (λ l. x ∷ l) (rest e)
+
+pub kept : (fs : Filesystems) (f : ℕ) (new old : TreeValue) → Standing fs f old → new ≡ old → with_tree f new fs ≡ fs
+kept fs f new old standing is = ap (λ tree. with_tree f tree fs) is ∙ written_back fs f old standing.apart standing.found
+
+-- What a call ended as
+module _ {T E P Q : Type 0} where
+  pub on_ok : (r : Result T E) → (P → Q) → OnOk r P → OnOk r Q
+  on_ok (Ok t) so e = so e
+  on_ok (Err e) so _ = tt
+
+  pub on_err : (r : Result T E) → (P → Q) → OnErr r P → OnErr r Q
+  on_err (Ok t) so _ = tt
+  on_err (Err e) so p = so p
