@@ -1,6 +1,6 @@
 -- A tree by the numbers of its inodes: whatever is made of it is what is made of it by slots, renamed.
 use Rattle.std.proofs.Common.{◌≡◌, refl, sym, ap, ◌∙◌, ℕ, nat_eq, Bool, List, Option, Some, None, option_map, is_some, ◌∷◌, ◌++◌, [], not, ◌&&◌, nat_lt, length, take, drop}
-use Rattle.vt_spec.specs.declared.attributes.Kind.{Kind}
+use Rattle.vt_spec.specs.declared.attributes.Attr.{Attr}
 use Rattle.vt_spec.specs.declared.errors.Rule.TheVariants.{E1, E2, E3, E4, E5, E6, E7, W6}
 use Rattle.vt_spec.specs.Errors.{Rules}
 use Rattle.vt_spec.specs.Language.Changes.{Change}
@@ -203,3 +203,23 @@ module _ (f : ℕ) (inodes : Inodes ℕ) where
   write_rules_by_numbers file end =
       commutes_nat WithOne (λ (A : Type 0). Rules) named_one (named_nothing Rules)
       (λ A eq s. (is_directory_at (tree_of s.0) s.1, E2) ∷ (nat_lt largest_file end, E6) ∷ []) (exchange f) (inodes, file)
+
+-- one directory, whose number is renamed
+abbrev Number : Type 0 → Type 0
+Number A = A
+
+abbrev named_itself : Named Number
+named_itself = record { rename = λ A B there back n. there n; itself = λ A n. refl }
+
+pub one_by_numbers : (f slot : ℕ) (attr : Attr) → one_directory nat_eq (exchanged f slot) attr ≡ by_numbers f (one_directory nat_eq slot attr)
+one_by_numbers f slot attr = commutes_nat Number Inodes named_itself named_inodes (λ A eq n. one_directory eq n attr) (exchange f) slot
+
+-- what is told of a directory by its place
+module _ (f : ℕ) (inodes : Inodes ℕ) (slot : ℕ) where
+  pub root_by_numbers : nat_eq (exchanged f slot) (by_numbers f inodes).root ≡ nat_eq slot inodes.root
+  root_by_numbers =
+      commutes_nat WithOne (λ (A : Type 0). Bool) named_one (named_nothing Bool) (λ A eq s. eq s.1 s.0.root) (exchange f) (inodes, slot)
+
+  pub own_by_numbers : nat_eq (exchanged f slot) (parent_in (exchanged f slot) ((tree_of (by_numbers f inodes)).node (exchanged f slot))) ≡ nat_eq slot (parent_in slot ((tree_of inodes).node slot))
+  own_by_numbers =
+      commutes_nat WithOne (λ (A : Type 0). Bool) named_one (named_nothing Bool) (λ A eq s. eq s.1 (parent_in s.1 ((tree_of s.0).node s.1))) (exchange f) (inodes, slot)

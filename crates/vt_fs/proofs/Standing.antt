@@ -1,17 +1,20 @@
 -- A filesystem that is there, with this tree; and what a change of that tree changes.
-use Rattle.std.proofs.Common.{◌≡◌, ◌≢◌, refl, sym, ap, ◌∙◌, true≢false, ℕ, Bool, true, false, cond, ◌||◌, nat_eq, List, [], ◌∷◌, map, filter, not, Option, Some, None, option_map, is_some, unwrap_or, Result, Ok, Err, OnOk, OnErr}
+use Rattle.std.proofs.Common.{◌≡◌, ◌≢◌, refl, sym, ap, ◌∙◌, true≢false, ℕ, Bool, true, false, cond, ◌||◌, nat_eq, List, [], ◌∷◌, map, filter, not, Option, Some, None, option_map, unwrap_or, MutBor}
 use Rattle.std.specs.Prelude.{find, if◌then◌else◌}
 use Rattle.std.specs.List.{list_any}
+use Rattle.std.specs.Option.{option_copied_mut}
 use Rattle.std.proofs.lemmas.Bool.{eqb-true}
 use Rattle.vt_spec.specs.Language.Changes.{Change}
-use Rattle.vt_spec.specs.Lists.{any_pair}
-use Rattle.vt_spec.specs.OneTree.Inodes.{Inodes, changed, pinned, tree_of as tree_of_inodes, unpinned, uses_in}
-use Rattle.vt_spec.specs.Tree.{Node}
+use Rattle.vt_spec.specs.Lists.{any_pair, is_empty_list}
+use Rattle.vt_spec.specs.OneTree.Inodes.{Inode, Inodes, changed, node_in, pinned, tree_of as tree_of_inodes, unpinned, uses_in}
+use Rattle.vt_spec.specs.Tree.{Entries, Node, entries_in}
 use Rattle.vt_spec.specs.TreeLaws.{entry_at as number_at}
+use Rattle.vt_one_text.specs.OneTreeNumbers.{renamed_inode}
 use Rattle.vt_location.specs.Numbers.{exchanged}
 use Rattle.vt_tree.specs.TreeRules.{hard_link_rules, make_rules, rename_rules, unlink_rules, write_rules}
 use Rattle.vt_tree.specs.TreeValue.{TreeValue, inodes_of, tree_of}
-use Rattle.vt_fs.specs.FilesystemsValue.{ChangesInodes, FilesystemEntry, Filesystems, Shown, entry_at, entry_of, files_at, inodes_at, inodes_seen, node_seen, seen_in, shown, shown_entry, shown_if, shown_with, with_changed, with_tree, without}
+use Rattle.vt_fs.specs.FilesystemsValue.{ChangesInodes, FilesystemEntry, Filesystems, Shown, entry_at, entry_of, files_at, inodes_at, inodes_seen, no_entry, node_seen, seen_in, shown, shown_entry, shown_if, shown_with, with_changed, with_tree, without}
+use Rattle.vt_fs.proofs.Exchanged.{exchanged_back}
 use Rattle.vt_fs.proofs.Entries.{or_first, or_second}
 use Rattle.vt_fs.proofs.Renamed.{by_numbers, changed_by_numbers, entry_by_numbers, hard_link_rules_by_numbers, make_rules_by_numbers, node_by_numbers, pinned_by_numbers, plain_by_numbers, rename_rules_by_numbers, renamed_change, unlink_rules_by_numbers, unpinned_by_numbers, uses_by_numbers, write_rules_by_numbers}
 
@@ -19,6 +22,12 @@ use Rattle.vt_fs.proofs.Renamed.{by_numbers, changed_by_numbers, entry_by_number
 pub record Standing (fs : Filesystems) (f : ℕ) (tree : TreeValue) : Type 0 where
   pub apart : any_pair (λ a b. nat_eq a.count b.count) fs ≡ false
   pub found : option_map (λ entry. entry.tree) (entry_of fs f) ≡ Some tree
+
+-- as it is where its tree is lent for a change
+pub standing_of : (fs : Filesystems) (f : ℕ) (lent : Option (MutBor TreeValue)) (tree : MutBor TreeValue)
+    → option_copied_mut lent ≡ option_map (λ entry. entry.tree) (entry_of fs f) → any_pair (λ a b. nat_eq a.count b.count) fs ≡ false → lent ≡ Some tree
+    → Standing fs f tree.now
+standing_of fs f lent tree value apart is = record { apart = apart; found = sym value ∙ ap option_copied_mut is }
 
 -- it has the count that it was found by
 pub count_found : (fs : Filesystems) (f : ℕ) (entry : FilesystemEntry) → entry_of fs f ≡ Some entry → entry.count ≡ f
@@ -29,19 +38,27 @@ count_found (x ∷ fs) f entry e = by (nat_eq f x.count) (eqb-true f x.count) e 
     by true here e rest = (let is : entry ≡ x = cc in ap (λ n. n.count) is) ∙ sym (here refl)
     by false here e rest = rest e
 
--- its inodes by numbers
-pub inodes_there : (fs : Filesystems) (f : ℕ) (tree : TreeValue) → option_map (λ entry. entry.tree) (entry_of fs f) ≡ Some tree → inodes_at fs f ≡ seen_in f tree
-inodes_there fs f tree found = by (entry_of fs f) refl found
-  where
-    by : (o : Option FilesystemEntry) → entry_of fs f ≡ o → option_map (λ entry. entry.tree) o ≡ Some tree → inodes_at fs f ≡ seen_in f tree
-    by None e there = absurd cc
-    by (Some entry) e there =
-        let is : entry.tree ≡ tree = cc in
-        ap (λ o. inodes_seen (unwrap_or o (entry_at [] f))) e ∙ (λ i. seen_in (count_found fs f entry e i) (is i))
+-- what is looked at in a filesystem by its count and its tree
+module _ (fs : Filesystems) (f : ℕ) (tree : TreeValue) (found : option_map (λ (entry : FilesystemEntry). entry.tree) (entry_of fs f) ≡ Some tree) where
+  pub entry_look : {X : Type 0} (look : ℕ → TreeValue → X) → option_map (λ (entry : FilesystemEntry). look entry.count entry.tree) (entry_of fs f) ≡ Some (look f tree)
+  entry_look {X} look = by (entry_of fs f) refl found
+    where
+      by : (o : Option FilesystemEntry) → entry_of fs f ≡ o → option_map (λ (entry : FilesystemEntry). entry.tree) o ≡ Some tree
+          → option_map (λ (entry : FilesystemEntry). look entry.count entry.tree) o ≡ Some (look f tree)
+      by None e there = absurd cc
+      by (Some entry) e there =
+          let is : entry.tree ≡ tree = cc in
+          λ i. Some (look (count_found fs f entry e i) (is i))
 
--- a filesystem that is not there has none
-pub inodes_nowhere : (fs : Filesystems) (f : ℕ) → entry_of fs f ≡ None → inodes_at fs f ≡ inodes_seen (entry_at [] f)
-inodes_nowhere fs f absent = ap (λ o. inodes_seen (unwrap_or o (entry_at [] f))) absent
+  pub at_look : {X : Type 0} (look : ℕ → TreeValue → X) → look (entry_at fs f).count (entry_at fs f).tree ≡ look f tree
+  at_look {X} look = by (entry_of fs f) refl found
+    where
+      by : (o : Option FilesystemEntry) → entry_of fs f ≡ o → option_map (λ (entry : FilesystemEntry). entry.tree) o ≡ Some tree
+          → look (unwrap_or o (no_entry f)).count (unwrap_or o (no_entry f)).tree ≡ look f tree
+      by None e there = absurd cc
+      by (Some entry) e there =
+          let is : entry.tree ≡ tree = cc in
+          λ i. look (count_found fs f entry e i) (is i)
 
 pub nowhere : (fs : Filesystems) (f : ℕ) → option_map (λ (entry : FilesystemEntry). entry.tree) (entry_of fs f) ≡ None → entry_of fs f ≡ None
 nowhere fs f absent = by (entry_of fs f) absent
@@ -136,7 +153,7 @@ module _ (fs : Filesystems) (f : ℕ) (new old : TreeValue) (standing : Standing
 -- What the filesystem has by numbers is what its tree has by slots.
 module _ (fs : Filesystems) (f : ℕ) (tree : TreeValue) (found : option_map (λ (entry : FilesystemEntry). entry.tree) (entry_of fs f) ≡ Some tree) where
   is_seen : inodes_at fs f ≡ by_numbers f (inodes_of tree)
-  is_seen = inodes_there fs f tree found
+  is_seen = at_look fs f tree found seen_in
 
   pub node_there : (slot number : ℕ) → exchanged f slot ≡ number → (files_at fs f).tree.node number ≡ option_map (node_seen f) ((tree_of tree).node slot)
   node_there slot number same =
@@ -177,6 +194,43 @@ module _ (fs : Filesystems) (f : ℕ) (tree : TreeValue) (found : option_map (λ
   pub write_rules_there : (slot number end : ℕ) → exchanged f slot ≡ number → write_rules (inodes_at fs f) number end ≡ write_rules (inodes_of tree) slot end
   write_rules_there slot number end same = (λ i. write_rules (is_seen i) (sym same i) end) ∙ write_rules_by_numbers f (inodes_of tree) slot end
 
+  -- a slot without a node has no inode
+  pub vacant_there : (slot number : ℕ) → exchanged f slot ≡ number → (tree_of tree).node slot ≡ None → (inodes_at fs f).inode number ≡ None
+  vacant_there slot number same vacant =
+      (λ i. (is_seen i).inode (sym same i)) ∙ ap (λ n. option_map (renamed_inode (exchanged f) (exchanged f)) ((inodes_of tree).inode n)) (exchanged_back f slot)
+      ∙ by ((inodes_of tree).inode slot) vacant
+    where
+      by : (o : Option (Inode ℕ)) → node_in o ≡ None → option_map (renamed_inode (exchanged f) (exchanged f)) o ≡ None
+      by None e = refl
+      by (Some inode) e = absurd cc
+
+  -- a directory without entries has none by numbers, and the other way round
+  pub empty_there : (slot number : ℕ) → exchanged f slot ≡ number → entries_in ((files_at fs f).tree.node number) ≡ [] → entries_in ((tree_of tree).node slot) ≡ []
+  empty_there slot number same empty =
+      by (entries_in ((tree_of tree).node slot))
+      (sym (plain_there Bool (λ A node. is_empty_list (entries_in node)) slot number same) ∙ ap is_empty_list empty)
+    where
+      by : (entries : Entries ℕ) → is_empty_list entries ≡ true → entries ≡ []
+      by [] e = refl
+      by (entry ∷ rest) e = absurd (true≢false (sym e))
+
+  -- an entry leads to an inode by its slot where it leads to its number
+  pub slot_named : (slot number : ℕ) (name : List ℕ) (object_slot object : ℕ) → exchanged f slot ≡ number → exchanged f object_slot ≡ object
+      → number_at (files_at fs f).tree number name ≡ Some object → number_at (tree_of tree) slot name ≡ Some object_slot
+  slot_named slot number name object_slot object same same_object named =
+      by (number_at (tree_of tree) slot name) (sym (entry_there slot number name same) ∙ named ∙ ap Some (sym same_object))
+    where
+      by : (o : Option ℕ) → option_map (exchanged f) o ≡ Some (exchanged f object_slot) → o ≡ Some object_slot
+      by None e = absurd cc
+      by (Some other) e =
+          let is : exchanged f other ≡ exchanged f object_slot = cc in
+          ap Some (sym (exchanged_back f other) ∙ ap (exchanged f) is ∙ exchanged_back f object_slot)
+
+  pub number_named : (slot number : ℕ) (name : List ℕ) (object_slot object : ℕ) → exchanged f slot ≡ number → exchanged f object_slot ≡ object
+      → number_at (tree_of tree) slot name ≡ Some object_slot → number_at (files_at fs f).tree number name ≡ Some object
+  number_named slot number name object_slot object same same_object named =
+      entry_there slot number name same ∙ ap (option_map (exchanged f)) named ∙ ap Some same_object
+
 -- A tree that is written back as it was changes nothing.
 written_back : (fs : Filesystems) (f : ℕ) (tree : TreeValue) → any_pair (λ a b. nat_eq a.count b.count) fs ≡ false
     → option_map (λ (entry : FilesystemEntry). entry.tree) (entry_of fs f) ≡ Some tree → with_tree f tree fs ≡ fs
@@ -195,13 +249,3 @@ written_back (x ∷ fs) f tree apart found =
 
 pub kept : (fs : Filesystems) (f : ℕ) (new old : TreeValue) → Standing fs f old → new ≡ old → with_tree f new fs ≡ fs
 kept fs f new old standing is = ap (λ tree. with_tree f tree fs) is ∙ written_back fs f old standing.apart standing.found
-
--- What a call ended as
-module _ {T E P Q : Type 0} where
-  pub on_ok : (r : Result T E) → (P → Q) → OnOk r P → OnOk r Q
-  on_ok (Ok t) so e = so e
-  on_ok (Err e) so _ = tt
-
-  pub on_err : (r : Result T E) → (P → Q) → OnErr r P → OnErr r Q
-  on_err (Ok t) so _ = tt
-  on_err (Err e) so p = so p
