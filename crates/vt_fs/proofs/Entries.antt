@@ -1,11 +1,12 @@
 -- The filesystems as the map keeps them, and as contracts see them.
-use Rattle.std.proofs.Common.{◌≡◌, refl, sym, ap, ◌∙◌, true≢false, ℕ, zero, suc, Bool, true, false, cond, ◌||◌, nat_eq, eq-eqb, List, [], ◌∷◌, ◌++◌, map, filter, not, slice_get, Option, Some, None, option_map, is_some, ◌<◌, length, arith}
-use Rattle.std.specs.Prelude.{find, if◌then◌else◌}
+use Rattle.std.proofs.Common.{◌≡◌, refl, sym, ap, ◌∙◌, true≢false, ℕ, zero, suc, Bool, true, false, cond, ◌||◌, nat_eq, eq-eqb, List, [], ◌∷◌, ◌++◌, not, slice_get, Option, Some, None, option_map, unwrap_or, is_some, ◌<◌, length, arith}
+use Rattle.std.specs.Prelude.{if◌then◌else◌}
 use Rattle.std.specs.List.{AllByRecursion, IsDistinct, list_any}
 use Rattle.std.specs.Map.{keys_of, lookup, lookup_key, remove_entry, set_value, values_of}
 use Rattle.std.proofs.lemmas.Bool.{eqb-true}
 use Rattle.std.proofs.lemmas.Map.Keys.{IsDistinct-head, IsDistinct-tail}
-use Rattle.indexmap.specs.IndexMap.{set_value_at}
+use Rattle.indexmap.specs.IndexMap.{IndexMap, insert_entry, set_value_at}
+use Rattle.indexmap.proofs.CallerLemmas.{insert_entry-new}
 use Rattle.indexmap.proofs.MapLemmas.{Found-position}
 use Rattle.std.specs.Prelude.{position}
 use Rattle.vt_spec.specs.Lists.{any_pair}
@@ -13,7 +14,7 @@ use Rattle.vt_location.specs.Numbers.{counted}
 use Rattle.vt_location.specs.declared.numbers.FilesystemId.{FilesystemId}
 use Rattle.vt_tree.specs.TreeValue.{TreeValue}
 use Rattle.vt_fs.specs.declared.filesystems.Filesystem.{Filesystem as Held}
-use Rattle.vt_fs.specs.FilesystemsValue.{FilesystemEntry, Filesystems, changed_if, entry_of, filesystems_seen, held, held_entry, held_with_tree, with_changed, with_tree, without}
+use Rattle.vt_fs.specs.FilesystemsValue.{FilesystemEntry, Filesystems, entry_at, entry_of, filesystems_seen, held, held_entry, held_with_tree, no_entry, with_changed, with_tree, without}
 use Rattle.vt_fs.specs.Lends.{with_tree_at}
 use Rattle.vt_fs.proofs.Exchanged.{counted_test}
 
@@ -242,3 +243,43 @@ module _ (es : List (FilesystemId × Held)) (fs : Filesystems) (view : held es �
 
   pub apart_of : IsDistinct key_eq (keys_of es) → any_pair (λ (a b : FilesystemEntry). nat_eq a.count b.count) fs ≡ false
   apart_of distinct = ap (any_pair (λ (a b : FilesystemEntry). nat_eq a.count b.count)) (sym view) ∙ counts_apart es distinct
+
+-- How many mounts show a filesystem
+
+pub mounts_of-held : (f : ℕ) (es : List (FilesystemId × Held)) (fs : Filesystems) (x : Held) → held es ≡ fs → lookup (is_key f) es ≡ Some x → (entry_at fs f).mounts ≡ x.mounts
+mounts_of-held f es fs x view found =
+    ap (λ fs. (entry_at fs f).mounts) (sym view)
+    ∙ ap (λ (o : Option FilesystemEntry). (unwrap_or o (no_entry f)).mounts) (entry_of-held f es ∙ ap (option_map (of_count f)) found)
+
+-- what was written to the filesystem of a count, and what is written to none
+pub writes : (f : ℕ) (change : FilesystemEntry → FilesystemEntry) (es new : List (FilesystemId × Held)) (fs : Filesystems) (x w : Held) → held es ≡ fs
+    → IsDistinct key_eq (keys_of es) → lookup (is_key f) es ≡ Some x → new ≡ set_value (is_key f) es w
+    → ((k : ℕ) → of_count k w ≡ change (of_count k x)) → held new ≡ with_changed f change fs
+writes f change es new fs x w view distinct found is so =
+    ap held is ∙ written f change x w es distinct found so ∙ ap (with_changed f change) view
+
+pub writes_none : (f : ℕ) (change : FilesystemEntry → FilesystemEntry) (es new : List (FilesystemId × Held)) (fs : Filesystems) → held es ≡ fs
+    → lookup (is_key f) es ≡ None → new ≡ es → held new ≡ with_changed f change fs
+writes_none f change es new fs view absent is =
+    ap held is ∙ view
+    ∙ sym (absent_changed f change fs (ap (λ fs. entry_of fs f) (sym view) ∙ entry_of-held f es ∙ ap (option_map (of_count f)) absent))
+
+-- A new filesystem
+
+pub absent_of-held : (f : ℕ) (es : List (FilesystemId × Held)) (fs : Filesystems) → held es ≡ fs → entry_of fs f ≡ None → lookup (is_key f) es ≡ None
+absent_of-held f es fs view absent =
+    by (lookup (is_key f) es) (sym (entry_of-held f es) ∙ ap (λ fs. entry_of fs f) view ∙ absent)
+  where
+    by : (o : Option Held) → option_map (of_count f) o ≡ None → o ≡ None
+    by None e = refl
+    by (Some x) e = absurd cc
+
+held_behind : (e : FilesystemId × Held) (es : List (FilesystemId × Held)) → held (es ++ e ∷ []) ≡ held es ++ held_entry e ∷ []
+held_behind e [] = refl
+held_behind e (first ∷ es) = ap (λ l. held_entry first ∷ l) (held_behind e es)
+
+pub added : {S : Type 0} (m : IndexMap FilesystemId Held S) (new : List (FilesystemId × Held)) (fs : Filesystems) (k : FilesystemId) (x : Held) → held m.entries ≡ fs
+    → entry_of fs k.count ≡ None → new ≡ insert_entry key_eq m.entries k x → held new ≡ fs ++ held_entry (k, x) ∷ []
+added m new fs k x view absent is =
+    ap held (is ∙ insert_entry-new key_eq m k x (absent_of-held k.count m.entries fs view absent)) ∙ held_behind (k, x) m.entries
+    ∙ ap (λ l. l ++ held_entry (k, x) ∷ []) view

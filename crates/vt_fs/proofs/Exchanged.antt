@@ -2,10 +2,6 @@
 use Rattle.std.proofs.Common.{◌≡◌, ◌≢◌, ◌<◌, ◌+◌, ◌-◌, ◌*◌, ℕ, Bool, true, false, not, nat_eq, nat_lt, ◌&&◌, refl, sym, ap, ◌∙◌, arith, lt-ltb, le-ltb, eq-eqb}
 use Rattle.std.specs.Prelude.{if◌then◌else◌, ◌/◌}
 use Rattle.std.proofs.lemmas.Bool.{eqb-true, ltb-true, ltb-false}
-use Rattle.vt_spec.specs.Machine.Mounts.{same_location}
-use Rattle.vt_location.specs.declared.locations.Location.{Location}
-use Rattle.vt_location.specs.declared.locations.NodeRef.{NodeRef}
-use Rattle.vt_location.specs.Locations.{location_of, number_of}
 use Rattle.vt_location.specs.Numbers.{counted, exchanged, inode_number, is_inode_of}
 
 pub counted_same : (a b : ℕ) → counted a ≡ counted b → a ≡ b
@@ -98,7 +94,7 @@ exchanged_back f n = by (nat_lt n 18446744073709551616) (is_inode_of f n) refl r
         let slot = slot_of f n i in
         ap (exchanged f) (at_number f n slot.0 e i slot.2) ∙ exchanged_slot f slot.0 slot.1 ∙ sym slot.2
 
-one_test : (a b : Bool) → (a ≡ true → b ≡ true) → (b ≡ true → a ≡ true) → a ≡ b
+pub one_test : (a b : Bool) → (a ≡ true → b ≡ true) → (b ≡ true → a ≡ true) → a ≡ b
 one_test true b there back = sym (there refl)
 one_test false true there back = back refl
 one_test false false there back = refl

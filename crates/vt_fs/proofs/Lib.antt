@@ -2,3 +2,5 @@ pub mod Exchanged
 pub mod Renamed
 pub mod Entries
 pub mod Standing
+pub mod Parents
+pub mod Numbers

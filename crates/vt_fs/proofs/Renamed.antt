@@ -1,5 +1,5 @@
 -- A tree by the numbers of its inodes: whatever is made of it is what is made of it by slots, renamed.
-use Rattle.std.proofs.Common.{◌≡◌, refl, sym, ap, ◌∙◌, ℕ, nat_eq, Bool, List, Option, Some, None, option_map, is_some, ◌∷◌, ◌++◌, [], not, ◌&&◌, nat_lt, length, take, drop}
+use Rattle.std.proofs.Common.{◌≡◌, refl, ℕ, nat_eq, Bool, List, Option, Some, None, option_map, is_some, ◌∷◌, ◌++◌, [], not, ◌&&◌, nat_lt}
 use Rattle.vt_spec.specs.declared.attributes.Attr.{Attr}
 use Rattle.vt_spec.specs.declared.errors.Rule.TheVariants.{E1, E2, E3, E4, E5, E6, E7, W6}
 use Rattle.vt_spec.specs.Errors.{Rules}
@@ -9,14 +9,14 @@ use Rattle.vt_spec.specs.Language.Limits.{largest_file}
 use Rattle.vt_spec.specs.Lists.{holds_of}
 use Rattle.vt_spec.specs.Machine.Renaming.{renamed_node}
 use Rattle.vt_spec.specs.OneTree.Inodes.{Inode, Inodes, changed, is_directory_under, one_directory, pinned, tree_of, unpinned, uses_in}
-use Rattle.vt_spec.specs.OneTree.Rules.{is_filled, is_kind_at}
+use Rattle.vt_spec.specs.OneTree.Rules.{is_filled}
 use Rattle.vt_spec.specs.OneTree.Walk.{is_directory_at}
-use Rattle.vt_spec.specs.Tree.{Node, Tree, bytes_in, entries_in, names_in, parent_in}
+use Rattle.vt_spec.specs.Tree.{Node, Tree, parent_in}
 use Rattle.vt_spec.specs.TreeLaws.{entry_at}
 use Rattle.vt_one_text.specs.OneTreeNumbers.{renamed_inode, renamed_inodes}
 use Rattle.vt_one_text.specs.Renaming.{Renaming}
 use Rattle.vt_one_text.proofs.Commuting.{Named, commutes_nat, node_itself, option_itself}
-use Rattle.vt_tree.specs.TreeRules.{hard_link_rules, leads_to, make_rules, rename_rules, replace_rules, unlink_rules, write_rules}
+use Rattle.vt_tree.specs.TreeRules.{hard_link_rules, make_rules, rename_rules, unlink_rules, write_rules}
 use Rattle.vt_location.specs.Numbers.{exchanged}
 use Rattle.vt_fs.proofs.Exchanged.{exchanged_back}
 

@@ -1,22 +1,22 @@
 -- A filesystem that is there, with this tree; and what a change of that tree changes.
-use Rattle.std.proofs.Common.{◌≡◌, ◌≢◌, refl, sym, ap, ◌∙◌, true≢false, ℕ, Bool, true, false, cond, ◌||◌, nat_eq, List, [], ◌∷◌, map, filter, not, Option, Some, None, option_map, unwrap_or, MutBor}
-use Rattle.std.specs.Prelude.{find, if◌then◌else◌}
+use Rattle.std.proofs.Common.{◌≡◌, refl, sym, ap, ◌∙◌, true≢false, ℕ, Bool, true, false, cond, nat_eq, List, [], ◌∷◌, not, Option, Some, None, option_map, unwrap_or, MutBor}
+use Rattle.std.specs.Prelude.{if◌then◌else◌}
 use Rattle.std.specs.List.{list_any}
 use Rattle.std.specs.Option.{option_copied_mut}
 use Rattle.std.proofs.lemmas.Bool.{eqb-true}
 use Rattle.vt_spec.specs.Language.Changes.{Change}
 use Rattle.vt_spec.specs.Lists.{any_pair, is_empty_list}
-use Rattle.vt_spec.specs.OneTree.Inodes.{Inode, Inodes, changed, node_in, pinned, tree_of as tree_of_inodes, unpinned, uses_in}
-use Rattle.vt_spec.specs.Tree.{Entries, Node, entries_in}
+use Rattle.vt_spec.specs.OneTree.Inodes.{Inode, Inodes, changed, is_directory_under, node_in, pinned, tree_of as tree_of_inodes, unpinned, uses_in}
+use Rattle.vt_spec.specs.Tree.{Entries, Node, entries_in, parent_in}
 use Rattle.vt_spec.specs.TreeLaws.{entry_at as number_at}
 use Rattle.vt_one_text.specs.OneTreeNumbers.{renamed_inode}
 use Rattle.vt_location.specs.Numbers.{exchanged}
 use Rattle.vt_tree.specs.TreeRules.{hard_link_rules, make_rules, rename_rules, unlink_rules, write_rules}
 use Rattle.vt_tree.specs.TreeValue.{TreeValue, inodes_of, tree_of}
-use Rattle.vt_fs.specs.FilesystemsValue.{ChangesInodes, FilesystemEntry, Filesystems, Shown, entry_at, entry_of, files_at, inodes_at, inodes_seen, no_entry, node_seen, seen_in, shown, shown_entry, shown_if, shown_with, with_changed, with_tree, without}
+use Rattle.vt_fs.specs.FilesystemsValue.{ChangesInodes, FilesystemEntry, Filesystems, entry_at, entry_of, files_at, inodes_at, inodes_seen, no_entry, node_seen, seen_in, shown, shown_entry, shown_with, with_tree, without}
 use Rattle.vt_fs.proofs.Exchanged.{exchanged_back}
 use Rattle.vt_fs.proofs.Entries.{or_first, or_second}
-use Rattle.vt_fs.proofs.Renamed.{by_numbers, changed_by_numbers, entry_by_numbers, hard_link_rules_by_numbers, make_rules_by_numbers, node_by_numbers, pinned_by_numbers, plain_by_numbers, rename_rules_by_numbers, renamed_change, unlink_rules_by_numbers, unpinned_by_numbers, uses_by_numbers, write_rules_by_numbers}
+use Rattle.vt_fs.proofs.Renamed.{by_numbers, changed_by_numbers, entry_by_numbers, hard_link_rules_by_numbers, make_rules_by_numbers, node_by_numbers, own_by_numbers, pinned_by_numbers, plain_by_numbers, rename_rules_by_numbers, renamed_change, root_by_numbers, under_by_numbers, unlink_rules_by_numbers, unpinned_by_numbers, uses_by_numbers, write_rules_by_numbers}
 
 -- the filesystem of this count is there, with this tree, and no two have one count
 pub record Standing (fs : Filesystems) (f : ℕ) (tree : TreeValue) : Type 0 where
@@ -193,6 +193,19 @@ module _ (fs : Filesystems) (f : ℕ) (tree : TreeValue) (found : option_map (λ
 
   pub write_rules_there : (slot number end : ℕ) → exchanged f slot ≡ number → write_rules (inodes_at fs f) number end ≡ write_rules (inodes_of tree) slot end
   write_rules_there slot number end same = (λ i. write_rules (is_seen i) (sym same i) end) ∙ write_rules_by_numbers f (inodes_of tree) slot end
+
+  pub root_there : (slot number : ℕ) → exchanged f slot ≡ number → nat_eq number (files_at fs f).tree.root ≡ nat_eq slot (inodes_of tree).root
+  root_there slot number same = (λ i. nat_eq (sym same i) (is_seen i).root) ∙ root_by_numbers f (inodes_of tree) slot
+
+  pub own_there : (slot number : ℕ) → exchanged f slot ≡ number
+      → nat_eq number (parent_in number ((files_at fs f).tree.node number)) ≡ nat_eq slot (parent_in slot ((tree_of tree).node slot))
+  own_there slot number same =
+      (λ i. nat_eq (sym same i) (parent_in (sym same i) ((tree_of_inodes (is_seen i)).node (sym same i)))) ∙ own_by_numbers f (inodes_of tree) slot
+
+  pub under_there : (top_slot top slot number : ℕ) → exchanged f top_slot ≡ top → exchanged f slot ≡ number
+      → is_directory_under nat_eq (inodes_at fs f) top number ≡ is_directory_under nat_eq (inodes_of tree) top_slot slot
+  under_there top_slot top slot number same_top same =
+      (λ i. is_directory_under nat_eq (is_seen i) (sym same_top i) (sym same i)) ∙ under_by_numbers f (inodes_of tree) top_slot slot
 
   -- a slot without a node has no inode
   pub vacant_there : (slot number : ℕ) → exchanged f slot ≡ number → (tree_of tree).node slot ≡ None → (inodes_at fs f).inode number ≡ None

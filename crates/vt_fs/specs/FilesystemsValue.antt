@@ -1,5 +1,5 @@
 -- What contracts see of the plain filesystems, and what the definitions see of them.
-use Rattle.std.specs.Prelude.{Bool, List, None, Option, Some, [], filter, find, if◌then◌else◌, map, nat_eq, not, option_map, unwrap_or, ℕ, ◌+◌, ◌≡◌, ◌∷◌}
+use Rattle.std.specs.Prelude.{List, None, Option, Some, [], filter, find, if◌then◌else◌, map, nat_eq, not, unwrap_or, ℕ, ◌+◌, ◌≡◌, ◌∷◌}
 use Rattle.vt_spec.specs.declared.attributes.Attr.{Attr}
 use Rattle.vt_spec.specs.FileTree.{FileTree}
 use Rattle.vt_spec.specs.Machine.Renaming.{renamed_node}

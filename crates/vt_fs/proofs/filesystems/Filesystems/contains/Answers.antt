@@ -1,7 +1,6 @@
 use Rattle.std.proofs.Common.{ap, sym, ◌∙◌, is_some, Option, Some, None, option_map, refl, ◌≡◌, Bor}
 use Rattle.vt_fs.specs.FilesystemsValue.{entry_of}
 use Rattle.vt_fs.proofs.Entries.{entry_of-held, of_count}
-use Rattle.vt_fs.proofs.Standing.{changes, pins, unpins}
 use Rattle.vt_fs.proofs.filesystems.Filesystems.contains.Goals as goal
 
 there : {A B : Type 0} (f : A → B) (o : Option A) → is_some o ≡ is_some (option_map f o)

@@ -1,4 +1,4 @@
-use Rattle.std.proofs.Common.{ap, inl, refl, sym, ◌∙◌}
+use Rattle.std.proofs.Common.{inl, refl, sym, ◌∙◌}
 use Rattle.vt_fs.proofs.Entries.{apart_of, at_place_of, tree_nowhere, tree_of_place}
 use Rattle.vt_fs.proofs.filesystems.Filesystems.get_mut.Goals as goal
 

@@ -1,4 +1,4 @@
-use Rattle.std.proofs.Common.{ap, sym, ◌∙◌, false, nat_eq, ◌≡◌}
+use Rattle.std.proofs.Common.{ap, sym, ◌∙◌, nat_eq}
 use Rattle.vt_spec.specs.Lists.{any_pair}
 use Rattle.vt_fs.specs.FilesystemsValue.{filesystems_seen, held}
 use Rattle.vt_fs.proofs.Entries.{counts_apart, numbers_apart}

@@ -1,32 +1,28 @@
-use Rattle.std.proofs.Common.{rules, ◌≡◌, ◌≢◌, [], ◌+◌, ◌-◌, ◌++◌, ◌∷◌, ◌↔◌, ◌⊎◌, nat_eq, length, map, drop, take, false, is_some, slice_get, None, Ok, Some, IfOk, IfErr, IfSome, IsErrOf, IsOk, IsOkUnless, IsTrue, OnOk, OnErr, ◌<◌, option_copied, option_map, ℕ, ◌*◌, ◌≤◌, ◌/◌, ◌%◌, Bool, true, nat_lt, List, slice_index_or, slice_set, bit_and, bit_or, w8, w32, w64, Bor, MutBor}
-use Rattle.std.specs.Option.{option_copied_mut}
-use Rattle.std.specs.Borrow.{sem}
-use Rattle.vt_spec.specs.Errors.{denial}
-use Rattle.vt_spec.specs.declared.attributes.Kind.TheVariants.{File}
-use Rattle.vt_spec.specs.declared.errors.Rule.TheVariants.{S5, E2}
-use Rattle.vt_spec.specs.FileTree.{is_directory_under, is_removed}
-use Rattle.vt_spec.specs.Language.Changes.Change.{AddName, Make, Move, Remove, SetAttr, SetBytes}
-use Rattle.vt_spec.specs.Laws.Trees.{IsNewIn}
-use Rattle.vt_spec.specs.Lists.{any_pair}
-use Rattle.vt_spec.specs.Machine.Outcome.Descriptors.{overwritten}
-use Rattle.vt_spec.specs.OneTree.Fits.{Fits}
-use Rattle.vt_spec.specs.OneTree.Inodes.{changed, pinned, unpinned, uses_in}
-use Rattle.vt_spec.specs.OneTree.Rules.{is_kind_at}
-use Rattle.vt_spec.specs.Tree.{bytes_in, entries_in, is_directory_node, names_in}
-use Rattle.vt_spec.specs.TreeLaws.{entry_at as number_at}
-use Rattle.vt_tree.specs.TreeRules.{AnswersBy, hard_link_rules, make_rules, rename_rules, ruling, unlink_rules, write_rules}
-use Rattle.vt_slots.specs.Slots.{most_uses}
+use Rattle.std.proofs.Common.{ap, sym, ◌∙◌, ◌≡◌, not, nat_eq, true, false, Bool}
 use Rattle.vt_location.specs.Locations.{number_of}
-use Rattle.vt_location.specs.Numbers.{exchanged}
-use Rattle.vt_fs.specs.FilesystemsValue.{FilesystemEntry, ChangesInodes, IsNew, entry_at, entry_of, files_at, filesystems_seen, inodes_at, inodes_seen, next_seen, node_seen, with_changed, without}
-use Rattle.vt_fs.specs.Laws.{ParentsAreNamed}
-use Rattle.vt_fs.specs.Lends.{lends_tree, lends_tree_at}
+use Rattle.vt_fs.specs.FilesystemsValue.{files_at, inodes_at}
+use Rattle.vt_fs.proofs.Parents.{removed_by_parent, root_stays}
+use Rattle.vt_fs.proofs.Standing.{own_there, root_there}
 use Rattle.vt_fs.proofs.filesystems.Filesystems.is_removed.Goals as goal
 
--- src/filesystems.rt:186:5
-pub returns-then-ne : goal.returns-then-ne
-returns-then-ne c = ?
+-- the answer of a test, where it was negated
+negated : (b c : Bool) → c ≡ not b → b ≡ not c
+negated true c e = sym (ap not e)
+negated false c e = sym (ap not e)
 
--- src/filesystems.rt:186:5
+pub returns-then-ne : goal.returns-then-ne
+returns-then-ne c =
+    let f = c.args.directory.filesystem.count in
+    let found = sym c.in-Some.ensures in
+    let root = root_there c.args.self.now f c.in-Some.tree.now found c.slot_of-slot.result _ c.slot_of-slot.ensures.number in
+    let apart = root ∙ ap (nat_eq c.slot_of-slot.result) (sym c.root.ensures.value) ∙ negated _ true (sym c.if-ne.true ∙ c.ne.ensures) in
+    c.eq.ensures ∙ ap (nat_eq c.slot_of-slot.result) c.parent.ensures
+    ∙ sym (own_there c.args.self.now f c.in-Some.tree.now found c.slot_of-slot.result _ c.slot_of-slot.ensures.number)
+    ∙ sym (removed_by_parent (inodes_at c.args.self.now f) c.requires.named (number_of c.args.directory) apart)
+
 pub returns-else-ne : goal.returns-else-ne
-returns-else-ne c = ?
+returns-else-ne c =
+    let f = c.args.directory.filesystem.count in
+    let root = root_there c.args.self.now f c.in-Some.tree.now (sym c.in-Some.ensures) c.slot_of-slot.result _ c.slot_of-slot.ensures.number in
+    let same = root ∙ ap (nat_eq c.slot_of-slot.result) (sym c.root.ensures.value) ∙ negated _ false (sym c.if-ne.false ∙ c.ne.ensures) in
+    c.if-ne.false ∙ sym (root_stays (files_at c.args.self.now f).tree (number_of c.args.directory) same)
