@@ -4,3 +4,4 @@ pub mod Entries
 pub mod Standing
 pub mod Parents
 pub mod Numbers
+pub mod Fitting

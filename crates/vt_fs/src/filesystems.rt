@@ -331,6 +331,10 @@ impl Filesystems {
         ensures filesystem { IfOk result (λ made. made.filesystem ≡ directory.filesystem) }
         ensures answer { AnswersBy
             (make_rules (inodes_at self.old directory.filesystem.count) (number_of directory) name.items) result }
+        ensures fits { Fits (inodes_at self.old directory.filesystem.count)
+            (Make (number_of directory) name.items (next_seen (entry_at self.old directory.filesystem.count))
+            (node_seen directory.filesystem.count node))
+            → IsOkUnless result (denial S5) }
         ensures err { OnErr result (self.new ≡ self.old) }
     {
         match self.get_mut(directory.filesystem) {
@@ -355,6 +359,8 @@ impl Filesystems {
         ensures answer { AnswersBy
             (hard_link_rules (inodes_at self.old directory.filesystem.count) (number_of directory) name.items (number_of object))
             result }
+        ensures fits { Fits (inodes_at self.old directory.filesystem.count)
+            (AddName (number_of directory) name.items (number_of object)) → IsOkUnless result (denial S5) }
         ensures err { OnErr result (self.new ≡ self.old) }
     {
         match self.get_mut(directory.filesystem) {
@@ -373,6 +379,8 @@ impl Filesystems {
             self.old self.new) }
         ensures answer { result ≡ ruling
             (unlink_rules (inodes_at self.old directory.filesystem.count) (number_of directory) name.now (number_of object)) }
+        ensures fits { Fits (inodes_at self.old directory.filesystem.count)
+            (Remove (number_of directory) name.now (number_of object)) → result ≡ Ok tt }
         ensures err { OnErr result (self.new ≡ self.old) }
     {
         match self.get_mut(directory.filesystem) {
@@ -410,6 +418,13 @@ impl Filesystems {
             result }
         ensures new_name { IsErrOf result (denial S5)
             → number_at (files_at self.old from.filesystem.count).tree (number_of to) new.items ≡ None }
+        ensures fits { Fits (inodes_at self.old from.filesystem.count)
+            (Move (number_of from) old.now (number_of to) new.items (number_of object)) → IsOkUnless result (denial S5) }
+        ensures fits_ok { Fits (inodes_at self.old from.filesystem.count)
+            (Move (number_of from) old.now (number_of to) new.items (number_of object))
+            → OnOk result (ChangesInodes from.filesystem.count
+            (λ inodes. changed nat_eq inodes (Move (number_of from) old.now (number_of to) new.items (number_of object)))
+            self.old self.new) }
         ensures err { OnErr result (self.new ≡ self.old) }
     {
         match self.get_mut(from.filesystem) {
@@ -428,6 +443,8 @@ impl Filesystems {
         ensures answer { IsTrue (is_some (entry_of self.old file.filesystem.count)) → result ≡ ruling
             (write_rules (inodes_at self.old file.filesystem.count) (number_of file) (length bytes.items)) }
         ensures nowhere { entry_of self.old file.filesystem.count ≡ None → result ≡ Ok tt }
+        ensures fits { Fits (inodes_at self.old file.filesystem.count) (SetBytes (number_of file) bytes.items)
+            → result ≡ Ok tt }
         ensures err { OnErr result (self.new ≡ self.old) }
     {
         match self.get_mut(file.filesystem) {
@@ -454,6 +471,9 @@ impl Filesystems {
         ensures longer { IsErrOf result (denial S5)
             → length (bytes_in ((files_at self.old file.filesystem.count).tree.node (number_of file)))
             < offset + length bytes.now }
+        ensures fits { Fits (inodes_at self.old file.filesystem.count) (SetBytes (number_of file)
+            (overwritten offset bytes.now (bytes_in ((files_at self.old file.filesystem.count).tree.node (number_of file)))))
+            → IsOkUnless result (denial S5) }
         ensures err { OnErr result (self.new ≡ self.old) }
     {
         match self.get_mut(file.filesystem) {

@@ -2,8 +2,11 @@ use Rattle.std.proofs.Common.{ap, subst, sym, ◌∙◌}
 use Rattle.std.proofs.lemmas.Result.{on_err_weaker, on_ok_weaker}
 use Rattle.vt_spec.specs.Language.Changes.Change.{AddName}
 use Rattle.vt_spec.specs.Errors.{Rules}
+use Rattle.vt_location.specs.Locations.{number_of}
 use Rattle.vt_location.specs.Numbers.{exchanged}
-use Rattle.vt_tree.specs.TreeRules.{AnswersBy}
+use Rattle.vt_tree.specs.TreeRules.{AnswersBy, hard_link_rules}
+use Rattle.vt_fs.specs.FilesystemsValue.{inodes_at}
+use Rattle.vt_fs.proofs.Fitting.{done_if, links_fit}
 use Rattle.vt_fs.proofs.Standing.{changes, hard_link_rules_there, kept, standing_of}
 use Rattle.vt_fs.proofs.filesystems.Filesystems.link.Goals as goal
 
@@ -32,3 +35,9 @@ returns-in-Some-clause-err c =
     let f = c.args.directory.filesystem.count in
     let standing = standing_of c.args.self.now f c.get_mut.result c.in-Some.tree c.get_mut.ensures.value c.get_mut.ensures.apart c.in-Some.is in
     on_err_weaker c.link.result (kept c.args.self.now f c.link.new.self c.in-Some.tree.now standing) c.link.ensures.err
+
+pub returns-in-Some-clause-fits : goal.returns-in-Some-clause-fits
+returns-in-Some-clause-fits c = λ fits.
+    let inodes = inodes_at c.args.self.now c.args.directory.filesystem.count in
+    done_if (hard_link_rules inodes (number_of c.args.directory) c.args.name.items (number_of c.args.object)) c.link.result
+    (links_fit inodes (number_of c.args.directory) c.args.name.items (number_of c.args.object) fits) (returns-in-Some-clause-answer c)

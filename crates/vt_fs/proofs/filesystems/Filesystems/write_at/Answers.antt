@@ -1,4 +1,4 @@
-use Rattle.std.proofs.Common.{ap, refl, subst, sym, ◌∙◌, ◌+◌, ◌<◌, length, List, Bool, ℕ, IsTrue}
+use Rattle.std.proofs.Common.{ap, refl, subst, sym, ◌∙◌, ◌+◌, ◌<◌, ◌≤◌, length, List, Bool, ℕ, IsTrue}
 use Rattle.std.proofs.lemmas.Result.{on_err_weaker, on_ok_weaker}
 use Rattle.std.specs.Option.{option_copied_mut}
 use Rattle.vt_spec.specs.Language.Changes.Change.{SetBytes}
@@ -6,9 +6,10 @@ use Rattle.vt_spec.specs.declared.attributes.Kind.TheVariants.{File}
 use Rattle.vt_spec.specs.Errors.{Rules}
 use Rattle.vt_spec.specs.FileTree.{is_kind_in}
 use Rattle.vt_spec.specs.Machine.Outcome.Descriptors.{overwritten}
-use Rattle.vt_spec.specs.Tree.{bytes_in}
+use Rattle.vt_spec.specs.Tree.{bytes_in, is_directory_node}
 use Rattle.vt_tree.specs.TreeRules.{AnswersBy}
 use Rattle.vt_tree.specs.TreeValue.{tree_of}
+use Rattle.vt_spec.specs.Language.Limits.{largest_file}
 use Rattle.vt_fs.proofs.Standing.{changes, kept, nothing_changes, plain_there, standing_of, write_rules_there}
 use Rattle.vt_fs.proofs.filesystems.Filesystems.write_at.Goals as goal
 
@@ -53,3 +54,12 @@ returns-in-Some-clause-err c =
 pub returns-in-None-clause-ok : goal.returns-in-None-clause-ok
 returns-in-None-clause-ok c =
     nothing_changes c.args.file.filesystem.count _ c.args.self.now _ refl (sym c.get_mut.ensures.value ∙ ap option_copied_mut c.in-None.is)
+
+pub returns-in-Some-clause-fits : goal.returns-in-Some-clause-fits
+returns-in-Some-clause-fits c = λ fits.
+    let f = c.args.file.filesystem.count in
+    let standing = standing_of c.args.self.now f c.get_mut.result c.in-Some.tree c.get_mut.ensures.value c.get_mut.ensures.apart c.in-Some.is in
+    let bytes = plain_there c.args.self.now f c.in-Some.tree.now standing.found (List ℕ) (λ A node. bytes_in node) c.slot_of.result _ c.slot_of.ensures.number in
+    let directory = plain_there c.args.self.now f c.in-Some.tree.now standing.found Bool (λ A node. is_directory_node node) c.slot_of.result _ c.slot_of.ensures.number in
+    c.write_at.ensures.fits
+    (sym directory ∙ fits.0, subst (λ (old : List ℕ). length (overwritten c.args.offset c.args.bytes.now old) ≤ largest_file) bytes fits.1)
