@@ -1,9 +1,9 @@
 -- What fits a tree is refused by no rule.
-use Rattle.std.proofs.Common.{◌≡◌, ◌≢◌, refl, sym, ap, ◌∙◌, ◌≤◌, ⊎_elim, ℕ, nat_eq, eq-eqb, le-ltb, Bool, true, false, not, ◌&&◌, List, [], ◌∷◌, length, Option, Some, None, is_some, nat_lt, Result, Ok, Err, IsOkUnless}
+use Rattle.std.proofs.Common.{◌≡◌, ◌≢◌, refl, sym, ap, ◌∙◌, ◌≤◌, ⊎_elim, ℕ, nat_eq, eq-eqb, le-ltb, Bool, true, false, not, ◌&&◌, List, [], ◌∷◌, Option, Some, None, is_some, Result, Ok, Err, IsOkUnless}
 use Rattle.vt_spec.specs.declared.errors.Deny.{Deny}
 use Rattle.vt_spec.specs.declared.errors.Rule.TheVariants.{E1, E2, E3, E4, E5, E6, E7, S5, W6}
 use Rattle.vt_spec.specs.Errors.{Rules, denial}
-use Rattle.vt_spec.specs.Language.Changes.Change.{AddName, Make, Move, Remove, SetBytes}
+use Rattle.vt_spec.specs.Language.Changes.Change.{AddName, Make, Move, Remove}
 use Rattle.vt_spec.specs.Language.Limits.{largest_file}
 use Rattle.vt_spec.specs.Lists.{holds_of}
 use Rattle.vt_spec.specs.OneTree.Fits.{Fits, MayReplace}

@@ -5,3 +5,4 @@ pub mod Standing
 pub mod Parents
 pub mod Numbers
 pub mod Fitting
+pub mod NewFilesystem

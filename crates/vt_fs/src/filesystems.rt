@@ -216,7 +216,10 @@ impl Filesystems {
     {
         let alloc = *self.by_number.allocator();
         let tree = Tree::new(alloc, attr)?;
-        let Ok(_) = self.by_number.insert(filesystem, Filesystem { tree, mounts: 0 }) else {
+        let Ok(_) = self
+            .by_number
+            .insert(filesystem, Filesystem { tree, mounts: 0 })
+        else {
             return Err(Rule::S5.denial());
         };
         Ok(())
@@ -307,8 +310,7 @@ impl Filesystems {
     pub fn read_part(&self, file: NodeRef, offset: usize, size: usize) -> Result<Vec<u8>, Deny>
         ensures ok { IfOk result (λ bytes. bytes.items
             ≡ take size (drop offset (bytes_in ((files_at self.now file.filesystem.count).tree.node (number_of file))))) }
-        ensures empty {
-            take size (drop offset (bytes_in ((files_at self.now file.filesystem.count).tree.node (number_of file)))) ≡ []
+        ensures empty { take size (drop offset (bytes_in ((files_at self.now file.filesystem.count).tree.node (number_of file)))) ≡ []
             → IsOk result }
         ensures memory { IfErr result (λ deny. deny ≡ denial S5) }
     {
@@ -409,8 +411,7 @@ impl Filesystems {
             → OnOk result (ChangesInodes from.filesystem.count
             (λ inodes. changed nat_eq inodes (Move (number_of from) old.now (number_of to) new.items (number_of object)))
             self.old self.new) }
-        ensures one_object {
-            number_at (files_at self.old from.filesystem.count).tree (number_of to) new.items ≡ Some (number_of object)
+        ensures one_object { number_at (files_at self.old from.filesystem.count).tree (number_of to) new.items ≡ Some (number_of object)
             → OnOk result (self.new ≡ self.old) }
         ensures answer { AnswersBy
             (rename_rules (inodes_at self.old from.filesystem.count)

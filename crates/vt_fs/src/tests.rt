@@ -26,7 +26,10 @@ fn calls_succeed_with_ample_memory(rt: HostRuntime) -> Result<(), Fail> {
     filesystems.pin(file)?;
     assert_eq!(rt; filesystems.uses(file), 3);
     assert_eq!(rt; filesystems.read(file)?.as_slice(), b"hi!".as_slice());
-    assert_eq!(rt; filesystems.read_part(file, 1, 2)?.as_slice(), b"i!".as_slice());
+    assert_eq!(rt;
+        filesystems.read_part(file, 1, 2)?.as_slice(),
+        b"i!".as_slice()
+    );
     assert_eq!(rt; filesystems.list(root)?.len(), 2);
     filesystems.hold_mount(second)?;
     assert_eq!(rt; filesystems.mounts(second), 1);
