@@ -41,6 +41,7 @@ impl Filesystem {
     ghost use Rattle.vt_fs.specs.FilesystemsValue.{held_with_tree};
     ghost use Rattle.vt_fs.specs.contracts.filesystems.Filesystem.{the_row};
 
+    // Its tree, for a change.
     fn tree_mut(&mut self) -> &mut Tree
         ensures* lends { sem 𝓛 (Lends the_row tree_row self.entry result (held_with_tree self.old)) }
         ensures value { result.now ≡ self.old.tree }
@@ -97,17 +98,15 @@ impl Filesystems {
     pub fn contains(&self, filesystem: FilesystemId) -> bool
         ensures { result ≡ is_some (entry_of self.now filesystem.count) }
     {
-        self.by_number.get(&filesystem).is_some()
+        self.by_number.contains_key(&filesystem)
     }
 
     /// The tree of a filesystem, with its inodes in their slots.
     pub fn get(&self, filesystem: FilesystemId) -> Option<&Tree>
         ensures { option_copied result ≡ option_map (λ entry. entry.tree) (entry_of self.now filesystem.count) }
     {
-        match self.by_number.get(&filesystem) {
-            Some(found) => Some(&found.tree),
-            None => None,
-        }
+        let found = self.by_number.get(&filesystem)?;
+        Some(&found.tree)
     }
 
     // The tree of a filesystem, for a change.
@@ -182,7 +181,8 @@ impl Filesystems {
         }
     }
 
-    /// Whether an inode is no directory that has a name, nor the root: rmdir(2) on a directory in use leaves such a one.
+    /// Whether a directory other than the root has no name: rmdir(2) on a directory in use leaves such a one. What is no
+    /// directory counts as one.
     pub fn is_removed(&self, directory: NodeRef) -> bool
         requires named { ParentsAreNamed (files_at self.now directory.filesystem.count).tree }
         ensures { result ≡ is_removed nat_eq (files_at self.now directory.filesystem.count).tree (number_of directory) }

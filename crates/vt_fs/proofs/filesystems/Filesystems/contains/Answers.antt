@@ -1,4 +1,4 @@
-use Rattle.std.proofs.Common.{ap, sym, ◌∙◌, is_some, Option, Some, None, option_map, refl, ◌≡◌, Bor}
+use Rattle.std.proofs.Common.{ap, sym, ◌∙◌, is_some, Option, Some, None, option_map, refl, ◌≡◌}
 use Rattle.vt_fs.specs.FilesystemsValue.{entry_of}
 use Rattle.vt_fs.proofs.Entries.{entry_of-held, of_count}
 use Rattle.vt_fs.proofs.filesystems.Filesystems.contains.Goals as goal
@@ -9,6 +9,6 @@ there f (Some a) = refl
 
 pub returns : goal.returns
 returns c =
-    c.is_some.ensures ∙ there (λ (b : Bor _). b.now) c.get.result ∙ ap is_some c.get.ensures.value ∙ there (of_count c.args.filesystem.count) _
+    c.contains_key.ensures ∙ there (of_count c.args.filesystem.count) _
     ∙ ap is_some (sym (entry_of-held c.args.filesystem.count c.self.inside.by_number.entries))
     ∙ ap (λ fs. is_some (entry_of fs c.args.filesystem.count)) c.self.view_is
