@@ -1,0 +1,11 @@
+//! The plain filesystems: each is a tree of inodes in slots of its own, and the layers above see the numbers of inodes.
+#![tactic(auto)]
+
+mod filesystems;
+mod laws;
+
+pub use filesystems::Filesystems;
+pub use laws::{filesystems_are_found, numbers_are_those_of_inodes, trees_name_parents};
+
+#[cfg(test)]
+mod tests;
