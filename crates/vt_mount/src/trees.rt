@@ -66,11 +66,17 @@ impl Mounts {
 }
 
 // Puts mounts on a stack, the last one first.
-fn push_reversed(waiting: &mut Vec<Branch>, children: &[MountId], depth: usize) -> Result<(), AllocError>
+fn push_reversed(
+    waiting: &mut Vec<Branch>,
+    children: &[MountId],
+    depth: usize,
+) -> Result<(), AllocError>
     ensures { OnOk result (waiting.new.items ≡ waiting.old.items ++ map (λ id. record { mount = id; depth = depth }) (reverse children.now)) }
 {
-    waiting.extend(children.iter().rev().map(|mount| Branch {
-        mount: *mount,
-        depth,
-    }))
+    waiting.extend(
+        children.iter().rev().map(|mount| Branch {
+            mount: *mount,
+            depth,
+        }),
+    )
 }
