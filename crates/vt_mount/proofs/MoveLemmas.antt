@@ -16,10 +16,12 @@ use Rattle.vt_mount.specs.declared.mounted.Mounted.{Mounted}
 use Rattle.vt_mount.specs.Indexed.{IsIndexed, is_in_slot, numbers_where}
 use Rattle.vt_mount.specs.Indexes.{is_at, is_in, is_on, is_over, listed_at, listed_in, listed_on, listed_over, relisted, same_inode, same_place, stood_at, stood_on, stood_over}
 use Rattle.vt_mount.specs.Listed.{inserted, same_id}
-use Rattle.vt_mount.specs.MountsValue.{id_cmp, mount_kept}
+use Rattle.vt_mount.specs.MountsValue.{are_ascending, entries_of, id_cmp, in_order, mount_kept, mounts_in}
+use Rattle.vt_location.specs.Numbers.{counted}
+use Rattle.vt_mount.proofs.EntryLemmas.{entries, less_count}
 use Rattle.vt_mount.proofs.ListLemmas.{others}
 use Rattle.vt_mount.proofs.IndexLemmas.{absent-others, below-none, cons-numbers, first, numbers-changed, numbers-left, others-taken, passes, same, second, turned}
-use Rattle.vt_mount.proofs.OrderLemmas.{both-first, both-second, change_kept, found, rises, tied}
+use Rattle.vt_mount.proofs.OrderLemmas.{both-first, both-second, change_kept, found, rises, rises-in_order, tied}
 
 -- what is kept of a mount that was moved
 abbrev pub moved_kept : Location → Mounted → Mounted
@@ -165,3 +167,18 @@ indexed-same kept old new namespace parent location inode indexed = record {
   inode = λ q. inode q ∙ indexed.inode q;
   slots = indexed.slots;
 }
+
+-- Numbers rise
+
+below-counts : (n : MountId) (kept : List (MountId × Mounted)) → T (below_all id_cmp n kept)
+    → list_all (λ later. nat_lt (counted n.count) later.number) (mounts_in (entries kept)) ≡ true
+below-counts n [] below = refl
+below-counts n (one ∷ kept) below =
+    (λ i. (less_count n.count one.0.count ∙ less-than n.count one.0.count (first _ _ below)) i && below-counts n kept (second _ _ below) i)
+
+counts-rise : (kept : List (MountId × Mounted)) → T (rises kept) → are_ascending (mounts_in (entries kept)) ≡ true
+counts-rise [] rising = refl
+counts-rise (one ∷ kept) rising = λ i. below-counts one.0 kept (first _ _ rising) i && counts-rise kept (second _ _ rising) i
+
+pub ascending-kept : (es : List (MountId × Mounted)) → are_ascending (mounts_in (entries_of es)) ≡ true
+ascending-kept es = counts-rise (in_order es) (rises-in_order es)

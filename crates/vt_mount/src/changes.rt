@@ -49,7 +49,8 @@ impl Mounts {
     /// S5 (ENOMEM): memory was refused.
     pub fn move_to(&mut self, id: MountId, place: Location) -> Result<(), Deny>
         ensures ok { OnOk result (self.new
-            ≡ changed (counted id.count) (λ entry. record entry { mount = record entry.mount { mount_point = Some (location_of place) } }) self.old) }
+            ≡ changed (counted id.count)
+            (λ entry. record entry { mount = record entry.mount { mount_point = Some (location_of place) } }) self.old) }
         ensures memory { IfErr result (λ deny. deny ≡ denial S5) }
         ensures err { OnErr result (self.new ≡ self.old) }
     {

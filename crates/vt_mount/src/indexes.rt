@@ -5,7 +5,9 @@ ghost use Rattle.vt_location.specs.declared.numbers.NamespaceId.{NamespaceId};
 ghost use Rattle.vt_mount.specs.Listed.{has_room, same_id};
 ghost use Rattle.vt_location.specs.declared.locations.Location.{Location};
 ghost use Rattle.vt_location.specs.declared.locations.NodeRef.{NodeRef};
-ghost use Rattle.vt_mount.specs.Indexes.{has_slot, is_at, is_in, is_on, is_over, lacks, listed_at, listed_in, listed_on, listed_over, pushed, put_in_place, relisted, same_inode, same_place, stood_at, stood_on, stood_over, taken};
+ghost use Rattle.vt_mount.specs.Indexes.{has_slot, is_at, is_in, is_on, is_over, lacks, listed_at, listed_in, listed_on};
+ghost use Rattle.vt_mount.specs.Indexes.{listed_over, pushed, put_in_place, relisted, same_inode, same_place};
+ghost use Rattle.vt_mount.specs.Indexes.{stood_at, stood_on, stood_over, taken};
 
 use crate::lists::MountsBy;
 use std::alloc::{AllocError, Global};
@@ -42,10 +44,14 @@ impl Indexes {
         requires parent { (q : MountId) → lacks mount.now.number (listed_on self.old q) }
         requires place { (q : Location) → lacks mount.now.number (listed_at self.old q) }
         ensures slot { OnOk result (has_slot mount.now ≡ true) }
-        ensures namespace_ok { OnOk result ((q : NamespaceId) → listed_in self.new q ≡ pushed (is_in q mount.now) mount.now.number (listed_in self.old q)) }
-        ensures parent_ok { OnOk result ((q : MountId) → listed_on self.new q ≡ pushed (is_on q mount.now) mount.now.number (listed_on self.old q)) }
-        ensures place_ok { OnOk result ((q : Location) → listed_at self.new q ≡ pushed (is_at q mount.now) mount.now.number (listed_at self.old q)) }
-        ensures inode_ok { OnOk result ((q : NodeRef) → listed_over self.new q ≡ pushed (is_over q mount.now) mount.now.number (listed_over self.old q)) }
+        ensures namespace_ok { OnOk result ((q : NamespaceId) → listed_in self.new q
+            ≡ pushed (is_in q mount.now) mount.now.number (listed_in self.old q)) }
+        ensures parent_ok { OnOk result ((q : MountId) → listed_on self.new q
+            ≡ pushed (is_on q mount.now) mount.now.number (listed_on self.old q)) }
+        ensures place_ok { OnOk result ((q : Location) → listed_at self.new q
+            ≡ pushed (is_at q mount.now) mount.now.number (listed_at self.old q)) }
+        ensures inode_ok { OnOk result ((q : NodeRef) → listed_over self.new q
+            ≡ pushed (is_over q mount.now) mount.now.number (listed_over self.old q)) }
         ensures namespace_err { OnErr result ((q : NamespaceId) → listed_in self.new q ≡ listed_in self.old q) }
         ensures parent_err { OnErr result ((q : MountId) → listed_on self.new q ≡ listed_on self.old q) }
         ensures place_err { OnErr result ((q : Location) → listed_at self.new q ≡ listed_at self.old q) }
@@ -91,8 +97,10 @@ impl Indexes {
     ) -> Result<(), AllocError>
         ensures slot { nat_lt place.node.slot 18446744073709551616 ≡ true }
         ensures namespace { (q : NamespaceId) → listed_in self.new q ≡ listed_in self.old q }
-        ensures parent_ok { OnOk result ((q : MountId) → listed_on self.new q ≡ relisted (stood_on q was) (same_id q place.mount) mount (listed_on self.old q)) }
-        ensures place_ok { OnOk result ((q : Location) → listed_at self.new q ≡ relisted (stood_at q was) (same_place q place) mount (listed_at self.old q)) }
+        ensures parent_ok { OnOk result ((q : MountId) → listed_on self.new q
+            ≡ relisted (stood_on q was) (same_id q place.mount) mount (listed_on self.old q)) }
+        ensures place_ok { OnOk result ((q : Location) → listed_at self.new q
+            ≡ relisted (stood_at q was) (same_place q place) mount (listed_at self.old q)) }
         ensures inode_ok { OnOk result ((q : NodeRef) → listed_over self.new q
             ≡ relisted (stood_over q was) (same_inode q place.node) mount (listed_over self.old q)) }
         ensures parent_err { OnErr result ((q : MountId) → listed_on self.new q ≡ listed_on self.old q) }
@@ -128,8 +136,10 @@ impl Indexes {
         ensures place { (q : Location) → listed_at self.new q ≡ taken (stood_at q was) mount (listed_at self.old q) }
         ensures inode { (q : NodeRef) → listed_over self.new q ≡ taken (stood_over q was) mount (listed_over self.old q) }
         ensures parent_room { (q : MountId) → has_room same_id q self.old.by_parent ≡ true → has_room same_id q self.new.by_parent ≡ true }
-        ensures place_room { (q : Location) → has_room same_place q self.old.by_location ≡ true → has_room same_place q self.new.by_location ≡ true }
-        ensures inode_room { (q : NodeRef) → has_room same_inode q self.old.by_inode ≡ true → has_room same_inode q self.new.by_inode ≡ true }
+        ensures place_room { (q : Location) → has_room same_place q self.old.by_location
+            ≡ true → has_room same_place q self.new.by_location ≡ true }
+        ensures inode_room { (q : NodeRef) → has_room same_inode q self.old.by_inode
+            ≡ true → has_room same_inode q self.new.by_inode ≡ true }
     {
         if let Some(was) = was {
             self.by_parent.take_out(&was.mount, mount);
@@ -174,9 +184,11 @@ impl Indexes {
         requires place { (q : Location) → lacks mount (listed_at self.old q) }
         ensures slot { nat_lt place.node.slot 18446744073709551616 ≡ true }
         ensures same { self.new.by_namespace ≡ self.old.by_namespace }
-        ensures parent_ok { OnOk result ((q : MountId) → listed_on self.new q ≡ pushed (same_id q place.mount) mount (listed_on self.old q)) }
+        ensures parent_ok { OnOk result ((q : MountId) → listed_on self.new q
+            ≡ pushed (same_id q place.mount) mount (listed_on self.old q)) }
         ensures place_ok { OnOk result ((q : Location) → listed_at self.new q ≡ pushed (same_place q place) mount (listed_at self.old q)) }
-        ensures inode_ok { OnOk result ((q : NodeRef) → listed_over self.new q ≡ pushed (same_inode q place.node) mount (listed_over self.old q)) }
+        ensures inode_ok { OnOk result ((q : NodeRef) → listed_over self.new q
+            ≡ pushed (same_inode q place.node) mount (listed_over self.old q)) }
         ensures parent_err { OnErr result ((q : MountId) → listed_on self.new q ≡ listed_on self.old q) }
         ensures place_err { OnErr result ((q : Location) → listed_at self.new q ≡ listed_at self.old q) }
         ensures inode_err { OnErr result ((q : NodeRef) → listed_over self.new q ≡ listed_over self.old q) }
