@@ -21,7 +21,7 @@ same_count a b = by (nat_eq a b) (eqb-true a b) (eqb-false a b)
     by true same apart = eq-eqb (counted a) (counted b) (ap counted (same refl))
     by false same apart = ne_eqb (counted a) (counted b) (λ is. apart refl (omega (arith, is)))
 
-less_count : (a b : ℕ) → nat_lt (counted a) (counted b) ≡ nat_lt a b
+pub less_count : (a b : ℕ) → nat_lt (counted a) (counted b) ≡ nat_lt a b
 less_count a b = by (nat_lt a b) (ltb-true a b) (ltb-false a b)
   where
     by : (t : Bool) → (t ≡ true → a < b) → (t ≡ false → b ≤ a) → nat_lt (counted a) (counted b) ≡ t

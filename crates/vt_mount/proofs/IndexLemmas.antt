@@ -18,7 +18,7 @@ use Rattle.vt_mount.proofs.OrderLemmas.{both-first, both-second, change_kept, fo
 pub same : (a b : MountId) → same_id a b ≡ true → a ≡ b
 same a b is = ap (λ n. record { count = n }) (eqb-true a.count b.count is)
 
-turned : (a b : MountId) → same_id a b ≡ same_id b a
+pub turned : (a b : MountId) → same_id a b ≡ same_id b a
 turned a b = by (same_id a b) (same_id b a) refl refl
   where
     by : (t u : Bool) → same_id a b ≡ t → same_id b a ≡ u → t ≡ u
@@ -90,7 +90,7 @@ module _ (test : Mount → Bool) where
       by false false is passed rest =
           cons-numbers test one (without_kept id kept) ∙ (λ i. cond (passed i) (one.0 ∷ rest i) (rest i))
 
-  absent-others : (id : MountId) (kept : List (MountId × Mounted)) → found id kept ≡ None → others id (numbers_where test kept) ≡ numbers_where test kept
+  pub absent-others : (id : MountId) (kept : List (MountId × Mounted)) → found id kept ≡ None → others id (numbers_where test kept) ≡ numbers_where test kept
   absent-others id [] none = refl
   absent-others id (one ∷ kept) none =
       ap (others id) (cons-numbers test one kept)

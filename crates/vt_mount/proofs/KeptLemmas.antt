@@ -1,5 +1,5 @@
 -- The lists stay right where a mount is attached, detached or taken out.
-use Rattle.std.proofs.Common.{◌≡◌, ℕ, Bool, true, false, cond, ◌&&◌, T, List, [], ◌∷◌, ◌++◌, map, not, nat_lt, None, Some, Result, Ok, Err, OnOk, refl, sym, ap, ◌∙◌, true≢false, arith, eq-eqb, ne_eqb}
+use Rattle.std.proofs.Common.{◌≡◌, ℕ, Bool, true, false, cond, ◌&&◌, T, List, [], ◌∷◌, ◌++◌, map, not, nat_lt, None, Some, Result, Ok, Err, OnErr, OnOk, refl, sym, ap, ◌∙◌, true≢false, arith, eq-eqb, ne_eqb}
 use Rattle.std.specs.Prelude.{IsOk, is_err}
 use Rattle.std.specs.List.{list_all}
 use Rattle.std.proofs.lemmas.Bool.{ltb-true}
@@ -136,3 +136,7 @@ of-ok (Err e) ok p = absurd (true≢false (sym ok))
 pub not-err : {A E P : Type 0} (r : Result A E) → false ≡ is_err r → OnOk r P → P
 not-err (Ok a) fine p = p
 not-err (Err e) fine p = absurd (true≢false (sym fine))
+
+pub is-refused : {A E P : Type 0} (r : Result A E) → true ≡ is_err r → OnErr r P → P
+is-refused (Ok a) refused p = absurd (true≢false refused)
+is-refused (Err e) refused p = p

@@ -7,3 +7,4 @@ pub mod PlaceLemmas
 pub mod KeptLemmas
 pub mod PointLemmas
 pub mod TreeLemmas
+pub mod MoveLemmas

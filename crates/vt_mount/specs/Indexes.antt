@@ -1,5 +1,5 @@
 -- What mounts are listed under.
-use Rattle.std.specs.Prelude.{Bool, List, filter, if◌then◌else◌, nat_eq, nat_lt, not, option_map, true, unwrap_or, [], ◌&&◌, ◌++◌, ◌∷◌, ◌≡◌}
+use Rattle.std.specs.Prelude.{Bool, List, Option, filter, if◌then◌else◌, nat_eq, nat_lt, not, option_map, true, unwrap_or, [], ◌&&◌, ◌++◌, ◌∷◌, ◌≡◌}
 use Rattle.vt_spec.specs.Lists.{holds_of}
 use Rattle.vt_location.specs.declared.locations.Location.{Location}
 use Rattle.vt_location.specs.declared.locations.NodeRef.{NodeRef}
@@ -7,7 +7,7 @@ use Rattle.vt_location.specs.declared.mounts.Mount.{Mount}
 use Rattle.vt_location.specs.declared.numbers.MountId.{MountId}
 use Rattle.vt_location.specs.declared.numbers.NamespaceId.{NamespaceId}
 use Rattle.vt_mount.specs.declared.indexes.Indexes.{Indexes}
-use Rattle.vt_mount.specs.Listed.{listed, same_id}
+use Rattle.vt_mount.specs.Listed.{inserted, listed, same_id}
 
 abbrev pub same_namespace : NamespaceId → NamespaceId → Bool
 same_namespace a b = nat_eq a.count b.count
@@ -58,3 +58,20 @@ lacks id list = filter (λ other. not (same_id other id)) list ≡ list
 -- a mount point's inode is in a slot that there can be
 abbrev pub has_slot : Mount → Bool
 has_slot mount = unwrap_or (option_map (λ place. nat_lt place.node.slot 18446744073709551616) mount.mount_point) true
+
+-- where a mount stood is on this mount, at this location, on this inode
+abbrev pub stood_on : MountId → Option Location → Bool
+stood_on parent was = holds_of (λ place. same_id parent place.mount) was
+
+abbrev pub stood_at : Location → Option Location → Bool
+stood_at location was = holds_of (same_place location) was
+
+abbrev pub stood_over : NodeRef → Option Location → Bool
+stood_over inode was = holds_of (λ place. same_inode inode place.node) was
+
+-- a list that a mount leaves or not, and that it is put in or not
+abbrev pub put_in_place : Bool → MountId → List MountId → List MountId
+put_in_place here id list = if here then inserted id list else list
+
+abbrev pub relisted : Bool → Bool → MountId → List MountId → List MountId
+relisted there here id list = put_in_place here id (taken there id list)

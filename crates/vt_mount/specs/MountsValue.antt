@@ -1,5 +1,6 @@
 -- What the definitions see of the mounts that are kept.
-use Rattle.std.specs.Prelude.{Bool, List, Option, [], filter, find, if◌then◌else◌, map, nat_eq, not, option_map, unwrap_or, ℕ, ◌+◌, ◌-◌, ◌∷◌}
+use Rattle.std.specs.Prelude.{Bool, List, Option, [], filter, find, if◌then◌else◌, map, nat_eq, nat_lt, not, option_map, true, unwrap_or, ℕ, ◌&&◌, ◌+◌, ◌-◌, ◌∷◌}
+use Rattle.std.specs.List.{list_all}
 use Rattle.std.specs.FinMap.Entries.{put}
 use Rattle.std.specs.Ordering.{nat_cmp}
 use Rattle.std.specs.declared.cmp.Ordering.{Ordering}
@@ -18,6 +19,11 @@ pub record MountEntry : Type 0 where
 
 abbrev pub mounts_in : List MountEntry → List (meant.Mount ℕ)
 mounts_in entries = map (λ entry. entry.mount) entries
+
+-- each number is less than those after it
+abbrev pub are_ascending : List (meant.Mount ℕ) → Bool
+are_ascending [] = true
+are_ascending (mount ∷ mounts) = list_all (λ later. nat_lt mount.number later.number) mounts && are_ascending mounts
 
 -- the entry of the mount with this number
 abbrev pub entry_numbered : List MountEntry → ℕ → Option MountEntry

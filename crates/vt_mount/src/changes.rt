@@ -1,16 +1,17 @@
 //! Mounts are attached, moved and detached: mount(2), umount(2).
-ghost use Rattle.std.specs.Prelude.{◌≡◌, ◌++◌, ◌∷◌, [], filter, find, nat_eq, nat_lt, not, option_map, true, IfErr, OnErr, OnOk};
+ghost use Rattle.std.specs.Prelude.{Some, ◌≡◌, ◌++◌, ◌∷◌, [], filter, find, nat_eq, nat_lt, not, option_map, true, IfErr, OnErr, OnOk};
 ghost use Rattle.std.specs.List.{list_all};
 ghost use Rattle.vt_spec.specs.declared.errors.Rule.TheVariants.{S5};
 ghost use Rattle.vt_spec.specs.Errors.{denial};
 ghost use Rattle.vt_spec.specs.Machine.Mounts.{detached};
+ghost use Rattle.vt_location.specs.Locations.{location_of};
 ghost use Rattle.vt_location.specs.MountValue.{mount_of};
 ghost use Rattle.vt_location.specs.Numbers.{counted};
 ghost use Rattle.vt_mount.specs.MountsValue.{changed, mounts_in, without};
 
 use crate::mounted::Mounted;
 use crate::mounts::Mounts;
-use vt_location::{Mount, MountId, Propagation};
+use vt_location::{Location, Mount, MountId, Propagation};
 use vt_spec::errors::{Deny, Rule};
 
 impl Mounts {
@@ -41,6 +42,26 @@ impl Mounts {
         let mount = kept.mount(id);
         self.indexes.leave(&mount);
         Some(mount)
+    }
+
+    /// Moves a mount to another mount point: mount(2) with `MS_MOVE`.
+    ///
+    /// S5 (ENOMEM): memory was refused.
+    pub fn move_to(&mut self, id: MountId, place: Location) -> Result<(), Deny>
+        ensures ok { OnOk result (self.new
+            ≡ changed (counted id.count)
+            (λ entry. record entry { mount = record entry.mount { mount_point = Some (location_of place) } }) self.old) }
+        ensures memory { IfErr result (λ deny. deny ≡ denial S5) }
+        ensures err { OnErr result (self.new ≡ self.old) }
+    {
+        let Some(kept) = self.by_number.get_mut(&id) else {
+            return Ok(());
+        };
+        if self.indexes.relist(kept.mount_point, place, id).is_err() {
+            return Err(Rule::S5.denial());
+        }
+        kept.mount_point = Some(place);
+        Ok(())
     }
 
     /// Detaches a mount: it has no mount point, namespace or peer group any more, and keeps its users: umount(2) with

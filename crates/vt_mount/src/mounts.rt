@@ -1,5 +1,6 @@
 //! The mounts that there are, by their numbers.
-ghost use Rattle.std.specs.Prelude.{◌≡◌, ◌++◌, ◌∷◌, [], None, Some, filter, find, length, map, nat_eq, nat_lt, not, option_map, true, ◌<◌, IfErr, IsOk, OnErr, OnOk, IfSome};
+ghost use Rattle.std.specs.Prelude.{◌≡◌, ◌++◌, ◌∷◌, [], None, Some, filter, find, length, map};
+ghost use Rattle.std.specs.Prelude.{nat_eq, nat_lt, not, option_map, true, ◌<◌, IfErr, IsOk, OnErr, OnOk, IfSome};
 ghost use Rattle.std.specs.List.{list_all};
 ghost use Rattle.vt_spec.specs.declared.errors.Rule.TheVariants.{S5};
 ghost use Rattle.vt_spec.specs.Errors.{denial};
@@ -8,7 +9,7 @@ ghost use Rattle.vt_location.specs.Flags.{flags_of};
 ghost use Rattle.vt_location.specs.Locations.{location_of};
 ghost use Rattle.vt_location.specs.MountValue.{mount_of, propagation_of};
 ghost use Rattle.vt_location.specs.Numbers.{counted};
-ghost use Rattle.vt_mount.specs.MountsValue.{changed, held, mounts_in, released, uses_of, writers_of};
+ghost use Rattle.vt_mount.specs.MountsValue.{are_ascending, changed, held, mounts_in, released, uses_of, writers_of};
 
 use crate::indexes::Indexes;
 use crate::mounted::Mounted;
@@ -60,6 +61,13 @@ impl Mounts {
         self.by_number.len()
     }
 
+    /// Mounts have numbers that are apart, and stand in the order of these.
+    pub fn are_ascending(&self)
+        ensures { are_ascending (mounts_in self.now) ≡ true }
+    {
+        let _ = &self.by_number;
+    }
+
     /// The mount of this number.
     pub fn get(&self, id: MountId) -> Option<Mount>
         ensures { option_map mount_of result ≡ find (λ mount. nat_eq (counted id.count) mount.number) (mounts_in self.now) }
@@ -97,7 +105,8 @@ impl Mounts {
 
     /// Sets the flags of one mount: mount(2) with `MS_REMOUNT` and `MS_BIND`. It takes no memory.
     pub fn set_flags(&mut self, id: MountId, flags: MountFlags)
-        ensures { self.new ≡ changed (counted id.count) (λ entry. record entry { mount = record entry.mount { flags = flags_of flags } }) self.old }
+        ensures { self.new
+            ≡ changed (counted id.count) (λ entry. record entry { mount = record entry.mount { flags = flags_of flags } }) self.old }
     {
         if let Some(kept) = self.by_number.get_mut(&id) {
             kept.flags = flags;
@@ -107,7 +116,8 @@ impl Mounts {
     /// Sets the propagation type of one mount: mount(2) with `MS_PRIVATE` and so on. It takes no memory.
     pub fn set_propagation(&mut self, id: MountId, propagation: Propagation)
         ensures { self.new
-            ≡ changed (counted id.count) (λ entry. record entry { mount = record entry.mount { propagation = propagation_of propagation } }) self.old }
+            ≡ changed (counted id.count)
+            (λ entry. record entry { mount = record entry.mount { propagation = propagation_of propagation } }) self.old }
     {
         if let Some(kept) = self.by_number.get_mut(&id) {
             kept.propagation = propagation;

@@ -13,14 +13,16 @@ use vt_location::{Location, MountId, NamespaceId, NodeRef};
 impl Mounts {
     /// The mount that stands at a location: the first that was attached there.
     pub fn child_at(&self, place: Location) -> Option<MountId>
-        ensures { option_map (λ id. counted id.count) result ≡ option_map (λ child. child.number) (child_at nat_eq (mounts_in self.now) (location_of place)) }
+        ensures { option_map (λ id. counted id.count) result
+            ≡ option_map (λ child. child.number) (child_at nat_eq (mounts_in self.now) (location_of place)) }
     {
         self.indexes.by_location.get(&place).first().copied()
     }
 
     /// The children of a mount, in the order in which they were attached.
     pub fn children(&self, id: MountId) -> &[MountId]
-        ensures { map (λ id. counted id.count) result.now ≡ map (λ child. child.number) (children nat_eq (mounts_in self.now) (counted id.count)) }
+        ensures { map (λ id. counted id.count) result.now
+            ≡ map (λ child. child.number) (children nat_eq (mounts_in self.now) (counted id.count)) }
     {
         self.indexes.by_parent.get(&id)
     }
@@ -60,14 +62,16 @@ impl Mounts {
 
     /// The mounts that stand on an inode, through whatever mount it is seen, in the order in which they were attached.
     pub fn mounts_on(&self, inode: NodeRef) -> &[MountId]
-        ensures { map (λ id. counted id.count) result.now ≡ map (λ mount. mount.number) (filter (stands_over (number_of inode)) (mounts_in self.now)) }
+        ensures { map (λ id. counted id.count) result.now
+            ≡ map (λ mount. mount.number) (filter (stands_over (number_of inode)) (mounts_in self.now)) }
     {
         self.indexes.by_inode.get(&inode)
     }
 
     /// Whether a mount of this namespace stands on an inode: EBUSY of rmdir(2).
     pub fn is_point_in(&self, namespace: NamespaceId, inode: NodeRef) -> bool
-        ensures { result ≡ list_any (λ mount. stands_over (number_of inode) mount && holds_of (nat_eq (counted namespace.count)) mount.namespace)
+        ensures { result
+            ≡ list_any (λ mount. stands_over (number_of inode) mount && holds_of (nat_eq (counted namespace.count)) mount.namespace)
             (mounts_in self.now) }
     {
         self.indexes
@@ -101,7 +105,8 @@ impl Mounts {
 
     // Whether a mount is attached in any namespace.
     fn is_attached(&self, id: MountId) -> bool
-        ensures { result ≡ holds_of (λ mount. is_some mount.namespace) (find (λ mount. nat_eq (counted id.count) mount.number) (mounts_in self.now)) }
+        ensures { result
+            ≡ holds_of (λ mount. is_some mount.namespace) (find (λ mount. nat_eq (counted id.count) mount.number) (mounts_in self.now)) }
     {
         match self.get(id) {
             Some(mount) => mount.namespace.is_some(),
@@ -112,7 +117,8 @@ impl Mounts {
     /// The mounts that are attached in a namespace, in the order in which they were attached.
     pub fn attached_in(&self, namespace: NamespaceId) -> &[MountId]
         ensures { map (λ id. counted id.count) result.now
-            ≡ map (λ mount. mount.number) (filter (λ mount. holds_of (nat_eq (counted namespace.count)) mount.namespace) (mounts_in self.now)) }
+            ≡ map (λ mount. mount.number)
+            (filter (λ mount. holds_of (nat_eq (counted namespace.count)) mount.namespace) (mounts_in self.now)) }
     {
         self.indexes.by_namespace.get(&namespace)
     }

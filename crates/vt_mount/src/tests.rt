@@ -55,6 +55,17 @@ fn mounts_are_attached_and_detached(rt: HostRuntime) -> Result<(), Fail> {
         ]
         .as_slice()
     );
+    mounts.move_to(MountId::new(3), place(5, 9))?;
+    assert_eq!(rt;
+        mounts.children(MountId::new(0)),
+        [MountId::new(5)].as_slice()
+    );
+    assert_eq!(rt; mounts.child_at(place(5, 9)), Some(MountId::new(3)));
+    mounts.move_to(MountId::new(3), place(0, 7))?;
+    assert_eq!(rt;
+        mounts.children(MountId::new(0)),
+        [MountId::new(3), MountId::new(5)].as_slice()
+    );
     mounts.hold(MountId::new(5), true)?;
     mounts.detach(MountId::new(5));
     assert_eq!(rt; mounts.child_at(place(0, 8)), None);

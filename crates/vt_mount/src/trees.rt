@@ -25,7 +25,8 @@ impl Mounts {
     /// S5 (ENOMEM): memory was refused.
     pub fn tree(&self, id: MountId) -> Result<Vec<MountId>, Deny>
         ensures ok { IfOk result (λ tree. map (λ id. counted id.count) tree.items
-            ≡ map (λ mount. mount.number) (mount_tree nat_eq (mounts_in self.now) (mount_in nat_eq (mounts_in self.now) (counted id.count)))) }
+            ≡ map (λ mount. mount.number) (mount_tree nat_eq (mounts_in self.now)
+            (mount_in nat_eq (mounts_in self.now) (counted id.count)))) }
         ensures memory { IfErr result (λ deny. deny ≡ denial S5) }
     {
         let Ok(tree) = self.tree_of(id) else {
@@ -37,7 +38,8 @@ impl Mounts {
     // The tree of a mount. No tree is deeper than there are mounts.
     fn tree_of(&self, id: MountId) -> Result<Vec<MountId>, AllocError>
         ensures { IfOk result (λ tree. map (λ id. counted id.count) tree.items
-            ≡ map (λ mount. mount.number) (mount_tree nat_eq (mounts_in self.now) (mount_in nat_eq (mounts_in self.now) (counted id.count)))) }
+            ≡ map (λ mount. mount.number) (mount_tree nat_eq (mounts_in self.now)
+            (mount_in nat_eq (mounts_in self.now) (counted id.count)))) }
     {
         let alloc = *self.by_number.allocator();
         let mut tree = Vec::new(alloc);
@@ -66,11 +68,18 @@ impl Mounts {
 }
 
 // Puts mounts on a stack, the last one first.
-fn push_reversed(waiting: &mut Vec<Branch>, children: &[MountId], depth: usize) -> Result<(), AllocError>
-    ensures { OnOk result (waiting.new.items ≡ waiting.old.items ++ map (λ id. record { mount = id; depth = depth }) (reverse children.now)) }
+fn push_reversed(
+    waiting: &mut Vec<Branch>,
+    children: &[MountId],
+    depth: usize,
+) -> Result<(), AllocError>
+    ensures { OnOk result (waiting.new.items
+        ≡ waiting.old.items ++ map (λ id. record { mount = id; depth = depth }) (reverse children.now)) }
 {
-    waiting.extend(children.iter().rev().map(|mount| Branch {
-        mount: *mount,
-        depth,
-    }))
+    waiting.extend(
+        children.iter().rev().map(|mount| Branch {
+            mount: *mount,
+            depth,
+        }),
+    )
 }
