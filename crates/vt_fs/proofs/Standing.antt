@@ -67,6 +67,9 @@ nowhere fs f absent = by (entry_of fs f) absent
     by None e = refl
     by (Some entry) e = absurd cc
 
+pub entry_nowhere : (fs : Filesystems) (f : ℕ) → option_map (λ (entry : FilesystemEntry). entry.tree) (entry_of fs f) ≡ None → entry_at fs f ≡ no_entry f
+entry_nowhere fs f absent = ap (λ o. unwrap_or o (no_entry f)) (nowhere fs f absent)
+
 module _ (f : ℕ) (change : Inodes ℕ → Inodes ℕ) where
   -- where no filesystem has the count, none is shown changed
   none_shown : (k : ℕ) (fs : Filesystems) → k ≡ f → list_any (λ other. nat_eq k other.count) fs ≡ false → shown_with f change (shown fs) ≡ shown fs

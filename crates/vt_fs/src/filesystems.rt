@@ -1,5 +1,5 @@
 //! `Filesystems`, and the calls that look at them and change them.
-ghost use Rattle.std.specs.Prelude.{◌≡◌, ◌≢◌, [], ◌+◌, ◌-◌, ◌++◌, ◌∷◌, ◌↔◌, ◌⊎◌, nat_eq, length, map, drop, take, false, is_some, slice_get, None, Ok, Some, IfOk, IfErr, IfSome, IsErrOf, IsOk, IsOkUnless, IsTrue, OnOk, OnErr, ◌<◌, option_copied, option_map};
+ghost use Rattle.std.specs.Prelude.{◌≡◌, ◌≢◌, ℕ, [], ◌+◌, ◌-◌, ◌++◌, ◌∷◌, ◌↔◌, ◌⊎◌, nat_eq, length, map, drop, take, false, is_some, slice_get, None, Ok, Some, IfOk, IfErr, IfSome, IsErrOf, IsOk, IsOkUnless, IsTrue, OnOk, OnErr, ◌<◌, option_copied, option_map};
 ghost use Rattle.std.specs.Option.{option_copied_mut};
 ghost use Rattle.std.specs.Borrow.{sem};
 ghost use Rattle.vt_spec.specs.Errors.{denial};
@@ -18,7 +18,7 @@ ghost use Rattle.vt_spec.specs.TreeLaws.{entry_at as number_at};
 ghost use Rattle.vt_tree.specs.TreeRules.{AnswersBy, hard_link_rules, make_rules, rename_rules, ruling, unlink_rules, write_rules};
 ghost use Rattle.vt_slots.specs.Slots.{most_uses};
 ghost use Rattle.vt_location.specs.Locations.{number_of};
-ghost use Rattle.vt_location.specs.Numbers.{exchanged};
+ghost use Rattle.vt_location.specs.Numbers.{exchanged, is_inode_of};
 
 use indexmap::IndexMap;
 use std::alloc::Global;
@@ -92,6 +92,16 @@ impl Filesystems {
         ensures { any_pair (λ a b. nat_eq a.number b.number) (filesystems_seen self.now) ≡ false }
     {
         let _len = self.by_number.len();
+    }
+
+    /// An inode of a filesystem has one of the filesystem's numbers.
+    pub fn has_own_numbers(&self, filesystem: FilesystemId)
+        ensures { (number : ℕ) → is_inode_of filesystem.count number ≡ false
+            → (inodes_at self.now filesystem.count).inode number ≡ None }
+    {
+        if let Some(tree) = self.get(filesystem) {
+            tree.numbers_fit();
+        }
     }
 
     /// Whether there is such a filesystem.

@@ -1,5 +1,5 @@
 //! `Slots`, and the slot of one node.
-ghost use Rattle.std.specs.Prelude.{◌≡◌, [], ◌+◌, ◌-◌, ◌<◌, ◌≤◌, None, Some, IsSome, IsOk, IfOk, IfErr, IsErrOf, OnOk, OnErr, ◌↔◌, option_copied, if◌then◌else◌};
+ghost use Rattle.std.specs.Prelude.{◌≡◌, ℕ, ◌^◌, [], ◌+◌, ◌-◌, ◌<◌, ◌≤◌, None, Some, IsSome, IsOk, IfOk, IfErr, IsErrOf, OnOk, OnErr, ◌↔◌, option_copied, if◌then◌else◌};
 ghost use Rattle.std.specs.Option.{option_copied_mut};
 ghost use Rattle.std.specs.Borrow.{Lends, sem};
 ghost use Rattle.vt_spec.specs.Errors.{denial};
@@ -120,6 +120,13 @@ impl Slots {
         ensures { result ≡ slots_len self.now }
     {
         self.slab.len()
+    }
+
+    /// No node has a number of 2^64 or more.
+    pub fn numbers_fit(&self)
+        ensures { (id : ℕ) → 2 ^ 64 ≤ id → slot_at self.now id ≡ None }
+    {
+        let _capacity = self.slab.capacity();
     }
 
     /// The number that the next insert gives out.

@@ -1,5 +1,5 @@
 //! `Tree`, and what its calls change.
-ghost use Rattle.std.specs.Prelude.{◌≡◌, ◌≢◌, ◌+◌, ◌<◌, nat_eq, [], ◌∷◌, map, length, drop, take, Ok, None, Some, IfOk, IfErr, OnOk, OnErr, IsErrOf, IsOk, IsOkUnless, IsTrue, ◌↔◌, ◌⊎◌, option_copied};
+ghost use Rattle.std.specs.Prelude.{◌≡◌, ◌≢◌, ℕ, ◌^◌, ◌≤◌, ◌+◌, ◌<◌, nat_eq, [], ◌∷◌, map, length, drop, take, Ok, None, Some, IfOk, IfErr, OnOk, OnErr, IsErrOf, IsOk, IsOkUnless, IsTrue, ◌↔◌, ◌⊎◌, option_copied};
 ghost use Rattle.vt_spec.specs.Errors.{denial};
 ghost use Rattle.vt_spec.specs.declared.attributes.Kind.TheVariants.{File};
 ghost use Rattle.vt_spec.specs.declared.errors.Rule.TheVariants.{S5, E2};
@@ -70,6 +70,13 @@ impl Tree {
         ensures { result ≡ (inodes_of self.now).count }
     {
         self.slots.len()
+    }
+
+    /// No object has a number of 2^64 or more.
+    pub fn numbers_fit(&self)
+        ensures { (id : ℕ) → 2 ^ 64 ≤ id → (inodes_of self.now).inode id ≡ None }
+    {
+        self.slots.numbers_fit();
     }
 
     /// The number that the next new object gets, which no node has.
