@@ -2,7 +2,7 @@
 ghost use Rattle.std.specs.Prelude.{◌≡◌, nat_eq, option_copied, option_map, Bool, IfErr, IfOk, ℕ};
 ghost use Rattle.vt_spec.specs.declared.errors.Rule.TheVariants.{S5};
 ghost use Rattle.vt_spec.specs.Errors.{denial};
-ghost use Rattle.vt_spec.specs.Machine.Looks.{Looks, topmost};
+ghost use Rattle.vt_spec.specs.Machine.Looks.{Looks, mount_at, topmost};
 ghost use Rattle.vt_spec.specs.Machine.Permits.{Permit};
 ghost use Rattle.vt_spec.specs.Machine.Rules.Conditions.{is_point_anywhere, is_point_in};
 ghost use Rattle.vt_location.specs.Locations.{location_of, number_of};
@@ -84,9 +84,13 @@ pub trait Look {
     fn is_removed(&self, at: Location) -> bool
         ensures { result ≡ (looks self.now).is_removed (location_of at) };
 
-    /// Whether a directory is another one, or lies under it: EINVAL of rename(2).
-    fn is_under(&self, top: NodeRef, directory: NodeRef) -> bool
-        ensures { result ≡ (looks self.now).is_under (counted top.filesystem) (number_of top) (number_of directory) };
+    /// Whether a directory of the filesystem that a location is in is the one there, or lies under it: EINVAL of rename(2).
+    fn is_under(&self, top: Location, directory: NodeRef) -> bool
+        ensures { result ≡ (looks self.now).is_under (mount_at (looks self.now) (location_of top)).filesystem (number_of top.node) (number_of directory) };
+
+    /// Whether what is at a location is the root of its mount, or lies under that: ENOENT of `..`.
+    fn is_under_root(&self, at: Location) -> bool
+        ensures { result ≡ (looks self.now).is_under (mount_at (looks self.now) (location_of at)).filesystem (mount_at (looks self.now) (location_of at)).root (number_of at.node) };
 
     /// Whether what is attached would leave a namespace with more than 4,096 mounts: ENOSPC of mount(2).
     ///

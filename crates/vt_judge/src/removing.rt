@@ -1,0 +1,152 @@
+//! Calls that remove and rename: unlink(2), rmdir(2), rename(2).
+ghost use Rattle.std.specs.Prelude.{◌≡◌, nat_eq, Ok, ℕ};
+ghost use Rattle.vt_spec.specs.Errors.{unless};
+ghost use Rattle.vt_spec.specs.Machine.Judge.{rename_permit, rmdir_permit, unlink_permit};
+ghost use Rattle.vt_spec.specs.Machine.Rules.Removing.{is_one_object, rename_rules, same_object_rules};
+ghost use Rattle.vt_spec.specs.Machine.Walking.{Place as PlaceMeant};
+ghost use Rattle.vt_location.specs.Locations.{location_of};
+ghost use Rattle.vt_permits.specs.Memory.{Judges};
+ghost use Rattle.vt_task.specs.TaskValue.{task_of};
+ghost use Rattle.vt_judge.specs.Ends.{IsPlaceOf};
+
+use crate::paths::{old_leaf_place, old_place, rename_place};
+use crate::rights::{is_directory, is_filled, is_kept, is_read_only, may, name_at};
+use std::alloc::Global;
+use vt_cred::Rights;
+use vt_location::Location;
+use vt_looks::Look;
+use vt_permits::Permit;
+use vt_spec::errors::{Deny, Rule};
+use vt_task::Task;
+use vt_walks::{LastWord, Place};
+
+/// After the rules of the walk: E2 (EISDIR), F1 (EROFS), C1 (EACCES), C3 (EPERM).
+#[tactic(auto, unfolding(vt_spec::specs::Machine::Judge::unlink_permit))]
+pub fn unlink<L: Look>(alloc: Global, world: &L, who: &Task, path: &[u8]) -> Result<Permit, Deny>
+    ensures { Judges (task_of who.now) (unlink_permit nat_eq (L.looks world.now) (task_of who.now) path.now) result }
+{
+    world.has_no_overlays();
+    let place = old_leaf_place(world, who, path)?;
+    let object = place.object.unwrap_or(place.parent);
+    if place.last.is_special() || is_directory(world, object) {
+        return Err(Rule::E2.denial());
+    }
+    if is_read_only(world, place.parent) {
+        return Err(Rule::F1.denial());
+    }
+    may_remove(world, who, place.parent, object)?;
+    Ok(Permit::ToUnlink {
+        directory: place.parent,
+        name: name_at(alloc, &place)?,
+        object: object.node,
+    })
+}
+
+// The caller may take a name of an object from a directory: C1 (EACCES), C3 (EPERM).
+fn may_remove<L: Look>(world: &L, who: &Task, directory: Location, object: Location) -> Result<(), Deny>
+    ensures { result ≡ unless (remove_rules (L.looks world.now) (task_of who.now) (location_of directory) (location_of object)) (Ok tt) }
+{
+    if !may(world, who, directory, Rights::WRITE) {
+        return Err(Rule::C1.denial());
+    }
+    if is_kept(world, who, directory, object) {
+        return Err(Rule::C3.denial());
+    }
+    Ok(())
+}
+
+/// After the rules of the walk the special last words, and then E3 (ENOTDIR), E4 (ENOTEMPTY), F1 (EROFS), P1 (EBUSY),
+/// C1 (EACCES), C3 (EPERM).
+#[tactic(auto, unfolding(vt_spec::specs::Machine::Judge::rmdir_permit))]
+pub fn rmdir<L: Look>(alloc: Global, world: &L, who: &Task, path: &[u8]) -> Result<Permit, Deny>
+    ensures { Judges (task_of who.now) (rmdir_permit nat_eq (L.looks world.now) (task_of who.now) path.now) result }
+{
+    world.has_no_overlays();
+    let place = old_place(world, who, path)?;
+    match place.last {
+        LastWord::DotDot => return Err(Rule::E4.denial()),
+        LastWord::Dot => return Err(Rule::E5.denial()),
+        LastWord::NoWord => return Err(Rule::P1.denial()),
+        LastWord::Named(_) => {}
+    }
+    let directory = place.object.unwrap_or(place.parent);
+    if !is_directory(world, directory) {
+        return Err(Rule::E3.denial());
+    }
+    if is_filled(world, directory) {
+        return Err(Rule::E4.denial());
+    }
+    if is_read_only(world, place.parent) {
+        return Err(Rule::F1.denial());
+    }
+    if world.is_point_in(who.namespace, directory) {
+        return Err(Rule::P1.denial());
+    }
+    may_remove(world, who, place.parent, directory)?;
+    Ok(Permit::ToRemoveDirectory {
+        parent: place.parent,
+        name: name_at(alloc, &place)?,
+        directory,
+    })
+}
+
+/// After the rules of the first walk, P1 (EBUSY) of its special last word; the same of the second; then those of two
+/// objects, or of two names of one.
+#[tactic(auto, unfolding(vt_spec::specs::Machine::Judge::rename_permit))]
+pub fn rename<L: Look>(
+    alloc: Global,
+    world: &L,
+    who: &Task,
+    old: &[u8],
+    new: &[u8],
+) -> Result<Permit, Deny>
+    ensures { Judges (task_of who.now) (rename_permit nat_eq (L.looks world.now) (task_of who.now) old.now new.now) result }
+{
+    let from = old_leaf_place(world, who, old)?;
+    if from.last.is_special() {
+        return Err(Rule::P1.denial());
+    }
+    let object = from.object.unwrap_or(from.parent);
+    let to = rename_place(world, who, new, is_directory(world, object))?;
+    if to.last.is_special() {
+        return Err(Rule::P1.denial());
+    }
+    if is_name_of(world, object, &to) {
+        may_stay(world, &from, &to)?;
+        return Ok(Permit::Allowed);
+    }
+    may_rename(world, who, &from, &to, object)?;
+    Ok(Permit::ToRename {
+        from: from.parent,
+        old: name_at(alloc, &from)?,
+        to: to.parent,
+        new: name_at(alloc, &to)?,
+        object,
+        replaced: to.object,
+    })
+}
+
+// Whether a place is a name of this object.
+fn is_name_of<L: Look>(world: &L, object: Location, place: &Place) -> bool
+    ensures { result ≡ is_one_object nat_eq (L.looks world.now) (location_of object) (option_map location_of place.now.object) }
+{
+    match place.object {
+        Some(there) => world.is_same_filesystem(object, there) && object.node == there.node,
+        None => false,
+    }
+}
+
+// Two names of one object stay: F1 (EROFS), P2 (EXDEV).
+fn may_stay<L: Look>(world: &L, from: &Place, to: &Place) -> Result<(), Deny>
+    ensures { (old new : PlaceMeant ℕ) → IsPlaceOf from.now old → IsPlaceOf to.now new
+        → result ≡ unless (same_object_rules nat_eq (L.looks world.now) old new) (Ok tt) }
+{
+    world.has_no_overlays();
+    if is_read_only(world, from.parent) || is_read_only(world, to.parent) {
+        return Err(Rule::F1.denial());
+    }
+    if from.parent.mount != to.parent.mount {
+        return Err(Rule::P2.denial());
+    }
+    Ok(())
+}
