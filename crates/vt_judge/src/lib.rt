@@ -10,6 +10,7 @@ mod paths;
 mod removing;
 mod rights;
 mod tasks;
+mod words;
 
 pub use attributes::{chmod, chown};
 pub use descriptors::{close, open, pread, pwrite};

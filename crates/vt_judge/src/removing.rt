@@ -1,16 +1,19 @@
 //! Calls that remove and rename: unlink(2), rmdir(2), rename(2).
-ghost use Rattle.std.specs.Prelude.{◌≡◌, nat_eq, Ok, ℕ};
+ghost use Rattle.std.specs.Prelude.{◌≡◌, ◌||◌, nat_eq, option_map, Ok, ℕ};
 ghost use Rattle.vt_spec.specs.Errors.{unless};
 ghost use Rattle.vt_spec.specs.Machine.Judge.{rename_permit, rmdir_permit, unlink_permit};
+ghost use Rattle.vt_spec.specs.Lists.{holds_of};
+ghost use Rattle.vt_spec.specs.Machine.Rules.Conditions.{is_point_anywhere, is_point_in};
 ghost use Rattle.vt_spec.specs.Machine.Rules.Removing.{is_one_object, rename_rules, same_object_rules};
 ghost use Rattle.vt_spec.specs.Machine.Walking.{Place as PlaceMeant};
 ghost use Rattle.vt_location.specs.Locations.{location_of};
 ghost use Rattle.vt_permits.specs.Memory.{Judges};
 ghost use Rattle.vt_task.specs.TaskValue.{task_of};
 ghost use Rattle.vt_judge.specs.Ends.{IsPlaceOf};
+ghost use Rattle.vt_judge.specs.Tables.{kind_rules, remove_rules};
 
 use crate::paths::{old_leaf_place, old_place, rename_place};
-use crate::rights::{is_directory, is_filled, is_kept, is_read_only, may, name_at};
+use crate::rights::{is_directory, is_filled, is_kept, is_read_only, is_same_filesystem, may, name_at};
 use std::alloc::Global;
 use vt_cred::Rights;
 use vt_location::Location;
@@ -18,7 +21,7 @@ use vt_looks::Look;
 use vt_permits::Permit;
 use vt_spec::errors::{Deny, Rule};
 use vt_task::Task;
-use vt_walks::{LastWord, Place};
+use crate::words::{LastWord, Place};
 
 /// After the rules of the walk: E2 (EISDIR), F1 (EROFS), C1 (EACCES), C3 (EPERM).
 #[tactic(auto, unfolding(vt_spec::specs::Machine::Judge::unlink_permit))]
@@ -131,7 +134,7 @@ fn is_name_of<L: Look>(world: &L, object: Location, place: &Place) -> bool
     ensures { result ≡ is_one_object nat_eq (L.looks world.now) (location_of object) (option_map location_of place.now.object) }
 {
     match place.object {
-        Some(there) => world.is_same_filesystem(object, there) && object.node == there.node,
+        Some(there) => is_same_filesystem(world, object, there) && object.node == there.node,
         None => false,
     }
 }
@@ -149,4 +152,86 @@ fn may_stay<L: Look>(world: &L, from: &Place, to: &Place) -> Result<(), Deny>
         return Err(Rule::P2.denial());
     }
     Ok(())
+}
+
+// What has the new name may give it to the object: E2 (EISDIR), E3 (ENOTDIR), E4 (ENOTEMPTY); and a directory does not go
+// under itself: E5 (EINVAL).
+fn may_replace<L: Look>(world: &L, to: &Place, object: Location) -> Result<(), Deny>
+    ensures { (new : PlaceMeant ℕ) → IsPlaceOf to.now new
+        → result ≡ unless (kind_rules nat_eq (L.looks world.now) new (location_of object)) (Ok tt) }
+{
+    let moves_directory = is_directory(world, object);
+    if let Some(replaced) = to.object {
+        if !moves_directory && is_directory(world, replaced) {
+            return Err(Rule::E2.denial());
+        }
+        if moves_directory && !is_directory(world, replaced) {
+            return Err(Rule::E3.denial());
+        }
+        if moves_directory && is_filled(world, replaced) {
+            return Err(Rule::E4.denial());
+        }
+    }
+    if moves_directory
+        && is_same_filesystem(world, object, to.parent)
+        && world.is_under(object, to.parent.node)
+    {
+        return Err(Rule::E5.denial());
+    }
+    Ok(())
+}
+
+// Whether a mount stands in the way of a rename: on the old object in any namespace, or on the new one in the caller's.
+fn is_point<L: Look>(world: &L, who: &Task, object: Location, replaced: Option<Location>) -> bool
+    ensures { result ≡ (is_point_anywhere (L.looks world.now) (location_of object)
+        || holds_of (is_point_in nat_eq (L.looks world.now) (task_of who.now).namespace) (option_map location_of replaced)) }
+{
+    if world.is_point_anywhere(object) {
+        return true;
+    }
+    match replaced {
+        Some(replaced) => world.is_point_in(who.namespace, replaced),
+        None => false,
+    }
+}
+
+// An object may leave one name for another: E2 (EISDIR), E3 (ENOTDIR), E4 (ENOTEMPTY), E5 (EINVAL), F1 (EROFS), P1 (EBUSY),
+// P2 (EXDEV), C1 (EACCES), C3 (EPERM).
+fn may_rename<L: Look>(
+    world: &L,
+    who: &Task,
+    from: &Place,
+    to: &Place,
+    object: Location,
+) -> Result<(), Deny>
+    ensures { (old new : PlaceMeant ℕ) → IsPlaceOf from.now old → IsPlaceOf to.now new
+        → result ≡ unless (rename_rules nat_eq (L.looks world.now) (task_of who.now) old new (location_of object)) (Ok tt) }
+{
+    world.has_no_overlays();
+    may_replace(world, to, object)?;
+    if is_read_only(world, from.parent) || is_read_only(world, to.parent) {
+        return Err(Rule::F1.denial());
+    }
+    if is_point(world, who, object, to.object) {
+        return Err(Rule::P1.denial());
+    }
+    if from.parent.mount != to.parent.mount {
+        return Err(Rule::P2.denial());
+    }
+    if !may(world, who, from.parent, Rights::WRITE) || !may(world, who, to.parent, Rights::WRITE) {
+        return Err(Rule::C1.denial());
+    }
+    if is_directory(world, object)
+        && from.parent != to.parent
+        && !may(world, who, object, Rights::WRITE)
+    {
+        return Err(Rule::C1.denial());
+    }
+    if is_kept(world, who, from.parent, object) {
+        return Err(Rule::C3.denial());
+    }
+    match to.object {
+        Some(replaced) if is_kept(world, who, to.parent, replaced) => Err(Rule::C3.denial()),
+        _ => Ok(()),
+    }
 }

@@ -2,26 +2,28 @@
 ghost use Rattle.std.specs.Prelude.{◌≡◌, nat_eq, Ok, Err, IfOk, IfErr};
 ghost use Rattle.vt_spec.specs.declared.errors.Rule.TheVariants.{S5};
 ghost use Rattle.vt_spec.specs.Errors.{denial};
-ghost use Rattle.vt_spec.specs.Machine.Looks.{is_directory_at, may};
+ghost use Rattle.vt_spec.specs.Machine.Looks.{is_directory_at, may, mount_at};
+ghost use Rattle.vt_spec.specs.Machine.Mounts.{is_shared, is_unbindable};
 ghost use Rattle.vt_spec.specs.Machine.Rows.{exact_attr, new_attr};
 ghost use Rattle.vt_spec.specs.Machine.Rules.Attributes.{attr_at};
 ghost use Rattle.vt_spec.specs.Machine.Rules.Conditions.{is_elsewhere, is_kept, is_no_root, is_read_only, kind_at, lacks};
-ghost use Rattle.vt_spec.specs.Machine.Rules.Removing.{is_filled};
+ghost use Rattle.vt_spec.specs.Machine.Rules.Removing.{is_filled, same_filesystem};
 ghost use Rattle.vt_spec.specs.Machine.Walking.{name_of};
 ghost use Rattle.vt_cred.specs.Caps.{capability_bits};
 ghost use Rattle.vt_cred.specs.Rights.{right_bits};
 ghost use Rattle.vt_location.specs.Locations.{location_of};
+ghost use Rattle.vt_location.specs.Numbers.{counted};
 ghost use Rattle.vt_task.specs.TaskValue.{task_of};
-ghost use Rattle.vt_walks.specs.WalkValue.{last_of};
+ghost use Rattle.vt_judge.specs.WalkValue.{last_of};
 
 use std::alloc::Global;
 use vt_cred::{Caps, Mode, Rights, allows, masked, may_delete_sticky};
-use vt_location::Location;
+use vt_location::{FilesystemId, Location, MountId, Propagation};
 use vt_looks::Look;
 use vt_node::{Attr, Kind};
 use vt_spec::errors::{Deny, Rule};
 use vt_task::Task;
-use vt_walks::Place;
+use crate::words::Place;
 
 /// Whether the caller has these rights at a location, asked as one request. Nobody has any where no inode is.
 pub(crate) fn may<L: Look>(world: &L, who: &Task, at: Location, wanted: Rights) -> bool
@@ -105,6 +107,54 @@ pub(crate) fn is_elsewhere<L: Look>(world: &L, who: &Task, at: Location) -> bool
     match world.mount(at.mount) {
         Some(mount) => mount.namespace != Some(who.namespace),
         None => true,
+    }
+}
+
+// The filesystem that a location is in.
+fn filesystem_at<L: Look>(world: &L, at: Location) -> FilesystemId
+    ensures { counted result ≡ (mount_at (L.looks world.now) (location_of at)).filesystem }
+{
+    match world.mount(at.mount) {
+        Some(mount) => mount.root.filesystem,
+        // The definitions name none by the number of the mount that is missing.
+        None => FilesystemId::new(at.mount.count()),
+    }
+}
+
+/// Whether two locations are in one filesystem.
+pub(crate) fn is_same_filesystem<L: Look>(world: &L, one: Location, other: Location) -> bool
+    ensures { result ≡ same_filesystem nat_eq (L.looks world.now) (location_of one) (location_of other) }
+{
+    filesystem_at(world, one) == filesystem_at(world, other)
+}
+
+/// Whether a location is not the root of its mount.
+pub(crate) fn is_no_root<L: Look>(world: &L, at: Location) -> bool
+    ensures { result ≡ is_no_root nat_eq (L.looks world.now) (location_of at) }
+{
+    match world.mount(at.mount) {
+        Some(mount) => mount.root != at.node,
+        None => true,
+    }
+}
+
+/// Whether a mount is a member of a peer group.
+pub(crate) fn is_shared<L: Look>(world: &L, id: MountId) -> bool
+    ensures { result ≡ is_shared ((L.looks world.now).mount (counted id)).propagation }
+{
+    match world.mount(id) {
+        Some(mount) => matches!(mount.propagation, Propagation::Shared(_)),
+        None => false,
+    }
+}
+
+/// Whether a mount is unbindable.
+pub(crate) fn is_unbindable<L: Look>(world: &L, id: MountId) -> bool
+    ensures { result ≡ is_unbindable ((L.looks world.now).mount (counted id)).propagation }
+{
+    match world.mount(id) {
+        Some(mount) => matches!(mount.propagation, Propagation::Unbindable),
+        None => false,
     }
 }
 

@@ -3,6 +3,8 @@ ghost use Rattle.std.specs.Prelude.{◌≡◌, nat_eq, option_copied, option_map
 ghost use Rattle.vt_spec.specs.declared.errors.Rule.TheVariants.{S5};
 ghost use Rattle.vt_spec.specs.Errors.{denial};
 ghost use Rattle.vt_spec.specs.Machine.Looks.{Looks, mount_at, topmost};
+ghost use Rattle.std.specs.List.{list_any};
+ghost use Rattle.vt_spec.specs.Machine.Mounts.{is_unbindable};
 ghost use Rattle.vt_spec.specs.Machine.Permits.{Permit};
 ghost use Rattle.vt_spec.specs.Machine.Rules.Conditions.{is_point_anywhere, is_point_in};
 ghost use Rattle.vt_location.specs.Locations.{location_of, number_of};
@@ -52,6 +54,10 @@ pub trait Look {
     /// Whether a mount is this one or a descendant of it: ELOOP of mount(2) with `MS_MOVE`.
     fn is_at_or_below(&self, top: MountId, mount: MountId) -> bool
         ensures { result ≡ is_at_or_below (looks self.now) (counted top) (counted mount) };
+
+    /// Whether a mount or a descendant of it is unbindable: EINVAL of mount(2) with `MS_MOVE`.
+    fn has_unbindable(&self, top: MountId) -> bool
+        ensures { result ≡ list_any (λ mount. is_unbindable mount.propagation) ((looks self.now).mount_tree (counted top)) };
 
     /// The root of the topmost mount over a location, or the location itself.
     fn topmost(&self, at: Location) -> Location

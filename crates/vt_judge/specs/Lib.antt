@@ -1,0 +1,3 @@
+pub mod WalkValue
+pub mod Ends
+pub mod Tables
