@@ -5,7 +5,7 @@ ghost use Rattle.vt_permits.specs.Memory.{JudgesAlike};
 ghost use Rattle.vt_task.specs.TaskValue.{task_of};
 
 use crate::paths::{directory_at, object_at, symlink_at};
-use crate::rights::{is_directory, is_kind, may};
+use crate::rights::{is_directory, is_kind, is_noexec, may};
 use vt_cred::Rights;
 use vt_looks::Look;
 use vt_node::Kind;

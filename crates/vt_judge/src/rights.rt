@@ -100,6 +100,16 @@ pub(crate) fn is_read_only<L: Look>(world: &L, at: Location) -> bool
     }
 }
 
+/// Whether no file may be executed through the mount of a location: `MS_NOEXEC`.
+pub(crate) fn is_noexec<L: Look>(world: &L, at: Location) -> bool
+    ensures { result ≡ (mount_at (L.looks world.now) (location_of at)).flags.noexec }
+{
+    match world.mount(at.mount) {
+        Some(mount) => mount.flags.is_noexec(),
+        None => false,
+    }
+}
+
 /// Whether the mount of a location is not in the caller's namespace.
 pub(crate) fn is_elsewhere<L: Look>(world: &L, who: &Task, at: Location) -> bool
     ensures { result ≡ is_elsewhere nat_eq (L.looks world.now) (task_of who.now) (location_of at) }
