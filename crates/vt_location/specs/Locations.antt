@@ -6,7 +6,7 @@ use Rattle.vt_location.specs.declared.locations.NodeRef.{NodeRef}
 use Rattle.vt_location.specs.Numbers.{counted, inode_number}
 
 abbrev pub number_of : NodeRef → ℕ
-number_of inode = inode_number inode.filesystem inode.node
+number_of inode = inode_number inode.filesystem.count inode.slot
 
 abbrev pub location_of : Location → meant.Location ℕ
-location_of location = record { mount = counted location.mount; node = number_of location.node }
+location_of location = record { mount = counted location.mount.count; node = number_of location.node }

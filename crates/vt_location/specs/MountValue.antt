@@ -10,17 +10,17 @@ use Rattle.vt_location.specs.Locations.{location_of, number_of}
 use Rattle.vt_location.specs.Numbers.{counted}
 
 abbrev pub propagation_of : Propagation → meant.Propagation ℕ
-propagation_of (Shared group) = MeansShared (counted group)
-propagation_of (Slave master) = MeansSlave (counted master)
+propagation_of (Shared group) = MeansShared (counted group.count)
+propagation_of (Slave master) = MeansSlave (counted master.count)
 propagation_of Private = MeansPrivate
 propagation_of Unbindable = MeansUnbindable
 
 abbrev pub mount_of : Mount → meant.Mount ℕ
 mount_of mount = record {
-  number = counted mount.number;
-  namespace = option_map counted mount.namespace;
+  number = counted mount.number.count;
+  namespace = option_map (λ namespace. counted namespace.count) mount.namespace;
   mount_point = option_map location_of mount.mount_point;
-  filesystem = counted mount.root.filesystem;
+  filesystem = counted mount.root.filesystem.count;
   root = number_of mount.root;
   flags = flags_of mount.flags;
   propagation = propagation_of mount.propagation;

@@ -10,6 +10,8 @@ use Rattle.vt_spec.specs.Machine.Permits.Permit.{ToBind, ToMountPlain, ToMove}
 use Rattle.vt_spec.specs.Machine.Renaming.{renamed_node}
 use Rattle.vt_spec.specs.Tree.{Node}
 use Rattle.vt_location.specs.declared.mounts.Mount.{Mount}
+use Rattle.vt_location.specs.declared.numbers.FilesystemId.{FilesystemId}
+use Rattle.vt_location.specs.declared.numbers.MountId.{MountId}
 use Rattle.vt_location.specs.Flags.{flags_of}
 use Rattle.vt_location.specs.Locations.{location_of}
 use Rattle.vt_location.specs.MountValue.{mount_of}
@@ -18,12 +20,13 @@ use Rattle.vt_looks.specs.declared.look.Attachment.{Attachment}
 use Rattle.vt_looks.specs.declared.look.Attachment.TheVariants.{Bind, Move, Plain}
 
 -- the mount of a number, or the value of a number that no mount has
-abbrev pub mount_seen : ℕ → Option Mount → meant.Mount ℕ
-mount_seen number mount = unwrap_or (option_map mount_of mount) (no_mount (counted number))
+abbrev pub mount_seen : MountId → Option Mount → meant.Mount ℕ
+mount_seen id mount = unwrap_or (option_map mount_of mount) (no_mount (counted id.count))
 
 -- an inode in a slot of a filesystem, its entries and its parent by the numbers of inodes
-abbrev pub node_seen : ℕ → Option (Node ℕ) → Option (Node ℕ)
-node_seen filesystem node = option_map (renamed_node (exchanged filesystem) (exchanged filesystem)) node
+abbrev pub node_seen : FilesystemId → Option (Node ℕ) → Option (Node ℕ)
+node_seen filesystem node =
+    option_map (renamed_node (exchanged filesystem.count) (exchanged filesystem.count)) node
 
 -- the second mount is the first, or a descendant of it
 abbrev pub is_at_or_below : Looks ℕ → ℕ → ℕ → Bool
@@ -33,7 +36,7 @@ is_at_or_below looks top mount = list_any (λ other. nat_eq other.number mount) 
 abbrev pub permit_of : Attachment → Permit ℕ
 permit_of (Plain place flags) = ToMountPlain (location_of place) (flags_of flags)
 permit_of (Bind source place recursive) = ToBind (location_of source) (location_of place) recursive
-permit_of (Move mount place) = ToMove (counted mount) (location_of place)
+permit_of (Move mount place) = ToMove (counted mount.count) (location_of place)
 
 -- no location is in an overlay: nobody else is asked, no layer has anything below, and nothing is locked
 pub record HasNoOverlays (looks : Looks ℕ) : Type 0 where

@@ -41,11 +41,11 @@ pub trait Look {
 
     /// The namespace of the task of this name, if there is such a task: setns(2).
     fn namespace_called(&self, name: &TaskName) -> Option<NamespaceId>
-        ensures { option_map counted result ≡ (looks self.now).namespace_called name.now };
+        ensures { option_map (λ namespace. counted namespace.count) result ≡ (looks self.now).namespace_called name.now };
 
     /// The mount of this number, if there is one.
     fn mount(&self, id: MountId) -> Option<Mount>
-        ensures { mount_seen id result ≡ (looks self.now).mount (counted id) };
+        ensures { mount_seen id result ≡ (looks self.now).mount (counted id.count) };
 
     /// How many mounts there are.
     fn mount_count(&self) -> usize
@@ -53,11 +53,11 @@ pub trait Look {
 
     /// Whether a mount is this one or a descendant of it: ELOOP of mount(2) with `MS_MOVE`.
     fn is_at_or_below(&self, top: MountId, mount: MountId) -> bool
-        ensures { result ≡ is_at_or_below (looks self.now) (counted top) (counted mount) };
+        ensures { result ≡ is_at_or_below (looks self.now) (counted top.count) (counted mount.count) };
 
     /// Whether a mount or a descendant of it is unbindable: EINVAL of mount(2) with `MS_MOVE`.
     fn has_unbindable(&self, top: MountId) -> bool
-        ensures { result ≡ list_any (λ mount. is_unbindable mount.propagation) ((looks self.now).mount_tree (counted top)) };
+        ensures { result ≡ list_any (λ mount. is_unbindable mount.propagation) ((looks self.now).mount_tree (counted top.count)) };
 
     /// The root of the topmost mount over a location, or the location itself.
     fn topmost(&self, at: Location) -> Location
@@ -65,7 +65,7 @@ pub trait Look {
 
     /// Whether a mount of this namespace stands on a directory, through whatever mount that is seen: EBUSY of rmdir(2).
     fn is_point_in(&self, namespace: NamespaceId, at: Location) -> bool
-        ensures { result ≡ is_point_in nat_eq (looks self.now) (counted namespace) (location_of at) };
+        ensures { result ≡ is_point_in nat_eq (looks self.now) (counted namespace.count) (location_of at) };
 
     /// Whether a mount of any namespace stands on a directory: EBUSY of rename(2).
     fn is_point_anywhere(&self, at: Location) -> bool
@@ -75,12 +75,12 @@ pub trait Look {
     ///
     /// S5 (ENOMEM): memory was refused for the receivers of the event.
     fn is_busy(&self, mount: MountId) -> Result<bool, Deny>
-        ensures ok { IfOk result (λ busy. busy ≡ (looks self.now).is_busy (counted mount)) }
+        ensures ok { IfOk result (λ busy. busy ≡ (looks self.now).is_busy (counted mount.count)) }
         ensures memory { IfErr result (λ deny. deny ≡ denial S5) };
 
     /// Whether a file is open for writing through a mount: EBUSY of mount(2) with `MS_REMOUNT`.
     fn is_written_through(&self, mount: MountId) -> bool
-        ensures { result ≡ (looks self.now).is_written_through (counted mount) };
+        ensures { result ≡ (looks self.now).is_written_through (counted mount.count) };
 
     /// The inode at a location.
     fn node(&self, at: Location) -> Option<&Node>
