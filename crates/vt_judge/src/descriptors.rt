@@ -39,7 +39,7 @@ fn rights_of(access: Access) -> Rights
 
 // A file that is there: E2 (EISDIR), E9 (ENXIO), F1 (EROFS), C1 (EACCES).
 fn open_there<L: Look>(world: &L, who: &Task, file: Location, access: Access) -> Result<Permit, Deny>
-    ensures { JudgesAlike (task_of who.now) (open_file_permit (L.looks world.now) (task_of who.now) (location_of file) (access_of access)) result }
+    ensures { JudgesAlike (task_of who.now) (open_file_permit nat_eq (L.looks world.now) (task_of who.now) (location_of file) (access_of access)) result }
 {
     world.has_no_overlays();
     if is_directory(world, file) {
@@ -67,7 +67,7 @@ fn open_new<L: Look>(
     mode: Mode,
 ) -> Result<Permit, Deny>
     ensures { (meant : PlaceMeant ℕ) → IsPlaceOf place.now meant → Judges (task_of who.now)
-        (create_file_permit (L.looks world.now) (task_of who.now) meant (access_of access) mode) result }
+        (create_file_permit nat_eq (L.looks world.now) (task_of who.now) meant (access_of access) mode) result }
 {
     may_make(world, who, place.parent)?;
     Ok(Permit::ToOpenNew {

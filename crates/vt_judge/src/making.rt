@@ -1,5 +1,5 @@
 //! Calls that make a name, and write: mkdir(2), symlink(2), link(2), write(2).
-ghost use Rattle.std.specs.Prelude.{◌≡◌, nat_eq, false, None, Ok};
+ghost use Rattle.std.specs.Prelude.{◌≡◌, nat_eq, None, Ok, Some, ℕ};
 ghost use Rattle.vt_spec.specs.Errors.{unless};
 ghost use Rattle.vt_spec.specs.Language.Changes.{Change};
 ghost use Rattle.vt_spec.specs.Machine.Judge.{hard_link_permit, mkdir_permit, symlink_permit, write_permit, written_permit};
@@ -34,7 +34,7 @@ const FILE_MODE: u16 = 0o666;
 
 /// A name may be made in a directory: F1 (EROFS), C1 (EACCES).
 pub(crate) fn may_make<L: Look>(world: &L, who: &Task, directory: Location) -> Result<(), Deny>
-    ensures { (place : PlaceMeant ℕ) (change : Change ℕ) → place.parent ≡ location_of directory
+    ensures { (place : PlaceMeant ℕ) → (change : Change ℕ) → place.parent ≡ location_of directory
         → result ≡ unless (make_rules (L.looks world.now) (task_of who.now) place change) (Ok tt) }
 {
     world.has_no_overlays();
@@ -67,7 +67,7 @@ pub fn mkdir<L: Look>(
     Ok(Permit::ToMake {
         directory: place.parent,
         name: name_at(alloc, &place)?,
-        node: Node::new_directory(alloc, attr, place.parent.node.node),
+        node: Node::new_directory(alloc, attr, place.parent.node.node()),
     })
 }
 
@@ -161,7 +161,7 @@ pub fn write<L: Look>(
 // The bytes of what is there. E2 (EISDIR), E6 (EFBIG), E9 (ENXIO), F1 (EROFS), C1 (EACCES).
 fn rewritten<L: Look>(world: &L, who: &Task, file: Location, bytes: Vec<u8>) -> Result<Permit, Deny>
     ensures { (place : PlaceMeant ℕ) → JudgesAlike (task_of who.now)
-        (written_permit (L.looks world.now) (task_of who.now) place bytes.items (Some (location_of file))) result }
+        (written_permit nat_eq (L.looks world.now) (task_of who.now) place bytes.items (Some (location_of file))) result }
 {
     world.has_no_overlays();
     if is_directory(world, file) {
@@ -191,7 +191,7 @@ fn written_new<L: Look>(
     bytes: Vec<u8>,
 ) -> Result<Permit, Deny>
     ensures { (meant : PlaceMeant ℕ) → IsPlaceOf place.now meant → Judges (task_of who.now)
-        (written_permit (L.looks world.now) (task_of who.now) meant bytes.items None) result }
+        (written_permit nat_eq (L.looks world.now) (task_of who.now) meant bytes.items None) result }
 {
     if bytes.len() > LARGEST_FILE {
         return Err(Rule::E6.denial());

@@ -22,7 +22,7 @@ use vt_task::Task;
 
 // Whether a mount has a mount point; the root mount of a namespace has none.
 fn is_attached_somewhere<L: Look>(world: &L, mount: MountId) -> bool
-    ensures { result ≡ is_some ((L.looks world.now).mount (counted mount)).mount_point }
+    ensures { result ≡ is_some ((L.looks world.now).mount (counted mount.count)).mount_point }
 {
     match world.mount(mount) {
         Some(mount) => mount.mount_point.is_some(),

@@ -122,12 +122,12 @@ pub(crate) fn is_elsewhere<L: Look>(world: &L, who: &Task, at: Location) -> bool
 
 // The filesystem that a location is in.
 fn filesystem_at<L: Look>(world: &L, at: Location) -> FilesystemId
-    ensures { counted result ≡ (mount_at (L.looks world.now) (location_of at)).filesystem }
+    ensures { counted result.count ≡ (mount_at (L.looks world.now) (location_of at)).filesystem }
 {
     match world.mount(at.mount) {
         Some(mount) => mount.root.filesystem,
         // The definitions name none by the number of the mount that is missing.
-        None => FilesystemId::new(at.mount.count()),
+        None => FilesystemId::new(at.mount.count),
     }
 }
 
@@ -150,7 +150,7 @@ pub(crate) fn is_no_root<L: Look>(world: &L, at: Location) -> bool
 
 /// Whether a mount is a member of a peer group.
 pub(crate) fn is_shared<L: Look>(world: &L, id: MountId) -> bool
-    ensures { result ≡ is_shared ((L.looks world.now).mount (counted id)).propagation }
+    ensures { result ≡ is_shared ((L.looks world.now).mount (counted id.count)).propagation }
 {
     match world.mount(id) {
         Some(mount) => matches!(mount.propagation, Propagation::Shared(_)),
@@ -160,7 +160,7 @@ pub(crate) fn is_shared<L: Look>(world: &L, id: MountId) -> bool
 
 /// Whether a mount is unbindable.
 pub(crate) fn is_unbindable<L: Look>(world: &L, id: MountId) -> bool
-    ensures { result ≡ is_unbindable ((L.looks world.now).mount (counted id)).propagation }
+    ensures { result ≡ is_unbindable ((L.looks world.now).mount (counted id.count)).propagation }
 {
     match world.mount(id) {
         Some(mount) => matches!(mount.propagation, Propagation::Unbindable),

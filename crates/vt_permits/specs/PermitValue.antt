@@ -26,7 +26,7 @@ type_word_of Unbindable = words.TypeWord.ToUnbindable
 
 -- an inode that is made in a directory, its parent by the number of an inode
 abbrev pub node_in : Location → Node ℕ → Node ℕ
-node_in directory node = renamed_node (exchanged directory.node.filesystem) (exchanged directory.node.filesystem) node
+node_in directory node = renamed_node (exchanged directory.node.filesystem.count) (exchanged directory.node.filesystem.count) node
 
 -- a permit of this task
 abbrev pub permit_of : Task ℕ → Permit → meant.Permit ℕ
@@ -58,12 +58,12 @@ permit_of task (ToDrop caps) = meant.Permit.ToSetCredentials (with_dropped task.
 permit_of task (ToFork cred) = meant.Permit.ToFork cred
 permit_of task ToExit = meant.Permit.ToExit
 permit_of task ToUnshare = meant.Permit.ToUnshare
-permit_of task (ToEnterNamespace namespace) = meant.Permit.ToEnterNamespace (counted namespace)
+permit_of task (ToEnterNamespace namespace) = meant.Permit.ToEnterNamespace (counted namespace.count)
 permit_of task (ToMountPlain place flags) = meant.Permit.ToMountPlain (location_of place) (flags_of flags)
 permit_of task (ToBind source place recursive) = meant.Permit.ToBind (location_of source) (location_of place) recursive
-permit_of task (ToMove mount place) = meant.Permit.ToMove (counted mount) (location_of place)
-permit_of task (ToUnmount mount) = meant.Permit.ToUnmount (counted mount)
-permit_of task (ToUnmountLazily mount) = meant.Permit.ToUnmountLazily (counted mount)
-permit_of task (ToSetFlags mount flags) = meant.Permit.ToSetFlags (counted mount) (flags_of flags)
-permit_of task (ToSetType mount word recursive) = meant.Permit.ToSetType (counted mount) (type_word_of word) recursive
+permit_of task (ToMove mount place) = meant.Permit.ToMove (counted mount.count) (location_of place)
+permit_of task (ToUnmount mount) = meant.Permit.ToUnmount (counted mount.count)
+permit_of task (ToUnmountLazily mount) = meant.Permit.ToUnmountLazily (counted mount.count)
+permit_of task (ToSetFlags mount flags) = meant.Permit.ToSetFlags (counted mount.count) (flags_of flags)
+permit_of task (ToSetType mount word recursive) = meant.Permit.ToSetType (counted mount.count) (type_word_of word) recursive
 permit_of task ToListMounts = meant.Permit.ToListMounts
