@@ -118,6 +118,7 @@ pub fn fork(who: &Task, words: Option<ForkWords>) -> Result<Permit, Deny>
 }
 
 // A child with the caller's credentials: S6 (ENOSPC).
+#[tactic(auto, unfolding(vt_spec::specs::Machine::Judge::fork_permit))]
 fn fork_alike(who: &Task) -> Result<Permit, Deny>
     ensures { Judges (task_of who.now) (fork_permit (task_of who.now) None) result }
 {
