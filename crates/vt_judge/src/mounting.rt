@@ -15,7 +15,7 @@ use crate::paths::{destination_at, directory_at, source_at};
 use crate::rights::{is_elsewhere, is_no_root, is_shared, is_unbindable, lacks};
 use vt_cred::Caps;
 use vt_location::{Location, Mount, MountFlags, MountId};
-use vt_looks::{Attachment, Look};
+use vt_looks::{Attachment, Look, LookAtMounts};
 use vt_permits::{Permit, TypeWord};
 use vt_spec::errors::{Deny, Rule};
 use vt_task::Task;
@@ -63,7 +63,7 @@ fn root_at<L: Look>(world: &L, who: &Task, path: &[u8]) -> Result<Location, Deny
 }
 
 // A mount may move: M2 (EINVAL), M4 (EINVAL), M5 (EINVAL), M6 (ELOOP), M7 (EINVAL).
-fn may_move<L: Look>(world: &L, who: &Task, source: Location, place: Location) -> Result<(), Deny>
+fn may_move<L: LookAtMounts>(world: &L, who: &Task, source: Location, place: Location) -> Result<(), Deny>
     ensures { result ≡ unless (move_table (L.looks world.now) (task_of who.now) (location_of source) (location_of place)) (Ok tt) }
 {
     if is_elsewhere(world, who, source) || is_elsewhere(world, who, place) {
@@ -86,7 +86,7 @@ fn may_move<L: Look>(world: &L, who: &Task, source: Location, place: Location) -
 
 /// K1 (EPERM), and after the rules of the walk M2 (EINVAL), M9 (ENOSPC).
 #[tactic(auto, unfolding(vt_spec::specs::Machine::Judge::mount_plain_permit))]
-pub fn mount_plain<L: Look>(
+pub fn mount_plain<L: LookAtMounts>(
     world: &L,
     who: &Task,
     path: &[u8],
@@ -110,7 +110,7 @@ pub fn mount_plain<L: Look>(
 
 /// K1 (EPERM), and after the rules of both walks M2 (EINVAL), M3 (EINVAL), M9 (ENOSPC).
 #[tactic(auto, unfolding(vt_spec::specs::Machine::Judge::bind_permit))]
-pub fn bind<L: Look>(
+pub fn bind<L: LookAtMounts>(
     world: &L,
     who: &Task,
     source: &[u8],
@@ -149,7 +149,7 @@ pub fn bind<L: Look>(
 /// K1 (EPERM), and after the rules of both walks M2 (EINVAL), M4 (EINVAL), M5 (EINVAL), M6 (ELOOP), M7 (EINVAL), M9 (ENOSPC),
 /// M10 (EINVAL).
 #[tactic(auto, unfolding(vt_spec::specs::Machine::Judge::move_permit))]
-pub fn move_mount<L: Look>(world: &L, who: &Task, source: &[u8], path: &[u8]) -> Result<Permit, Deny>
+pub fn move_mount<L: LookAtMounts>(world: &L, who: &Task, source: &[u8], path: &[u8]) -> Result<Permit, Deny>
     ensures { JudgesByReceivers (task_of who.now)
         (move_permit nat_eq (L.looks world.now) (L.overfills world.now) (task_of who.now) source.now path.now) result }
 {
@@ -171,7 +171,7 @@ pub fn move_mount<L: Look>(world: &L, who: &Task, source: &[u8], path: &[u8]) ->
 
 /// K1 (EPERM), and after the rules of the walk M2 (EINVAL), M7 (EINVAL), M8 (EBUSY), M10 (EINVAL).
 #[tactic(auto, unfolding(vt_spec::specs::Machine::Judge::umount_permit))]
-pub fn umount<L: Look>(world: &L, who: &Task, path: &[u8]) -> Result<Permit, Deny>
+pub fn umount<L: LookAtMounts>(world: &L, who: &Task, path: &[u8]) -> Result<Permit, Deny>
     ensures { JudgesByReceivers (task_of who.now) (umount_permit nat_eq (L.looks world.now) (task_of who.now) path.now) result }
 {
     let here = root_at(world, who, path)?;
@@ -198,7 +198,7 @@ pub fn lazy<L: Look>(world: &L, who: &Task, path: &[u8]) -> Result<Permit, Deny>
 
 /// K1 (EPERM), and after the rules of the walk M2 (EINVAL), M7 (EINVAL), M8 (EBUSY).
 #[tactic(auto, unfolding(vt_spec::specs::Machine::Judge::remount_permit))]
-pub fn remount<L: Look>(
+pub fn remount<L: LookAtMounts>(
     world: &L,
     who: &Task,
     path: &[u8],
