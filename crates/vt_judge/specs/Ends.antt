@@ -6,8 +6,8 @@ use Rattle.vt_spec.specs.Machine.Walking as walked
 use Rattle.vt_spec.specs.Machine.World.{Descriptor}
 use Rattle.vt_location.specs.declared.locations.Location.{Location}
 use Rattle.vt_location.specs.Locations.{location_of}
-use Rattle.vt_judge.specs.declared.words.Place.{Place}
-use Rattle.vt_judge.specs.WalkValue.{last_of}
+use Rattle.vt_walks.specs.declared.words.Place.{Place}
+use Rattle.vt_walks.specs.WalkValue.{last_of}
 
 -- a walk ends at a location
 abbrev pub EndsAt : Result (walked.Here ℕ) Deny → Location → Type 0

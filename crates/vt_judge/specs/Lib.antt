@@ -1,3 +1,2 @@
-pub mod WalkValue
 pub mod Ends
 pub mod Tables

@@ -24,7 +24,7 @@ use vt_permits::Permit;
 use vt_request::{Access, Creation};
 use vt_spec::errors::{Deny, Rule};
 use vt_task::{MAX_DESCRIPTORS, Task};
-use crate::words::Place;
+use vt_walks::Place;
 
 // The rights that an access mode asks for, as one request.
 fn rights_of(access: Access) -> Rights

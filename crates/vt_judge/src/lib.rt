@@ -10,7 +10,6 @@ mod paths;
 mod removing;
 mod rights;
 mod tasks;
-mod words;
 
 pub use attributes::{chmod, chown};
 pub use descriptors::{close, open, pread, pwrite};

@@ -21,7 +21,7 @@ use vt_permits::Permit;
 use vt_spec::errors::{Deny, Rule};
 use vt_task::Task;
 use vt_text::path::LONGEST_PATH;
-use crate::words::Place;
+use vt_walks::Place;
 
 /// The most bytes of a file, 1 MiB: RLIMIT_FSIZE of setrlimit(2).
 pub(crate) const LARGEST_FILE: usize = 1_048_576;

@@ -21,7 +21,7 @@ use vt_looks::Look;
 use vt_permits::Permit;
 use vt_spec::errors::{Deny, Rule};
 use vt_task::Task;
-use crate::words::{LastWord, Place};
+use vt_walks::{LastWord, Place};
 
 /// After the rules of the walk: E2 (EISDIR), F1 (EROFS), C1 (EACCES), C3 (EPERM).
 #[tactic(auto, unfolding(vt_spec::specs::Machine::Judge::unlink_permit))]

@@ -14,7 +14,7 @@ ghost use Rattle.vt_cred.specs.Rights.{right_bits};
 ghost use Rattle.vt_location.specs.Locations.{location_of};
 ghost use Rattle.vt_location.specs.Numbers.{counted};
 ghost use Rattle.vt_task.specs.TaskValue.{task_of};
-ghost use Rattle.vt_judge.specs.WalkValue.{last_of};
+ghost use Rattle.vt_walks.specs.WalkValue.{last_of};
 
 use std::alloc::Global;
 use vt_cred::{Caps, Mode, Rights, allows, masked, may_delete_sticky};
@@ -23,7 +23,7 @@ use vt_looks::Look;
 use vt_node::{Attr, Kind};
 use vt_spec::errors::{Deny, Rule};
 use vt_task::Task;
-use crate::words::Place;
+use vt_walks::Place;
 
 /// Whether the caller has these rights at a location, asked as one request. Nobody has any where no inode is.
 pub(crate) fn may<L: Look>(world: &L, who: &Task, at: Location, wanted: Rights) -> bool

@@ -1,9 +1,13 @@
 //! The last words of paths, and the places that they name.
-ghost use Rattle.std.specs.Prelude.{◌≡◌};
-ghost use Rattle.vt_spec.specs.Machine.Walking.{last_word, is_no_word, is_special, name_of};
-ghost use Rattle.vt_judge.specs.WalkValue.{last_of};
+ghost use Rattle.std.specs.Prelude.{◌≡◌, reverse};
+ghost use Rattle.vt_spec.specs.Lists.{rest_of};
+ghost use Rattle.vt_spec.specs.Machine.Walking.{last_word, final_word, is_no_word, is_special, name_of};
+ghost use Rattle.vt_spec.specs.PathText.{words};
+ghost use Rattle.vt_walks.specs.WalkValue.{last_of};
 
 use vt_location::Location;
+use vt_text::link;
+use vt_text::path::Words;
 
 /// The last word of a path, as a call that names an object takes it. A path of slashes alone has none.
 #[derive(Clone, Copy, Debug)]
@@ -64,3 +68,13 @@ pub struct Place<'a> {
     pub slash: bool,
 }
 
+// The words of a text before its last, and that one.
+pub(crate) fn front_and_last(text: &[u8]) -> (Words<'_>, LastWord<'_>)
+    ensures front { reverse result.0 ≡ rest_of (reverse (words text.now)) }
+    ensures last { last_of result.1 ≡ final_word (reverse (words text.now)) }
+{
+    match link::split_last(text) {
+        Some((front, word)) => (front, LastWord::of(word)),
+        None => (link::words(&[]), LastWord::NoWord),
+    }
+}

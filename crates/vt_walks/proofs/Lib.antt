@@ -1,0 +1,9 @@
+mod Chains
+mod NodeLemmas
+mod RefusalLemmas
+mod LeftToRight
+mod LinksWalked
+mod PendingWalked
+mod Trails
+mod WalksOfPaths
+mod FilesWalked

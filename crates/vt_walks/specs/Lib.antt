@@ -1,0 +1,3 @@
+pub mod PlainWalks
+pub mod PendingTexts
+pub mod WalkValue
