@@ -9,7 +9,7 @@ use Rattle.vt_walks.specs.declared.words.Place.{Place}
 use Rattle.vt_walks.specs.WalkValue.{location_end, location_result, place_end, place_of, place_result, without_steps}
 use Rattle.vt_judge.specs.Ends.{EndsAt, EndsAtPlace}
 
-okay : {A : Type 0} → A → Result A Deny
+abbrev okay : {A : Type 0} → A → Result A Deny
 okay a = Ok a
 
 same-ok : {A : Type 0} (a b : A) → okay a ≡ okay b → a ≡ b
