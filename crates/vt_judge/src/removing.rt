@@ -13,7 +13,7 @@ ghost use Rattle.vt_judge.specs.Ends.{IsPlaceOf};
 ghost use Rattle.vt_judge.specs.Tables.{kind_rules, remove_rules};
 
 use crate::paths::{old_leaf_place, old_place, rename_place};
-use crate::rights::{is_directory, is_filled, is_kept, is_read_only, is_same_filesystem, may, name_at};
+use crate::rights::{is_directory, is_filled, is_kept, is_read_only, is_same_filesystem, is_same_inode, is_same_location, may, name_at};
 use std::alloc::Global;
 use vt_cred::Rights;
 use vt_location::Location;
@@ -134,7 +134,9 @@ fn is_name_of<L: Look>(world: &L, object: Location, place: &Place) -> bool
     ensures { result ≡ is_one_object nat_eq (L.looks world.now) (location_of object) (option_map location_of place.now.object) }
 {
     match place.object {
-        Some(there) => is_same_filesystem(world, object, there) && object.node == there.node,
+        Some(there) => {
+            is_same_filesystem(world, object, there) && is_same_inode(object.node, there.node)
+        }
         None => false,
     }
 }

@@ -3,7 +3,7 @@ ghost use Rattle.std.specs.Prelude.{◌≡◌, nat_eq, Ok, Err, IfOk, IfErr};
 ghost use Rattle.vt_spec.specs.declared.errors.Rule.TheVariants.{S5};
 ghost use Rattle.vt_spec.specs.Errors.{denial};
 ghost use Rattle.vt_spec.specs.Machine.Looks.{is_directory_at, may, mount_at};
-ghost use Rattle.vt_spec.specs.Machine.Mounts.{is_shared, is_unbindable};
+ghost use Rattle.vt_spec.specs.Machine.Mounts.{is_shared, is_unbindable, same_location};
 ghost use Rattle.vt_spec.specs.Machine.Rows.{exact_attr, new_attr};
 ghost use Rattle.vt_spec.specs.Machine.Rules.Attributes.{attr_at};
 ghost use Rattle.vt_spec.specs.Machine.Rules.Conditions.{is_elsewhere, is_kept, is_no_root, is_read_only, kind_at, lacks};
@@ -11,14 +11,14 @@ ghost use Rattle.vt_spec.specs.Machine.Rules.Removing.{is_filled, same_filesyste
 ghost use Rattle.vt_spec.specs.Machine.Walking.{name_of};
 ghost use Rattle.vt_cred.specs.Caps.{capability_bits};
 ghost use Rattle.vt_cred.specs.Rights.{right_bits};
-ghost use Rattle.vt_location.specs.Locations.{location_of};
+ghost use Rattle.vt_location.specs.Locations.{location_of, number_of};
 ghost use Rattle.vt_location.specs.Numbers.{counted};
 ghost use Rattle.vt_task.specs.TaskValue.{task_of};
 ghost use Rattle.vt_walks.specs.WalkValue.{last_of};
 
 use std::alloc::Global;
 use vt_cred::{Caps, Mode, Rights, allows, masked, may_delete_sticky};
-use vt_location::{FilesystemId, Location, MountId, Propagation};
+use vt_location::{FilesystemId, Location, MountId, NodeRef, Propagation};
 use vt_looks::Look;
 use vt_node::{Attr, Kind};
 use vt_spec::errors::{Deny, Rule};
@@ -146,6 +146,20 @@ pub(crate) fn is_no_root<L: Look>(world: &L, at: Location) -> bool
         Some(mount) => mount.root != at.node,
         None => true,
     }
+}
+
+/// Whether two inodes are the same.
+pub(crate) fn is_same_inode(a: NodeRef, b: NodeRef) -> bool
+    ensures { result ≡ nat_eq (number_of a) (number_of b) }
+{
+    a == b
+}
+
+/// Whether two locations are the same.
+pub(crate) fn is_same_location(a: Location, b: Location) -> bool
+    ensures { result ≡ same_location nat_eq (location_of a) (location_of b) }
+{
+    a == b
 }
 
 /// Whether a mount is a member of a peer group.
