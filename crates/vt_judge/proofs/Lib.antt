@@ -4,5 +4,6 @@ mod MountLemmas
 mod MoveLemmas
 mod PlainRows
 mod Refusals
+mod RenameLemmas
 mod Rows
 mod WalkEnds

@@ -3,14 +3,14 @@ ghost use Rattle.std.specs.Prelude.{◌≡◌, ◌||◌, nat_eq, option_map, Ok,
 ghost use Rattle.vt_spec.specs.Errors.{unless};
 ghost use Rattle.vt_spec.specs.Machine.Judge.{rename_permit, rmdir_permit, unlink_permit};
 ghost use Rattle.vt_spec.specs.Lists.{holds_of};
-ghost use Rattle.vt_spec.specs.Machine.Rules.Conditions.{is_point_anywhere, is_point_in};
-ghost use Rattle.vt_spec.specs.Machine.Rules.Removing.{is_one_object, rename_rules, same_object_rules};
+ghost use Rattle.vt_spec.specs.Machine.Rules.Conditions.{is_kept, is_point_anywhere, is_point_in};
+ghost use Rattle.vt_spec.specs.Machine.Rules.Removing.{changes_parent, is_one_object, rename_rules, same_object_rules};
 ghost use Rattle.vt_spec.specs.Machine.Walking.{Place as PlaceMeant};
 ghost use Rattle.vt_location.specs.Locations.{location_of};
 ghost use Rattle.vt_permits.specs.Memory.{Judges};
 ghost use Rattle.vt_task.specs.TaskValue.{task_of};
 ghost use Rattle.vt_judge.specs.Ends.{IsPlaceOf};
-ghost use Rattle.vt_judge.specs.Tables.{kind_rules, remove_rules};
+ghost use Rattle.vt_judge.specs.Tables.{kind_rules, remove_rules, right_rules, way_rules};
 
 use crate::paths::{old_leaf_place, old_place, rename_place};
 use crate::rights::{is_directory, is_filled, is_kept, is_read_only, is_same_filesystem, is_same_inode, is_same_location, may, name_at};
@@ -197,6 +197,71 @@ fn is_point<L: Look>(world: &L, who: &Task, object: Location, replaced: Option<L
     }
 }
 
+// Whether a rename leaves a directory in another parent, which its `..` then names.
+fn changes_parent<L: Look>(world: &L, from: &Place, to: &Place, object: Location) -> bool
+    ensures { (old new : PlaceMeant ℕ) → IsPlaceOf from.now old → IsPlaceOf to.now new
+        → result ≡ changes_parent nat_eq (L.looks world.now) old new (location_of object) }
+{
+    is_directory(world, object) && !is_same_location(from.parent, to.parent)
+}
+
+// Whether a sticky directory keeps what has the new name.
+fn is_replaced_kept<L: Look>(world: &L, who: &Task, to: &Place) -> bool
+    ensures { (new : PlaceMeant ℕ) → IsPlaceOf to.now new
+        → result ≡ holds_of (is_kept (L.looks world.now) (task_of who.now) new.parent) new.object }
+{
+    match to.object {
+        Some(replaced) => is_kept(world, who, to.parent, replaced),
+        None => false,
+    }
+}
+
+// Nothing stands between the two names: F1 (EROFS), P1 (EBUSY), P2 (EXDEV).
+fn may_cross<L: Look>(
+    world: &L,
+    who: &Task,
+    from: &Place,
+    to: &Place,
+    object: Location,
+) -> Result<(), Deny>
+    ensures { (old new : PlaceMeant ℕ) → IsPlaceOf from.now old → IsPlaceOf to.now new
+        → result ≡ unless (way_rules nat_eq (L.looks world.now) (task_of who.now) old new (location_of object)) (Ok tt) }
+{
+    if is_read_only(world, from.parent) || is_read_only(world, to.parent) {
+        return Err(Rule::F1.denial());
+    }
+    if is_point(world, who, object, to.object) {
+        return Err(Rule::P1.denial());
+    }
+    if from.parent.mount != to.parent.mount {
+        return Err(Rule::P2.denial());
+    }
+    Ok(())
+}
+
+// The caller may change both directories: C1 (EACCES), C3 (EPERM).
+fn may_change_both<L: Look>(
+    world: &L,
+    who: &Task,
+    from: &Place,
+    to: &Place,
+    object: Location,
+) -> Result<(), Deny>
+    ensures { (old new : PlaceMeant ℕ) → IsPlaceOf from.now old → IsPlaceOf to.now new
+        → result ≡ unless (right_rules nat_eq (L.looks world.now) (task_of who.now) old new (location_of object)) (Ok tt) }
+{
+    if !may(world, who, from.parent, Rights::WRITE) || !may(world, who, to.parent, Rights::WRITE) {
+        return Err(Rule::C1.denial());
+    }
+    if changes_parent(world, from, to, object) && !may(world, who, object, Rights::WRITE) {
+        return Err(Rule::C1.denial());
+    }
+    if is_kept(world, who, from.parent, object) || is_replaced_kept(world, who, to) {
+        return Err(Rule::C3.denial());
+    }
+    Ok(())
+}
+
 // An object may leave one name for another: E2 (EISDIR), E3 (ENOTDIR), E4 (ENOTEMPTY), E5 (EINVAL), F1 (EROFS), P1 (EBUSY),
 // P2 (EXDEV), C1 (EACCES), C3 (EPERM).
 fn may_rename<L: Look>(
@@ -211,29 +276,6 @@ fn may_rename<L: Look>(
 {
     world.has_no_overlays();
     may_replace(world, to, object)?;
-    if is_read_only(world, from.parent) || is_read_only(world, to.parent) {
-        return Err(Rule::F1.denial());
-    }
-    if is_point(world, who, object, to.object) {
-        return Err(Rule::P1.denial());
-    }
-    if from.parent.mount != to.parent.mount {
-        return Err(Rule::P2.denial());
-    }
-    if !may(world, who, from.parent, Rights::WRITE) || !may(world, who, to.parent, Rights::WRITE) {
-        return Err(Rule::C1.denial());
-    }
-    if is_directory(world, object)
-        && from.parent != to.parent
-        && !may(world, who, object, Rights::WRITE)
-    {
-        return Err(Rule::C1.denial());
-    }
-    if is_kept(world, who, from.parent, object) {
-        return Err(Rule::C3.denial());
-    }
-    match to.object {
-        Some(replaced) if is_kept(world, who, to.parent, replaced) => Err(Rule::C3.denial()),
-        _ => Ok(()),
-    }
+    may_cross(world, who, from, to, object)?;
+    may_change_both(world, who, from, to, object)
 }
