@@ -1,12 +1,13 @@
 -- What code answers of a judgement: a refusal, a permit, or want of memory.
-use Rattle.std.proofs.Common.{◌≡◌, ℕ, Bool, true, false, [], ◌∷◌, Result, Ok, Err, inl, inr, refl, sym}
+use Rattle.std.proofs.Common.{◌≡◌, ℕ, Bool, true, false, [], ◌∷◌, Result, Ok, Err, inl, inr, refl, sym, ◌∙◌}
 use Rattle.vt_spec.specs.declared.errors.Deny.{Deny}
 use Rattle.vt_spec.specs.declared.errors.Rule.TheVariants.{M10, M9, S5}
 use Rattle.vt_spec.specs.Errors.{denial, unless}
 use Rattle.vt_spec.specs.Machine.Judge.{Judgement}
 use Rattle.vt_spec.specs.Machine.Permits as meant
 use Rattle.vt_spec.specs.Machine.World.{Task}
-use Rattle.vt_permits.specs.Memory.{Judges, JudgesByReceivers}
+use Rattle.vt_permits.specs.Memory.{Judges, JudgesAlike, JudgesByReceivers}
+use Rattle.vt_permits.specs.declared.permit.Permit.{Permit}
 
 pub refused : (task : Task ℕ) (judged : Judgement ℕ) (deny : Deny) → judged ≡ Err deny → Judges task judged (Err deny)
 refused task (Ok permit) deny e = absurd cc
@@ -35,3 +36,15 @@ no_receivers_of_move task (Ok other) overfull rootless permit deny e memory = me
 no_receivers_of_move task (Err refusal) true rootless permit deny e memory = inr (memory, inr (inl cc))
 no_receivers_of_move task (Err refusal) false true permit deny e memory = inr (memory, inr (inr cc))
 no_receivers_of_move task (Err refusal) false false permit deny e memory = absurd cc
+
+-- of one judgement code answers as of the same one, written otherwise
+pub answers_alike : (task : Task ℕ) (judged other : Judgement ℕ) (result : Result Permit Deny) → judged ≡ other → JudgesAlike task other result → JudgesAlike task judged result
+answers_alike task judged other result e h = rw e h
+
+pub answers : (task : Task ℕ) (judged other : Judgement ℕ) (result : Result Permit Deny) → judged ≡ other → Judges task other result → Judges task judged result
+answers task judged other result e h = rw e h
+
+-- what is judged without want of memory is judged
+pub answers_without : (task : Task ℕ) (judged other : Judgement ℕ) (result : Result Permit Deny) → judged ≡ other → JudgesAlike task other result → Judges task judged result
+answers_without task judged other (Ok permit) e h = e ∙ h
+answers_without task judged other (Err deny) e h = refused task judged deny (e ∙ h)

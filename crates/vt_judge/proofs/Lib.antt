@@ -2,6 +2,7 @@ mod ForkLemmas
 mod Judged
 mod MountLemmas
 mod MoveLemmas
+mod PlaceLemmas
 mod PlainRows
 mod Refusals
 mod RenameLemmas

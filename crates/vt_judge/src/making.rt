@@ -5,7 +5,9 @@ ghost use Rattle.vt_spec.specs.Language.Changes.{Change};
 ghost use Rattle.vt_spec.specs.Machine.Judge.{hard_link_permit, mkdir_permit, symlink_permit, write_permit, written_permit};
 ghost use Rattle.vt_spec.specs.Machine.Rules.Making.{make_rules};
 ghost use Rattle.vt_spec.specs.Machine.Walking.{Place as PlaceMeant};
-ghost use Rattle.vt_location.specs.Locations.{location_of};
+ghost use Rattle.vt_spec.specs.Tree.{new_directory};
+ghost use Rattle.vt_location.specs.Locations.{location_of, number_of};
+ghost use Rattle.vt_permits.specs.PermitValue.{node_in};
 ghost use Rattle.vt_permits.specs.Memory.{Judges, JudgesAlike};
 ghost use Rattle.vt_task.specs.TaskValue.{task_of};
 ghost use Rattle.vt_judge.specs.Ends.{IsPlaceOf};
@@ -16,7 +18,7 @@ use std::alloc::Global;
 use vt_cred::{Mode, Rights};
 use vt_location::Location;
 use vt_looks::Look;
-use vt_node::{Kind, Node};
+use vt_node::{Attr, Kind, Node};
 use vt_permits::Permit;
 use vt_spec::errors::{Deny, Rule};
 use vt_task::Task;
@@ -47,6 +49,13 @@ pub(crate) fn may_make<L: Look>(world: &L, who: &Task, directory: Location) -> R
     Ok(())
 }
 
+// An empty directory below this one.
+fn empty_directory(alloc: Global, attr: Attr, parent: Location) -> Node
+    ensures { node_in parent result ≡ record { attr = attr; content = new_directory (number_of parent.node) } }
+{
+    Node::new_directory(alloc, attr, parent.node.node())
+}
+
 /// After the rules of the walk: E1 (EEXIST), F1 (EROFS), C1 (EACCES).
 #[tactic(auto, unfolding(vt_spec::specs::Machine::Judge::mkdir_permit))]
 pub fn mkdir<L: Look>(
@@ -67,7 +76,7 @@ pub fn mkdir<L: Look>(
     Ok(Permit::ToMake {
         directory: place.parent,
         name: name_at(alloc, &place)?,
-        node: Node::new_directory(alloc, attr, place.parent.node.node()),
+        node: empty_directory(alloc, attr, place.parent),
     })
 }
 
