@@ -1,5 +1,5 @@
 //! Where paths as bytes lead: path_resolution(7).
-ghost use Rattle.std.specs.Prelude.{◌≡◌, nat_eq, Bool, Err, IfErr, IfOk};
+ghost use Rattle.std.specs.Prelude.{◌≡◌, is_some, nat_eq, true, Bool, Err, IfErr, IfOk};
 ghost use Rattle.vt_spec.specs.Machine.Rules.Mounting.{destination_walk, source_walk};
 ghost use Rattle.vt_spec.specs.Machine.Rules.Removing.{rename_new_walk};
 ghost use Rattle.vt_spec.specs.Machine.Walking.{directory_walk, file_walk, new_leaf_walk, new_walk, object_walk, old_leaf_walk, old_walk, symlink_walk, walk_end};
@@ -81,6 +81,7 @@ pub(crate) fn old_place<'a, L: Look>(world: &L, who: &Task, path: &'a [u8]) -> R
 pub(crate) fn old_leaf_place<'a, L: Look>(world: &L, who: &Task, path: &'a [u8]) -> Result<Place<'a>, Deny>
     ensures ok { IfOk result (λ place. EndsAtPlace (walk_end (old_leaf_walk nat_eq (L.looks world.now) (task_of who.now) path.now)) place) }
     ensures err { IfErr result (λ deny. walk_end (old_leaf_walk nat_eq (L.looks world.now) (task_of who.now) path.now) ≡ Err deny) }
+    ensures there { IfOk result (λ place. is_some place.object ≡ true) }
 {
     vt_walks::old_leaf_walk(world, who, &PathText::parse(path)?)
 }

@@ -4,6 +4,7 @@ use Rattle.vt_spec.specs.Machine.Judge.{make_permit, symlink_permit, unnumbered}
 use Rattle.vt_spec.specs.Machine.Permits.Permit.{ToMake}
 use Rattle.vt_spec.specs.Machine.Rules.Making.{make_rules}
 use Rattle.vt_spec.specs.Machine.Walking.{Place, is_special, name_of, new_leaf_walk, walk_end}
+use Rattle.vt_spec.specs.PathText.{is_empty}
 use Rattle.vt_spec.specs.Tree.{Node}
 use Rattle.vt_permits.specs.PermitValue.{node_in}
 use Rattle.vt_task.specs.TaskValue.{task_of}
@@ -30,7 +31,7 @@ returns-in_err-may_make g c =
     let missing = ap is_some at.2.object ∙ is_some_mapped c.in_ok-place.place.object ∙ sym c.is_some.ensures ∙ c.if-is_some.false in
     let p = err_from_is_err_and c.from_residual-in_err-may_make.result c.from_residual-in_err-may_make.ensures.1 in
     rw (p.1, p.2) (refused task (symlink_permit nat_eq looks task c.args.text.items c.args.path.now) _
-    (skipped _ W1 _ _ (search rules)
+    (skipped (is_empty c.args.text.items) W1 _ _ (search rules)
     ∙ skipped _ W2 [] _ (le-ltb 4095 (length c.args.text.items) (omega arith))
     ∙ made_asked looks task (walk_end (new_leaf_walk nat_eq looks task c.args.path.now)) at.0 node at.1 special missing
     ∙ unless-stopped rows (Ok permit) _ (c.in_err-may_make.ensures at.0 (unnumbered at.0 (node at.0)) at.2.parent)))
@@ -48,7 +49,7 @@ returns-in_err-name_at g c =
     let missing = ap is_some at.2.object ∙ is_some_mapped c.in_ok-place.place.object ∙ sym c.is_some.ensures ∙ c.if-is_some.false in
     let p = err_from_is_err_and c.from_residual-in_err-name_at.result c.from_residual-in_err-name_at.ensures.1 in
     rw (p.1, p.2) (without_memory task (symlink_permit nat_eq looks task c.args.text.items c.args.path.now) permit _
-    (skipped _ W1 _ _ (search rules)
+    (skipped (is_empty c.args.text.items) W1 _ _ (search rules)
     ∙ skipped _ W2 [] _ (le-ltb 4095 (length c.args.text.items) (omega arith))
     ∙ made_asked looks task (walk_end (new_leaf_walk nat_eq looks task c.args.path.now)) at.0 node at.1 special missing
     ∙ unless-let_through rows (Ok permit) (c.in_ok-may_make.ensures at.0 (unnumbered at.0 (node at.0)) at.2.parent))
@@ -67,7 +68,7 @@ returns g c =
     let missing = ap is_some at.2.object ∙ is_some_mapped c.in_ok-place.place.object ∙ sym c.is_some.ensures ∙ c.if-is_some.false in
     let name = ap name_of at.2.last ∙ sym c.in_ok-name_at.ensures.ok in
     let built : node at.0 ≡ node_in c.in_ok-place.place.parent c.new_link.result = search rules in
-    skipped _ W1 _ _ (search rules)
+    skipped (is_empty c.args.text.items) W1 _ _ (search rules)
     ∙ skipped _ W2 [] _ (le-ltb 4095 (length c.args.text.items) (omega arith))
     ∙ made_asked looks task (walk_end (new_leaf_walk nat_eq looks task c.args.path.now)) at.0 node at.1 special missing
     ∙ unless-let_through rows (Ok permit) (c.in_ok-may_make.ensures at.0 (unnumbered at.0 (node at.0)) at.2.parent)

@@ -19,9 +19,9 @@ returns-in_err-may_remove g c =
     let task = task_of c.args.who.now in
     let at = c.in_ok-place.ensures.ok in
     let parent = location_of c.in_ok-place.place.parent in
-    let object = location_of c.unwrap_or.result in
+    let object = location_of c.unwrap_or-object.result in
     let there = (λ i. unwrap_or (at.2.object i) (at.2.parent i)) ∙ there_mapped c.in_ok-place.place.object c.in_ok-place.place.parent
-    ∙ ap location_of (sym c.unwrap_or.ensures) in
+    ∙ ap location_of (sym c.unwrap_or-object.ensures) in
     let permit = ToChange at.0.parent (removing at.0 (object_there at.0)) in
     let asked = unlink_asked looks c.has_no_overlays.ensures task c.args.path.now at.0 parent object at.1
     (ap is_special at.2.last ∙ sym c.is_special.ensures ∙ c.if-is_special.false) at.2.parent there
@@ -36,9 +36,9 @@ returns-in_err-name_at g c =
     let task = task_of c.args.who.now in
     let at = c.in_ok-place.ensures.ok in
     let parent = location_of c.in_ok-place.place.parent in
-    let object = location_of c.unwrap_or.result in
+    let object = location_of c.unwrap_or-object.result in
     let there = (λ i. unwrap_or (at.2.object i) (at.2.parent i)) ∙ there_mapped c.in_ok-place.place.object c.in_ok-place.place.parent
-    ∙ ap location_of (sym c.unwrap_or.ensures) in
+    ∙ ap location_of (sym c.unwrap_or-object.ensures) in
     let permit = ToChange at.0.parent (removing at.0 (object_there at.0)) in
     let asked = unlink_asked looks c.has_no_overlays.ensures task c.args.path.now at.0 parent object at.1
     (ap is_special at.2.last ∙ sym c.is_special.ensures ∙ c.if-is_special.false) at.2.parent there
@@ -54,9 +54,9 @@ returns g c =
     let task = task_of c.args.who.now in
     let at = c.in_ok-place.ensures.ok in
     let parent = location_of c.in_ok-place.place.parent in
-    let object = location_of c.unwrap_or.result in
+    let object = location_of c.unwrap_or-object.result in
     let there = (λ i. unwrap_or (at.2.object i) (at.2.parent i)) ∙ there_mapped c.in_ok-place.place.object c.in_ok-place.place.parent
-    ∙ ap location_of (sym c.unwrap_or.ensures) in
+    ∙ ap location_of (sym c.unwrap_or-object.ensures) in
     let permit = ToChange at.0.parent (removing at.0 (object_there at.0)) in
     let asked = unlink_asked looks c.has_no_overlays.ensures task c.args.path.now at.0 parent object at.1
     (ap is_special at.2.last ∙ sym c.is_special.ensures ∙ c.if-is_special.false) at.2.parent there
