@@ -1,5 +1,5 @@
 -- What code answers of a judgement: a refusal, a permit, or want of memory.
-use Rattle.std.proofs.Common.{◌≡◌, ℕ, Bool, true, false, [], ◌∷◌, Result, Ok, Err, inl, inr, refl, sym, ◌∙◌}
+use Rattle.std.proofs.Common.{◌≡◌, ℕ, Bool, true, false, [], ◌∷◌, Result, Ok, Err, inl, inr, ◌∙◌}
 use Rattle.vt_spec.specs.declared.errors.Deny.{Deny}
 use Rattle.vt_spec.specs.declared.errors.Rule.TheVariants.{M10, M9, S5}
 use Rattle.vt_spec.specs.Errors.{denial, unless}

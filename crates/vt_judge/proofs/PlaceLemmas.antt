@@ -1,5 +1,5 @@
 -- Calls that have passed their walks are left to their tables of rules.
-use Rattle.std.proofs.Common.{◌≡◌, ℕ, Bool, true, false, not, List, [], ◌∷◌, Result, Ok, Err, Option, Some, None, is_some, option_map, unwrap_or, nat_eq, refl, ap, ◌∙◌}
+use Rattle.std.proofs.Common.{◌≡◌, ℕ, Bool, true, false, not, List, [], ◌∷◌, Result, Ok, Option, Some, None, is_some, option_map, unwrap_or, nat_eq, refl, ap, ◌∙◌}
 use Rattle.vt_spec.specs.declared.errors.Deny.{Deny}
 use Rattle.vt_spec.specs.declared.errors.Rule.TheVariants.{B1, C1, C3, E1, E2, E3, E4, E5, E7, F1, F2, L1, P1, P2}
 use Rattle.vt_spec.specs.Errors.{Rules, and_then, unless}

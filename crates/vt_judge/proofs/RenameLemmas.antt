@@ -1,6 +1,6 @@
 -- Where no location is in an overlay, the rules of a rename are three tables: what has the new name, where the names are,
 -- and the caller's rights.
-use Rattle.std.proofs.Common.{◌≡◌, ℕ, Bool, false, List, [], ◌∷◌, Result, Ok, Err, nat_eq, ap, sym, ◌∙◌}
+use Rattle.std.proofs.Common.{◌≡◌, ℕ, Bool, false, [], ◌∷◌, Result, Ok, Err, nat_eq, ap, ◌∙◌}
 use Rattle.std.specs.Prelude.{option_to_list, ◌&&◌, ◌||◌}
 use Rattle.vt_spec.specs.declared.errors.Deny.{Deny}
 use Rattle.vt_spec.specs.declared.errors.Rule.TheVariants.{B1, C1, C3, E2, E3, E4, E5, F1, F2, L1, O1, P1, P2}

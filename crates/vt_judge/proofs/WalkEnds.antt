@@ -1,7 +1,6 @@
 -- Where walks end.
 use Rattle.std.proofs.Common.{◌≡◌, ℕ, Result, Ok, Err, IfOk, IfErr, ap, refl, sym}
 use Rattle.vt_spec.specs.declared.errors.Deny.{Deny}
-use Rattle.vt_spec.specs.Machine.Mounts as meant
 use Rattle.vt_spec.specs.Machine.Walking as walked
 use Rattle.vt_location.specs.declared.locations.Location.{Location}
 use Rattle.vt_location.specs.Locations.{location_of}
@@ -30,13 +29,16 @@ refused_by (Err deny) (Err other) e = cc
 pub ends_at_place : (result : Result Place Deny) (end : Result (walked.Place ℕ) Deny) → place_result result ≡ place_end end
     → IfOk result (λ place. EndsAtPlace end place)
 ends_at_place (Ok place) (Ok seen) e =
-    let same = same-ok (without_steps seen) (place_of place) (sym e) in
-    (seen, refl, record {
-      parent = ap (λ (p : walked.Place ℕ). p.parent) same;
-      last = ap (λ (p : walked.Place ℕ). p.last) same;
-      object = ap (λ (p : walked.Place ℕ). p.object) same;
-      slash = ap (λ (p : walked.Place ℕ). p.slash) same;
-    })
+    let same = same-ok (without_steps seen) (place_of place) (sym e) in (
+      seen,
+      refl,
+      record {
+        parent = ap (λ (p : walked.Place ℕ). p.parent) same;
+        last = ap (λ (p : walked.Place ℕ). p.last) same;
+        object = ap (λ (p : walked.Place ℕ). p.object) same;
+        slash = ap (λ (p : walked.Place ℕ). p.slash) same;
+      },
+    )
 ends_at_place (Ok place) (Err deny) e = absurd cc
 ends_at_place (Err deny) end e = tt
 

@@ -1,5 +1,5 @@
 -- Where walks of code end, as the definitions see it: links that are left, and filesystems met on the way, aside.
-use Rattle.std.specs.Prelude.{Err, None, Ok, Option, Result, Some, option_map, ℕ, ◌≡◌}
+use Rattle.std.specs.Prelude.{Err, Ok, Result, option_map, ℕ, ◌≡◌}
 use Rattle.vt_spec.specs.declared.errors.Deny.{Deny}
 use Rattle.vt_spec.specs.Machine.Mounts as meant
 use Rattle.vt_spec.specs.Machine.Walking as walked

@@ -15,7 +15,6 @@ use Rattle.vt_spec.specs.Machine.Walking.{Here, Place, directory_walk, walk_end}
 use Rattle.vt_spec.specs.Machine.World.{Task}
 use Rattle.vt_spec.specs.Rights.{write_right}
 use Rattle.vt_location.specs.declared.locations.Location.{Location}
-use Rattle.vt_location.specs.Locations.{location_of}
 use Rattle.vt_judge.specs.Ends.{EndsAt}
 
 -- the caller's rights where a name is taken away: unlink(2), EACCES and EPERM

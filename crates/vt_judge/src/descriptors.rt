@@ -38,7 +38,12 @@ fn rights_of(access: Access) -> Rights
 }
 
 // A file that is there: E2 (EISDIR), E9 (ENXIO), F1 (EROFS), C1 (EACCES).
-fn open_there<L: Look>(world: &L, who: &Task, file: Location, access: Access) -> Result<Permit, Deny>
+fn open_there<L: Look>(
+    world: &L,
+    who: &Task,
+    file: Location,
+    access: Access,
+) -> Result<Permit, Deny>
     ensures { JudgesAlike (task_of who.now) (open_file_permit nat_eq (L.looks world.now) (task_of who.now) (location_of file) (access_of access)) result }
 {
     world.has_no_overlays();

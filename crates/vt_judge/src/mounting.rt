@@ -35,10 +35,12 @@ fn has_shared_parent<L: Look>(world: &L, at: Location) -> bool
     ensures { result ≡ has_shared_parent (L.looks world.now) (location_of at) }
 {
     match world.mount(at.mount) {
-        Some(Mount {
-            mount_point: Some(place),
-            ..
-        }) => is_shared(world, place.mount),
+        Some(
+            Mount {
+                mount_point: Some(place),
+                ..
+            },
+        ) => is_shared(world, place.mount),
         _ => false,
     }
 }
@@ -63,7 +65,12 @@ fn root_at<L: Look>(world: &L, who: &Task, path: &[u8]) -> Result<Location, Deny
 }
 
 // A mount may move: M2 (EINVAL), M4 (EINVAL), M5 (EINVAL), M6 (ELOOP), M7 (EINVAL).
-fn may_move<L: LookAtMounts>(world: &L, who: &Task, source: Location, place: Location) -> Result<(), Deny>
+fn may_move<L: LookAtMounts>(
+    world: &L,
+    who: &Task,
+    source: Location,
+    place: Location,
+) -> Result<(), Deny>
     ensures { result ≡ unless (move_table (L.looks world.now) (task_of who.now) (location_of source) (location_of place)) (Ok tt) }
 {
     if is_elsewhere(world, who, source) || is_elsewhere(world, who, place) {
@@ -149,7 +156,12 @@ pub fn bind<L: LookAtMounts>(
 /// K1 (EPERM), and after the rules of both walks M2 (EINVAL), M4 (EINVAL), M5 (EINVAL), M6 (ELOOP), M7 (EINVAL), M9 (ENOSPC),
 /// M10 (EINVAL).
 #[tactic(auto, unfolding(vt_spec::specs::Machine::Judge::move_permit))]
-pub fn move_mount<L: LookAtMounts>(world: &L, who: &Task, source: &[u8], path: &[u8]) -> Result<Permit, Deny>
+pub fn move_mount<L: LookAtMounts>(
+    world: &L,
+    who: &Task,
+    source: &[u8],
+    path: &[u8],
+) -> Result<Permit, Deny>
     ensures { JudgesByReceivers (task_of who.now)
         (move_permit nat_eq (L.looks world.now) (L.overfills world.now) (task_of who.now) source.now path.now) result }
 {

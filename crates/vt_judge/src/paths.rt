@@ -9,8 +9,8 @@ ghost use Rattle.vt_judge.specs.Ends.{EndsAt, EndsAtPlace};
 use vt_location::Location;
 use vt_looks::Look;
 use vt_spec::errors::Deny;
-use vt_text::path::PathText;
 use vt_task::Task;
+use vt_text::path::PathText;
 use vt_walks::Place;
 
 /// The object that a path leads to, a final symlink followed.
@@ -54,7 +54,11 @@ pub(crate) fn destination_at<L: Look>(world: &L, who: &Task, path: &[u8]) -> Res
 }
 
 /// The parent that a path leads to, and what its last word names there.
-pub(crate) fn new_place<'a, L: Look>(world: &L, who: &Task, path: &'a [u8]) -> Result<Place<'a>, Deny>
+pub(crate) fn new_place<'a, L: Look>(
+    world: &L,
+    who: &Task,
+    path: &'a [u8],
+) -> Result<Place<'a>, Deny>
     ensures ok { IfOk result (λ place. EndsAtPlace (walk_end (new_walk nat_eq (L.looks world.now) (task_of who.now) path.now)) place) }
     ensures err { IfErr result (λ deny. walk_end (new_walk nat_eq (L.looks world.now) (task_of who.now) path.now) ≡ Err deny) }
 {
@@ -62,7 +66,11 @@ pub(crate) fn new_place<'a, L: Look>(world: &L, who: &Task, path: &'a [u8]) -> R
 }
 
 /// As `new_place`, but no slash stands behind a missing name.
-pub(crate) fn new_leaf_place<'a, L: Look>(world: &L, who: &Task, path: &'a [u8]) -> Result<Place<'a>, Deny>
+pub(crate) fn new_leaf_place<'a, L: Look>(
+    world: &L,
+    who: &Task,
+    path: &'a [u8],
+) -> Result<Place<'a>, Deny>
     ensures ok { IfOk result (λ place. EndsAtPlace (walk_end (new_leaf_walk nat_eq (L.looks world.now) (task_of who.now) path.now)) place) }
     ensures err { IfErr result (λ deny. walk_end (new_leaf_walk nat_eq (L.looks world.now) (task_of who.now) path.now) ≡ Err deny) }
 {
@@ -70,7 +78,11 @@ pub(crate) fn new_leaf_place<'a, L: Look>(world: &L, who: &Task, path: &'a [u8])
 }
 
 /// As `new_place`, of a name that is there.
-pub(crate) fn old_place<'a, L: Look>(world: &L, who: &Task, path: &'a [u8]) -> Result<Place<'a>, Deny>
+pub(crate) fn old_place<'a, L: Look>(
+    world: &L,
+    who: &Task,
+    path: &'a [u8],
+) -> Result<Place<'a>, Deny>
     ensures ok { IfOk result (λ place. EndsAtPlace (walk_end (old_walk nat_eq (L.looks world.now) (task_of who.now) path.now)) place) }
     ensures err { IfErr result (λ deny. walk_end (old_walk nat_eq (L.looks world.now) (task_of who.now) path.now) ≡ Err deny) }
 {
@@ -78,7 +90,11 @@ pub(crate) fn old_place<'a, L: Look>(world: &L, who: &Task, path: &'a [u8]) -> R
 }
 
 /// As `old_place`, and a slash stands behind a directory alone.
-pub(crate) fn old_leaf_place<'a, L: Look>(world: &L, who: &Task, path: &'a [u8]) -> Result<Place<'a>, Deny>
+pub(crate) fn old_leaf_place<'a, L: Look>(
+    world: &L,
+    who: &Task,
+    path: &'a [u8],
+) -> Result<Place<'a>, Deny>
     ensures ok { IfOk result (λ place. EndsAtPlace (walk_end (old_leaf_walk nat_eq (L.looks world.now) (task_of who.now) path.now)) place) }
     ensures err { IfErr result (λ deny. walk_end (old_leaf_walk nat_eq (L.looks world.now) (task_of who.now) path.now) ≡ Err deny) }
     ensures there { IfOk result (λ place. is_some place.object ≡ true) }
@@ -87,7 +103,11 @@ pub(crate) fn old_leaf_place<'a, L: Look>(world: &L, who: &Task, path: &'a [u8])
 }
 
 /// The place of a file that is opened or made, a final symlink followed.
-pub(crate) fn file_place<'a, L: Look>(world: &'a L, who: &Task, path: &'a [u8]) -> Result<Place<'a>, Deny>
+pub(crate) fn file_place<'a, L: Look>(
+    world: &'a L,
+    who: &Task,
+    path: &'a [u8],
+) -> Result<Place<'a>, Deny>
     ensures ok { IfOk result (λ place. EndsAtPlace (walk_end (file_walk nat_eq (L.looks world.now) (task_of who.now) path.now)) place) }
     ensures err { IfErr result (λ deny. walk_end (file_walk nat_eq (L.looks world.now) (task_of who.now) path.now) ≡ Err deny) }
 {

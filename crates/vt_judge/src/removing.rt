@@ -13,7 +13,10 @@ ghost use Rattle.vt_judge.specs.Ends.{IsPlaceOf};
 ghost use Rattle.vt_judge.specs.Tables.{kind_rules, remove_rules, right_rules, way_rules};
 
 use crate::paths::{old_leaf_place, old_place, rename_place};
-use crate::rights::{is_directory, is_filled, is_kept, is_read_only, is_same_filesystem, is_same_inode, is_same_location, may, name_at};
+use crate::rights::{
+    is_directory, is_filled, is_kept, is_read_only, is_same_filesystem, is_same_inode,
+    is_same_location, may, name_at,
+};
 use std::alloc::Global;
 use vt_cred::Rights;
 use vt_location::Location;
@@ -46,7 +49,12 @@ pub fn unlink<L: Look>(alloc: Global, world: &L, who: &Task, path: &[u8]) -> Res
 }
 
 // The caller may take a name of an object from a directory: C1 (EACCES), C3 (EPERM).
-fn may_remove<L: Look>(world: &L, who: &Task, directory: Location, object: Location) -> Result<(), Deny>
+fn may_remove<L: Look>(
+    world: &L,
+    who: &Task,
+    directory: Location,
+    object: Location,
+) -> Result<(), Deny>
     ensures { result ≡ unless (remove_rules (L.looks world.now) (task_of who.now) (location_of directory) (location_of object)) (Ok tt) }
 {
     if !may(world, who, directory, Rights::WRITE) {

@@ -19,7 +19,7 @@ returns g c =
     let old = c.attr_at-old.result in
     let new : Attr = record { uid = c.unwrap_or.result; gid = c.unwrap_or-2.result; mode = old.mode } in
     let owner : attr_with_owner old c.args.uid c.args.gid ≡ new =
-        (λ i. record { uid = sym c.unwrap_or.ensures i; gid = sym c.unwrap_or-2.ensures i; mode = old.mode }) in
+    (λ i. record { uid = sym c.unwrap_or.ensures i; gid = sym c.unwrap_or-2.ensures i; mode = old.mode }) in
     answers_alike task (chown_permit nat_eq looks task c.args.path.now c.args.uid c.args.gid)
     (attr_permit nat_eq looks at c.may_chown.result new) c.set_attr.result
     (reached (walk_end (object_walk nat_eq looks task c.args.path.now)) at

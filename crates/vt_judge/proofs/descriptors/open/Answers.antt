@@ -1,4 +1,4 @@
-use Rattle.std.proofs.Common.{[], ap, arith, le-ltb, length, nat_eq, nat_le, sym, ◌∙◌, rules}
+use Rattle.std.proofs.Common.{[], length, nat_eq, nat_le, ◌∙◌, rules}
 use Rattle.vt_spec.specs.declared.errors.Rule.TheVariants.{S3}
 use Rattle.vt_spec.specs.Language.Calls.Creation.{NoCreation}
 use Rattle.vt_spec.specs.Language.Limits.{most_descriptors}

@@ -1,4 +1,4 @@
-use Rattle.std.proofs.Common.{rules, Ok, [], nat_eq, sym, ◌∙◌}
+use Rattle.std.proofs.Common.{rules, Ok, [], nat_eq, ◌∙◌}
 use Rattle.std.proofs.lemmas.Result.{err_from_is_err_and}
 use Rattle.vt_spec.specs.Machine.Judge.{create_file_permit, open_new_permit, unnumbered}
 use Rattle.vt_spec.specs.Machine.Outcome.Making.{new_file}

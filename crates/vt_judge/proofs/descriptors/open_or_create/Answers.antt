@@ -1,4 +1,4 @@
-use Rattle.std.proofs.Common.{[], None, ap, nat_eq, option_map, sym, ◌∙◌}
+use Rattle.std.proofs.Common.{[], ap, nat_eq, option_map, sym, ◌∙◌}
 use Rattle.std.specs.Prelude.{◌||◌}
 use Rattle.vt_spec.specs.declared.errors.Rule.TheVariants.{E2}
 use Rattle.vt_spec.specs.Language.Calls.Creation.{OrCreate}

@@ -1,11 +1,10 @@
-use Rattle.std.proofs.Common.{[], ℕ, Ok, ap, arith, is_some, le-ltb, length, nat_eq, rules, sym, unwrap_or, ◌≡◌, ◌∙◌}
+use Rattle.std.proofs.Common.{ℕ, Ok, ap, is_some, nat_eq, rules, sym, unwrap_or, ◌≡◌, ◌∙◌}
 use Rattle.std.proofs.lemmas.Result.{err_from_is_err_and}
 use Rattle.vt_spec.specs.Machine.Judge.{make_permit, mkdir_permit, unnumbered}
 use Rattle.vt_spec.specs.Machine.Permits.Permit.{ToMake}
 use Rattle.vt_spec.specs.Machine.Rules.Making.{make_rules}
 use Rattle.vt_spec.specs.Machine.Walking.{Place, is_special, name_of, new_walk, walk_end}
 use Rattle.vt_spec.specs.Tree.{Node}
-use Rattle.vt_permits.specs.PermitValue.{node_in}
 use Rattle.vt_task.specs.TaskValue.{task_of}
 use Rattle.vt_judge.proofs.Judged.{refused, without_memory}
 use Rattle.vt_judge.proofs.PlaceLemmas.{is_some_mapped, made_asked}

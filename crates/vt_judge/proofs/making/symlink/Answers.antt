@@ -1,4 +1,4 @@
-use Rattle.std.proofs.Common.{[], ℕ, Ok, ap, arith, is_some, le-ltb, length, nat_eq, rules, sym, unwrap_or, ◌≡◌, ◌∙◌}
+use Rattle.std.proofs.Common.{[], ℕ, Ok, ap, arith, is_some, le-ltb, length, nat_eq, rules, sym, ◌≡◌, ◌∙◌}
 use Rattle.std.proofs.lemmas.Result.{err_from_is_err_and}
 use Rattle.vt_spec.specs.Machine.Judge.{make_permit, symlink_permit, unnumbered}
 use Rattle.vt_spec.specs.Machine.Permits.Permit.{ToMake}

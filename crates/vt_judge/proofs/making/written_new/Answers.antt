@@ -1,4 +1,4 @@
-use Rattle.std.proofs.Common.{rules, Ok, None, arith, le-ltb, length, nat_eq, sym, ◌∙◌}
+use Rattle.std.proofs.Common.{rules, Ok, None, arith, le-ltb, length, nat_eq, ◌∙◌}
 use Rattle.std.proofs.lemmas.Result.{err_from_is_err_and}
 use Rattle.vt_spec.specs.declared.errors.Rule.TheVariants.{E6}
 use Rattle.vt_spec.specs.Machine.Judge.{make_permit, unnumbered, written_permit}

@@ -1,10 +1,10 @@
-use Rattle.std.proofs.Common.{[], Ok, ap, nat_eq, sym, unwrap_or, ◌∙◌}
+use Rattle.std.proofs.Common.{Ok, ap, nat_eq, sym, unwrap_or, ◌∙◌}
 use Rattle.std.proofs.lemmas.Result.{err_from_is_err_and}
 use Rattle.vt_spec.specs.Machine.Judge.{rmdir_permit}
 use Rattle.vt_spec.specs.Machine.Permits.Permit.{ToRemoveDirectory}
 use Rattle.vt_spec.specs.Machine.Rules.Removing.{object_there}
 use Rattle.vt_walks.specs.WalkValue.{last_of}
-use Rattle.vt_spec.specs.Machine.Walking.{is_special, name_of, old_walk, walk_end}
+use Rattle.vt_spec.specs.Machine.Walking.{name_of}
 use Rattle.vt_location.specs.Locations.{location_of}
 use Rattle.vt_task.specs.TaskValue.{task_of}
 use Rattle.vt_judge.specs.Tables.{remove_rules}

@@ -1,10 +1,10 @@
-use Rattle.std.proofs.Common.{[], Ok, ap, nat_eq, sym, unwrap_or, ◌∙◌}
+use Rattle.std.proofs.Common.{Ok, ap, nat_eq, sym, unwrap_or, ◌∙◌}
 use Rattle.std.proofs.lemmas.Result.{err_from_is_err_and}
 use Rattle.vt_spec.specs.Language.Changes.Change.{Remove}
 use Rattle.vt_spec.specs.Machine.Judge.{unlink_permit}
 use Rattle.vt_spec.specs.Machine.Permits.Permit.{ToChange}
 use Rattle.vt_spec.specs.Machine.Rules.Removing.{object_there, removing}
-use Rattle.vt_spec.specs.Machine.Walking.{is_special, name_of, old_leaf_walk, walk_end}
+use Rattle.vt_spec.specs.Machine.Walking.{is_special, name_of}
 use Rattle.vt_location.specs.Locations.{location_of}
 use Rattle.vt_task.specs.TaskValue.{task_of}
 use Rattle.vt_judge.specs.Tables.{remove_rules}

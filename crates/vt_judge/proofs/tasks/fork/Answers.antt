@@ -1,10 +1,9 @@
-use Rattle.std.proofs.Common.{Ok, None, Some, ap, option_map, sym, ◌∙◌}
+use Rattle.std.proofs.Common.{Ok, Some}
 use Rattle.std.proofs.lemmas.Result.{err_from_is_err_and}
 use Rattle.vt_spec.specs.Machine.Judge.{fork_permit}
 use Rattle.vt_spec.specs.Machine.Outcome.Tasks.{child_credentials}
 use Rattle.vt_spec.specs.Machine.Permits.Permit.{ToFork}
 use Rattle.vt_spec.specs.Machine.Rules.Tasks.{fork_rules}
-use Rattle.vt_permits.specs.Memory.{Judges}
 use Rattle.vt_request.specs.Requests.{fork_words_of}
 use Rattle.vt_task.specs.TaskValue.{task_of}
 use Rattle.vt_judge.proofs.Judged.{refused}
