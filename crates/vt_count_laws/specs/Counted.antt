@@ -10,8 +10,8 @@ use Rattle.vt_letting_go.specs.Counts.{inode_uses}
 abbrev pub IsPlain : World ℕ → Type 0
 IsPlain world = All (λ filesystem. is_overlay filesystem ≡ false) world.filesystems
 
--- Counted inodes are those of a filesystem in a world: the same root, the same nodes, each with the count of its uses. The
--- numbers beside the tree stand once each.
+-- Counted inodes are those of a filesystem in a world: the same root, the same nodes, each with the count of its uses. No
+-- number stands twice beside the tree.
 pub record IsCounted (world : World ℕ) (filesystem : Filesystem ℕ) (inodes : Inodes ℕ) : Type 0 where
   pub root : inodes.root ≡ filesystem.files.tree.root
   pub node : (number : ℕ) → node_in (inodes.inode number) ≡ filesystem.files.tree.node number

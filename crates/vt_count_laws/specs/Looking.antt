@@ -12,7 +12,7 @@ CountedTreeIsTheTree =
     (world : World ℕ) (filesystem : Filesystem ℕ) (inodes : Inodes ℕ) → IsCounted world filesystem inodes
     → tree_of inodes ≡ filesystem.files.tree
 
--- A directory lies under another among counted inodes where it does in the tree; one without a name is its own parent.
+-- A directory lies under another among counted inodes just where it does in the tree.
 abbrev pub DirectoriesLieAlike : Type 0
 DirectoriesLieAlike =
     (world : World ℕ) (filesystem : Filesystem ℕ) (inodes : Inodes ℕ) (top directory : ℕ)

@@ -22,7 +22,7 @@ UsesAreSwept =
     → IsCounted (settled nat_eq after) (filesystem_numbered nat_eq (settled nat_eq after) filesystem)
     (exchanged filesystem gained lost inodes)
 
--- Counts do not hang on change numbers, nor on the order of the numbers beside trees.
+-- Counts depend neither on change numbers nor on the order of the numbers beside trees.
 abbrev pub SameWorldsCountAlike : Type 0
 SameWorldsCountAlike =
     (one other : World ℕ) (filesystem : ℕ) (inodes : Inodes ℕ) → SameWorlds one other → IsPlain one

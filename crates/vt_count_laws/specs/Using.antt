@@ -118,7 +118,7 @@ PlacesStand =
 abbrev pub LocationsOfWorldsStand : Type 0
 LocationsOfWorldsStand = (world : World ℕ) → IsWorld nat_eq world → LocationsStand world
 
--- A mount that goes is one use less of its root.
+-- A mount that nothing uses takes one use of its root with it.
 abbrev pub MountsLeaveTheirRoots : Type 0
 MountsLeaveTheirRoots =
     (world : World ℕ) (number : ℕ) → MountsStand world → LocationsStand world

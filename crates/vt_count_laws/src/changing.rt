@@ -2,9 +2,12 @@
 ghost use Rattle.vt_count_laws.specs.Changing.{CountedChangesAreSwept, CountsFollowChanges, NamesKeepAll, OnlyFilesChange, OtherCountsStay};
 ghost use Rattle.vt_count_laws.specs.Numbers.{SameNumbersArePermuted};
 
-/// A change of the counted inodes is the change of the tree and the sweep of the world after it.
+/// The change of a tree and the sweep after it leave just the changed inodes, with the counts of their uses.
 ///
-/// Nothing else changes in the world, and the inodes of the other filesystems are used as often as before.
+/// Nothing else changes in the world, and the inodes of the other filesystems are used as often as before. A change that
+/// takes no name frees nothing.
+///
+/// The world has all invariants and no overlay, the change fits the tree, and what it links exists (`IsChange`).
 pub fn changes_are_counted()
     ensures only { OnlyFilesChange }
     ensures counts { CountsFollowChanges }
@@ -12,7 +15,9 @@ pub fn changes_are_counted()
     ensures named { NamesKeepAll }
 {}
 
-/// A world that has the tree of the changed inodes, with their numbers in any order, is the world after the change.
+/// A world that has the tree of the changed inodes is the same as the world after the change and the sweep, but for change
+/// numbers and the order of the numbers beside trees (`SameWorlds`). Beside the tree it has the numbers of its inodes, each
+/// once; two lists of the same numbers, each once, differ at most in their order.
 pub fn counted_inodes_are_the_world()
     ensures numbers { SameNumbersArePermuted }
     ensures world { CountedChangesAreSwept }

@@ -1,7 +1,8 @@
 //! Mounts and filesystems that go with their last use.
 ghost use Rattle.vt_count_laws.specs.Going.{FilesystemGoesAtZero, LocationsUseMounts, MountGoesAtZero, MountTakesItsCount, MountsUseFilesystems};
 
-/// A mount in no namespace goes with its last location, and a plain filesystem with its last mount.
+/// A mount in no namespace goes with its last location, and in a world without overlays a filesystem goes with its last
+/// mount. A mount that goes is one use less of its filesystem. No two mounts have the same number.
 pub fn things_go_at_zero()
     ensures mount { MountGoesAtZero }
     ensures filesystem { FilesystemGoesAtZero }

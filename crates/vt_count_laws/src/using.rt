@@ -2,9 +2,10 @@
 ghost use Rattle.vt_count_laws.specs.Sweeping.{SameWorldsCountAlike, UsesAreSwept};
 ghost use Rattle.vt_count_laws.specs.Using.{ExchangesFollow, ExchangesTurn, LocationsAreUses, LocationsOfWorldsStand, MountIsPlaced, MountsAreUses, MountsLeaveTheirRoots, NewTreeIsCounted, OpeningIsCounted, OthersUseNothing, PlacesStand, UsesAreExchanged};
 
-/// Where inodes get some uses and lose some, those go that are left with none, and the others count on.
+/// Where inodes get some uses and lose some, those that are left with none go, and the others have the new counts. The sweep
+/// at the end of a call does the same, once mounts and filesystems without a use are gone.
 ///
-/// So does the sweep at the end of a call, once mounts and filesystems without a use are gone.
+/// Before, all inodes were in use; there is no overlay, and the inodes that get a use exist.
 pub fn uses_are_exchanged()
     ensures one_by_one { UsesAreExchanged }
     ensures swept { UsesAreSwept }
@@ -24,7 +25,8 @@ pub fn locations_and_mounts_are_uses()
     ensures others { OthersUseNothing }
 {}
 
-/// Locations are on mounts that are there, and a mount on which there is none goes with one use of its root.
+/// In a world with its invariants, all locations are on mounts that exist. A mount in no namespace on which there is no
+/// location takes one use of its root with it.
 pub fn mounts_leave_their_roots()
     ensures locations { LocationsOfWorldsStand }
     ensures places { PlacesStand }
@@ -37,7 +39,7 @@ pub fn a_new_tree_is_counted()
     ensures opening { OpeningIsCounted }
 {}
 
-/// Worlds that differ in change numbers and in the order of numbers alone have the same counts.
+/// Worlds without overlays that differ only in change numbers and in the order of numbers beside trees have the same counts.
 pub fn same_worlds_count_alike()
     ensures { SameWorldsCountAlike }
 {}

@@ -46,7 +46,7 @@ filled_from slot [] = []
 filled_from slot (None ∷ rest) = filled_from (slot + 1) rest
 filled_from slot (Some inode ∷ rest) = slot ∷ filled_from (slot + 1) rest
 
--- the numbers of the inodes that are there, in the order of their slots
+-- the numbers of the inodes, in the order of their slots
 abbrev pub numbers_seen : FilesystemEntry → List ℕ
 numbers_seen entry = map (exchanged entry.count) (filled_from 0 entry.tree.slots)
 
@@ -66,14 +66,14 @@ filesystems_seen filesystems = map filesystem_seen filesystems
 abbrev pub entry_of : Filesystems → ℕ → Option FilesystemEntry
 entry_of filesystems count = find (λ entry. nat_eq count entry.count) filesystems
 
--- what stands for a filesystem that is not there: it has no inodes, and its root is its own number
+-- the value of a count that no filesystem has: no inodes, and the number of the filesystem as that of its root
 abbrev pub no_entry : ℕ → FilesystemEntry
 no_entry count = record { count = count; tree = record { root = exchanged count (counted count); slots = []; next = 0 }; mounts = 0 }
 
 abbrev pub entry_at : Filesystems → ℕ → FilesystemEntry
 entry_at filesystems count = unwrap_or (entry_of filesystems count) (no_entry count)
 
--- what is in a filesystem
+-- the inodes and the files of a filesystem
 abbrev pub inodes_at : Filesystems → ℕ → Inodes ℕ
 inodes_at filesystems count = inodes_seen (entry_at filesystems count)
 

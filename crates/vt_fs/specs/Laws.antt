@@ -20,7 +20,7 @@ ParentsAreNamed tree =
 abbrev pub TreesNameParents : Type 0
 TreesNameParents = (tree : Tree ℕ) → IsTree tree → HasOwnParents tree → ParentsAreNamed tree
 
--- the numbers beside a tree are those of the inodes that are there
+-- the numbers beside a tree are those of its inodes
 abbrev pub NumbersAreListed : Type 0
 NumbersAreListed = (entry : FilesystemEntry) → ListsNumbers nat_eq (files_seen entry)
 

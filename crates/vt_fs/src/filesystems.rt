@@ -52,7 +52,8 @@ impl Filesystem {
 
 /// The plain filesystems, in the order in which they were made. Each is a tree of inodes in slots of its own.
 ///
-/// What is done in a filesystem that does not exist does nothing.
+/// In a filesystem that does not exist there is nothing to read, a change of names is refused (E3, W6), and any other change
+/// has no effect.
 #[derive(Debug, Drop)]
 pub struct Filesystems {
     by_number: IndexMap<FilesystemId, Filesystem>,
@@ -71,7 +72,7 @@ impl Filesystems {
     ghost use Rattle.vt_fs.specs.Laws.{ParentsAreNamed};
     ghost use Rattle.vt_fs.specs.Lends.{lends_tree, lends_tree_at};
 
-    /// No filesystems. It takes no memory.
+    /// No filesystems. It does not allocate.
     pub fn new(alloc: Global) -> Self
         ensures { result ≡ [] }
     {
@@ -87,14 +88,14 @@ impl Filesystems {
         self.by_number.len()
     }
 
-    /// No two filesystems have one number.
+    /// A theorem: no two filesystems have the same number.
     pub fn have_numbers_apart(&self)
         ensures { any_pair (λ a b. nat_eq a.number b.number) (filesystems_seen self.now) ≡ false }
     {
         let _len = self.by_number.len();
     }
 
-    /// An inode of a filesystem has one of the filesystem's numbers.
+    /// A theorem: each inode of a filesystem has one of the numbers of that filesystem's slots.
     pub fn has_own_numbers(&self, filesystem: FilesystemId)
         ensures { (number : ℕ) → is_inode_of filesystem.count number ≡ false
             → (inodes_at self.now filesystem.count).inode number ≡ None }
@@ -178,7 +179,9 @@ impl Filesystems {
         }
     }
 
-    /// Whether a directory is at or under another of its filesystem: going up by parents meets it.
+    /// Whether a directory is another of its filesystem, or lies under it: going up by parents meets that one.
+    ///
+    /// Directories must be named in their parents, as in every tree of a world (`trees_name_parents`).
     pub fn is_under(&self, top: NodeRef, directory: NodeRef) -> bool
         requires named { ParentsAreNamed (files_at self.now top.filesystem.count).tree }
         requires one_filesystem { directory.filesystem ≡ top.filesystem }
@@ -191,8 +194,8 @@ impl Filesystems {
         }
     }
 
-    /// Whether a directory other than the root has no name: rmdir(2) on a directory in use leaves such a one. What is no
-    /// directory counts as one.
+    /// Whether a directory other than the root has no name, as after rmdir(2) of a directory in use. What is no directory counts
+    /// as removed. Directories must be named in their parents, as for `is_under`.
     pub fn is_removed(&self, directory: NodeRef) -> bool
         requires named { ParentsAreNamed (files_at self.now directory.filesystem.count).tree }
         ensures { result ≡ is_removed nat_eq (files_at self.now directory.filesystem.count).tree (number_of directory) }
@@ -216,7 +219,7 @@ impl Filesystems {
 
     /// Makes a filesystem of one empty directory, which no mount shows yet.
     ///
-    /// S5 (ENOMEM): memory was refused.
+    /// S5 (ENOMEM): an allocation failed.
     pub fn add(&mut self, filesystem: FilesystemId, attr: Attr) -> Result<(), Deny>
         requires { entry_of self.old filesystem.count ≡ None }
         ensures ok { OnOk result
@@ -235,7 +238,7 @@ impl Filesystems {
         Ok(())
     }
 
-    /// Ends a filesystem, and all its inodes with it. It takes no memory.
+    /// Removes a filesystem with all its inodes, whatever mounts show it. It does not allocate.
     pub fn remove(&mut self, filesystem: FilesystemId)
         ensures { self.new ≡ without filesystem.count self.old }
     {
@@ -252,7 +255,7 @@ impl Filesystems {
         }
     }
 
-    /// Counts one mount more of a filesystem. It takes no memory.
+    /// Counts one more mount of a filesystem. It does not allocate.
     ///
     /// S5 (ENOMEM): it has 2^64 - 1 mounts.
     pub fn hold_mount(&mut self, filesystem: FilesystemId) -> Result<(), Deny>
@@ -271,7 +274,7 @@ impl Filesystems {
         Ok(())
     }
 
-    /// Counts one mount less of a filesystem. It takes no memory.
+    /// Takes back a mount that `hold_mount` counted; a count of 0 stays 0. It does not allocate.
     pub fn release_mount(&mut self, filesystem: FilesystemId)
         ensures { self.new ≡ with_changed filesystem.count (λ entry. record entry { mounts = entry.mounts - 1 }) self.old }
     {
@@ -282,7 +285,7 @@ impl Filesystems {
 
     /// The names of a directory, in the order of their bytes: readdir(3). What is no directory has none.
     ///
-    /// S5 (ENOMEM): memory was refused. No names need none.
+    /// S5 (ENOMEM): an allocation failed; an empty list needs none.
     pub fn list(&self, directory: NodeRef) -> Result<Vec<Vec<u8>>, Deny>
         ensures ok { IfOk result (λ names. map (λ name. name.items) names.items
             ≡ names_in ((files_at self.now directory.filesystem.count).tree.node (number_of directory))) }
@@ -298,7 +301,7 @@ impl Filesystems {
 
     /// The bytes of a file, or the text of a symlink: read(2).
     ///
-    /// E2 (EISDIR): a directory. S5 (ENOMEM): memory was refused. No bytes need none.
+    /// E2 (EISDIR): a directory. S5 (ENOMEM): an allocation failed; an empty result needs none.
     pub fn read(&self, file: NodeRef) -> Result<Vec<u8>, Deny>
         ensures ok { IfOk result (λ bytes.
             bytes.items ≡ bytes_in ((files_at self.now file.filesystem.count).tree.node (number_of file))) }
@@ -316,7 +319,7 @@ impl Filesystems {
 
     /// At most `size` bytes of a file from an offset on: pread(2). Past the end there are none.
     ///
-    /// S5 (ENOMEM): memory was refused. No bytes need none.
+    /// S5 (ENOMEM): an allocation failed; an empty result needs none.
     pub fn read_part(&self, file: NodeRef, offset: usize, size: usize) -> Result<Vec<u8>, Deny>
         ensures ok { IfOk result (λ bytes. bytes.items
             ≡ take size (drop offset (bytes_in ((files_at self.now file.filesystem.count).tree.node (number_of file))))) }
@@ -332,7 +335,7 @@ impl Filesystems {
 
     /// Makes an inode under a name of a directory: mkdir(2), open(2) with O_CREAT, symlink(2), mknod(2).
     ///
-    /// E3 (ENOTDIR): no directory. E1 (EEXIST): the name exists. S5 (ENOMEM): memory was refused.
+    /// E3 (ENOTDIR): the parent is no directory. E1 (EEXIST): the name exists. S5 (ENOMEM): an allocation failed.
     pub fn create(&mut self, directory: NodeRef, name: Vec<u8>, node: Node) -> Result<NodeRef, Deny>
         requires { IsNewIn directory.slot node }
         ensures ok { IfOk result (λ made. ChangesInodes directory.filesystem.count
@@ -358,11 +361,10 @@ impl Filesystems {
         }
     }
 
-    /// Makes a further hard link to an inode of the same filesystem: link(2). That the inode exists is not checked: it is
-    /// the caller's.
+    /// Makes another hard link to an inode of the same filesystem: link(2). That the inode exists is checked by the caller.
     ///
-    /// E3 (ENOTDIR): no directory. E1 (EEXIST): the name exists. E7 (EPERM): the inode is a directory. S5 (ENOMEM): memory
-    /// was refused, or the inode has 2^64 - 1 uses.
+    /// E3 (ENOTDIR): the parent is no directory. E1 (EEXIST): the name exists. E7 (EPERM): the inode is a directory. S5 (ENOMEM):
+    /// an allocation failed, or the inode has 2^64 - 1 uses.
     pub fn link(&mut self, directory: NodeRef, name: Vec<u8>, object: NodeRef) -> Result<(), Deny>
         requires { object.filesystem ≡ directory.filesystem }
         ensures ok { OnOk result (ChangesInodes directory.filesystem.count
@@ -381,9 +383,9 @@ impl Filesystems {
         }
     }
 
-    /// Takes a name from an inode: unlink(2), rmdir(2). With its last use the inode goes. It takes no memory.
+    /// Removes a name of an inode: unlink(2), rmdir(2). With its last use the inode is freed. It does not allocate.
     ///
-    /// W6 (ENOENT): the name is not the inode's. E4 (ENOTEMPTY): the inode is a directory with entries.
+    /// W6 (ENOENT): the name does not lead to the inode. E4 (ENOTEMPTY): the inode is a directory with entries.
     pub fn unlink(&mut self, directory: NodeRef, name: &[u8], object: NodeRef) -> Result<(), Deny>
         requires { object.filesystem ≡ directory.filesystem }
         ensures ok { OnOk result (ChangesInodes directory.filesystem.count
@@ -401,12 +403,13 @@ impl Filesystems {
         }
     }
 
-    /// Gives an inode another name in its filesystem, and takes the place of what had that: rename(2). Two names of one
-    /// inode stay.
+    /// Renames an inode within its filesystem, and replaces what had the new name: rename(2). If the new name already leads to
+    /// the inode, nothing changes.
     ///
-    /// W6 (ENOENT): the old name is not the inode's. E3 (ENOTDIR): no directory, or a directory over what is none. E2
-    /// (EISDIR): no directory over a directory. E4 (ENOTEMPTY): a directory over one with entries. E5 (EINVAL): a directory
-    /// under itself. S5 (ENOMEM): memory was refused, which only a new name needs.
+    /// W6 (ENOENT): the old name does not lead to the inode. E3 (ENOTDIR): the new parent is no directory, or a directory would
+    /// replace what is none. E2 (EISDIR): what is no directory would replace one. E4 (ENOTEMPTY): a directory would replace one
+    /// with entries. E5 (EINVAL): a directory would lie under itself. S5 (ENOMEM): an allocation failed, which only a new name
+    /// needs.
     pub fn rename(
         &mut self,
         from: NodeRef,
@@ -444,7 +447,7 @@ impl Filesystems {
         }
     }
 
-    /// Sets the whole content of a file: write(2) after open(2) with O_TRUNC. It takes no memory.
+    /// Sets the whole content of a file: write(2) after open(2) with O_TRUNC. It does not allocate.
     ///
     /// E2 (EISDIR): a directory. E6 (EFBIG): more than 1,048,576 bytes. A symlink, a whiteout and a number without an inode
     /// stay as they are.
@@ -467,7 +470,7 @@ impl Filesystems {
     /// Writes bytes into a file from an offset on, and zeros into a gap before them: pwrite(2). Only a file that gets
     /// longer takes memory.
     ///
-    /// E2 (EISDIR): a directory. E6 (EFBIG): the bytes would end behind 1,048,576. S5 (ENOMEM): memory was refused. A
+    /// E2 (EISDIR): a directory. E6 (EFBIG): the bytes would end after the first 1,048,576. S5 (ENOMEM): an allocation failed. A
     /// symlink, a whiteout and a number without an inode stay as they are.
     pub fn write_at(&mut self, file: NodeRef, offset: usize, bytes: &[u8]) -> Result<(), Deny>
         ensures ok { OnOk result (ChangesInodes file.filesystem.count
@@ -493,7 +496,7 @@ impl Filesystems {
         }
     }
 
-    /// Sets the owner, group and mode of an inode: chmod(2), chown(2). It takes no memory.
+    /// Sets the owner, group and mode of an inode: chmod(2), chown(2). It does not allocate.
     pub fn set_attr(&mut self, object: NodeRef, attr: Attr)
         ensures { ChangesInodes object.filesystem.count
             (λ inodes. changed nat_eq inodes (SetAttr (number_of object) attr)) self.old self.new }
@@ -503,7 +506,7 @@ impl Filesystems {
         }
     }
 
-    /// Counts one use more of an inode, as open(2) does: it stays while it is in use. It takes no memory.
+    /// Counts one more use of an inode, as open(2) does: an inode in use is kept. It does not allocate.
     ///
     /// S5 (ENOMEM): the inode has 2^64 - 1 uses.
     pub fn pin(&mut self, object: NodeRef) -> Result<(), Deny>
@@ -520,7 +523,7 @@ impl Filesystems {
         }
     }
 
-    /// Counts one use less of an inode, as close(2) does: with its last use it goes. It takes no memory.
+    /// Takes back one use of an inode, as close(2) does: with its last use it is freed. It does not allocate.
     pub fn unpin(&mut self, object: NodeRef)
         ensures { ChangesInodes object.filesystem.count
             (λ inodes. unpinned nat_eq inodes (number_of object)) self.old self.new }

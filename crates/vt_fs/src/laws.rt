@@ -1,7 +1,7 @@
 //! Laws of the plain filesystems as the definitions see them.
 ghost use Rattle.vt_fs.specs.Laws.{FilesystemsAreFound, NumbersAreApart, NumbersAreCounted, NumbersAreListed, TreesNameParents};
 
-/// The numbers beside a tree are those of the inodes that are there, each once.
+/// The numbers beside a tree are those of its inodes, each once, and there are as many as inodes are counted.
 pub fn numbers_are_those_of_inodes()
     ensures listed { NumbersAreListed }
     ensures apart { NumbersAreApart }
@@ -13,7 +13,7 @@ pub fn filesystems_are_found()
     ensures { FilesystemsAreFound }
 {}
 
-/// In a tree of a world a directory has a name in its parent, or is its own parent.
+/// In every tree of a world a directory other than the root has a name in its parent, or it has none and is its own parent.
 pub fn trees_name_parents()
     ensures { TreesNameParents }
 {}

@@ -1,12 +1,12 @@
--- The numbers that the definitions see of what code counts, and of inodes in their slots. Mounts, peer groups, filesystems
--- and namespaces have odd numbers, inodes even ones; numbers `4·c + 3` are given to nothing.
+-- The numbers by which the definitions know what code counts, and inodes in their slots. Mounts, peer groups, filesystems
+-- and namespaces have odd numbers, inodes even ones; no number `4·c + 3` is given out.
 use Rattle.std.specs.Prelude.{Bool, if◌then◌else◌, nat_eq, nat_lt, not, ℕ, ◌&&◌, ◌*◌, ◌+◌, ◌-◌, ◌/◌}
 
--- the number of what is counted by `count`
+-- the number of the mount, peer group, filesystem or namespace with this count
 abbrev pub counted : ℕ → ℕ
 counted count = 4 * count + 1
 
--- a number that is given to nothing
+-- a number that is never given out
 abbrev pub left_over : ℕ → ℕ
 left_over count = 4 * count + 3
 
@@ -20,7 +20,7 @@ is_inode_of filesystem number =
     not (nat_lt number (inode_number filesystem 0)) && nat_lt number (inode_number (filesystem + 1) 0)
     && nat_eq (2 * (number / 2)) number
 
--- Slots and the numbers of their inodes, exchanged with one another: its own way back.
+-- Exchanges each slot with the number of its inode, and keeps all other numbers; it is its own inverse.
 abbrev pub exchanged : ℕ → ℕ → ℕ
 exchanged filesystem number =
     if nat_lt number 18446744073709551616 then inode_number filesystem number

@@ -1,4 +1,4 @@
-//! Numbers of mounts, peer groups, filesystems and mount namespaces. All are counted by one counter, never back.
+//! Numbers of mounts, peer groups, filesystems and mount namespaces: one counter counts them all, and no number is reused.
 ghost use Rattle.std.specs.Prelude.{◌≡◌};
 
 /// The number of a mount: its count. It is only ever compared.
@@ -8,7 +8,7 @@ pub struct MountId {
 }
 
 impl MountId {
-    /// The one of this count.
+    /// The identifier with this count.
     pub fn new(count: u64) -> Self
         ensures { result ≡ record { count = count } }
     {
@@ -23,7 +23,7 @@ pub struct GroupId {
 }
 
 impl GroupId {
-    /// The one of this count.
+    /// The identifier with this count.
     pub fn new(count: u64) -> Self
         ensures { result ≡ record { count = count } }
     {
@@ -38,7 +38,7 @@ pub struct FilesystemId {
 }
 
 impl FilesystemId {
-    /// The one of this count.
+    /// The identifier with this count.
     pub fn new(count: u64) -> Self
         ensures { result ≡ record { count = count } }
     {
@@ -53,7 +53,7 @@ pub struct NamespaceId {
 }
 
 impl NamespaceId {
-    /// The one of this count.
+    /// The identifier with this count.
     pub fn new(count: u64) -> Self
         ensures { result ≡ record { count = count } }
     {

@@ -32,13 +32,13 @@ node_seen filesystem node =
 abbrev pub is_at_or_below : Looks ℕ → ℕ → ℕ → Bool
 is_at_or_below looks top mount = list_any (λ other. nat_eq other.number mount) (looks.mount_tree top)
 
--- what an attachment is a permit for
+-- the permit that attaches this
 abbrev pub permit_of : Attachment → Permit ℕ
 permit_of (Plain place flags) = ToMountPlain (location_of place) (flags_of flags)
 permit_of (Bind source place recursive) = ToBind (location_of source) (location_of place) recursive
 permit_of (Move mount place) = ToMove (counted mount.count) (location_of place)
 
--- no location is in an overlay: nobody else is asked, no layer has anything below, and nothing is locked
+-- no location is in an overlay: no mounter's rights are checked, no lower layer has a directory, and nothing is locked
 pub record HasNoOverlays (looks : Looks ℕ) : Type 0 where
   pub overlay : (location : meant.Location ℕ) → looks.overlay location ≡ None
   pub mounter : (location : meant.Location ℕ) (change : Change ℕ) → looks.mounter_rules location change ≡ []

@@ -1,4 +1,4 @@
-//! The trait `Look`.
+//! The traits `Look` and `LookAtMounts`.
 ghost use Rattle.std.specs.Prelude.{◌≡◌, nat_eq, option_copied, option_map, Bool, IfErr, IfOk, ℕ};
 ghost use Rattle.vt_spec.specs.declared.errors.Rule.TheVariants.{S5};
 ghost use Rattle.vt_spec.specs.Errors.{denial};
@@ -16,7 +16,7 @@ use vt_node::Node;
 use vt_request::TaskName;
 use vt_spec::errors::Deny;
 
-/// What attaches mounts, by where it does so.
+/// A call that attaches mounts, and where.
 #[derive(Clone, Copy, Debug, PartialEq, Eq)]
 pub enum Attachment {
     /// The mount of a new, empty filesystem: mount(2) of a tmpfs.
@@ -37,7 +37,7 @@ pub enum Attachment {
     },
 }
 
-/// A world, as walks and the rules of calls on files and tasks look at it. They change nothing.
+/// What walks, and the rules of calls on files and tasks, look at in a world. No look changes it.
 pub trait Look {
     // what the world shows
     ghost looks: { Self → Looks ℕ };
@@ -74,22 +74,23 @@ pub trait Look {
     fn is_removed(&self, at: Location) -> bool
         ensures { result ≡ (looks self.now).is_removed (location_of at) };
 
-    /// Whether a directory of the filesystem that a location is in is the one there, or lies under it: EINVAL of rename(2).
+    /// Whether a directory is the one at a location, or lies under it in the filesystem of that mount: EINVAL of rename(2).
     fn is_under(&self, top: Location, directory: NodeRef) -> bool
         ensures { result ≡ (looks self.now).is_under (mount_at (looks self.now) (location_of top)).filesystem (number_of top.node) (number_of directory) };
 
-    /// Whether what is at a location is the root of its mount, or lies under that: ENOENT of `..`.
+    /// Whether a location is the root of its mount, or lies under it; where it does not, `..` answers ENOENT.
     fn is_under_root(&self, at: Location) -> bool
         ensures { result ≡ (looks self.now).is_under (mount_at (looks self.now) (location_of at)).filesystem (mount_at (looks self.now) (location_of at)).root (number_of at.node) };
 
-    /// No filesystem is an overlay: no location is in one, no mounter is asked, and nothing is locked.
+    /// A theorem about every such world, which does nothing: no location is in an overlay. So no mounter's rights are checked, no
+    /// lower layer has a directory, and nothing is locked.
     fn has_no_overlays(&self)
         ensures { HasNoOverlays (looks self.now) };
 }
 
-/// What the rules of mount calls look at beside.
+/// What the rules of mount calls look at besides.
 pub trait LookAtMounts: Look {
-    // what a permit attaches leaves a namespace with too many mounts
+    // whether a namespace has too many mounts once this permit is applied
     ghost overfills: { Self → Permit ℕ → Bool };
 
     /// Whether a mount is this one or a descendant of it: ELOOP of mount(2) with `MS_MOVE`.
@@ -100,9 +101,9 @@ pub trait LookAtMounts: Look {
     fn has_unbindable(&self, top: MountId) -> bool
         ensures { result ≡ list_any (λ mount. is_unbindable mount.propagation) ((Self.looks self.now).mount_tree (counted top.count)) };
 
-    /// Whether an unmount is refused: the mount has a child, or one that would go is in use: EBUSY of umount(2).
+    /// Whether a mount is busy: it has a child, or a mount that would be detached is in use: EBUSY of umount(2).
     ///
-    /// S5 (ENOMEM): memory was refused for the receivers of the event.
+    /// S5 (ENOMEM): the allocation of a list of receivers failed.
     fn is_busy(&self, mount: MountId) -> Result<bool, Deny>
         ensures ok { IfOk result (λ busy. busy ≡ (Self.looks self.now).is_busy (counted mount.count)) }
         ensures memory { IfErr result (λ deny. deny ≡ denial S5) };
@@ -111,9 +112,9 @@ pub trait LookAtMounts: Look {
     fn is_written_through(&self, mount: MountId) -> bool
         ensures { result ≡ (Self.looks self.now).is_written_through (counted mount.count) };
 
-    /// Whether what is attached would leave a namespace with more than 4,096 mounts: ENOSPC of mount(2).
+    /// Whether a namespace has more than 4,096 mounts once this is attached: ENOSPC of mount(2).
     ///
-    /// S5 (ENOMEM): memory was refused for the receivers of the event.
+    /// S5 (ENOMEM): the allocation of a list of receivers failed.
     fn overfills(&self, attachment: Attachment) -> Result<bool, Deny>
         ensures ok { IfOk result (λ too_many. too_many ≡ overfills self.now (permit_of attachment)) }
         ensures memory { IfErr result (λ deny. deny ≡ denial S5) };

@@ -1,4 +1,4 @@
--- What mounts are listed under.
+-- The lists of mounts by namespace, parent, mount point and inode.
 use Rattle.std.specs.Prelude.{Bool, List, Option, filter, if◌then◌else◌, nat_eq, nat_lt, not, option_map, true, unwrap_or, [], ◌&&◌, ◌++◌, ◌∷◌, ◌≡◌}
 use Rattle.vt_spec.specs.Lists.{holds_of}
 use Rattle.vt_location.specs.declared.locations.Location.{Location}
@@ -44,7 +44,7 @@ is_at location mount = holds_of (same_place location) mount.mount_point
 abbrev pub is_over : NodeRef → Mount → Bool
 is_over inode mount = holds_of (λ place. same_inode inode place.node) mount.mount_point
 
--- a list, with a mount behind the others or without it
+-- a list with a mount added to its end, or removed from it, if it belongs there
 abbrev pub pushed : Bool → MountId → List MountId → List MountId
 pushed here id list = if here then list ++ id ∷ [] else list
 
@@ -55,11 +55,11 @@ taken here id list = if here then filter (λ other. not (same_id other id)) list
 abbrev pub lacks : MountId → List MountId → Type 0
 lacks id list = filter (λ other. not (same_id other id)) list ≡ list
 
--- a mount point's inode is in a slot that there can be
+-- the slot of the mount point's inode is below 2^64
 abbrev pub has_slot : Mount → Bool
 has_slot mount = unwrap_or (option_map (λ place. nat_lt place.node.slot 18446744073709551616) mount.mount_point) true
 
--- where a mount stood is on this mount, at this location, on this inode
+-- the old mount point is on this mount, at this location, on this inode
 abbrev pub stood_on : MountId → Option Location → Bool
 stood_on parent was = holds_of (λ place. same_id parent place.mount) was
 
@@ -69,7 +69,7 @@ stood_at location was = holds_of (same_place location) was
 abbrev pub stood_over : NodeRef → Option Location → Bool
 stood_over inode was = holds_of (λ place. same_inode inode place.node) was
 
--- a list that a mount leaves or not, and that it is put in or not
+-- a list with a mount inserted, or moved: removed if it was there, inserted if it is here now
 abbrev pub put_in_place : Bool → MountId → List MountId → List MountId
 put_in_place here id list = if here then inserted id list else list
 

@@ -80,7 +80,7 @@ entry_of kept = record { mount = mount_of (mount_kept kept.0 kept.1); uses = kep
 abbrev pub id_cmp : MountId → MountId → Ordering
 id_cmp a b = nat_cmp a.count b.count
 
--- what is kept, in the order of the numbers, in whatever order it is kept
+-- the kept mounts, sorted by their numbers
 abbrev pub in_order : List (MountId × Mounted) → List (MountId × Mounted)
 in_order [] = []
 in_order (kept ∷ rest) = put id_cmp kept.0 kept.1 (in_order rest)

@@ -15,9 +15,9 @@ use vt_location::{Location, Mount, MountId, Propagation};
 use vt_spec::errors::{Deny, Rule};
 
 impl Mounts {
-    /// Attaches a mount, behind all others: mount(2). Nothing uses it yet.
+    /// Attaches a mount, after all others, with no uses yet: mount(2). Its number is greater than theirs.
     ///
-    /// S5 (ENOMEM): memory was refused.
+    /// S5 (ENOMEM): an allocation failed.
     pub fn attach(&mut self, mount: Mount) -> Result<(), Deny>
         requires { list_all (λ entry. nat_lt entry.mount.number (counted mount.number.count)) self.old ≡ true }
         ensures ok { OnOk result (self.new ≡ self.old ++ record { mount = mount_of mount; uses = 0; writers = 0 } ∷ []) }
@@ -29,12 +29,12 @@ impl Mounts {
         if self.by_number.reserve(1).is_err() || self.indexes.enter(&mount).is_err() {
             return Err(Rule::S5.denial());
         }
-        // There is room, so that it does not fail.
+        // It cannot fail: room is reserved.
         let _ = self.by_number.insert(mount.number, Mounted::unused(mount));
         Ok(())
     }
 
-    /// Takes a mount out, and tells what it was. It takes no memory.
+    /// Removes a mount, whatever its uses, and returns it. Mounts on it keep their mount points. It does not allocate.
     pub fn remove(&mut self, id: MountId) -> Option<Mount>
         ensures value { option_map mount_of result ≡ find (λ mount. nat_eq (counted id.count) mount.number) (mounts_in self.old) }
         ensures rest { self.new ≡ without (counted id.count) self.old }
@@ -45,9 +45,9 @@ impl Mounts {
         Some(mount)
     }
 
-    /// Moves a mount to another mount point: mount(2) with `MS_MOVE`.
+    /// Moves a mount to another mount point: mount(2) with `MS_MOVE`. The order of the mounts stays.
     ///
-    /// S5 (ENOMEM): memory was refused.
+    /// S5 (ENOMEM): an allocation failed.
     pub fn move_to(&mut self, id: MountId, place: Location) -> Result<(), Deny>
         ensures ok { OnOk result (self.new
             ≡ changed (counted id.count)
@@ -65,8 +65,8 @@ impl Mounts {
         Ok(())
     }
 
-    /// Detaches a mount: it has no mount point, namespace or peer group any more, and keeps its users: umount(2) with
-    /// `MNT_DETACH`. It takes no memory.
+    /// Detaches a mount: it loses its mount point and its namespace, becomes private, and keeps its uses: umount(2) with
+    /// `MNT_DETACH`. It does not allocate.
     pub fn detach(&mut self, id: MountId)
         ensures { self.new ≡ changed (counted id.count) (λ entry. record entry { mount = detached entry.mount }) self.old }
     {

@@ -1,4 +1,4 @@
-//! What mounts are listed under.
+//! The lists of mounts by namespace, parent, mount point and inode.
 ghost use Rattle.std.specs.Prelude.{◌≡◌, [], nat_lt, true, OnErr, OnOk};
 ghost use Rattle.vt_location.specs.declared.numbers.MountId.{MountId};
 ghost use Rattle.vt_location.specs.declared.numbers.NamespaceId.{NamespaceId};
@@ -23,7 +23,7 @@ pub(crate) struct Indexes {
 }
 
 impl Indexes {
-    /// No mounts. It takes no memory.
+    /// No mounts. It does not allocate.
     pub(crate) fn new(alloc: Global) -> Self
         ensures namespace { (q : NamespaceId) → listed_in result q ≡ [] }
         ensures parent { (q : MountId) → listed_on result q ≡ [] }
@@ -38,7 +38,7 @@ impl Indexes {
         }
     }
 
-    /// Lists a mount behind all others.
+    /// Adds a mount to the end of its lists.
     pub(crate) fn enter(&mut self, mount: &Mount) -> Result<(), AllocError>
         requires namespace { (q : NamespaceId) → lacks mount.now.number (listed_in self.old q) }
         requires parent { (q : MountId) → lacks mount.now.number (listed_on self.old q) }
@@ -71,7 +71,7 @@ impl Indexes {
         Ok(())
     }
 
-    /// Takes a mount out of the lists. It takes no memory.
+    /// Removes a mount from its lists. It does not allocate.
     pub(crate) fn leave(&mut self, mount: &Mount)
         ensures namespace { (q : NamespaceId) → listed_in self.new q ≡ taken (is_in q mount.now) mount.now.number (listed_in self.old q) }
         ensures parent { (q : MountId) → listed_on self.new q ≡ taken (is_on q mount.now) mount.now.number (listed_on self.old q) }
@@ -88,7 +88,7 @@ impl Indexes {
         }
     }
 
-    /// Lists a mount where it stands from now on, among the others there, and not where it stood.
+    /// Moves a mount from the lists of its old mount point to those of the new one, in the order of numbers.
     pub(crate) fn relist(
         &mut self,
         was: Option<Location>,
@@ -114,7 +114,7 @@ impl Indexes {
         Ok(())
     }
 
-    // Makes room for one more mount at a location.
+    // Reserves room for one more mount at a location.
     fn prepare(&mut self, place: Location) -> Result<(), AllocError>
         ensures namespace { self.new.by_namespace ≡ self.old.by_namespace }
         ensures parent { (q : MountId) → listed_on self.new q ≡ listed_on self.old q }
@@ -129,7 +129,7 @@ impl Indexes {
         self.by_inode.prepare(place.node)
     }
 
-    // Takes a mount from where it stood; the lists stay there even if they are empty.
+    // Removes a mount from the lists of its old mount point, which stay even if they are empty.
     fn take_out(&mut self, was: Option<Location>, mount: MountId)
         ensures namespace { self.new.by_namespace ≡ self.old.by_namespace }
         ensures parent { (q : MountId) → listed_on self.new q ≡ taken (stood_on q was) mount (listed_on self.old q) }
@@ -148,7 +148,7 @@ impl Indexes {
         }
     }
 
-    // Puts a mount in its place among those at a location.
+    // Inserts a mount among those at a location, in the order of numbers.
     fn put_in(&mut self, place: Location, mount: MountId)
         requires parent { has_room same_id place.mount self.old.by_parent ≡ true }
         requires place { has_room same_place place self.old.by_location ≡ true }
@@ -178,7 +178,7 @@ impl Indexes {
         }
     }
 
-    // Lists a mount behind the others that stand there.
+    // Adds a mount to the end of the lists of a location.
     fn enter_place(&mut self, place: Location, mount: MountId) -> Result<(), AllocError>
         requires parent { (q : MountId) → lacks mount (listed_on self.old q) }
         requires place { (q : Location) → lacks mount (listed_at self.old q) }

@@ -1,4 +1,4 @@
-//! Mounts, listed under what they stand on.
+//! Lists of mounts under keys.
 ghost use Rattle.std.specs.Prelude.{◌≡◌, ◌++◌, ◌∷◌, [], filter, if◌then◌else◌, not, true, vec_capacity, vec_len, ◌<◌, ◌≤◌, OnErr, OnOk};
 ghost use Rattle.vt_mount.specs.Listed.{has_room, inserted, listed, same_id};
 
@@ -14,7 +14,7 @@ pub(crate) struct MountsBy<K: Eq + Hash> {
 }
 
 impl<K: Eq + Hash + Copy + Drop> MountsBy<K> {
-    /// No lists. It takes no memory.
+    /// No lists. It does not allocate.
     pub(crate) fn new(alloc: Global) -> Self
         ensures { (q : K) → listed K.eq q result ≡ [] }
     {
@@ -33,7 +33,7 @@ impl<K: Eq + Hash + Copy + Drop> MountsBy<K> {
         }
     }
 
-    /// Puts a mount behind those under a key.
+    /// Adds a mount to the end of the list under a key.
     pub(crate) fn push(&mut self, key: K, mount: MountId) -> Result<(), AllocError>
         ensures ok { OnOk result ((q : K) → listed K.eq q self.new
             ≡ (if K.eq q key then listed K.eq q self.old ++ mount ∷ [] else listed K.eq q self.old)) }
@@ -49,7 +49,7 @@ impl<K: Eq + Hash + Copy + Drop> MountsBy<K> {
         Ok(())
     }
 
-    /// Makes room for one more under a key.
+    /// Reserves room for one more mount under a key.
     pub(crate) fn prepare(&mut self, key: K) -> Result<(), AllocError>
         ensures same { (q : K) → listed K.eq q self.new ≡ listed K.eq q self.old }
         ensures ok { OnOk result (has_room K.eq key self.new ≡ true) }
@@ -63,7 +63,7 @@ impl<K: Eq + Hash + Copy + Drop> MountsBy<K> {
         Ok(())
     }
 
-    /// Takes a mount from the list under a key, which stays even if it is empty. It takes no memory.
+    /// Removes a mount from the list under a key, which stays even if it is empty. It does not allocate.
     pub(crate) fn take_out(&mut self, key: &K, mount: MountId)
         ensures taken { (q : K) → listed K.eq q self.new
             ≡ (if K.eq q key.now then filter (λ other. not (same_id other mount)) (listed K.eq q self.old) else listed K.eq q self.old) }
@@ -74,7 +74,7 @@ impl<K: Eq + Hash + Copy + Drop> MountsBy<K> {
         }
     }
 
-    /// Puts a mount in its place among those under a key, by its number. It takes no memory.
+    /// Inserts a mount into the list under a key, in the order of numbers. It does not allocate.
     pub(crate) fn put_in(&mut self, key: &K, mount: MountId)
         requires { has_room K.eq key.now self.old ≡ true }
         ensures { (q : K) → listed K.eq q self.new
@@ -85,7 +85,7 @@ impl<K: Eq + Hash + Copy + Drop> MountsBy<K> {
         }
     }
 
-    /// Drops the list under a key, if it is empty. It takes no memory.
+    /// Drops the list under a key, if it is empty. It does not allocate.
     pub(crate) fn drop_empty(&mut self, key: &K)
         ensures { (q : K) → listed K.eq q self.new ≡ listed K.eq q self.old }
     {
@@ -94,7 +94,7 @@ impl<K: Eq + Hash + Copy + Drop> MountsBy<K> {
         }
     }
 
-    /// Takes a mount from the list under a key. It takes no memory.
+    /// Removes a mount from the list under a key. It does not allocate.
     pub(crate) fn remove(&mut self, key: &K, mount: MountId)
         ensures { (q : K) → listed K.eq q self.new
             ≡ (if K.eq q key.now then filter (λ other. not (same_id other mount)) (listed K.eq q self.old) else listed K.eq q self.old) }
@@ -109,7 +109,7 @@ impl<K: Eq + Hash + Copy + Drop> MountsBy<K> {
     }
 }
 
-// Takes a mount from a list.
+// Removes a mount from a list.
 fn take(list: &mut Vec<MountId>, mount: MountId)
     ensures capacity { vec_capacity list.new ≡ vec_capacity list.old }
     ensures length { vec_len list.new ≤ vec_len list.old }
@@ -118,7 +118,7 @@ fn take(list: &mut Vec<MountId>, mount: MountId)
     list.retain(|other| *other != mount);
 }
 
-// Puts a mount before the first of a list that has a greater number.
+// Inserts a mount before the first of a list that has a greater number.
 fn insert_in_order(list: &mut Vec<MountId>, mount: MountId)
     requires { vec_len list.old < vec_capacity list.old }
     ensures { list.new.items ≡ inserted mount list.old.items }
@@ -127,6 +127,6 @@ fn insert_in_order(list: &mut Vec<MountId>, mount: MountId)
         .iter()
         .position(|other| other.count > mount.count)
         .unwrap_or(list.len());
-    // There is room, so that it does not fail.
+    // It cannot fail: room is reserved.
     let _ = list.insert(place, mount);
 }

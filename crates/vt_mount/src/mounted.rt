@@ -66,7 +66,7 @@ impl Mounted {
         self.writers += u64::from(writes);
     }
 
-    /// Counts a use no more.
+    /// Takes back a counted use; a count of 0 stays 0.
     pub(crate) fn release(&mut self, writes: bool)
         ensures { self.new ≡ released_kept writes self.old }
     {

@@ -1,4 +1,4 @@
-//! The mounts that there are, by their numbers.
+//! All mounts, by their numbers.
 ghost use Rattle.std.specs.Prelude.{◌≡◌, ◌++◌, ◌∷◌, [], None, Some, filter, find, length, map};
 ghost use Rattle.std.specs.Prelude.{nat_eq, nat_lt, not, option_map, true, ◌<◌, IfErr, IsOk, OnErr, OnOk, IfSome};
 ghost use Rattle.std.specs.List.{list_all};
@@ -21,8 +21,11 @@ use vt_spec::errors::{Deny, Rule};
 
 /// The mounts of all namespaces, and those that were detached and are still in use.
 ///
-/// They are kept by hash and in no order, so that a mount is attached and taken out at once however many there are; what
-/// they are listed under keeps the order of their numbers, which is that of attachment.
+/// They are kept by hash, in no order; the lists under a namespace, a mount, a location and an inode keep the order of their
+/// numbers, which is that of attachment. Attaching a mount costs the same however many there are; removing or moving one
+/// passes over the lists that it is in.
+///
+/// What is done to a mount that does not exist has no effect.
 #[derive(Debug, Drop)]
 pub struct Mounts {
     pub(crate) by_number: IndexMap<MountId, Mounted>,
@@ -44,7 +47,7 @@ impl Model for Mounts {
 }
 
 impl Mounts {
-    /// No mounts. It takes no memory.
+    /// No mounts. It does not allocate.
     pub fn new(alloc: Global) -> Self
         ensures { result ≡ [] }
     {
@@ -61,7 +64,7 @@ impl Mounts {
         self.by_number.len()
     }
 
-    /// Mounts have numbers that are apart, and stand in the order of these.
+    /// A theorem, which does nothing: the mounts are in the ascending order of their numbers, no two of which are equal.
     pub fn are_ascending(&self)
         ensures { are_ascending (mounts_in self.now) ≡ true }
     {
@@ -76,7 +79,7 @@ impl Mounts {
         Some(kept.mount(id))
     }
 
-    /// How many roots, working directories and descriptors are on a mount.
+    /// How many uses of a mount are counted (`hold`, `release`): roots, working directories and descriptors on it.
     pub fn uses(&self, id: MountId) -> u64
         ensures { result ≡ uses_of self.now (counted id.count) }
     {
@@ -86,7 +89,7 @@ impl Mounts {
         }
     }
 
-    /// How many descriptors that are open for writing are on a mount.
+    /// How many of the counted uses of a mount are descriptors that are open for writing.
     pub fn writers(&self, id: MountId) -> u64
         ensures { result ≡ writers_of self.now (counted id.count) }
     {
@@ -103,7 +106,7 @@ impl Mounts {
         self.writers(id) > 0
     }
 
-    /// Sets the flags of one mount: mount(2) with `MS_REMOUNT` and `MS_BIND`. It takes no memory.
+    /// Sets the flags of one mount: mount(2) with `MS_REMOUNT` and `MS_BIND`. It does not allocate.
     pub fn set_flags(&mut self, id: MountId, flags: MountFlags)
         ensures { self.new
             ≡ changed (counted id.count) (λ entry. record entry { mount = record entry.mount { flags = flags_of flags } }) self.old }
@@ -113,7 +116,7 @@ impl Mounts {
         }
     }
 
-    /// Sets the propagation type of one mount: mount(2) with `MS_PRIVATE` and so on. It takes no memory.
+    /// Sets the propagation type of one mount: mount(2) with `MS_PRIVATE` and so on. It does not allocate.
     pub fn set_propagation(&mut self, id: MountId, propagation: Propagation)
         ensures { self.new
             ≡ changed (counted id.count)
@@ -126,7 +129,7 @@ impl Mounts {
 
     /// Counts a root, a working directory or a descriptor on a mount; a descriptor may be open for writing.
     ///
-    /// S5 (ENOMEM): 2^64 - 1 are counted.
+    /// S5 (ENOMEM): 2^64 - 1 uses or writers are counted. It does not allocate.
     pub fn hold(&mut self, id: MountId, writes: bool) -> Result<(), Deny>
         ensures ok { OnOk result (self.new ≡ changed (counted id.count) (held writes) self.old) }
         ensures few { uses_of self.old (counted id.count) < u64.MAX → writers_of self.old (counted id.count) < u64.MAX → IsOk result }
@@ -144,7 +147,7 @@ impl Mounts {
         Ok(())
     }
 
-    /// Counts a root, a working directory or a descriptor on a mount no more; a count of 0 stays. It takes no memory.
+    /// Takes back a use that `hold` counted; a count of 0 stays 0. It does not allocate.
     pub fn release(&mut self, id: MountId, writes: bool)
         ensures { self.new ≡ changed (counted id.count) (released writes) self.old }
     {

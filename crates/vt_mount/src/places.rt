@@ -1,4 +1,4 @@
-//! What stands where.
+//! Which mounts are at a location, on a mount, on an inode and in a namespace.
 ghost use Rattle.std.specs.Prelude.{◌≡◌, ◌&&◌, filter, find, is_some, map, nat_eq, option_map};
 ghost use Rattle.std.specs.List.{list_any};
 ghost use Rattle.vt_spec.specs.Lists.{holds_of};
@@ -11,7 +11,7 @@ use crate::mounts::Mounts;
 use vt_location::{Location, MountId, NamespaceId, NodeRef};
 
 impl Mounts {
-    /// The mount that stands at a location: the first that was attached there.
+    /// The mount at a location; of several, the one with the least number.
     pub fn child_at(&self, place: Location) -> Option<MountId>
         ensures { option_map (λ id. counted id.count) result
             ≡ option_map (λ child. child.number) (child_at nat_eq (mounts_in self.now) (location_of place)) }
@@ -19,7 +19,7 @@ impl Mounts {
         self.indexes.by_location.get(&place).first().copied()
     }
 
-    /// The children of a mount, in the order in which they were attached.
+    /// The children of a mount, in the order of their numbers.
     pub fn children(&self, id: MountId) -> &[MountId]
         ensures { map (λ id. counted id.count) result.now
             ≡ map (λ child. child.number) (children nat_eq (mounts_in self.now) (counted id.count)) }
@@ -60,7 +60,7 @@ impl Mounts {
         })
     }
 
-    /// The mounts that stand on an inode, through whatever mount it is seen, in the order in which they were attached.
+    /// The mounts on an inode, through whatever mount it is seen, in the order of their numbers.
     pub fn mounts_on(&self, inode: NodeRef) -> &[MountId]
         ensures { map (λ id. counted id.count) result.now
             ≡ map (λ mount. mount.number) (filter (stands_over (number_of inode)) (mounts_in self.now)) }
@@ -68,7 +68,7 @@ impl Mounts {
         self.indexes.by_inode.get(&inode)
     }
 
-    /// Whether a mount of this namespace stands on an inode: EBUSY of rmdir(2).
+    /// Whether an inode is a mount point in this namespace, through whatever mount it is seen: EBUSY of rmdir(2).
     pub fn is_point_in(&self, namespace: NamespaceId, inode: NodeRef) -> bool
         ensures { result
             ≡ list_any (λ mount. stands_over (number_of inode) mount && holds_of (nat_eq (counted namespace.count)) mount.namespace)
@@ -81,7 +81,7 @@ impl Mounts {
             .any(|id| self.is_in(*id, namespace))
     }
 
-    /// Whether a mount of any namespace stands on an inode: EBUSY of rename(2).
+    /// Whether an inode is a mount point in any namespace, through whatever mount it is seen: EBUSY of rename(2).
     pub fn is_point_anywhere(&self, inode: NodeRef) -> bool
         ensures { result ≡ list_any (λ mount. stands_over (number_of inode) mount && is_some mount.namespace) (mounts_in self.now) }
     {
@@ -92,7 +92,7 @@ impl Mounts {
             .any(|id| self.is_attached(*id))
     }
 
-    // Whether a mount is attached in a namespace.
+    // Whether a mount is attached in this namespace.
     fn is_in(&self, id: MountId, namespace: NamespaceId) -> bool
         ensures { result ≡ holds_of (λ mount. holds_of (nat_eq (counted namespace.count)) mount.namespace)
             (find (λ mount. nat_eq (counted id.count) mount.number) (mounts_in self.now)) }
@@ -114,7 +114,7 @@ impl Mounts {
         }
     }
 
-    /// The mounts that are attached in a namespace, in the order in which they were attached.
+    /// The mounts that are attached in a namespace, in the order of their numbers.
     pub fn attached_in(&self, namespace: NamespaceId) -> &[MountId]
         ensures { map (λ id. counted id.count) result.now
             ≡ map (λ mount. mount.number)

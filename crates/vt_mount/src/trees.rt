@@ -12,7 +12,7 @@ use std::alloc::AllocError;
 use vt_location::MountId;
 use vt_spec::errors::{Deny, Rule};
 
-// A mount whose tree is still to come, and how deep that tree may be.
+// A mount whose tree is still to be walked, and how deep that tree may be.
 #[derive(Clone, Copy, Debug)]
 struct Branch {
     mount: MountId,
@@ -20,9 +20,10 @@ struct Branch {
 }
 
 impl Mounts {
-    /// A mount and all its descendants: each mount before its children, those in the order in which they were attached.
+    /// A mount and all its descendants: each mount before its children, those in the order of their numbers. A number that no
+    /// mount has counts as a mount here.
     ///
-    /// S5 (ENOMEM): memory was refused.
+    /// S5 (ENOMEM): an allocation failed.
     pub fn tree(&self, id: MountId) -> Result<Vec<MountId>, Deny>
         ensures ok { IfOk result (λ tree. map (λ id. counted id.count) tree.items
             ≡ map (λ mount. mount.number) (mount_tree nat_eq (mounts_in self.now)

@@ -1,4 +1,4 @@
--- What a permit leaves, when nothing is left that is not in use.
+-- The world that a permit leaves, once what is not in use is gone.
 use Rattle.std.specs.Prelude.{Ok, Some, false, nat_eq, true, ℕ, ◌≡◌}
 use Rattle.vt_spec.specs.Language.Calls.{Call}
 use Rattle.vt_spec.specs.Lists.{Fresh}
@@ -18,7 +18,7 @@ use Rattle.vt_world_laws.specs.Worlds.Kept.{IsPlain, IsWorldButForUse}
 abbrev pub left_by : Fresh ℕ → World ℕ → Task ℕ → Permit ℕ → World ℕ
 left_by fresh world task permit = settled nat_eq (apply nat_eq fresh world task permit).world
 
--- a call of a task for which the permit is given: the task is there, and the numbers handed in are not in use
+-- a call of a task for which the permit is given: the task exists, and the numbers handed in are not in use
 pub record IsGiven (fresh : Fresh ℕ) (world : World ℕ) (task : Task ℕ) (permit : Permit ℕ) : Type 0 where
   pub serves : Serves nat_eq world fresh
   pub called : task_called world task.name ≡ Some task
@@ -40,7 +40,7 @@ GivenPermitsAreUnderWay =
     (world : World ℕ) (fresh : Fresh ℕ) (task : Task ℕ) (permit : Permit ℕ) → IsWorld nat_eq world → IsPlain world
     → IsGiven fresh world task permit → IsWorldButForUse (apply nat_eq fresh world task permit).world
 
--- and so does whoever leaves the same but for change numbers and the order of numbers beside trees.
+-- and each world that is the same but for change numbers and the order of numbers beside trees is a world too.
 abbrev pub SameIsAWorldToo : Type 0
 SameIsAWorldToo =
     (world : World ℕ) (fresh : Fresh ℕ) (task : Task ℕ) (permit : Permit ℕ) (other : World ℕ)

@@ -74,7 +74,7 @@ module _ (named : ℕ → Bool) where
   change_named (SetMark directory opaque) = named directory
   change_named (CopyUp object) = named object
 
-  -- each number that a permit has is one of these; of the mount of an overlay it is not told
+  -- each number that a permit has is one of these; false of the mount of an overlay
   abbrev pub permit_named : Permit ℕ → Bool
   permit_named Allowed = true
   permit_named (ToList directory) = location_named named directory
@@ -118,7 +118,7 @@ PermitsKeepToNumbers =
     → task_called world task.name ≡ Some task → KeepsTo named world → IsSuppliedFrom named fresh
     → permit_named named permit ≡ true → KeepsTo named (left_by fresh world task permit)
 
--- and so does whatever plain world is the same.
+-- and so does each world of plain filesystems that is the same.
 abbrev pub SameKeepsToNumbersToo : Type 0
 SameKeepsToNumbersToo =
     (named : ℕ → Bool) (fresh : Fresh ℕ) (world : World ℕ) (task : Task ℕ) (permit : Permit ℕ) (other : World ℕ)

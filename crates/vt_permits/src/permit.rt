@@ -20,11 +20,17 @@ pub enum Permit {
     /// Nothing but to say that it is allowed: execve(2), rename(2) of two names of one object.
     Allowed,
     /// getdents(2)
-    ToList { directory: Location },
+    ToList {
+        directory: Location,
+    },
     /// stat(2), lstat(2)
-    ToStat { object: Location },
+    ToStat {
+        object: Location,
+    },
     /// read(2), readlink(2)
-    ToRead { file: Location },
+    ToRead {
+        file: Location,
+    },
     /// pread(2)
     ToReadPart {
         file: Location,
@@ -65,11 +71,20 @@ pub enum Permit {
         replaced: Option<Location>,
     },
     /// The whole content of a file: write(2) after open(2) with `O_TRUNC`.
-    ToWrite { file: Location, bytes: Vec<u8> },
+    ToWrite {
+        file: Location,
+        bytes: Vec<u8>,
+    },
     /// chmod(2), chown(2)
-    ToSetAttr { object: Location, attr: Attr },
+    ToSetAttr {
+        object: Location,
+        attr: Attr,
+    },
     /// open(2)
-    ToOpen { file: Location, access: Access },
+    ToOpen {
+        file: Location,
+        access: Access,
+    },
     /// open(2) with `O_CREAT`: a new file, opened without rights on itself.
     ToOpenNew {
         directory: Location,
@@ -84,25 +99,42 @@ pub enum Permit {
         bytes: Vec<u8>,
     },
     /// close(2)
-    ToClose { descriptor: u8 },
+    ToClose {
+        descriptor: u8,
+    },
     /// chdir(2)
-    ToSetDirectory { directory: Location },
+    ToSetDirectory {
+        directory: Location,
+    },
     /// chroot(2)
-    ToSetRoot { root: Location },
+    ToSetRoot {
+        root: Location,
+    },
     /// umask(2)
-    ToSetUmask { umask: Mode },
+    ToSetUmask {
+        umask: Mode,
+    },
     /// capset(2)
-    ToDrop { caps: Caps },
+    ToDrop {
+        caps: Caps,
+    },
     /// fork(2)
-    ToFork { cred: Cred },
+    ToFork {
+        cred: Cred,
+    },
     /// _exit(2)
     ToExit,
     /// unshare(2) with `CLONE_NEWNS`
     ToUnshare,
     /// setns(2)
-    ToEnterNamespace { namespace: NamespaceId },
+    ToEnterNamespace {
+        namespace: NamespaceId,
+    },
     /// mount(2) of a tmpfs
-    ToMountPlain { place: Location, flags: MountFlags },
+    ToMountPlain {
+        place: Location,
+        flags: MountFlags,
+    },
     /// mount(2) with `MS_BIND`, and `MS_REC`
     ToBind {
         source: Location,
@@ -110,13 +142,23 @@ pub enum Permit {
         recursive: bool,
     },
     /// mount(2) with `MS_MOVE`
-    ToMove { mount: MountId, place: Location },
+    ToMove {
+        mount: MountId,
+        place: Location,
+    },
     /// umount(2)
-    ToUnmount { mount: MountId },
+    ToUnmount {
+        mount: MountId,
+    },
     /// umount(2) with `MNT_DETACH`
-    ToUnmountLazily { mount: MountId },
+    ToUnmountLazily {
+        mount: MountId,
+    },
     /// mount(2) with `MS_REMOUNT` and `MS_BIND`
-    ToSetFlags { mount: MountId, flags: MountFlags },
+    ToSetFlags {
+        mount: MountId,
+        flags: MountFlags,
+    },
     /// mount(2) with a propagation type, and `MS_REC`
     ToSetType {
         mount: MountId,

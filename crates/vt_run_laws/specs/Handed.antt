@@ -20,7 +20,7 @@ may_be_given number = not (number % 4 == 3)
 abbrev pub counts_from : ℕ → Fresh ℕ
 counts_from next k = 4 * (next + k) + 1
 
--- the same, with the number of an inode at one place of them
+-- the same, with the number of an inode in place of one of them
 abbrev pub handed_from : ℕ → ℕ → ℕ → Fresh ℕ
 handed_from next place inode k = if k == place then inode else counts_from next k
 

@@ -31,7 +31,7 @@ TellsAlike grammar in_hand world number (line ∷ lines) (false ∷ refused) tex
     × (rest : List ℕ) × (text ≡ step_text number (line_step nat_eq grammar world line (Some allotment.new)) ++ rest)
     × TellsAlike grammar in_hand next (number + 1) lines refused rest
 
--- Endless numbers are not in hand: they are counted, each at its place.
+-- Infinitely many numbers are not in hand, each with a place in a list of them.
 pub record LeavesEndless (in_hand : ℕ → Bool) : Type 0 where
   pub left_over : ℕ → ℕ
   pub place : ℕ → ℕ
@@ -39,7 +39,7 @@ pub record LeavesEndless (in_hand : ℕ → Bool) : Type 0 where
   pub place_left : (k : ℕ) → place (left_over k) ≡ k
   pub left_place : (number : ℕ) → in_hand number ≡ false → left_over (place number) ≡ number
 
--- the four numbers of an opening world are in hand, and each is another one
+-- the four numbers of an opening world are in hand, and no two are equal
 pub record OpensInHand (in_hand : ℕ → Bool) (fresh : Fresh ℕ) : Type 0 where
   pub given : (k : ℕ) → k < 4 → in_hand (fresh k) ≡ true
   pub apart : (j k : ℕ) → j < 4 → k < 4 → fresh j ≡ fresh k → j ≡ k

@@ -31,7 +31,7 @@ uses test tasks = times test (locations_in tasks)
 abbrev pub tasks_in : ℕ → Tasks → ℕ
 tasks_in namespace tasks = times (λ task. nat_eq namespace task.namespace) tasks
 
--- how many roots and working directories of a namespace's tasks are at a location
+-- how many of the root and the working directory of a task are at a location, if the task is in the namespace; and of all tasks
 abbrev pub places_at : ℕ → Location ℕ → Task ℕ → ℕ
 places_at namespace place task =
     if nat_eq namespace task.namespace then
@@ -106,7 +106,7 @@ ExitedUses =
     → called name tasks ≡ Some task
     → uses test (without_called name tasks) + times test (locations_of task) ≡ uses test tasks
 
--- what is moved by a pivot was at the root of the first mount, and is at that of the second
+-- what pivot_root(2) moves was at the root of the first mount, and is at that of the second
 abbrev pub PivotedUses : Type 0
 PivotedUses =
     (test : Location ℕ → Bool) (tasks : Tasks) (namespace : ℕ) (root new : Mount ℕ)

@@ -50,7 +50,7 @@ changed_called name change tasks = changed_by change tasks (called name tasks)
 abbrev pub without_called : TaskName → Tasks → Tasks
 without_called name tasks = filter (λ task. not (same_name name task.name)) tasks
 
--- a task with a file more open, under the least free number: open(2)
+-- a task with one more open file, under the least free number: open(2)
 abbrev pub with_open : OpenFile → Task ℕ → Task ℕ
 with_open opened task = with_descriptor task (location_of opened.location) (access_of opened.access)
 
@@ -58,7 +58,7 @@ with_open opened task = with_descriptor task (location_of opened.location) (acce
 abbrev pub forked_once : Task ℕ → Task ℕ
 forked_once task = record task { forks = task.forks + 1 }
 
--- the tasks after a fork of this one, with the child behind them: fork(2)
+-- the tasks after a fork of this one, with the child after them: fork(2)
 abbrev pub with_child_behind : Task ℕ → Task ℕ → Tasks → Tasks
 with_child_behind task child tasks = replaced (forked_once task) tasks ++ (child ∷ [])
 
@@ -77,18 +77,18 @@ left_of left = (counted left.namespace.count, location_of left.root, location_of
 abbrev pub left_by : Task ℕ → ℕ × Location ℕ × Location ℕ
 left_by task = (task.namespace, task.root, task.directory)
 
--- why no file is opened: no such task, EMFILE of open(2), or no memory
+-- why no file is opened: no such task, EMFILE of open(2), or an allocation failed
 abbrev pub open_refusal : Option (Task ℕ) → Deny
 open_refusal None = denial S2
 open_refusal (Some task) = denial (if nat_le most_descriptors (length task.descriptors) then S3 else S5)
 
--- why no task is forked: no such task, the limits of fork(2), or no memory
+-- why no task is forked: no such task, the limits of fork(2), or an allocation failed
 abbrev pub fork_refusal : Option (Task ℕ) → Deny
 fork_refusal None = denial S2
 fork_refusal (Some task) =
     denial (if nat_le most_forks task.forks || nat_le deepest_name (length task.name) then S6 else S5)
 
--- no two tasks have one name
+-- no two tasks have the same name
 abbrev pub AreNamedApart : Tasks → Type 0
 AreNamedApart tasks = any_pair (λ a b. same_name a.name b.name) tasks ≡ false
 
@@ -96,14 +96,14 @@ AreNamedApart tasks = any_pair (λ a b. same_name a.name b.name) tasks ≡ false
 abbrev pub has_files_in_order : Task ℕ → Bool
 has_files_in_order task = are_ascending_from 0 task.descriptors
 
--- whether a name, if it goes on from another's, goes on by the number of one of these many forks
+-- where a name continues another, the next number is no more than this count of forks
 abbrev pub is_of_forks : ℕ → TaskName → TaskName → Bool
 is_of_forks forks [] [] = true
 is_of_forks forks [] (number ∷ rest) = nat_le number forks
 is_of_forks forks (first ∷ name) [] = true
 is_of_forks forks (first ∷ name) (number ∷ rest) = if first == number then is_of_forks forks name rest else true
 
--- no task has a name that another is still to give a child
+-- no task has the name of a child that another is still to fork
 abbrev pub has_given : List TaskName → Task ℕ → Bool
 has_given names task = list_all (is_of_forks task.forks task.name) names
 

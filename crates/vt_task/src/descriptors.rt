@@ -42,7 +42,7 @@ impl Model for Descriptors {
 }
 
 impl Descriptors {
-    /// No open files. It takes no memory.
+    /// No open files. It does not allocate.
     pub fn new(alloc: Global) -> Self
         ensures { result ≡ [] }
     {
@@ -65,7 +65,7 @@ impl Descriptors {
         self.by_number.get(&number).copied()
     }
 
-    /// The least number that is free.
+    /// The least free number.
     pub fn free_number(&self) -> usize
         ensures value { result ≡ free_from 0 self.now }
         ensures limit { result ≤ length self.now }
@@ -80,9 +80,9 @@ impl Descriptors {
         free
     }
 
-    /// Opens a file under the least number that is free, and tells that number.
+    /// Opens a file under the least free number, and returns that number.
     ///
-    /// S5 (ENOMEM): memory was refused.
+    /// S5 (ENOMEM): an allocation failed.
     pub fn insert(&mut self, opened: OpenFile) -> Result<u8, Deny>
         requires few { length self.old < MAX_DESCRIPTORS }
         ensures number { IfOk result (λ number. number ≡ free_from 0 self.old) }
@@ -100,7 +100,7 @@ impl Descriptors {
         Ok(number)
     }
 
-    /// Closes the file of this number, and tells which it was. It takes no memory.
+    /// Closes the file of this number, and returns it. It does not allocate.
     pub fn remove(&mut self, number: u8) -> Option<OpenFile>
         ensures value { option_map (numbered number) result ≡ find (λ descriptor. number == descriptor.number) self.old }
         ensures rest { self.new ≡ filter (λ descriptor. not (number == descriptor.number)) self.old }

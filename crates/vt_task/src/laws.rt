@@ -16,8 +16,8 @@ pub fn tasks_change_as_in_worlds()
     ensures name { TheCalledHasTheName }
 {}
 
-/// How many roots, working directories and open files pass a test, where one task changes, forks or ends, or
-/// where tasks are moved by a pivot.
+/// How many roots, working directories and open files pass a test, where one task changes, forks or ends, or tasks are
+/// moved by pivot_root(2). No two tasks have the same name.
 pub fn uses_of_locations_are_counted()
     ensures replaced { ReplacedUses }
     ensures directory { DirectoryUses }
@@ -31,7 +31,8 @@ pub fn uses_of_locations_are_counted()
     ensures exited { ExitedUses }
 {}
 
-/// How many tasks are in a namespace, where one task changes, forks or ends.
+/// How many tasks are in a namespace, where one task changes, forks or ends, or tasks are moved by pivot_root(2). No two tasks
+/// have the same name. A namespace has tasks just where there is at least one.
 pub fn tasks_of_namespaces_are_counted()
     ensures used { HasTasksWhileCounted }
     ensures replaced { ReplacedTasks }

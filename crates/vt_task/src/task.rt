@@ -23,7 +23,7 @@ pub const MAX_DEPTH: usize = 8;
 /// The umask of the first task, 022.
 const FIRST_UMASK: u16 = 0o022;
 
-/// A task: who asks, and from where.
+/// A task: its credentials, its place among files, and its open files.
 #[derive(Debug, Drop)]
 pub struct Task {
     pub name: TaskName,
@@ -49,7 +49,7 @@ pub struct Left {
 }
 
 impl Task {
-    /// The first task: user and group 0, all capabilities, umask 022, no open files. It takes no memory.
+    /// The first task: user and group 0, all capabilities, umask 022, no open files. It does not allocate.
     pub fn first(alloc: Global, namespace: NamespaceId, root: Location) -> Self
         ensures { task_of result ≡ first_task_at (counted namespace.count) (location_of root) }
     {
@@ -67,7 +67,8 @@ impl Task {
 
     /// Its next child, with these credentials: fork(2).
     ///
-    /// The child has the parent's umask, namespace, root and working directory, and no open files.
+    /// The child has the parent's umask, namespace, root and working directory, and no open files. It fails if an allocation
+    /// fails.
     pub fn child(&self, alloc: Global, cred: Cred) -> Result<Task, AllocError>
         requires few { self.now.forks < MAX_FORKS }
         ensures { IfOk result (λ child. task_of child ≡ child_of (task_of self.now) cred) }
@@ -84,8 +85,8 @@ impl Task {
         })
     }
 
-    /// Where it is in this namespace, moves its root and its working directory from the root of the first mount to that of the
-    /// second: pivot_root(2). It takes no memory.
+    /// If it is in this namespace, moves its root and its working directory from the root of the first mount to that of the
+    /// second: pivot_root(2). It does not allocate.
     pub fn pivot(&mut self, namespace: NamespaceId, root: &Mount, new: &Mount)
         ensures { task_of self.new
             ≡ pivoted_task nat_eq (counted namespace.count) (mount_of root.now) (mount_of new.now) (task_of self.old) }

@@ -1,4 +1,4 @@
-//! The tasks that there are, by their names.
+//! All tasks, by their names.
 ghost use Rattle.std.specs.Prelude.{◌≡◌, ◌<◌, [], ◌∷◌, length, map, nat_eq, true, Some, IfOk, IfErr, OnOk, OnErr, option_map, option_copied};
 ghost use Rattle.std.specs.List.{list_all};
 ghost use Rattle.std.specs.Option.{option_and_then};
@@ -31,7 +31,7 @@ use vt_spec::errors::{Deny, Rule};
 
 /// The tasks, in the order in which they were forked.
 ///
-/// A name is given once: a task's next child has a name that no task has.
+/// No name is given twice: the next child of a task has a name that no task has.
 #[derive(Debug, Drop)]
 pub struct Tasks {
     by_name: IndexMap<Vec<u8>, Task>,
@@ -50,7 +50,7 @@ impl Model for Tasks {
 impl Tasks {
     /// The first task alone, with its root and its working directory here.
     ///
-    /// S5 (ENOMEM): memory was refused.
+    /// S5 (ENOMEM): an allocation failed.
     pub fn new(alloc: Global, namespace: NamespaceId, root: Location) -> Result<Self, Deny>
         ensures ok { IfOk result (λ tasks. tasks ≡ first_task_at (counted namespace.count) (location_of root) ∷ []) }
         ensures memory { IfErr result (λ deny. deny ≡ denial S5) }
@@ -62,14 +62,14 @@ impl Tasks {
         Ok(Tasks { by_name })
     }
 
-    /// No two tasks have one name.
+    /// A theorem, which does nothing: no two tasks have the same name.
     pub fn names_are_apart(&self)
         ensures { AreNamedApart self.now }
     {
         let _ = &self.by_name;
     }
 
-    /// Each task has its open files in the order of their numbers.
+    /// A theorem, which does nothing: each task has its open files in the order of their numbers.
     pub fn files_are_in_order(&self)
         ensures { list_all has_files_in_order self.now ≡ true }
     {
@@ -109,7 +109,7 @@ impl Tasks {
             .count()
     }
 
-    /// Sets the umask of a task: umask(2). It takes no memory.
+    /// Sets the umask of a task: umask(2). It does not allocate.
     pub fn set_umask(&mut self, name: &TaskName, umask: Mode)
         ensures { self.new ≡ changed_called name.now (λ task. record task { umask = umask }) self.old }
     {
@@ -118,7 +118,7 @@ impl Tasks {
         }
     }
 
-    /// Drops capabilities of a task for good: capset(2). It takes no memory.
+    /// Drops capabilities of a task for good: capset(2). It does not allocate.
     pub fn drop_caps(&mut self, name: &TaskName, dropped: Caps)
         ensures { self.new
             ≡ changed_called name.now
@@ -129,7 +129,7 @@ impl Tasks {
         }
     }
 
-    /// Sets the working directory of a task, and tells which it had: chdir(2). It takes no memory.
+    /// Sets the working directory of a task, and returns the old one: chdir(2). It does not allocate.
     pub fn set_directory(&mut self, name: &TaskName, directory: Location) -> Option<Location>
         ensures left { option_map location_of result ≡ option_map (λ task. task.directory) (called name.now self.old) }
         ensures rest { self.new ≡ changed_called name.now (λ task. record task { directory = location_of directory }) self.old }
@@ -138,7 +138,7 @@ impl Tasks {
         Some(mem::replace(&mut task.directory, directory))
     }
 
-    /// Sets the root of a task, and tells which it had: chroot(2). It takes no memory.
+    /// Sets the root of a task, and returns the old one: chroot(2). It does not allocate.
     pub fn set_root(&mut self, name: &TaskName, root: Location) -> Option<Location>
         ensures left { option_map location_of result ≡ option_map (λ task. task.root) (called name.now self.old) }
         ensures rest { self.new ≡ changed_called name.now (λ task. record task { root = location_of root }) self.old }
@@ -147,8 +147,8 @@ impl Tasks {
         Some(mem::replace(&mut task.root, root))
     }
 
-    /// Moves a task into a namespace, to this directory as its root and its working directory, and tells what it left: setns(2).
-    /// It takes no memory.
+    /// Moves a task into a namespace, with this directory as its root and its working directory, and returns what it left:
+    /// setns(2). It does not allocate.
     pub fn enter(&mut self, name: &TaskName, namespace: NamespaceId, root: Location) -> Option<Left>
         ensures left { option_map left_of result ≡ option_map left_by (called name.now self.old) }
         ensures rest { self.new
@@ -157,8 +157,8 @@ impl Tasks {
         self.move_root_and_directory(name, namespace, root, root)
     }
 
-    /// Moves a task into a namespace, to this root and this working directory, and tells what it left: unshare(2). It takes no
-    /// memory.
+    /// Moves a task into a namespace, with this root and this working directory, and returns what it left: unshare(2). It does
+    /// not allocate.
     pub fn move_root_and_directory(
         &mut self,
         name: &TaskName,
@@ -185,7 +185,7 @@ impl Tasks {
     }
 
     /// Moves the roots and working directories of a namespace's tasks from the root of the first mount to that of the second:
-    /// pivot_root(2). It takes no memory.
+    /// pivot_root(2). It does not allocate.
     pub fn pivot(&mut self, namespace: NamespaceId, root: &Mount, new: &Mount)
         ensures { self.new ≡ map (pivoted_task nat_eq (counted namespace.count) (mount_of root.now) (mount_of new.now)) self.old }
     {
@@ -196,9 +196,9 @@ impl Tasks {
         }
     }
 
-    /// Opens a file of a task under the least number that is free, and tells that number: open(2).
+    /// Opens a file of a task under the least free number, and returns that number: open(2).
     ///
-    /// S2 (ESRCH): there is no such task. S3 (EMFILE): 256 of its files are open. S5 (ENOMEM): memory was refused.
+    /// S2 (ESRCH): there is no such task. S3 (EMFILE): 256 of its files are open. S5 (ENOMEM): an allocation failed.
     pub fn open(&mut self, name: &TaskName, opened: OpenFile) -> Result<u8, Deny>
         ensures number { IfOk result (λ number. Some number ≡ option_map free_number (called name.now self.old)) }
         ensures ok { OnOk result (self.new ≡ changed_called name.now (with_open opened) self.old) }
@@ -216,7 +216,7 @@ impl Tasks {
         task.descriptors.insert(opened)
     }
 
-    /// Closes a file of a task, and tells which it was: close(2). It takes no memory.
+    /// Closes a file of a task, and returns it: close(2). It does not allocate.
     pub fn close(&mut self, name: &TaskName, number: u8) -> Option<OpenFile>
         ensures value { option_map (numbered number) result
             ≡ option_and_then (λ task. descriptor_numbered task number) (called name.now self.old) }
@@ -226,10 +226,10 @@ impl Tasks {
         task.descriptors.remove(number)
     }
 
-    /// Forks a task, and tells the name of its child: fork(2).
+    /// Forks a task, and returns the name of its child: fork(2).
     ///
-    /// The child has these credentials, the parent's umask, namespace, root and working directory, and no open files. It stands
-    /// behind all other tasks.
+    /// The child has these credentials, the parent's umask, namespace, root and working directory, and no open files. It comes
+    /// after all other tasks.
     ///
     /// S2 (ESRCH): there is no such task. S6 (ENOSPC): it has forked 64 times, or its name has 8 numbers. S5 (ENOMEM): memory
     /// was refused.
@@ -267,7 +267,7 @@ impl Tasks {
         Ok(child_name)
     }
 
-    /// Ends a task, and hands it out: _exit(2). It takes no memory.
+    /// Removes a task, and returns it: _exit(2). It does not allocate.
     pub fn exit(&mut self, name: &TaskName) -> Option<Task>
         ensures value { option_map task_of result ≡ called name.now self.old }
         ensures rest { self.new ≡ without_called name.now self.old }

@@ -1,4 +1,4 @@
--- What is left to walk where a walk comes to a link.
+-- What is left to walk where a walk comes to a symlink.
 use Rattle.std.specs.Prelude.{ℕ, ◌+◌, ◌-◌, List, [], ◌∷◌, Option, None, Some, Result, Ok, length, nat_eq, reverse}
 use Rattle.vt_spec.specs.declared.errors.Deny.{Deny}
 use Rattle.vt_spec.specs.Errors.{and_then, unless}
@@ -13,7 +13,7 @@ use Rattle.vt_walks.specs.declared.steps.Reached.{Reached}
 use Rattle.vt_walks.specs.PlainWalks.{Follow, symlink_walked, words_walked}
 use Rattle.vt_walks.specs.WalkValue.{here_of}
 
--- a link that was met is followed, and then the words behind it are walked
+-- a symlink is followed, and then the words after it are walked
 abbrev pub link_passed : Looks ℕ → Task ℕ → Follow → Here ℕ → Option LinkMet → Result (Here ℕ) Deny
 link_passed looks task follow here None = Ok here
 link_passed looks task follow here (Some link) =
@@ -24,12 +24,12 @@ link_passed looks task follow here (Some link) =
 abbrev pub walked_on_from : Looks ℕ → Task ℕ → Follow → Reached → Result (Here ℕ) Deny
 walked_on_from looks task follow reached = link_passed looks task follow (here_of reached.here) reached.link
 
--- how links are followed in one another's texts no deeper than this
+-- how symlinks are followed, in one another's texts no deeper than this
 abbrev pub links_within : ℕ → Looks ℕ → Task ℕ → Follow
 links_within depth looks task inside next inner = symlink_walked looks task depth inside next inner
 
--- Pending texts walked one after another, the last that was met first: the words that are left of it, then the directory that
--- a slash at its end asks for, and from there the others.
+-- Pending texts walked one after another, the innermost first: the words that are left of it, then the check of a slash at
+-- its end, and from there the others.
 abbrev pub texts_walked : Looks ℕ → Task ℕ → Here ℕ → List Pending → Result (Here ℕ) Deny
 texts_walked looks task here [] = Ok here
 texts_walked looks task here (pending ∷ others) =

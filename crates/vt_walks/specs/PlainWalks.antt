@@ -1,4 +1,4 @@
--- The walks of the definitions without what they meet on the way, as code walks.
+-- The walks of the definitions without the filesystems that they meet, of which code keeps no record.
 use Rattle.std.specs.Prelude.{Bool, List, None, Ok, Option, Result, Some, [], Err, nat_eq, option_map, reverse, suc, zero, ℕ, ◌+◌, ◌-◌, ◌||◌, ◌∷◌, false}
 use Rattle.vt_spec.specs.declared.errors.Deny.{Deny}
 use Rattle.vt_spec.specs.declared.errors.Rule.TheVariants.{W7}
@@ -12,11 +12,11 @@ use Rattle.vt_spec.specs.Machine.Walking.LastWord.{Dot, DotDot, Named, NoWord}
 use Rattle.vt_spec.specs.Machine.World.{Task}
 use Rattle.vt_spec.specs.PathText.{ends_in_slash, words}
 
--- a place on the way, and the links left
+-- where a walk has come to, and how many symlinks it may still follow
 abbrev pub standing : Location ℕ → ℕ → Here ℕ
 standing location left = record { location = location; left = left; steps = [] }
 
--- how a link's text is walked: from the directory that the link stands in
+-- how a symlink's text is walked: from the directory of the symlink
 abbrev pub Follow : Type 0
 Follow = Location ℕ → Here ℕ → List ℕ → Result (Here ℕ) Deny
 
@@ -39,14 +39,14 @@ module _ (looks : Looks ℕ) (task : Task ℕ) where
   abbrev pub word_walked : Here ℕ → LastWord → Result (Here ℕ) Deny
   word_walked here word = and_then (word_led here.location word) (λ reached. Ok (standing reached here.left))
 
-  -- a final link itself
+  -- the last word walked; a final symlink is not followed
   abbrev pub last_walked : Here ℕ → LastWord → Result (Here ℕ) Deny
   last_walked here NoWord = Ok here
   last_walked here Dot = word_walked here Dot
   last_walked here DotDot = word_walked here DotDot
   last_walked here (Named name) = word_walked here (Named name)
 
-  -- by words, of which the last comes first; every link is followed
+  -- the words walked, of which the last comes first; every symlink is followed
   abbrev pub words_walked : Follow → Here ℕ → List (List ℕ) → Result (Here ℕ) Deny
   words_walked follow here [] = Ok here
   words_walked follow here (word ∷ front) =
@@ -57,7 +57,7 @@ module _ (looks : Looks ℕ) (task : Task ℕ) where
   abbrev pub symlink_start : Location ℕ → Here ℕ → List ℕ → Here ℕ
   symlink_start directory link text = standing (start_of task directory text) (link.left - 1)
 
-  -- a link's text, in which links stand no deeper than this
+  -- a symlink's text walked, with symlinks in one another's texts no deeper than this
   abbrev pub symlink_walked : ℕ → Location ℕ → Here ℕ → List ℕ → Result (Here ℕ) Deny
   symlink_walked zero directory link text = Err (denial W7)
   symlink_walked (suc depth) directory link text =
@@ -74,7 +74,7 @@ module _ (looks : Looks ℕ) (task : Task ℕ) where
   front_walked here [] = Ok here
   front_walked here (word ∷ front) = words_walked followed here front
 
-  -- what a last word stands for in a directory, without a link followed or a mount entered
+  -- what a last word names in a directory, with no symlink followed and no mount entered
   abbrev pub placed : Location ℕ → LastWord → Bool → Result (Place ℕ) Deny
   placed here NoWord slash =
       Ok (record { parent = here; last = NoWord; object = Some here; slash = false; steps = [] })
@@ -82,7 +82,7 @@ module _ (looks : Looks ℕ) (task : Task ℕ) where
       and_then (unless (search_rules nat_eq looks task here) (object_named nat_eq looks task here word)) (λ object.
       Ok (record { parent = here; last = word; object = object; slash = slash; steps = [] }))
 
-  -- the place of a file, a final link followed
+  -- the place of a file, a final symlink followed
   abbrev pub file_walked : ℕ → Here ℕ → List ℕ → Bool → Result (Place ℕ) Deny
   file_walked zero start text slash = Err (denial W7)
   file_walked (suc depth) start text slash =

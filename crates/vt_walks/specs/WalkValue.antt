@@ -23,7 +23,7 @@ last_of Dot = MeansDot
 last_of DotDot = MeansDotDot
 last_of (Named name) = MeansNamed name.now
 
--- Code keeps no trail of what a walk meets
+-- Code keeps no record of the filesystems that a walk meets.
 
 abbrev pub here_of : Here → HereMeant ℕ
 here_of here = standing (location_of here.location) here.left
@@ -53,12 +53,12 @@ abbrev pub named_result : Result (Option Location) Deny → Result (Option (Loca
 named_result (Ok object) = Ok (option_map location_of object)
 named_result (Err deny) = Err deny
 
--- of where a walk to an object ends, callers see the location
+-- Callers see the location at the end of a walk to an object,
 abbrev pub location_end : Result (HereMeant ℕ) Deny → Result (LocationMeant ℕ) Deny
 location_end (Ok here) = Ok here.location
 location_end (Err deny) = Err deny
 
--- of where a parent walk ends, the place
+-- and the place at the end of a parent walk.
 abbrev pub without_steps : PlaceMeant ℕ → PlaceMeant ℕ
 without_steps place = record place { steps = [] }
 

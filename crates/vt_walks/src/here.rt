@@ -1,4 +1,4 @@
-//! Where a walk stands, and where it begins.
+//! Where a walk begins, and where it has come to.
 ghost use Rattle.std.specs.Prelude.{◌≡◌, ◌≤◌};
 ghost use Rattle.vt_spec.specs.Language.Limits.{most_symlinks};
 ghost use Rattle.vt_spec.specs.Machine.Walking.{start_of};
@@ -9,13 +9,13 @@ use vt_location::Location;
 use vt_task::Task;
 use vt_text::link;
 
-// The most links that are followed for one path: MAXSYMLINKS, path_resolution(7).
+// The most symlinks that are followed for one path: MAXSYMLINKS, path_resolution(7).
 pub(crate) const MOST_LINKS: usize = 40;
 
-// The most texts that a walk stands in at once: a path, and in it the text of each link that is followed.
+// The most texts that are walked at once: the path, and the text of each symlink that is followed.
 pub(crate) const MOST_TEXTS: usize = MOST_LINKS + 1;
 
-// Where a walk stands, and how many links it may still follow.
+// Where a walk has come to, and how many symlinks it may still follow.
 #[derive(Clone, Copy, Debug)]
 pub(crate) struct Here {
     pub(crate) location: Location,
@@ -23,7 +23,7 @@ pub(crate) struct Here {
     ghost few: { left ≤ most_symlinks },
 }
 
-// Where a text begins: an absolute one at the task's root, any other in a directory.
+// Where the walk of a text begins: of an absolute one at the task's root, of any other in a directory.
 pub(crate) fn start_of(who: &Task, directory: Location, text: &[u8]) -> Location
     ensures { location_of result ≡ start_of (task_of who.now) (location_of directory) text.now }
 {
@@ -49,7 +49,7 @@ impl Here {
         }
     }
 
-    // The same links left, at another location.
+    // The same number of symlinks left, at another location.
     pub(crate) fn moved(self, location: Location) -> Here
         ensures value { here_of result ≡ standing (location_of location) self.left }
         ensures location { result.location ≡ location }

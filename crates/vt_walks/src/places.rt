@@ -22,8 +22,8 @@ use vt_task::Task;
 use vt_text::link;
 use vt_text::path::PathText;
 
-// What a last word stands for in a directory, with no link followed. W3, W4: where a word is left, the directory is searched.
-// Where none is left, no slash stands behind it. W8: `..` of a lost directory.
+// What a last word names in a directory, with no symlink followed. W3, W4: if there is a word, the directory is searched;
+// without a word there is no trailing slash either. W8: `..` of a lost directory.
 fn placed<'a, L: Look>(
     world: &L,
     who: &Task,
@@ -53,11 +53,12 @@ fn placed<'a, L: Look>(
     })
 }
 
-/// The parent that a path leads to, and what its last word names there, a link itself.
+/// The parent that a path leads to, and what its last word names there; a final symlink is not followed.
 ///
-/// W2 (ENAMETOOLONG): a word of a link's text. W3 (ENOTDIR): what is no directory. W4 (EACCES): no search right, also on
-/// the parent. W6 (ENOENT): a missing name before the last word. W7 (ELOOP): the 41st link. W8 (ENOENT): `..` of a
-/// directory that leads nowhere. W9 (ELOOP): a link on a mount with `MS_NOSYMFOLLOW`.
+/// W2 (ENAMETOOLONG): a word of a symlink's text is too long. W3 (ENOTDIR): a word, or a trailing slash of a symlink's text,
+/// follows what is no directory. W4 (EACCES): no search permission, also on the parent. W6 (ENOENT): a missing name before the
+/// last word. W7 (ELOOP): the 41st symlink. W8 (ENOENT): `..` of a directory that is removed, or not under the root of its
+/// mount. W9 (ELOOP): a symlink on a mount with `MS_NOSYMFOLLOW`.
 pub fn place_walk<'a, L: Look>(
     world: &L,
     who: &Task,
@@ -80,7 +81,7 @@ fn takes_no_name<L: Look>(world: &L, place: &Place) -> bool
     place.object.is_none() && world.is_removed(place.parent)
 }
 
-/// As `place_walk`, of a name that may be made: where it is missing, the parent is not removed, else W8 (ENOENT).
+/// As `place_walk`, for a name that may be made: W8 (ENOENT) if it is missing and the parent is removed.
 pub fn new_walk<'a, L: Look>(world: &L, who: &Task, path: &PathText<'a>) -> Result<Place<'a>, Deny>
     ensures value { place_result result
         ≡ place_end (walk_end (new_walk nat_eq (L.looks world.now) (task_of who.now) path.now)) }
@@ -92,7 +93,7 @@ pub fn new_walk<'a, L: Look>(world: &L, who: &Task, path: &PathText<'a>) -> Resu
     }
 }
 
-/// As `new_walk`, but a slash behind a missing name is refused by W6 (ENOENT): symlink(2), mknod(2), link(2).
+/// As `new_walk`, but a slash after a missing name answers W6 (ENOENT): symlink(2), mknod(2), link(2).
 pub fn new_leaf_walk<'a, L: Look>(
     world: &L,
     who: &Task,
@@ -108,7 +109,7 @@ pub fn new_leaf_walk<'a, L: Look>(
     }
 }
 
-/// As `place_walk`, of a name that must be there, else W6 (ENOENT).
+/// As `place_walk`, for a name that must exist, else W6 (ENOENT).
 pub fn old_walk<'a, L: Look>(world: &L, who: &Task, path: &PathText<'a>) -> Result<Place<'a>, Deny>
     ensures value { place_result result
         ≡ place_end (walk_end (old_walk nat_eq (L.looks world.now) (task_of who.now) path.now)) }
@@ -121,7 +122,7 @@ pub fn old_walk<'a, L: Look>(world: &L, who: &Task, path: &PathText<'a>) -> Resu
     }
 }
 
-// Whether a directory is there.
+// Whether the object of a place is a directory.
 fn has_directory<L: Look>(world: &L, place: &Place) -> bool
     ensures { result ≡ is_directory_there nat_eq (L.looks world.now) (place_of place.now) }
 {
@@ -131,7 +132,7 @@ fn has_directory<L: Look>(world: &L, place: &Place) -> bool
     }
 }
 
-/// As `old_walk`, and a slash asks for a directory, else W3 (ENOTDIR): unlink(2), rename(2).
+/// As `old_walk`; a trailing slash is accepted only if the object is a directory, else W3 (ENOTDIR): unlink(2), rename(2).
 pub fn old_leaf_walk<'a, L: Look>(
     world: &L,
     who: &Task,
@@ -148,7 +149,7 @@ pub fn old_leaf_walk<'a, L: Look>(
     }
 }
 
-/// The second path of a rename: as `new_walk`, but a slash asks that a directory is renamed, else W3 (ENOTDIR): rename(2).
+/// The second path of rename(2): as `new_walk`; a trailing slash is accepted only if a directory is renamed, else W3 (ENOTDIR).
 pub fn rename_new_walk<'a, L: Look>(
     world: &L,
     who: &Task,
@@ -165,28 +166,28 @@ pub fn rename_new_walk<'a, L: Look>(
     }
 }
 
-// A slash behind this text, or behind one before it, asks for a directory.
+// Whether a slash ends this text, or a text before it.
 fn asks_for_directory(slash: bool, text: &[u8]) -> bool
     ensures { result ≡ (slash || ends_in_slash text.now) }
 {
     slash || link::ends_in_slash(text)
 }
 
-// The text of the link that stands in a place, if one does.
+// The text of the symlink that a place names, if it names one.
 fn symlink_there<'a, L: Look>(world: &'a L, place: &Place) -> Option<&'a [u8]>
     ensures { option_copied result ≡ symlink_there nat_eq (L.looks world.now) (place_of place.now) }
 {
     symlink_text(world.node(place.object?))
 }
 
-// Where a walk stands that came to the link in a place.
+// The walk at the symlink that a place names.
 fn symlink_of(here: Here, place: &Place) -> Here
     ensures { here_of result ≡ symlink_of (here_of here) (place_of place.now) }
 {
     here.moved(place.object.unwrap_or(place.parent))
 }
 
-// The place with its object through the mounts over it.
+// The place, its object replaced by the root of the topmost mount over it.
 fn entered<'a, L: Look>(world: &L, place: Place<'a>) -> Place<'a>
     ensures { place_of result ≡ entered (L.looks world.now) (place_of place.entry) }
 {
@@ -197,7 +198,7 @@ fn entered<'a, L: Look>(world: &L, place: Place<'a>) -> Place<'a>
     Place { object, ..place }
 }
 
-// The place of a file, before it is asked whether a name may be made there.
+// The place of a file, before it is checked whether a name may be made there.
 fn file_walked<'a, L: Look>(
     world: &'a L,
     who: &Task,
@@ -226,10 +227,11 @@ fn file_walked<'a, L: Look>(
     Err(Rule::W7.denial())
 }
 
-/// The place of a file that is opened or made. A final link is followed, also to a missing name: open(2) with O_CREAT. Mounts
-/// over the file are entered.
+/// The place of a file that is opened or made: open(2) with O_CREAT. A final symlink is followed, also to a missing name, and
+/// the object is the root of the topmost mount over what is named.
 ///
-/// The errors are those of `new_walk`. The last word may stand in the text of a link, and a slash behind any of the texts counts.
+/// The errors are those of `new_walk`. The last word may come from the text of a symlink, and a slash at the end of any of the
+/// texts counts.
 pub fn file_walk<'a, L: Look>(
     world: &'a L,
     who: &Task,

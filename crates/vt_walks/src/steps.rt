@@ -1,4 +1,4 @@
-//! Words walked one after the other, and links followed.
+//! Words walked one after the other, and symlinks followed.
 ghost use Rattle.std.specs.Prelude.{◌≡◌, ℕ, nat_eq, option_copied, option_map, reverse, Ok, Some, OnOk, IfOk};
 ghost use Rattle.vt_spec.specs.Errors.{and_then, unless};
 ghost use Rattle.vt_spec.specs.FileTree.{symlink_text};
@@ -27,7 +27,7 @@ use vt_task::Task;
 use vt_text::link;
 use vt_text::path::Words;
 
-// The place must be a directory that the task may search: W3, W4. No mounter is asked, W5: no filesystem is an overlay.
+// This must be a directory that the task may search: W3, W4. W5 does not occur, since no filesystem is an overlay.
 pub(crate) fn searched<'a, L: Look>(
     world: &L,
     who: &Task,
@@ -91,7 +91,7 @@ fn stepped<L: Look>(
     }
 }
 
-// What a last word stands for in a directory, without a mount entered. W8: `..` of a lost directory.
+// What a last word names in a directory, with no mount entered. W8: `..` of a lost directory.
 pub(crate) fn object_named<L: Look>(
     world: &L,
     who: &Task,
@@ -110,7 +110,7 @@ pub(crate) fn object_named<L: Look>(
     }
 }
 
-// Where one word leads, with no link followed, from a location with this inode.
+// Where one word leads, with no symlink followed, from a location with this inode.
 fn word_led<L: Look>(
     world: &L,
     who: &Task,
@@ -126,7 +126,7 @@ fn word_led<L: Look>(
     stepped(world, who, here, directory, word)
 }
 
-// The last word of a path walked, a final link itself.
+// The last word of a path walked; a final symlink is not followed.
 pub(crate) fn last_walked<L: Look>(
     world: &L,
     who: &Task,
@@ -146,7 +146,7 @@ pub(crate) fn last_walked<L: Look>(
     }
 }
 
-// The text of a link; what is no link has none.
+// The text of a symlink; any other inode has none.
 pub(crate) fn symlink_text(node: Option<&Node>) -> Option<&[u8]>
     ensures { option_copied result ≡ symlink_text (option_copied node.entry) }
 {
@@ -158,7 +158,7 @@ pub(crate) fn symlink_text(node: Option<&Node>) -> Option<&[u8]>
     }
 }
 
-// Where the walk of a link's text begins, if it may be walked, with one link less to follow: W9 before W7 before W2.
+// Where the walk of a symlink's text begins, if it may be walked, with one symlink less to follow: W9 before W7 before W2.
 pub(crate) fn link_begun<L: Look>(
     world: &L,
     who: &Task,
@@ -184,7 +184,7 @@ pub(crate) fn link_begun<L: Look>(
     })
 }
 
-// Whether no link of the mount of a location is followed: `MS_NOSYMFOLLOW` of mount(2).
+// Whether no symlink is followed on the mount of a location: `MS_NOSYMFOLLOW` of mount(2).
 fn is_nosymfollow<L: Look>(world: &L, link: Location) -> bool
     ensures { result ≡ (mount_at (L.looks world.now) (location_of link)).flags.nosymfollow }
 {
@@ -194,7 +194,7 @@ fn is_nosymfollow<L: Look>(world: &L, link: Location) -> bool
     }
 }
 
-// A link that a walk came to: the directory that it stands in, its text, and the words that are left behind it.
+// A symlink that a walk came to: its directory, its text, and the words after it.
 #[derive(Debug, Drop)]
 struct LinkMet<'a> {
     directory: Location,
@@ -202,14 +202,14 @@ struct LinkMet<'a> {
     behind: Words<'a>,
 }
 
-// Where words lead, as far as the first link.
+// Where words lead, as far as the first symlink.
 #[derive(Debug, Drop)]
 struct Reached<'a> {
     here: Here,
     link: Option<LinkMet<'a>>,
 }
 
-// The words walked as far as the first that leads to a link.
+// The words walked as far as the first that leads to a symlink.
 fn walked_to_link<'a, L: Look>(
     world: &'a L,
     who: &Task,
@@ -242,7 +242,7 @@ fn walked_to_link<'a, L: Look>(
     Ok(Reached { here, link: None })
 }
 
-// A text that is not walked to its end: the words that are left of it.
+// A text whose walk is not finished, and the words that are left of it.
 #[derive(Debug, Drop)]
 struct Pending<'a> {
     text: &'a [u8],
@@ -250,7 +250,7 @@ struct Pending<'a> {
 }
 
 impl<'a> Pending<'a> {
-    // The whole text of a link.
+    // The whole text of a symlink.
     fn of(text: &'a [u8]) -> Pending<'a>
         ensures text { result.text.now ≡ text.now }
         ensures words { result.words ≡ words text.now }
@@ -262,7 +262,7 @@ impl<'a> Pending<'a> {
     }
 }
 
-// What an unused place of a stack holds.
+// What fills the unused entries of a stack.
 impl<'a> Default for Pending<'a> {
     fn default() -> Self {
         Pending::of(&[])
@@ -279,7 +279,7 @@ pub(crate) fn is_directory_at<L: Look>(world: &L, here: Location) -> bool
     }
 }
 
-// A trailing slash asks for a directory: W3.
+// A trailing slash is accepted only if a directory is here, else W3.
 pub(crate) fn asked_by_slash<L: Look>(world: &L, text: &[u8], here: Location) -> Result<(), Deny>
     ensures { result ≡ unless (slash_rules nat_eq (L.looks world.now) text.now (location_of here)) (Ok tt) }
 {
@@ -289,7 +289,7 @@ pub(crate) fn asked_by_slash<L: Look>(world: &L, text: &[u8], here: Location) ->
     Ok(())
 }
 
-// The place that the words lead to, every link followed, the last one too.
+// Where the words lead, every symlink followed, a final one too.
 pub(crate) fn words_walked<'a, L: Look>(
     world: &'a L,
     who: &Task,
@@ -306,8 +306,8 @@ pub(crate) fn words_walked<'a, L: Look>(
     }
 }
 
-// The place that a link and the words behind it lead to, every link followed. What is left behind a link waits on
-// a stack while the link's text is walked; a walk that comes to no link needs no stack.
+// Where a symlink and the words after it lead, every symlink followed. The words after a symlink wait on a stack while
+// its text is walked; a walk that comes to no symlink needs no stack.
 fn symlink_walked<'a, L: Look>(
     world: &'a L,
     who: &Task,
@@ -319,7 +319,7 @@ fn symlink_walked<'a, L: Look>(
 {
     let mut here = link_begun(world, who, link.directory, met, link.text)?;
     let mut pending = ArrayVec::<Pending, MOST_TEXTS>::new();
-    // A slash behind the words themselves is the caller's to ask for.
+    // A slash at the end of the words themselves is checked by the caller.
     pending.push(Pending {
         text: &[],
         words: link.behind,

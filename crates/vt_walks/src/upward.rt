@@ -42,7 +42,7 @@ fn hop<L: Look>(world: &L, who: &Task, here: Location) -> Option<Location>
     }
 }
 
-// The mount points that `..` goes on from, one on another.
+// Goes from the root of a mount to its mount point, and on while that is a root too.
 fn hopped<L: Look>(world: &L, who: &Task, start: Location) -> Location
     ensures { location_of result ≡ last_or (location_of start)
         (hops nat_eq (L.looks world.now) (task_of who.now) (location_of start)) }
@@ -70,7 +70,7 @@ fn is_top<L: Look>(world: &L, who: &Task, here: Location) -> bool
     }
 }
 
-// Whether a directory leads nowhere: it is removed, or no longer lies under the root of its mount.
+// Whether `..` of a directory leads nowhere: the directory is removed, or no longer under the root of its mount.
 fn is_lost<L: Look>(world: &L, here: Location) -> bool
     ensures { result ≡ is_lost nat_eq (L.looks world.now) (location_of here) }
 {
@@ -91,7 +91,7 @@ fn parent_location<L: Look>(world: &L, here: Location) -> Location
     }
 }
 
-// Where `..` leads from a location, through the mounts over the parent. W8: the directory leads nowhere.
+// Where `..` leads from a location: to the topmost mount over the parent. W8: the directory is lost.
 pub(crate) fn step_up<L: Look>(world: &L, who: &Task, start: Location) -> Result<Location, Deny>
     ensures { location_result result ≡ stepped nat_eq (L.looks world.now) (task_of who.now) (location_of start) DotDot }
 {

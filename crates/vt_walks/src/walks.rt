@@ -16,11 +16,12 @@ use vt_spec::errors::{Deny, Rule};
 use vt_task::Task;
 use vt_text::path::PathText;
 
-/// The object that a path leads to, a final link followed, which must be a directory behind a trailing slash.
+/// The object that a path leads to, a final symlink followed. A trailing slash is accepted only if it is a directory.
 ///
-/// W2 (ENAMETOOLONG): a word of a link's text. W3 (ENOTDIR): what is no directory. W4 (EACCES): no search right. W6
-/// (ENOENT): a missing name. W7 (ELOOP): the 41st link. W8 (ENOENT): `..` of a directory that leads nowhere. W9
-/// (ELOOP): a link on a mount with `MS_NOSYMFOLLOW`.
+/// W2 (ENAMETOOLONG): a word of a symlink's text is too long. W3 (ENOTDIR): a word, or a trailing slash, follows what is no
+/// directory. W4 (EACCES): no search permission. W6 (ENOENT): a missing name. W7 (ELOOP): the 41st symlink. W8 (ENOENT):
+/// `..` of a directory that is removed, or not under the root of its mount. W9 (ELOOP): a symlink on a mount with
+/// `MS_NOSYMFOLLOW`.
 pub fn object_walk<L: Look>(world: &L, who: &Task, path: &PathText) -> Result<Location, Deny>
     ensures { location_result result
         ≡ location_end (walk_end (object_walk nat_eq (L.looks world.now) (task_of who.now) path.now)) }
@@ -31,7 +32,7 @@ pub fn object_walk<L: Look>(world: &L, who: &Task, path: &PathText) -> Result<Lo
     Ok(here.location)
 }
 
-/// The directory that a path leads to, a final link followed, which need not be searched itself.
+/// The directory that a path leads to, a final symlink followed. No search permission is needed on the directory itself.
 ///
 /// The errors are those of `object_walk`.
 pub fn directory_walk<L: Look>(world: &L, who: &Task, path: &PathText) -> Result<Location, Deny>
@@ -47,7 +48,7 @@ pub fn directory_walk<L: Look>(world: &L, who: &Task, path: &PathText) -> Result
     Ok(here.location)
 }
 
-/// The object that a path leads to, a final link itself unless a slash follows: lstat(2).
+/// The object that a path leads to; a final symlink is followed only if a slash follows it: lstat(2).
 ///
 /// The errors are those of `object_walk`.
 pub fn symlink_walk<L: Look>(world: &L, who: &Task, path: &PathText) -> Result<Location, Deny>

@@ -48,7 +48,7 @@ impl<'a> LastWord<'a> {
         matches!(self, LastWord::NoWord)
     }
 
-    /// The name, and nothing for a word that names no entry.
+    /// The name; empty for a word that names no entry.
     pub fn name(&self) -> &'a [u8]
         ensures { result.now ≡ name_of (last_of self.now) }
     {
