@@ -1,5 +1,5 @@
--- What the judgement of a call has seen to when it gives a permit, beyond that what the permit names is there: names are
--- free and fit, what is removed may go, and the limits of files and tasks hold.
+-- What a permit that a call is given guarantees, besides that what it names exists: names are free and of a legal length, what
+-- is removed may go, and the limits of files and tasks hold.
 use Rattle.std.specs.Prelude.{Bool, List, Option, Some, false, is_some, length, nat_eq, nat_le, nat_lt, not, option_map, true, ℕ, ⊤, ◌&&◌, ◌+◌, ◌<◌, ◌≡◌}
 use Rattle.vt_call_laws.specs.Inodes.{change_of}
 use Rattle.vt_permit_laws.specs.Left.{IsGiven}
@@ -123,7 +123,7 @@ GivenChangesAreProper =
     → change_of fresh world permit ≡ Some (location, change)
     → IsProper (tree_at world location) change × IsFitChange change
 
--- and it fits whoever keeps that tree alone, with its inodes' uses.
+-- and it fits counted inodes that have that tree.
 abbrev pub GivenChangesFit : Type 0
 GivenChangesFit =
     (world : World ℕ) (fresh : Fresh ℕ) (task : Task ℕ) (permit : Permit ℕ) (location : Location ℕ) (change : Change ℕ)

@@ -1,4 +1,4 @@
--- One step of a program that keeps its world alike in the policy's, counts, and gives inodes even numbers.
+-- One step of a program whose world is the same as the policy's, which counts, and gives inodes even numbers.
 use Rattle.std.specs.Prelude.{Bool, Ok, Some, false, nat_eq, true, ℕ, ◌%◌, ◌+◌, ◌≡◌, ◌≤◌}
 use Rattle.vt_laws.specs.Numbers.{KeepsTo}
 use Rattle.vt_permit_laws.specs.InUse.{is_in_use}
@@ -45,7 +45,7 @@ StepsAreGiven =
     (next inode : ℕ) (world : World ℕ) (task : Task ℕ) (permit : Permit ℕ) → IsStep next inode world task permit
     → IsGiven (handed_to next inode permit) world task permit
 
--- and whoever leaves the same world has a world with all invariants, and all its counts are before those left over.
+-- and each world that is the same as the one left has all invariants, and all its counts are before the next one.
 pub record IsAfterStep (later : ℕ) (world : World ℕ) : Type 0 where
   pub whole : IsWorld nat_eq world
   pub plain : IsPlain world

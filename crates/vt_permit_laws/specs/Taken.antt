@@ -34,7 +34,7 @@ IsUngrouped world = list_all (λ mount. is_ungrouped mount.propagation) world.mo
 
 -- The numbers that a permit takes are among the first so many of the supply: the number of a new inode; of a new mount its
 -- filesystem's, its own and its root's; for each copy of a mount two, of which one is its own; for each mount that becomes
--- shared its group's. Of the mount of an overlay it is not told.
+-- shared its group's. The mount of an overlay is left out: here it has 0.
 abbrev pub numbers_taken : World ℕ → Task ℕ → Permit ℕ → ℕ
 numbers_taken world task (ToMake directory name node) = 1
 numbers_taken world task (ToOpenNew directory name node access) = 1
@@ -95,7 +95,7 @@ HandedCountsGoOn =
     → KeepsTo (is_counted_before next) world → permit_named (is_counted_before next) permit ≡ true
     → KeepsTo (is_counted_before (next + counts_taken world task permit)) (left_by (handed_to next inode permit) world task permit)
 
--- Nor does a judgement depend on the supply: how many mounts a namespace gets is told without their numbers.
+-- Nor does a judgement depend on the supply: how many mounts a namespace gets does not depend on their numbers.
 abbrev pub JudgementsDoNotSeeSupplies : Type 0
 JudgementsDoNotSeeSupplies =
     (world : World ℕ) (task : Task ℕ) (call : Call) (fresh again : Fresh ℕ) → IsUngrouped world → mounts_overlay call ≡ false
@@ -107,7 +107,7 @@ GivenWithAnySupply =
     (world : World ℕ) (task : Task ℕ) (permit : Permit ℕ) (fresh again : Fresh ℕ) → IsUngrouped world
     → Serves nat_eq world again → IsGiven fresh world task permit → IsGiven again world task permit
 
--- A permit that a call is given names only numbers to which the world keeps: whoever renames others leaves it.
+-- A permit that a call is given names only numbers to which the world keeps: a renaming of others does not change it.
 abbrev pub GivenPermitsAreLeft : Type 0
 GivenPermitsAreLeft =
     (named : ℕ → Bool) (world : World ℕ) (task : Task ℕ) (permit : Permit ℕ) (fresh : Fresh ℕ) → IsUngrouped world

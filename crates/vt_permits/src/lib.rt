@@ -1,4 +1,4 @@
-//! What a call that no rule refuses may do: made by judging it, and spent by doing it.
+//! Permits: the change that a call may apply if no rule refuses it.
 #![tactic(auto)]
 
 mod permit;

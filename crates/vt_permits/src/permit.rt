@@ -14,10 +14,10 @@ pub enum TypeWord {
     Unbindable,
 }
 
-/// What a call is permitted. It is good for the world that it was judged in.
+/// What a call is permitted. It fits the world in which the call was judged, and no other.
 #[derive(Debug, Drop)]
 pub enum Permit {
-    /// Nothing but to say that it is allowed: execve(2), rename(2) of two names of one object.
+    /// No effect; the answer is `ok`: execve(2), rename(2) of two names of one object.
     Allowed,
     /// getdents(2)
     ToList {
@@ -55,13 +55,13 @@ pub enum Permit {
         name: Vec<u8>,
         object: NodeRef,
     },
-    /// rmdir(2): the mounts on the directory end with its name.
+    /// rmdir(2): the mounts on the directory are detached.
     ToRemoveDirectory {
         parent: Location,
         name: Vec<u8>,
         directory: Location,
     },
-    /// rename(2): what had the new name loses it, and the mounts on it end.
+    /// rename(2): what had the new name loses it, and the mounts on it are detached.
     ToRename {
         from: Location,
         old: Vec<u8>,
