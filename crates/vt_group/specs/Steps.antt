@@ -8,9 +8,9 @@ use Rattle.vt_spec.specs.Machine.Mounts.{Propagation as Type_of_mount, group_of}
 use Rattle.vt_spec.specs.Machine.Mounts.Propagation.{Private, Shared, Slave, Unbindable}
 use Rattle.vt_location.specs.declared.numbers.GroupId.{GroupId}
 use Rattle.vt_location.specs.declared.mounts.Propagation.{Propagation}
-use Rattle.vt_group.specs.Grouping.{Grouping, master_in, propagation_in}
 use Rattle.vt_location.specs.MountValue.{propagation_of}
 use Rattle.vt_location.specs.Numbers.{counted}
+use Rattle.vt_group.specs.Grouping.{Grouping, master_in, propagation_in}
 
 abbrev pub type_or_private : Option Propagation → Type_of_mount ℕ
 type_or_private None = Private
