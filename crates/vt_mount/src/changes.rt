@@ -29,6 +29,7 @@ impl Mounts {
         if self.by_number.reserve(1).is_err() || self.indexes.enter(&mount).is_err() {
             return Err(Rule::S5.denial());
         }
+        // There is room, so that it does not fail.
         let _ = self.by_number.insert(mount.number, Mounted::unused(mount));
         Ok(())
     }

@@ -127,5 +127,6 @@ fn insert_in_order(list: &mut Vec<MountId>, mount: MountId)
         .iter()
         .position(|other| other.count > mount.count)
         .unwrap_or(list.len());
+    // There is room, so that it does not fail.
     let _ = list.insert(place, mount);
 }

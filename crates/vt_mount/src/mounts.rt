@@ -144,7 +144,7 @@ impl Mounts {
         Ok(())
     }
 
-    /// Counts a root, a working directory or a descriptor on a mount no more. It takes no memory.
+    /// Counts a root, a working directory or a descriptor on a mount no more; a count of 0 stays. It takes no memory.
     pub fn release(&mut self, id: MountId, writes: bool)
         ensures { self.new ≡ changed (counted id.count) (released writes) self.old }
     {

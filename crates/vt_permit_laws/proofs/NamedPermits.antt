@@ -5,7 +5,7 @@ use Rattle.std.specs.List.{list_all}
 use Rattle.vt_laws.specs.Numbers.{content_named, location_named, node_named, none_or}
 use Rattle.vt_one_text.proofs.Commuting.{Named, map_itself, node_itself, option_itself}
 use Rattle.vt_one_text.specs.Renaming.{Leaves, Renaming}
-use Rattle.vt_permit_laws.specs.Named.{change_named, permit_named}
+use Rattle.vt_permit_laws.specs.Named.{change_named, permit_named, renamed_change, renamed_permit}
 use Rattle.vt_spec.specs.Language.Changes.{Change}
 use Rattle.vt_spec.specs.Language.Changes.Change.{AddName, CopyUp, Make, Move, Remove, SetAttr, SetBytes, SetMark}
 use Rattle.vt_spec.specs.Machine.Mounts.{Location}
@@ -16,57 +16,6 @@ use Rattle.vt_spec.specs.Machine.World.{Overlay, Real}
 use Rattle.vt_spec.specs.Machine.World.Real.{Below, Upper}
 use Rattle.vt_spec.specs.Tree.{Content, Node}
 use Rattle.vt_spec.specs.Tree.Content.{Directory, Regular, Symlink, Whiteout}
-
-module _ {N M : Type 0} (there : N → M) (back : M → N) where
-  abbrev pub renamed_change : Change N → Change M
-  renamed_change (Make directory name number node) =
-      Make (there directory) name (there number) (renamed_node there back node)
-  renamed_change (AddName directory name object) = AddName (there directory) name (there object)
-  renamed_change (Remove directory name object) = Remove (there directory) name (there object)
-  renamed_change (Move from old to new object) = Move (there from) old (there to) new (there object)
-  renamed_change (SetBytes file bytes) = SetBytes (there file) bytes
-  renamed_change (SetAttr object attr) = SetAttr (there object) attr
-  renamed_change (SetMark directory opaque) = SetMark (there directory) opaque
-  renamed_change (CopyUp object) = CopyUp (there object)
-
-  abbrev at : Location N → Location M
-  at = renamed_location there back
-
-  abbrev pub renamed_permit : Permit N → Permit M
-  renamed_permit Allowed = Allowed
-  renamed_permit (ToList directory) = ToList (at directory)
-  renamed_permit (ToStat object) = ToStat (at object)
-  renamed_permit (ToRead file) = ToRead (at file)
-  renamed_permit (ToReadPart file offset size) = ToReadPart (at file) offset size
-  renamed_permit (ToChange location change) = ToChange (at location) (renamed_change change)
-  renamed_permit (ToMake directory name node) = ToMake (at directory) name (renamed_node there back node)
-  renamed_permit (ToRemoveDirectory parent name directory) = ToRemoveDirectory (at parent) name (at directory)
-  renamed_permit (ToRename from old to new object replaced) =
-      ToRename (at from) old (at to) new (at object) (option_map at replaced)
-  renamed_permit (ToOpen file access) = ToOpen (at file) access
-  renamed_permit (ToOpenNew directory name node access) =
-      ToOpenNew (at directory) name (renamed_node there back node) access
-  renamed_permit (ToWritePart file offset bytes) = ToWritePart (at file) offset bytes
-  renamed_permit (ToClose descriptor) = ToClose descriptor
-  renamed_permit (ToSetDirectory directory) = ToSetDirectory (at directory)
-  renamed_permit (ToSetRoot root) = ToSetRoot (at root)
-  renamed_permit (ToSetUmask umask) = ToSetUmask umask
-  renamed_permit (ToSetCredentials credentials) = ToSetCredentials credentials
-  renamed_permit (ToFork credentials) = ToFork credentials
-  renamed_permit ToExit = ToExit
-  renamed_permit ToUnshare = ToUnshare
-  renamed_permit (ToEnterNamespace namespace) = ToEnterNamespace (there namespace)
-  renamed_permit (ToMountPlain place flags) = ToMountPlain (at place) flags
-  renamed_permit (ToMountOverlay place overlay flags) =
-      ToMountOverlay (at place) (renamed_overlay there back overlay) flags
-  renamed_permit (ToBind source place recursive) = ToBind (at source) (at place) recursive
-  renamed_permit (ToMove mount place) = ToMove (there mount) (at place)
-  renamed_permit (ToUnmount mount) = ToUnmount (there mount)
-  renamed_permit (ToUnmountLazily mount) = ToUnmountLazily (there mount)
-  renamed_permit (ToSetFlags mount flags) = ToSetFlags (there mount) flags
-  renamed_permit (ToSetType mount word recursive) = ToSetType (there mount) word recursive
-  renamed_permit (ToPivot new put) = ToPivot (there new) (at put)
-  renamed_permit ToListMounts = ToListMounts
 
 -- With each number for itself nothing is renamed.
 module _ {N : Type 0} where

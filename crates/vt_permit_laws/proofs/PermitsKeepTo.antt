@@ -1,11 +1,12 @@
 -- What a permit leaves has no other numbers than the world before, the permit and the supply.
-use Rattle.std.proofs.Common.{◌≡◌, sym, ap, ◌∙◌, nat_eq, Bool, Option, Some, None}
+use Rattle.std.proofs.Common.{◌≡◌, sym, ap, ◌∙◌, ℕ, nat_eq, Bool, Option, Some, None}
 use Rattle.vt_laws.proofs.Renamings.{named_world, renamed_itself}
 use Rattle.vt_one_text.proofs.Commuting.{Named, commutes_nat}
-use Rattle.vt_permit_laws.proofs.NamedPermits.{named_permit, permit_left, renamed_permit}
+use Rattle.vt_one_text.specs.Renaming.{Renaming}
+use Rattle.vt_permit_laws.proofs.NamedPermits.{named_permit, permit_left}
 use Rattle.vt_permit_laws.proofs.SameNumbers.{same_worlds_keep_to_numbers}
 use Rattle.vt_permit_laws.specs.Left.{left_by}
-use Rattle.vt_permit_laws.specs.Named.{PermitsKeepToNumbers, SameKeepsToNumbersToo}
+use Rattle.vt_permit_laws.specs.Named.{renamed_permit, PermitsKeepToNumbers, SameKeepsToNumbersToo}
 use Rattle.vt_run_laws.proofs.AlikeWorlds.{same_worlds_are_plain_alike, sameness_is_an_equivalence}
 use Rattle.vt_spec.specs.Language.Calls.{TaskName}
 use Rattle.vt_spec.specs.Lists.{Fresh}
@@ -16,10 +17,10 @@ use Rattle.vt_spec.specs.Machine.Settled.{settled}
 use Rattle.vt_spec.specs.Machine.World.{Task, World, task_called}
 
 -- a supply and a permit beside a world
-abbrev Handed : Type 0 → Type 0
+abbrev pub Handed : Type 0 → Type 0
 Handed A = Fresh A × World A × Permit A
 
-abbrev named_handed : Named Handed
+abbrev pub named_handed : Named Handed
 named_handed = record {
   rename = λ A B there back handed.
       ((λ k. there (handed.0 k)), renamed there back handed.1, renamed_permit there back handed.2);
@@ -27,27 +28,36 @@ named_handed = record {
 }
 
 -- what the permit leaves if the task is there
-abbrev left_if : {N : Type 0} → (N → N → Bool) → Handed N → Option (Task N) → World N
+abbrev pub left_if : {N : Type 0} → (N → N → Bool) → Handed N → Option (Task N) → World N
 left_if eq handed None = handed.1
 left_if eq handed (Some task) = settled eq (apply eq handed.0 handed.1 task handed.2).world
 
-abbrev left_called : {N : Type 0} → TaskName → (N → N → Bool) → Handed N → World N
+abbrev pub left_called : {N : Type 0} → TaskName → (N → N → Bool) → Handed N → World N
 left_called name eq handed = left_if eq handed (task_called handed.1 name)
+
+-- the world that is left, renamed, is what the renamed permit leaves
+pub left_renamed : (renaming : Renaming ℕ ℕ) (fresh : Fresh ℕ) (world : World ℕ) (task : Task ℕ) (permit : Permit ℕ)
+    → task_called world task.name ≡ Some task
+    → renamed renaming.there renaming.back world ≡ world
+    → renamed_permit renaming.there renaming.back permit ≡ permit
+    → renamed renaming.there renaming.back (left_by fresh world task permit)
+    ≡ left_by (λ k. renaming.there (fresh k)) world task permit
+left_renamed renaming fresh world task permit called same alike =
+    ap (renamed renaming.there renaming.back) (sym (left_is fresh))
+    ∙ sym (commutes_nat Handed World named_handed named_world (λ A eq handed. left_called task.name eq handed) renaming
+    (fresh, world, permit))
+    ∙ (λ i. left_called task.name nat_eq ((λ k. renaming.there (fresh k)), same i, alike i))
+    ∙ left_is (λ k. renaming.there (fresh k))
+  where
+    left_is : (supply : Fresh ℕ)
+        → left_called task.name nat_eq (supply, world, permit) ≡ left_by supply world task permit
+    left_is supply = ap (left_if nat_eq (supply, world, permit)) called
 
 pub permits_keep_to_numbers : PermitsKeepToNumbers
 permits_keep_to_numbers named fresh world task permit called keeps supplied is renaming leaves =
-    ap (renamed renaming.there renaming.back) (sym left_is)
-    ∙ sym (commutes_nat Handed World named_handed named_world (λ A eq handed. left_called task.name eq handed) renaming
-    (fresh, world, permit))
-    ∙ (λ i. left_called task.name nat_eq (
-      (λ k. leaves (fresh k) (supplied k) i),
-      keeps renaming leaves i,
-      permit_left named renaming leaves permit is i,
-    ))
-    ∙ left_is
-  where
-    left_is : left_called task.name nat_eq (fresh, world, permit) ≡ left_by fresh world task permit
-    left_is = ap (left_if nat_eq (fresh, world, permit)) called
+    left_renamed renaming fresh world task permit called (keeps renaming leaves)
+    (permit_left named renaming leaves permit is)
+    ∙ (λ i. left_by (λ k. leaves (fresh k) (supplied k) i) world task permit)
 
 pub same_keeps_to_numbers_too : SameKeepsToNumbersToo
 same_keeps_to_numbers_too named fresh world task permit other called keeps supplied is same plain =

@@ -1,5 +1,5 @@
 -- Which numbers a world has after a permit: those that it had, those that the permit names, and those that were handed in.
-use Rattle.std.specs.Prelude.{Bool, Some, false, true, ℕ, ◌&&◌, ◌≡◌}
+use Rattle.std.specs.Prelude.{Bool, Some, option_map, false, true, ℕ, ◌&&◌, ◌≡◌}
 use Rattle.vt_laws.specs.Numbers.{IsSuppliedFrom, KeepsTo, location_named, node_named, none_or}
 use Rattle.vt_permit_laws.specs.Left.{left_by}
 use Rattle.vt_spec.specs.Language.Changes.{Change}
@@ -7,9 +7,61 @@ use Rattle.vt_spec.specs.Language.Changes.Change.{AddName, CopyUp, Make, Move, R
 use Rattle.vt_spec.specs.Lists.{Fresh}
 use Rattle.vt_spec.specs.Machine.Permits.{Permit}
 use Rattle.vt_spec.specs.Machine.Permits.Permit.{Allowed, ToBind, ToChange, ToClose, ToEnterNamespace, ToExit, ToFork, ToList, ToListMounts, ToMake, ToMountOverlay, ToMountPlain, ToMove, ToOpen, ToOpenNew, ToPivot, ToRead, ToReadPart, ToRemoveDirectory, ToRename, ToSetCredentials, ToSetDirectory, ToSetFlags, ToSetRoot, ToSetType, ToSetUmask, ToStat, ToUnmount, ToUnmountLazily, ToUnshare, ToWritePart}
+use Rattle.vt_spec.specs.Machine.Renaming.{renamed_location, renamed_node, renamed_overlay}
 use Rattle.vt_spec.specs.Machine.SameWorlds.{SameWorlds}
 use Rattle.vt_spec.specs.Machine.World.{Task, World, task_called}
 use Rattle.vt_world_laws.specs.Worlds.Kept.{IsPlain}
+
+-- a permit with other numbers
+module _ {N M : Type 0} (there : N → M) (back : M → N) where
+  abbrev pub renamed_change : Change N → Change M
+  renamed_change (Make directory name number node) =
+      Make (there directory) name (there number) (renamed_node there back node)
+  renamed_change (AddName directory name object) = AddName (there directory) name (there object)
+  renamed_change (Remove directory name object) = Remove (there directory) name (there object)
+  renamed_change (Move from old to new object) = Move (there from) old (there to) new (there object)
+  renamed_change (SetBytes file bytes) = SetBytes (there file) bytes
+  renamed_change (SetAttr object attr) = SetAttr (there object) attr
+  renamed_change (SetMark directory opaque) = SetMark (there directory) opaque
+  renamed_change (CopyUp object) = CopyUp (there object)
+
+  abbrev pub renamed_permit : Permit N → Permit M
+  renamed_permit Allowed = Allowed
+  renamed_permit (ToList directory) = ToList (renamed_location there back directory)
+  renamed_permit (ToStat object) = ToStat (renamed_location there back object)
+  renamed_permit (ToRead file) = ToRead (renamed_location there back file)
+  renamed_permit (ToReadPart file offset size) = ToReadPart (renamed_location there back file) offset size
+  renamed_permit (ToChange location change) = ToChange (renamed_location there back location) (renamed_change change)
+  renamed_permit (ToMake directory name node) = ToMake (renamed_location there back directory) name (renamed_node there back node)
+  renamed_permit (ToRemoveDirectory parent name directory) =
+      ToRemoveDirectory (renamed_location there back parent) name (renamed_location there back directory)
+  renamed_permit (ToRename from old to new object replaced) =
+      ToRename (renamed_location there back from) old (renamed_location there back to) new
+      (renamed_location there back object) (option_map (renamed_location there back) replaced)
+  renamed_permit (ToOpen file access) = ToOpen (renamed_location there back file) access
+  renamed_permit (ToOpenNew directory name node access) =
+      ToOpenNew (renamed_location there back directory) name (renamed_node there back node) access
+  renamed_permit (ToWritePart file offset bytes) = ToWritePart (renamed_location there back file) offset bytes
+  renamed_permit (ToClose descriptor) = ToClose descriptor
+  renamed_permit (ToSetDirectory directory) = ToSetDirectory (renamed_location there back directory)
+  renamed_permit (ToSetRoot root) = ToSetRoot (renamed_location there back root)
+  renamed_permit (ToSetUmask umask) = ToSetUmask umask
+  renamed_permit (ToSetCredentials credentials) = ToSetCredentials credentials
+  renamed_permit (ToFork credentials) = ToFork credentials
+  renamed_permit ToExit = ToExit
+  renamed_permit ToUnshare = ToUnshare
+  renamed_permit (ToEnterNamespace namespace) = ToEnterNamespace (there namespace)
+  renamed_permit (ToMountPlain place flags) = ToMountPlain (renamed_location there back place) flags
+  renamed_permit (ToMountOverlay place overlay flags) =
+      ToMountOverlay (renamed_location there back place) (renamed_overlay there back overlay) flags
+  renamed_permit (ToBind source place recursive) = ToBind (renamed_location there back source) (renamed_location there back place) recursive
+  renamed_permit (ToMove mount place) = ToMove (there mount) (renamed_location there back place)
+  renamed_permit (ToUnmount mount) = ToUnmount (there mount)
+  renamed_permit (ToUnmountLazily mount) = ToUnmountLazily (there mount)
+  renamed_permit (ToSetFlags mount flags) = ToSetFlags (there mount) flags
+  renamed_permit (ToSetType mount word recursive) = ToSetType (there mount) word recursive
+  renamed_permit (ToPivot new put) = ToPivot (there new) (renamed_location there back put)
+  renamed_permit ToListMounts = ToListMounts
 
 module _ (named : ℕ → Bool) where
   abbrev pub change_named : Change ℕ → Bool

@@ -4,6 +4,10 @@
 //! Each public function is a theorem of the written policy, and does nothing.
 #![tactic(auto)]
 
+pub mod in_use;
 pub mod left;
 pub mod named;
 pub mod same;
+pub mod sees;
+pub mod steps;
+pub mod taken;

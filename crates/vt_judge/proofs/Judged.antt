@@ -1,0 +1,50 @@
+-- What code answers of a judgement: a refusal, a permit, or want of memory.
+use Rattle.std.proofs.Common.{◌≡◌, ℕ, Bool, true, false, [], ◌∷◌, Result, Ok, Err, inl, inr, ◌∙◌}
+use Rattle.vt_spec.specs.declared.errors.Deny.{Deny}
+use Rattle.vt_spec.specs.declared.errors.Rule.TheVariants.{M10, M9, S5}
+use Rattle.vt_spec.specs.Errors.{denial, unless}
+use Rattle.vt_spec.specs.Machine.Judge.{Judgement}
+use Rattle.vt_spec.specs.Machine.Permits as meant
+use Rattle.vt_spec.specs.Machine.World.{Task}
+use Rattle.vt_permits.specs.Memory.{Judges, JudgesAlike, JudgesByReceivers}
+use Rattle.vt_permits.specs.declared.permit.Permit.{Permit}
+
+pub refused : (task : Task ℕ) (judged : Judgement ℕ) (deny : Deny) → judged ≡ Err deny → Judges task judged (Err deny)
+refused task (Ok permit) deny e = absurd cc
+refused task (Err refusal) deny e = cc
+
+pub without_memory : (task : Task ℕ) (judged : Judgement ℕ) (permit : meant.Permit ℕ) (deny : Deny)
+    → judged ≡ Ok permit → deny ≡ denial S5 → Judges task judged (Err deny)
+without_memory task (Ok other) permit deny e memory = memory
+without_memory task (Err refusal) permit deny e memory = absurd cc
+
+pub refused_before : (task : Task ℕ) (judged : Judgement ℕ) (deny : Deny) → judged ≡ Err deny → JudgesByReceivers task judged (Err deny)
+refused_before task (Ok permit) deny e = absurd cc
+refused_before task (Err refusal) deny e = inl cc
+
+-- want of memory for the receivers, before what is asked after them: ENOSPC of mount(2)
+pub no_receivers : (task : Task ℕ) (judged : Judgement ℕ) (overfull : Bool) (permit : meant.Permit ℕ) (deny : Deny)
+    → judged ≡ unless ((overfull, M9) ∷ []) (Ok permit) → deny ≡ denial S5 → JudgesByReceivers task judged (Err deny)
+no_receivers task (Ok other) overfull permit deny e memory = memory
+no_receivers task (Err refusal) true permit deny e memory = inr (memory, inr (inl cc))
+no_receivers task (Err refusal) false permit deny e memory = absurd cc
+
+-- the same of a move, with its last rule: EINVAL
+pub no_receivers_of_move : (task : Task ℕ) (judged : Judgement ℕ) (overfull rootless : Bool) (permit : meant.Permit ℕ) (deny : Deny)
+    → judged ≡ unless ((overfull, M9) ∷ (rootless, M10) ∷ []) (Ok permit) → deny ≡ denial S5 → JudgesByReceivers task judged (Err deny)
+no_receivers_of_move task (Ok other) overfull rootless permit deny e memory = memory
+no_receivers_of_move task (Err refusal) true rootless permit deny e memory = inr (memory, inr (inl cc))
+no_receivers_of_move task (Err refusal) false true permit deny e memory = inr (memory, inr (inr cc))
+no_receivers_of_move task (Err refusal) false false permit deny e memory = absurd cc
+
+-- of one judgement code answers as of the same one, written otherwise
+pub answers_alike : (task : Task ℕ) (judged other : Judgement ℕ) (result : Result Permit Deny) → judged ≡ other → JudgesAlike task other result → JudgesAlike task judged result
+answers_alike task judged other result e h = rw e h
+
+pub answers : (task : Task ℕ) (judged other : Judgement ℕ) (result : Result Permit Deny) → judged ≡ other → Judges task other result → Judges task judged result
+answers task judged other result e h = rw e h
+
+-- what is judged without want of memory is judged
+pub answers_without : (task : Task ℕ) (judged other : Judgement ℕ) (result : Result Permit Deny) → judged ≡ other → JudgesAlike task other result → Judges task judged result
+answers_without task judged other (Ok permit) e h = e ∙ h
+answers_without task judged other (Err deny) e h = refused task judged deny (e ∙ h)

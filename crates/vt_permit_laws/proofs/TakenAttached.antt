@@ -1,0 +1,178 @@
+-- What is attached at a mount that is in no peer group: only the numbers of copies are taken.
+use Rattle.std.proofs.Common.{eq-eqb, ◌≡◌, refl, sym, ap, subst, ◌∙◌, ℕ, suc, ◌+◌, ◌*◌, ◌<◌, nat_eq, Bool, true, false, cond, not, ◌&&◌, List, [], ◌∷◌, ◌++◌, length, map, filter, filter_map, Option, Some, None, option_map, if◌then◌else◌, arith}
+use Rattle.std.specs.Prelude.{unwrap_or}
+use Rattle.vt_letting_go.proofs.PlacesLeft.{number_found}
+use Rattle.vt_spec.specs.Lists.{Fresh, folded, place_from, then_some, when}
+use Rattle.vt_spec.specs.Machine.Attach.{Copies, Graft, Twig, added_mounts, attach, attached_at, copies_from, copy_type, image, is_top, masters_with, nearest_image, numbered, takes_part, twig_master, twig_of, with_moved_mounts}
+use Rattle.vt_spec.specs.Machine.Mounts.{Location, Mount, Propagation, group_of, index_of, mount_in}
+use Rattle.vt_spec.specs.Machine.Receives.{is_member_of, receivers}
+use Rattle.vt_spec.specs.Machine.World.{World, mount_at}
+
+-- an index in a list is less than its length
+place_bound : (test : Mount ℕ → Bool) (k : ℕ) (list : List (Mount ℕ)) (j : ℕ) → place_from test k list ≡ Some j
+    → j < k + length list
+place_bound test k [] j e = cc
+place_bound test k (first ∷ rest) j e = by (test first) e (place_bound test (k + 1) rest j)
+  where
+    by : (b : Bool) → cond b (Some k) (place_from test (k + 1) rest) ≡ Some j
+        → (place_from test (k + 1) rest ≡ Some j → j < (k + 1) + length rest) → j < k + suc (length rest)
+    by true f later = let same : k ≡ j = cc in omega arith
+    by false f later = let low = later f in omega arith
+
+pub index_bound : (mounts : List (Mount ℕ)) (number : ℕ) → 0 < length mounts → index_of nat_eq mounts number < length mounts
+index_bound mounts number some = by (place_from (λ mount. nat_eq number mount.number) 0 mounts) refl
+  where
+    by : (o : Option ℕ) → place_from (λ mount. nat_eq number mount.number) 0 mounts ≡ o → unwrap_or o 0 < length mounts
+    by None e = some
+    by (Some j) e =
+        let low = place_bound (λ mount. nat_eq number mount.number) 0 mounts j e in
+        omega arith
+
+first_index : (mount : Mount ℕ) (number : ℕ) → index_of nat_eq (mount ∷ []) number ≡ 0
+first_index mount number = by (nat_eq number mount.number)
+  where
+    by : (b : Bool) → ◌≡◌ {A = ℕ} (unwrap_or (cond b (Some 0) None) 0) 0
+    by true = refl
+    by false = refl
+
+module _ (world : World ℕ) (place : Location ℕ) (mounts : List (Mount ℕ)) where
+  abbrev pub destination : Mount ℕ
+  destination = mount_at nat_eq world place
+
+  abbrev pub twigs : List (Twig ℕ)
+  twigs = map (λ (mount : Mount ℕ). record { origin = mount; propagation = mount.propagation }) mounts
+
+  abbrev pub graft : Bool → Graft ℕ
+  graft moves = record { destination = place; twigs = twigs; moves = moves }
+
+  -- the copy of a mount, by whether it is made at the destination
+  abbrev pub number_by : Bool → Bool → Copies ℕ → ℕ → ℕ
+  number_by there moves new origin = if moves && there then origin else new.copy destination.number origin
+
+  abbrev pub place_by : Bool → Bool → Copies ℕ → Mount ℕ → Location ℕ
+  place_by there moves new origin =
+      if is_top nat_eq (graft moves) origin.number then record { mount = destination.number; node = place.node }
+      else unwrap_or (option_map (λ (at : Location ℕ). record { mount = number_by there moves new at.mount; node = at.node })
+      origin.mount_point) place
+
+  abbrev pub type_by : Bool → Copies ℕ → Twig ℕ → Propagation ℕ
+  type_by there new twig =
+      if there then twig.propagation
+      else copy_type nat_eq world new (destination ∷ []) destination twig destination.propagation
+
+  abbrev pub copy_by : Bool → Bool → Copies ℕ → Twig ℕ → Mount ℕ
+  copy_by there moves new twig = record twig.origin {
+    number = number_by there moves new twig.origin.number;
+    namespace = destination.namespace;
+    mount_point = Some (place_by there moves new twig.origin);
+    propagation = type_by there new twig;
+  }
+
+  abbrev pub group_by : Bool → Copies ℕ → Twig ℕ → Option (ℕ × Option ℕ)
+  group_by there new twig =
+      if there then twig_master twig
+      else then_some (group_of destination.propagation) (λ group.
+      when (not (is_member_of nat_eq group destination)) (
+        image nat_eq new destination twig group,
+        nearest_image nat_eq world new (destination ∷ []) destination twig (world.master group),
+      ))
+
+  abbrev pub attached_alone : Bool → Bool → Copies ℕ → World ℕ
+  attached_alone there moves new = record world {
+    mounts = map (λ (mount : Mount ℕ). mount)
+        (with_moved_mounts nat_eq moves world.mounts (map (copy_by there moves new) twigs))
+        ++ added_mounts moves (map (copy_by there moves new) twigs) ++ [];
+    master = folded (masters_with nat_eq) world.master (filter_map (group_by there new) twigs ++ []);
+  }
+
+  module _ (alone : group_of destination.propagation ≡ None) (moves : Bool) where
+    abbrev parts_by : Option ℕ → List (Mount ℕ)
+    parts_by group =
+        destination ∷ filter (takes_part nat_eq world place) (unwrap_or (option_map (receivers nat_eq world) group) [])
+
+    at_one_part : (fresh : Fresh ℕ)
+        → attach nat_eq world fresh place moves mounts
+        ≡ attached_alone (nat_eq destination.number place.mount) moves (copies_from nat_eq fresh (destination ∷ []) mounts)
+    at_one_part fresh = λ i.
+        attached_at nat_eq world (copies_from nat_eq fresh (parts_by (alone i)) mounts)
+        (record {
+          destination = place;
+          twigs = map (twig_of (copies_from nat_eq fresh (parts_by (alone i)) mounts) (alone i)) mounts;
+          moves = moves;
+        }) (parts_by (alone i))
+
+    pub at_destination : (fresh : Fresh ℕ)
+        → attach nat_eq world fresh place moves mounts
+        ≡ attached_alone true moves (copies_from nat_eq fresh (destination ∷ []) mounts)
+    at_destination fresh =
+        at_one_part fresh
+        ∙ ap (λ b. attached_alone b moves (copies_from nat_eq fresh (destination ∷ []) mounts))
+        (eq-eqb destination.number place.mount (number_found world.mounts place.mount))
+
+  -- the namespaces of the mounts do not go by the numbers
+  abbrev pub namespace_of : Mount ℕ → Option ℕ
+  namespace_of mount = mount.namespace
+
+  front_same : (front one other : List (Mount ℕ)) → map namespace_of (one ++ []) ≡ map namespace_of (other ++ [])
+      → map namespace_of (front ++ one ++ []) ≡ map namespace_of (front ++ other ++ [])
+  front_same [] one other same = same
+  front_same (mount ∷ front) one other same = λ i. mount.namespace ∷ front_same front one other same i
+
+  tail_namespaces : (new : Copies ℕ) (list : List (Twig ℕ))
+      → map namespace_of (map (copy_by true false new) list ++ []) ≡ map (λ (twig : Twig ℕ). destination.namespace) list
+  tail_namespaces new [] = refl
+  tail_namespaces new (twig ∷ list) = λ i. destination.namespace ∷ tail_namespaces new list i
+
+  module _ (alone : group_of destination.propagation ≡ None) (fresh again : Fresh ℕ) where
+    pub namespaces_same : map namespace_of (attach nat_eq world fresh place false mounts).mounts
+        ≡ map namespace_of (attach nat_eq world again place false mounts).mounts
+    namespaces_same =
+        (λ i. map namespace_of (at_destination alone false fresh i).mounts)
+        ∙ front_same (map (λ (mount : Mount ℕ). mount) world.mounts) _ _
+        (tail_namespaces (copies_from nat_eq fresh (destination ∷ []) mounts) twigs
+        ∙ sym (tail_namespaces (copies_from nat_eq again (destination ∷ []) mounts) twigs))
+        ∙ (λ i. map namespace_of (sym (at_destination alone false again) i).mounts)
+
+    -- what moves takes no number
+    pub moved_same : attach nat_eq world fresh place true mounts ≡ attach nat_eq world again place true mounts
+    moved_same = at_destination alone true fresh ∙ sym (at_destination alone true again)
+
+    -- what is copied takes one for each
+    module _ (some : 0 < length mounts) (same : (k : ℕ) → k < length mounts → fresh (2 * k) ≡ again (2 * k)) where
+      copy_same : (part origin : ℕ)
+          → (copies_from nat_eq fresh (destination ∷ []) mounts).copy part origin
+          ≡ (copies_from nat_eq again (destination ∷ []) mounts).copy part origin
+      copy_same part origin =
+          same (numbered (length mounts) (index_of nat_eq (destination ∷ []) part) (index_of nat_eq mounts origin))
+          (subst (λ j. numbered (length mounts) j (index_of nat_eq mounts origin) < length mounts)
+          (sym (first_index destination part)) (let low = index_bound mounts origin some in omega arith))
+
+      pub copied_same : attach nat_eq world fresh place false mounts ≡ attach nat_eq world again place false mounts
+      copied_same =
+          at_destination alone false fresh
+          ∙ (λ i. attached_alone true false (record {
+            copy = λ part origin. copy_same part origin i;
+            image = (copies_from nat_eq fresh (destination ∷ []) mounts).image;
+          }))
+          ∙ sym (at_destination alone false again)
+
+-- one mount that is attached in either of two worlds with the same mounts
+pub copies_at_one : (world other : World ℕ) → other.mounts ≡ world.mounts → (place : Location ℕ) (one new : Mount ℕ)
+    → group_of (mount_at nat_eq world place).propagation ≡ None → (fresh again : Fresh ℕ)
+    → map (λ (mount : Mount ℕ). mount.namespace) (attach nat_eq world fresh place false (one ∷ [])).mounts
+    ≡ map (λ (mount : Mount ℕ). mount.namespace) (attach nat_eq other again place false (new ∷ [])).mounts
+copies_at_one world other same place one new alone fresh again =
+    ends world one alone fresh
+    ∙ (λ i. fronted (sym same i))
+    ∙ sym (ends other new (subst (λ mounts. group_of (mount_in nat_eq mounts place.mount).propagation ≡ None) (sym same) alone) again)
+  where
+    fronted : List (Mount ℕ) → List (Option ℕ)
+    fronted mounts =
+        map (λ (mount : Mount ℕ). mount.namespace)
+        (map (λ (mount : Mount ℕ). mount) mounts ++ (mount_in nat_eq mounts place.mount ∷ []) ++ [])
+
+    ends : (w : World ℕ) (m : Mount ℕ) → group_of (mount_at nat_eq w place).propagation ≡ None → (supply : Fresh ℕ)
+        → map (λ (mount : Mount ℕ). mount.namespace) (attach nat_eq w supply place false (m ∷ [])).mounts ≡ fronted w.mounts
+    ends w m there supply =
+        (λ i. map (λ (mount : Mount ℕ). mount.namespace) (at_destination w place (m ∷ []) there false supply i).mounts)
+        ∙ front_same w place (m ∷ []) (map (λ (mount : Mount ℕ). mount) w.mounts) _ (mount_at nat_eq w place ∷ []) refl

@@ -1,0 +1,11 @@
+use Rattle.vt_permit_laws.proofs.StepsKept.{steps_are_given, steps_keep_worlds, steps_stay_ungrouped}
+use Rattle.vt_permit_laws.proofs.steps.steps_keep_worlds.Goals as goal
+
+pub returns-clause-given : goal.returns-clause-given
+returns-clause-given c = steps_are_given
+
+pub returns-clause-worlds : goal.returns-clause-worlds
+returns-clause-worlds c = steps_keep_worlds
+
+pub returns-clause-ungrouped : goal.returns-clause-ungrouped
+returns-clause-ungrouped c = steps_stay_ungrouped

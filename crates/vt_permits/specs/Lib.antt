@@ -1,0 +1,2 @@
+pub mod PermitValue
+pub mod Memory
