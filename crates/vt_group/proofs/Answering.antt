@@ -11,21 +11,22 @@ use Rattle.vt_spec.specs.Lists.{chain, holds_of, is_among}
 use Rattle.vt_spec.specs.Machine.Mounts.{group_of}
 use Rattle.vt_spec.specs.Machine.Mounts.Propagation.{Private}
 use Rattle.vt_spec.proofs.Lists.{chain_goes_on}
-use Rattle.vt_group.specs.declared.propagation.Propagation.{Propagation}
+use Rattle.vt_location.specs.declared.mounts.Propagation.{Propagation}
 use Rattle.vt_group.specs.Grouping.{Grouping, propagation_in}
-use Rattle.vt_group.specs.Numbers.{counted}
-use Rattle.vt_group.specs.Steps.{is_member, numbered_peer, type_of, type_or_private}
+use Rattle.vt_location.specs.Numbers.{counted}
+use Rattle.vt_location.specs.MountValue.{propagation_of}
+use Rattle.vt_group.specs.Steps.{is_member, numbered_peer, type_or_private}
 use Rattle.vt_group.proofs.CountLemmas.{lookup-numbered}
 
 -- members among the types of mounts
 
 abbrev pub any_in : ℕ → List Propagation → Bool
 any_in group [] = false
-any_in group (kind ∷ rest) = holds_of (nat_eq group) (group_of (type_of kind)) || any_in group rest
+any_in group (kind ∷ rest) = holds_of (nat_eq group) (group_of (propagation_of kind)) || any_in group rest
 
 pub members-valued : (group : ℕ) (es : List (ℕ × Propagation)) → any_in group (values_of es) ≡ list_any (is_member group) (map numbered_peer es)
 members-valued group [] = refl
-members-valued group (e ∷ es) = ap (λ b. holds_of (nat_eq group) (group_of (type_of e.1)) || b) (members-valued group es)
+members-valued group (e ∷ es) = ap (λ b. holds_of (nat_eq group) (group_of (propagation_of e.1)) || b) (members-valued group es)
 
 -- one step up the masters
 
@@ -38,7 +39,7 @@ one_up next group here above n k e apart is =
 
 -- what is found by a count
 
-found-type : (o : Option Propagation) → type_or_private o ≡ unwrap_or (option_map type_of o) Private
+found-type : (o : Option Propagation) → type_or_private o ≡ unwrap_or (option_map propagation_of o) Private
 found-type None = refl
 found-type (Some kind) = refl
 
@@ -47,7 +48,7 @@ module _ (count : ℕ) (es : List (ℕ × Propagation)) (masters : List (ℕ × 
   pub shown-type : (old : Option Propagation) → old ≡ lookup (is_at (nat_cmp count)) es → type_or_private old ≡ propagation_in groups (counted count)
   shown-type old e =
       ap type_or_private e ∙ found-type _
-      ∙ ap (λ o. unwrap_or o Private) (sym (lookup-numbered type_of count es))
+      ∙ ap (λ o. unwrap_or o Private) (sym (lookup-numbered propagation_of count es))
       ∙ (λ i. propagation_in (view i) (counted count))
 
 -- an entry that was put in and is taken out again

@@ -1,4 +1,3 @@
 pub mod Grouping
-pub mod Numbers
 pub mod Steps
 pub mod Laws

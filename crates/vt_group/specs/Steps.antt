@@ -6,22 +6,18 @@ use Rattle.std.specs.Ordering.{nat_cmp}
 use Rattle.vt_spec.specs.Lists.{holds_of}
 use Rattle.vt_spec.specs.Machine.Mounts.{Propagation as Type_of_mount, group_of}
 use Rattle.vt_spec.specs.Machine.Mounts.Propagation.{Private, Shared, Slave, Unbindable}
-use Rattle.vt_group.specs.declared.ids.GroupId.{GroupId}
-use Rattle.vt_group.specs.declared.propagation.Propagation.{Propagation}
-use Rattle.vt_group.specs.declared.propagation.Propagation.TheVariants.{Shared as KeptShared, Slave as KeptSlave}
+use Rattle.vt_location.specs.declared.numbers.GroupId.{GroupId}
+use Rattle.vt_location.specs.declared.mounts.Propagation.{Propagation}
+use Rattle.vt_location.specs.MountValue.{propagation_of}
+use Rattle.vt_location.specs.Numbers.{counted}
 use Rattle.vt_group.specs.Grouping.{Grouping, master_in, propagation_in}
-use Rattle.vt_group.specs.Numbers.{counted}
-
-abbrev pub type_of : Propagation → Type_of_mount ℕ
-type_of (KeptShared group) = Shared (counted group.count)
-type_of (KeptSlave master) = Slave (counted master.count)
 
 abbrev pub type_or_private : Option Propagation → Type_of_mount ℕ
 type_or_private None = Private
-type_or_private (Some kind) = type_of kind
+type_or_private (Some kind) = propagation_of kind
 
 abbrev pub numbered_peer : ℕ × Propagation → ℕ × Type_of_mount ℕ
-numbered_peer entry = (counted entry.0, type_of entry.1)
+numbered_peer entry = (counted entry.0, propagation_of entry.1)
 
 abbrev pub group_number : GroupId → ℕ
 group_number group = counted group.count

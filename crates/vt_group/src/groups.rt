@@ -1,21 +1,22 @@
 //! Peer groups.
 ghost use Rattle.std.specs.Prelude.{◌≡◌, ⊤, ℕ, None, Some, if◌then◌else◌, length, nat_eq, map, IfOk, IfErr, IfSome, OnOk, OnErr, option_map};
 ghost use Rattle.vt_spec.specs.Errors.{denial};
-ghost use Rattle.vt_spec.specs.Lists.{chain, is_among};
+ghost use Rattle.vt_spec.specs.Lists.{chain, holds_of, is_among};
 ghost use Rattle.vt_spec.specs.Machine.Mounts.Propagation.{Private, Shared as SharedIn, Slave as SlaveOf};
 ghost use Rattle.vt_spec.specs.Machine.Receives.{receivers};
-ghost use Rattle.vt_spec.specs.Machine.Mounts.{group_of};
+ghost use Rattle.vt_spec.specs.Machine.Mounts.{group_of, source_of};
 ghost use Rattle.vt_spec.specs.Machine.World.{World};
 ghost use Rattle.vt_spec.specs.declared.errors.Rule.TheVariants.{S5};
+ghost use Rattle.vt_location.specs.MountValue.{propagation_of};
+ghost use Rattle.vt_location.specs.Numbers.{counted};
 ghost use Rattle.vt_group.specs.Grouping.{Follows, GroupsLive, Has, HasGroup, HasMount, LacksGroup, below, master_in, no_groups, numbers_of, propagation_in, with_propagation};
-ghost use Rattle.vt_group.specs.Numbers.{counted};
-ghost use Rattle.vt_group.specs.Steps.{ended, ended_if_lost, group_number, handed, handed_type, has_peers, retyped, type_of, type_or_private};
+ghost use Rattle.vt_group.specs.Steps.{ended, ended_if_lost, group_number, handed, handed_type, has_peers, retyped, type_or_private};
 
-use crate::propagation::hand_over;
-use crate::{GroupId, MountId, Propagation};
+use crate::propagation::{hand_over, is_in, own_group, replace_master, source};
 use std::alloc::Global;
 use std::collections::BTreeMap;
 use std::marker::Model;
+use vt_location::{GroupId, MountId, Propagation};
 use vt_spec::errors::{Deny, Rule};
 
 /// The peer groups: their members and slaves, and their masters.
@@ -73,13 +74,24 @@ impl Groups {
     {
         let mut receivers = Vec::new(alloc);
         for (count, kind) in self.mounts.iter() {
-            if self.is_at_or_below(kind.source(), group) {
+            if self.receives(*kind, group) {
                 let Ok(_) = receivers.push(MountId::new(*count)) else {
                     return Err(Rule::S5.denial());
                 };
             }
         }
         Ok(receivers)
+    }
+
+    // Whether a mount of this type receives the events of a group.
+    fn receives(&self, kind: Propagation, group: GroupId) -> bool
+        ensures { result ≡ holds_of (λ source. is_among nat_eq (counted group.count)
+            (chain (length self.now.peers) (master_in self.now) source)) (source_of (propagation_of kind)) }
+    {
+        let Some(source) = source(kind) else {
+            return false;
+        };
+        self.is_at_or_below(source, group)
     }
 
     // Whether a group is this one, or comes up its masters.
@@ -179,7 +191,7 @@ impl Groups {
 
     // A mount gets a type.
     fn set(&mut self, mount: MountId, kind: Propagation) -> Result<(), Deny>
-        ensures ok { OnOk result (self.new ≡ retyped (counted mount.count) (type_of kind) self.old) }
+        ensures ok { OnOk result (self.new ≡ retyped (counted mount.count) (propagation_of kind) self.old) }
         ensures memory { IfErr result (λ deny. deny ≡ denial S5) }
         ensures private { OnErr result (propagation_in self.old (counted mount.count) ≡ Private) }
         ensures err { OnErr result (self.new ≡ self.old) }
@@ -198,7 +210,7 @@ impl Groups {
         let Some(kind) = old else {
             return;
         };
-        let Some(group) = kind.group() else {
+        let Some(group) = own_group(kind) else {
             return;
         };
         if !self.has_members(group) {
@@ -210,7 +222,7 @@ impl Groups {
         ensures { result ≡ has_peers (counted group.count) self.now }
     {
         for kind in self.mounts.values() {
-            if kind.is_in(group) {
+            if is_in(*kind, group) {
                 return true;
             }
         }
@@ -224,16 +236,16 @@ impl Groups {
         let heir = self.master_of(group);
         self.mounts.retain(
             |_, kind| -> bool
-                ensures { (if result then Some (type_of kind.new) else None)
-                    ≡ handed_type (counted group.count) (option_map group_number heir) (type_of kind.old) }
-            { kind.hand_over(group, heir) },
+                ensures { (if result then Some (propagation_of kind.new) else None)
+                    ≡ handed_type (counted group.count) (option_map group_number heir) (propagation_of kind.old) }
+            { hand_over(kind, group, heir) },
         );
         self.above.retain(
             |count, master| -> bool
                 ensures { (if result then Some (group_number master.new) else None)
                     ≡ (if nat_eq (counted count.now) (counted group.count) then None
                     else handed (counted group.count) (option_map group_number heir) (group_number master.old)) }
-            { *count != group.count && hand_over(master, group, heir) },
+            { *count != group.count && replace_master(master, group, heir) },
         );
     }
 }

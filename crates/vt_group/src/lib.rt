@@ -2,13 +2,10 @@
 #![tactic(auto)]
 
 mod groups;
-mod ids;
 pub mod laws;
 mod propagation;
 
 pub use groups::Groups;
-pub use ids::{GroupId, MountId};
-pub use propagation::Propagation;
 
 #[cfg(test)]
 mod tests;

@@ -1,5 +1,5 @@
 use Rattle.std.proofs.Common.{◌||◌, ap, sym, ◌∙◌}
-use Rattle.vt_group.specs.Numbers.{counted}
+use Rattle.vt_location.specs.Numbers.{counted}
 use Rattle.vt_group.specs.Steps.{has_peers}
 use Rattle.vt_group.proofs.Answering.{any_in, members-valued}
 use Rattle.vt_group.proofs.groups.Groups.has_members.Goals as goal

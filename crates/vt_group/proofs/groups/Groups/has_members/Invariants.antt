@@ -1,5 +1,5 @@
 use Rattle.std.proofs.Common.{◌≡◌}
-use Rattle.vt_group.specs.Numbers.{counted}
+use Rattle.vt_location.specs.Numbers.{counted}
 use Rattle.vt_group.proofs.Answering.{any_in}
 use Rattle.vt_group.proofs.groups.Groups.has_members.Given as goal
 

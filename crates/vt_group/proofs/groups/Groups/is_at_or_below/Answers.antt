@@ -1,6 +1,6 @@
 use Rattle.std.proofs.Common.{◌≡◌, ◌+◌, ◌-◌, suc, arith, sym, ◌∙◌}
 use Rattle.vt_group.specs.Grouping.{master_in}
-use Rattle.vt_group.specs.Numbers.{counted}
+use Rattle.vt_location.specs.Numbers.{counted}
 use Rattle.vt_group.proofs.CountLemmas.{same_count}
 use Rattle.vt_group.proofs.Answering.{one_up}
 use Rattle.vt_group.proofs.groups.Groups.is_at_or_below.Goals as goal

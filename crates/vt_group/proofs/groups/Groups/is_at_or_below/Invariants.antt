@@ -1,7 +1,7 @@
 use Rattle.std.proofs.Common.{◌≡◌, ◌-◌, nat_eq}
 use Rattle.vt_spec.specs.Lists.{chain, is_among}
 use Rattle.vt_group.specs.Grouping.{master_in}
-use Rattle.vt_group.specs.Numbers.{counted}
+use Rattle.vt_location.specs.Numbers.{counted}
 use Rattle.vt_group.proofs.groups.Groups.is_at_or_below.Given as goal
 
 abbrev pub invariant-loop : goal.invariant-loop

@@ -2,7 +2,7 @@ use Rattle.std.proofs.Common.{sym, subst, nat_eq}
 use Rattle.vt_spec.specs.Machine.Mounts.Propagation.{Shared}
 use Rattle.vt_spec.specs.Machine.Receives.{regrouped}
 use Rattle.vt_group.specs.Grouping.{Has, with_propagation}
-use Rattle.vt_group.specs.Numbers.{counted}
+use Rattle.vt_location.specs.Numbers.{counted}
 use Rattle.vt_group.proofs.Answering.{on-ok}
 use Rattle.vt_group.proofs.Changes.{join_regroups}
 use Rattle.vt_group.proofs.groups.Groups.join.Goals as goal

@@ -4,8 +4,9 @@ use Rattle.vt_spec.specs.Machine.Mounts.{group_of}
 use Rattle.vt_spec.specs.Machine.Mounts.Propagation.{Private}
 use Rattle.vt_spec.specs.Machine.Receives.{regrouped}
 use Rattle.vt_group.specs.Grouping.{Has, with_propagation}
-use Rattle.vt_group.specs.Numbers.{counted}
-use Rattle.vt_group.specs.Steps.{ended_if_lost, numbered_peer, type_of}
+use Rattle.vt_location.specs.Numbers.{counted}
+use Rattle.vt_location.specs.MountValue.{propagation_of}
+use Rattle.vt_group.specs.Steps.{ended_if_lost, numbered_peer}
 use Rattle.vt_group.proofs.Answering.{shown-type}
 use Rattle.vt_group.proofs.Changes.{left_regroups}
 use Rattle.vt_group.proofs.CountLemmas.{removed-numbered}
@@ -16,7 +17,7 @@ returns c world has live is =
     let es = c.self.inside.mounts.entries in
     let count = c.args.mount.count in
     let old = shown-type count es _ c.args.self.now c.self.view_is c.remove-old.result c.remove-old.ensures.value in
-    let removed = ap (map numbered_peer) c.remove-old.ensures.entries ∙ removed-numbered type_of count es
+    let removed = ap (map numbered_peer) c.remove-old.ensures.entries ∙ removed-numbered propagation_of count es
     ∙ (λ i. remove_entry (nat_eq (counted count)) (c.self.view_is i).peers) in
     let new = c.end_if_lost.ensures
     ∙ (λ i. ended_if_lost (group_of (old i)) (record { peers = removed i; masters = (c.self.view_is i).masters })) in

@@ -1,5 +1,5 @@
 use Rattle.std.proofs.Common.{◌≡◌, ◌++◌, map}
-use Rattle.vt_group.specs.Numbers.{counted}
+use Rattle.vt_location.specs.Numbers.{counted}
 use Rattle.vt_group.specs.Steps.{numbered_peer}
 use Rattle.vt_group.proofs.Receiving.{is_up, picked}
 use Rattle.vt_group.proofs.groups.Groups.receivers.Given as goal

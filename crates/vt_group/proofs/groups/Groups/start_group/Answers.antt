@@ -7,10 +7,11 @@ use Rattle.vt_spec.specs.Machine.Mounts.{group_of}
 use Rattle.vt_spec.specs.Machine.Mounts.Propagation.{Shared}
 use Rattle.vt_spec.specs.Machine.Receives.{has_members, regrouped}
 use Rattle.vt_spec.specs.Machine.World.{World}
-use Rattle.vt_group.specs.declared.ids.GroupId.{GroupId}
+use Rattle.vt_location.specs.declared.numbers.GroupId.{GroupId}
 use Rattle.vt_group.specs.Grouping.{Grouping, Has, HasGroup, below, master_in, with_propagation}
-use Rattle.vt_group.specs.Numbers.{counted}
-use Rattle.vt_group.specs.Steps.{ended_if_lost, group_number, numbered_master, numbered_peer, type_of}
+use Rattle.vt_location.specs.Numbers.{counted}
+use Rattle.vt_location.specs.MountValue.{propagation_of}
+use Rattle.vt_group.specs.Steps.{ended_if_lost, group_number, numbered_master, numbered_peer}
 use Rattle.vt_group.proofs.Answering.{on-ok, shown-type, undone}
 use Rattle.vt_group.proofs.Changes.{start_alone, start_below}
 use Rattle.vt_group.proofs.CountLemmas.{inserted-numbered, removed-numbered}
@@ -68,7 +69,7 @@ returns-clause-ok c world has live is =
     let group = counted c.args.group.count in
     let es = c.self.inside.mounts.entries in
     let old = shown-type count es _ c.args.self.now c.self.view_is c.in-Ok-insert.old c.in-Ok-insert.ensures.old in
-    let peers = ap (map numbered_peer) c.in-Ok-insert.ensures.entries ∙ inserted-numbered type_of count _ es
+    let peers = ap (map numbered_peer) c.in-Ok-insert.ensures.entries ∙ inserted-numbered propagation_of count _ es
     ∙ (λ i. insert_entry nat_cmp (c.self.view_is i).peers (counted count) (Shared group)) in
     let masters = ap (map numbered_master) c.in-Ok.ensures.entries ∙ inserted-numbered group_number c.args.group.count c.in-Some.master c.self.inside.above.entries
     ∙ (λ i. insert_entry nat_cmp (c.self.view_is i).masters group (group_number c.in-Some.master)) in

@@ -1,11 +1,11 @@
 use Rattle.std.proofs.Common.{◌≡◌, Bool, false, None, Option, Some, not, nat_eq, option_map, ap, sym, ◌∙◌}
 use Rattle.std.specs.Prelude.{if◌then◌else◌}
 use Rattle.std.proofs.lemmas.Bool.{not-false}
-use Rattle.vt_group.specs.declared.ids.GroupId.{GroupId}
-use Rattle.vt_group.specs.Numbers.{counted}
+use Rattle.vt_location.specs.declared.numbers.GroupId.{GroupId}
+use Rattle.vt_location.specs.Numbers.{counted}
 use Rattle.vt_group.specs.Steps.{group_number, handed}
 use Rattle.vt_group.proofs.CountLemmas.{same_count}
-use Rattle.vt_group.proofs.propagation.hand_over.Goals as goal
+use Rattle.vt_group.proofs.propagation.replace_master.Goals as goal
 
 -- the master is the lost group
 replaced : (lost master : GroupId) (heir found : Option GroupId) (b : Bool) → b ≡ not (nat_eq master.count lost.count) → b ≡ false → heir ≡ found
