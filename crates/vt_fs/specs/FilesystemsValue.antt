@@ -1,0 +1,129 @@
+-- What contracts see of the plain filesystems, and what the definitions see of them.
+use Rattle.std.specs.Prelude.{Bool, List, None, Option, Some, [], filter, find, if◌then◌else◌, map, nat_eq, not, option_map, unwrap_or, ℕ, ◌+◌, ◌≡◌, ◌∷◌}
+use Rattle.vt_spec.specs.declared.attributes.Attr.{Attr}
+use Rattle.vt_spec.specs.FileTree.{FileTree}
+use Rattle.vt_spec.specs.Machine.Renaming.{renamed_node}
+use Rattle.vt_spec.specs.Machine.World.{Filesystem}
+use Rattle.vt_spec.specs.OneTree.Inodes.{Inode, Inodes, one_directory, tree_of}
+use Rattle.vt_spec.specs.Tree.{Node}
+use Rattle.vt_one_text.specs.OneTreeNumbers.{renamed_inodes}
+use Rattle.vt_tree.specs.TreeValue.{TreeValue, inodes_of, next_number}
+use Rattle.vt_location.specs.declared.numbers.FilesystemId.{FilesystemId}
+use Rattle.vt_location.specs.Numbers.{counted, exchanged, inode_number}
+use Rattle.vt_fs.specs.declared.filesystems.Filesystem.{Filesystem as Held}
+
+-- a filesystem: its count, its tree with inodes in slots, and how many mounts show it
+pub record FilesystemEntry : Type 0 where
+  pub count : ℕ
+  pub tree : TreeValue
+  pub mounts : ℕ
+
+-- the filesystems, in the order in which they were made
+abbrev pub Filesystems : Type 0
+Filesystems = List FilesystemEntry
+
+-- each filesystem under its count
+abbrev pub held_entry : FilesystemId × Held → FilesystemEntry
+held_entry entry = record { count = entry.0.count; tree = entry.1.tree; mounts = entry.1.mounts }
+
+abbrev pub held : List (FilesystemId × Held) → Filesystems
+held entries = map held_entry entries
+
+-- a tree in the slots of a filesystem: its inodes by their numbers, with their uses
+abbrev pub seen_in : ℕ → TreeValue → Inodes ℕ
+seen_in count tree = renamed_inodes (exchanged count) (exchanged count) (inodes_of tree)
+
+abbrev pub inodes_seen : FilesystemEntry → Inodes ℕ
+inodes_seen entry = seen_in entry.count entry.tree
+
+-- a node in the slots of a filesystem, its entries and its parent by the numbers of inodes
+abbrev pub node_seen : ℕ → Node ℕ → Node ℕ
+node_seen count node = renamed_node (exchanged count) (exchanged count) node
+
+-- the slots that have an inode, from a slot on
+abbrev pub filled_from : ℕ → List (Option (Inode ℕ)) → List ℕ
+filled_from slot [] = []
+filled_from slot (None ∷ rest) = filled_from (slot + 1) rest
+filled_from slot (Some inode ∷ rest) = slot ∷ filled_from (slot + 1) rest
+
+-- the numbers of the inodes that are there, in the order of their slots
+abbrev pub numbers_seen : FilesystemEntry → List ℕ
+numbers_seen entry = map (exchanged entry.count) (filled_from 0 entry.tree.slots)
+
+-- the number that the next inode gets
+abbrev pub next_seen : FilesystemEntry → ℕ
+next_seen entry = exchanged entry.count (next_number entry.tree)
+
+abbrev pub files_seen : FilesystemEntry → FileTree ℕ
+files_seen entry = record { tree = tree_of (inodes_seen entry); numbers = numbers_seen entry }
+
+abbrev pub filesystem_seen : FilesystemEntry → Filesystem ℕ
+filesystem_seen entry = record { number = counted entry.count; files = files_seen entry; overlay = None; change = 0 }
+
+abbrev pub filesystems_seen : Filesystems → List (Filesystem ℕ)
+filesystems_seen filesystems = map filesystem_seen filesystems
+
+abbrev pub entry_of : Filesystems → ℕ → Option FilesystemEntry
+entry_of filesystems count = find (λ entry. nat_eq count entry.count) filesystems
+
+-- what stands for a filesystem that is not there: it has no inodes, and its root is its own number
+abbrev pub no_entry : ℕ → FilesystemEntry
+no_entry count = record { count = count; tree = record { root = exchanged count (counted count); slots = []; next = 0 }; mounts = 0 }
+
+abbrev pub entry_at : Filesystems → ℕ → FilesystemEntry
+entry_at filesystems count = unwrap_or (entry_of filesystems count) (no_entry count)
+
+-- what is in a filesystem
+abbrev pub inodes_at : Filesystems → ℕ → Inodes ℕ
+inodes_at filesystems count = inodes_seen (entry_at filesystems count)
+
+abbrev pub files_at : Filesystems → ℕ → FileTree ℕ
+files_at filesystems count = files_seen (entry_at filesystems count)
+
+-- the filesystems with that of this count changed
+abbrev pub changed_if : ℕ → (FilesystemEntry → FilesystemEntry) → FilesystemEntry → FilesystemEntry
+changed_if count change entry = if nat_eq count entry.count then change entry else entry
+
+abbrev pub with_changed : ℕ → (FilesystemEntry → FilesystemEntry) → Filesystems → Filesystems
+with_changed count change filesystems = map (changed_if count change) filesystems
+
+abbrev pub with_tree : ℕ → TreeValue → Filesystems → Filesystems
+with_tree count tree filesystems = with_changed count (λ entry. record entry { tree = tree }) filesystems
+
+-- the filesystems without that of this count
+abbrev pub without : ℕ → Filesystems → Filesystems
+without count filesystems = filter (λ entry. not (nat_eq count entry.count)) filesystems
+
+-- a filesystem by numbers, with the uses of its inodes and the number of mounts that show it
+pub record Shown : Type 0 where
+  pub count : ℕ
+  pub inodes : Inodes ℕ
+  pub mounts : ℕ
+
+abbrev pub shown_entry : FilesystemEntry → Shown
+shown_entry entry = record { count = entry.count; inodes = inodes_seen entry; mounts = entry.mounts }
+
+abbrev pub shown : Filesystems → List Shown
+shown filesystems = map shown_entry filesystems
+
+-- those with the inodes of one filesystem changed
+abbrev pub shown_if : ℕ → (Inodes ℕ → Inodes ℕ) → Shown → Shown
+shown_if count change one = if nat_eq count one.count then record one { inodes = change one.inodes } else one
+
+abbrev pub shown_with : ℕ → (Inodes ℕ → Inodes ℕ) → List Shown → List Shown
+shown_with count change all = map (shown_if count change) all
+
+-- the inodes of one filesystem have changed so, and nothing else has
+pub record ChangesInodes (count : ℕ) (change : Inodes ℕ → Inodes ℕ) (old new : Filesystems) : Type 0 where
+  pub changed : shown new ≡ shown_with count change (shown old)
+  pub others : without count new ≡ without count old
+
+-- a new filesystem: one empty directory in the first slot, and no mounts yet
+pub record IsNew (count : ℕ) (attr : Attr) (entry : FilesystemEntry) : Type 0 where
+  pub counts : entry.count ≡ count
+  pub inodes : inodes_seen entry ≡ one_directory nat_eq (inode_number count 0) attr
+  pub unmounted : entry.mounts ≡ 0
+
+-- a filesystem with another tree, as its fields are seen
+abbrev pub held_with_tree : Held → TreeValue → Held
+held_with_tree filesystem tree = record filesystem { tree = tree }

@@ -1,0 +1,2 @@
+pub mod FilesystemsValue
+pub mod Laws

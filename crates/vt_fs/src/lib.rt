@@ -1,0 +1,7 @@
+//! Stub.
+#![tactic(auto)]
+
+mod filesystems;
+mod stub;
+
+pub use stub::Filesystems;

@@ -1,0 +1,7 @@
+//! Stub.
+#![tactic(auto)]
+
+mod mounted;
+mod stub;
+
+pub use stub::Mounts;
