@@ -1,0 +1,9 @@
+pub mod Listed
+pub mod TreeCounts
+pub mod NameCounts
+pub mod Swept
+pub mod Changes
+pub mod SameAfter
+pub mod Exchanged
+pub mod Places
+pub mod Gone

@@ -1,0 +1,325 @@
+-- Locations and mounts as uses of inodes.
+use Rattle.std.proofs.Common.{◌≡◌, refl, sym, ap, subst, ◌∙◌, ⊎_elim, inl, inr, ℕ, ◌+◌, nat_eq, eqb-true, eq-eqb, Bool, true, false, true≢false, cond, not, ◌&&◌, ◌||◌, List, [], ◌∷◌, ◌++◌, map, filter, find, flat_map, Option, Some, None, unwrap_or, arith}
+use Rattle.std.specs.Prelude.{filter_map}
+use Rattle.std.specs.List.{cons_option, list_all}
+use Rattle.std.proofs.lemmas.Bool.{and_parts}
+use Rattle.vt_spec.specs.FileTree.{targets_in}
+use Rattle.vt_spec.specs.Lists.{any_pair, is_among}
+use Rattle.vt_spec.specs.Machine.Locked.{of_overlay}
+use Rattle.vt_spec.specs.Machine.Mounts.{Location, Mount, mount_in, no_mount, root_of}
+use Rattle.vt_spec.specs.Machine.Settled.{layers_in, located_in, named_in, objects_of_overlay, used_in}
+use Rattle.vt_spec.specs.Machine.World.{Filesystem, World, all_locations, filesystem_numbered, layers_of, new_plain, no_filesystem, root_attr}
+use Rattle.vt_spec.specs.OneTree.Inodes.{node_in, uses_in}
+use Rattle.vt_spec.specs.Tree.{new_directory}
+use Rattle.vt_letting_go.specs.Counts.{inode_uses, mounts_showing, times}
+use Rattle.vt_letting_go.specs.Mounting.{inode_at}
+use Rattle.vt_letting_go.specs.OneByOne.{Inode}
+use Rattle.vt_letting_go.proofs.Lists.{Among, all_pass, among-append_left, among-append_right, among_numbers, filter_alike, passes}
+use Rattle.vt_letting_go.proofs.PlacesLeft.{found_itself, no_layers_of, no_objects_of, number_found}
+use Rattle.vt_one_text.specs.OneTree.{times_in}
+use Rattle.vt_one_text.proofs.OneTreeEntries.{one_if}
+use Rattle.vt_one_text.proofs.OneTreeTrees.{times_append}
+use Rattle.vt_count_laws.specs.Using.{LocationsAreUses, MountsAreUses, NewTreeIsCounted, is_inode, is_on, one_counted, places_of}
+use Rattle.vt_count_laws.proofs.Listed.{times_is}
+use Rattle.vt_count_laws.proofs.Swept.{found_number, plain_of}
+
+-- What uses an inode
+
+pub uses_split : (world : World ℕ) (f : Filesystem ℕ) (n : ℕ)
+    → inode_uses world f n ≡ one_if n f.files.tree.root + (((times_in n (named_in f.files) + times_in n (located_in nat_eq world f.number))
+    + times_in n (layers_in nat_eq world f.number)) + times_in n (flat_map (objects_of_overlay nat_eq f.number) world.filesystems))
+uses_split world f n =
+    let all : times (nat_eq n) (used_in nat_eq world f) ≡ times_in n (used_in nat_eq world f) = times_is n (used_in nat_eq world f) in
+    let one : times_in n (((named ++ located) ++ layers) ++ objects) ≡ times_in n ((named ++ located) ++ layers) + times_in n objects = times_append n ((named ++ located) ++ layers) objects in
+    let two : times_in n ((named ++ located) ++ layers) ≡ times_in n (named ++ located) + times_in n layers = times_append n (named ++ located) layers in
+    let three : times_in n (named ++ located) ≡ times_in n named + times_in n located = times_append n named located in
+    let split : times_in n (used_in nat_eq world f) ≡ one_if n f.files.tree.root + times_in n (((named ++ located) ++ layers) ++ objects) = refl in
+    omega arith
+  where
+    named : List ℕ
+    named = named_in f.files
+
+    located : List ℕ
+    located = located_in nat_eq world f.number
+
+    layers : List ℕ
+    layers = layers_in nat_eq world f.number
+
+    objects : List ℕ
+    objects = flat_map (objects_of_overlay nat_eq f.number) world.filesystems
+
+-- how many of some locations are at an inode
+module _ (mounts : List (Mount ℕ)) (k n : ℕ) where
+  abbrev pub shown : Location ℕ → Bool
+  shown location = nat_eq k (mount_in nat_eq mounts location.mount).filesystem
+
+  abbrev pub count_in : List (Location ℕ) → ℕ
+  count_in locations = times_in n (map (λ location. location.node) (filter shown locations))
+
+  pub count_append : (one other : List (Location ℕ)) → count_in (one ++ other) ≡ count_in one + count_in other
+  count_append [] other = omega arith
+  count_append (first ∷ rest) other = by (shown first) (count_append rest other)
+    where
+      by : (b : Bool) → count_in (rest ++ other) ≡ count_in rest + count_in other
+          → times_in n (map (λ location. location.node) (cond b (first ∷ filter shown (rest ++ other)) (filter shown (rest ++ other))))
+          ≡ times_in n (map (λ location. location.node) (cond b (first ∷ filter shown rest) (filter shown rest))) + count_in other
+      by true e = omega arith
+      by false e = e
+
+  abbrev place_inode : Location ℕ → Inode
+  place_inode location = ((mount_in nat_eq mounts location.mount).filesystem, location.node)
+
+  pub count_places : (locations : List (Location ℕ)) → times (is_inode k n) (map place_inode locations) ≡ count_in locations
+  count_places [] = refl
+  count_places (first ∷ rest) = by (shown first) (count_places rest)
+    where
+      by : (b : Bool) → times (is_inode k n) (map place_inode rest) ≡ count_in rest
+          → cond (b && nat_eq n first.node) 1 0 + times (is_inode k n) (map place_inode rest)
+          ≡ times_in n (map (λ location. location.node) (cond b (first ∷ filter shown rest) (filter shown rest)))
+      by true e = ap (λ m. cond (nat_eq n first.node) 1 0 + m) e
+      by false e = let later : times (is_inode k n) (map place_inode rest) ≡ count_in rest = e in omega arith
+
+  pub count_none : (locations : List (Location ℕ)) → list_all (λ location. not (shown location)) locations ≡ true → count_in locations ≡ 0
+  count_none [] e = refl
+  count_none (first ∷ rest) e =
+      let parts = and_parts (not (shown first)) (list_all (λ location. not (shown location)) rest) e in
+      by (shown first) parts.0 (count_none rest parts.1)
+    where
+      by : (b : Bool) → not b ≡ true → count_in rest ≡ 0 → times_in n (map (λ location. location.node) (cond b (first ∷ filter shown rest) (filter shown rest))) ≡ 0
+      by true h later = absurd (true≢false (sym h))
+      by false h later = later
+
+-- Worlds with the same filesystems
+module _ (world after : World ℕ) (filesystems : after.filesystems ≡ world.filesystems) (k : ℕ) where
+  abbrev f : Filesystem ℕ
+  f = filesystem_numbered nat_eq world k
+
+  pub same_found : filesystem_numbered nat_eq after k ≡ f
+  same_found = λ i. unwrap_or (find (λ g. nat_eq k g.number) (filesystems i)) (no_filesystem k)
+
+  abbrev located : World ℕ → ℕ → ℕ
+  located w n = times_in n (located_in nat_eq w k)
+
+  -- what is located more is used more
+  pub located_uses : (n more less : ℕ) → located world n + more ≡ located after n + less
+      → inode_uses world f n + more ≡ inode_uses after (filesystem_numbered nat_eq after k) n + less
+  located_uses n more less e =
+      let one = uses_split world f n in
+      let two : inode_uses after (filesystem_numbered nat_eq after k) n ≡ inode_uses after f n = ap (λ g. inode_uses after g n) same_found in
+      let three = uses_split after f n in
+      let here : times_in n (located_in nat_eq world f.number) ≡ located world n = ap (λ m. times_in n (located_in nat_eq world m)) (found_number world.filesystems k) in
+      let there : times_in n (located_in nat_eq after f.number) ≡ located after n = ap (λ m. times_in n (located_in nat_eq after m)) (found_number world.filesystems k) in
+      let layers : times_in n (layers_in nat_eq after f.number) ≡ times_in n (layers_in nat_eq world f.number)
+      = (λ i. times_in n (map (λ layer. layer.directory) (filter (λ layer. nat_eq f.number layer.filesystem) (flat_map (of_overlay [] layers_of) (filesystems i))))) in
+      let objects : times_in n (flat_map (objects_of_overlay nat_eq f.number) after.filesystems) ≡ times_in n (flat_map (objects_of_overlay nat_eq f.number) world.filesystems)
+      = (λ i. times_in n (flat_map (objects_of_overlay nat_eq f.number) (filesystems i))) in
+      omega arith
+
+pub locations_are_uses : LocationsAreUses
+locations_are_uses world after gained lost front back mounts filesystems locations now k = record {
+  same = same_found world after filesystems k;
+  uses = λ n.
+      located_uses world after filesystems k n (times (is_inode k n) (map (inode_at world) gained)) (times (is_inode k n) (map (inode_at world) lost))
+      (let was : times_in n (located_in nat_eq world k) ≡ count_in world.mounts k n ((front ++ (lost ++ back)) ++ roots ++ points) = (λ i. count_in world.mounts k n (locations i ++ roots ++ points)) in
+      let is : times_in n (located_in nat_eq after k) ≡ count_in world.mounts k n ((front ++ (gained ++ back)) ++ roots ++ points)
+      = (λ i. count_in (mounts i) k n (now i ++ map root_of (mounts i) ++ filter_map (λ mount. mount.mount_point) (mounts i))) in
+      let first = split n lost in
+      let second = split n gained in
+      let gains = count_places world.mounts k n gained in
+      let losses = count_places world.mounts k n lost in
+      omega arith);
+}
+  where
+    roots : List (Location ℕ)
+    roots = map root_of world.mounts
+
+    points : List (Location ℕ)
+    points = filter_map (λ mount. mount.mount_point) world.mounts
+
+    split : (n : ℕ) (some : List (Location ℕ)) → count_in world.mounts k n ((front ++ (some ++ back)) ++ roots ++ points)
+        ≡ ((count_in world.mounts k n front + (count_in world.mounts k n some + count_in world.mounts k n back)) + count_in world.mounts k n roots) + count_in world.mounts k n points
+    split n some =
+        let one = count_append world.mounts k n ((front ++ (some ++ back)) ++ roots) points in
+        let two = count_append world.mounts k n (front ++ (some ++ back)) roots in
+        let three = count_append world.mounts k n front (some ++ back) in
+        let four = count_append world.mounts k n some back in
+        omega arith
+
+-- Mounts
+
+roots_append : (one other : List (Mount ℕ)) → map root_of (one ++ other) ≡ map root_of one ++ map root_of other
+roots_append [] other = refl
+roots_append (first ∷ rest) other = ap (λ l. root_of first ∷ l) (roots_append rest other)
+
+points_append : (one other : List (Mount ℕ)) → filter_map (λ (mount : Mount ℕ). mount.mount_point) (one ++ other)
+    ≡ filter_map (λ (mount : Mount ℕ). mount.mount_point) one ++ filter_map (λ (mount : Mount ℕ). mount.mount_point) other
+points_append [] other = refl
+points_append (first ∷ rest) other = by first.mount_point (points_append rest other)
+  where
+    by : (o : Option (Location ℕ)) → filter_map (λ (mount : Mount ℕ). mount.mount_point) (rest ++ other) ≡ filter_map (λ (mount : Mount ℕ). mount.mount_point) rest ++ filter_map (λ (mount : Mount ℕ). mount.mount_point) other
+        → cons_option o (filter_map (λ (mount : Mount ℕ). mount.mount_point) (rest ++ other)) ≡ cons_option o (filter_map (λ (mount : Mount ℕ). mount.mount_point) rest) ++ filter_map (λ (mount : Mount ℕ). mount.mount_point) other
+    by None e = e
+    by (Some place) e = ap (λ l. place ∷ l) e
+
+-- a mount that is there is found
+mount_is : (mounts : List (Mount ℕ)) (number : ℕ) → is_among nat_eq number (map (λ mount. mount.number) mounts) ≡ true → Among (mount_in nat_eq mounts number) mounts
+mount_is [] number there = absurd (true≢false (sym there))
+mount_is (first ∷ rest) number there = by (nat_eq number first.number) there (mount_is rest number)
+  where
+    by : (b : Bool) → (b || is_among nat_eq number (map (λ mount. mount.number) rest)) ≡ true → (is_among nat_eq number (map (λ mount. mount.number) rest) ≡ true → Among (mount_in nat_eq rest number) rest)
+        → Among (unwrap_or (cond b (Some first) (find (λ mount. nat_eq number mount.number) rest)) (no_mount number)) (first ∷ rest)
+    by true h later = inl refl
+    by false h later = inr (later h)
+
+-- among more mounts, each with its own number, it is found still
+found_still : (front added back : List (Mount ℕ)) (number : ℕ) → any_pair (λ (a b : Mount ℕ). nat_eq a.number b.number) (front ++ (added ++ back)) ≡ false
+    → is_among nat_eq number (map (λ mount. mount.number) (front ++ back)) ≡ true → mount_in nat_eq (front ++ (added ++ back)) number ≡ mount_in nat_eq (front ++ back) number
+found_still front added back number one there =
+    ap (mount_in nat_eq (front ++ (added ++ back))) (sym (number_found (front ++ back) number))
+    ∙ found_itself (front ++ (added ++ back)) one (mount_in nat_eq (front ++ back) number) (more (mount_in nat_eq (front ++ back) number) (mount_is (front ++ back) number there))
+  where
+    more : (mount : Mount ℕ) → Among mount (front ++ back) → Among mount (front ++ (added ++ back))
+    more mount m =
+        ⊎_elim (λ here. among-append_left front (added ++ back) mount here) (λ there. among-append_right front (added ++ back) mount (among-append_right added back mount there))
+        (Rattle.vt_letting_go.proofs.Lists.among-append front back mount m)
+
+pub mounts_are_uses : MountsAreUses
+mounts_are_uses world after front added back filesystems locations were are one on k = record {
+  same = same_found world after filesystems k;
+  uses = λ n.
+      located_uses world after filesystems k n (times (is_inode k n) (map (inode_at after) (places_of added))) 0
+      (let was : times_in n (located_in nat_eq world k) ≡ count_in old k n ((all_locations world ++ map root_of old) ++ points old)
+      = (λ i. count_in (were i) k n (all_locations world ++ map root_of (were i) ++ points (were i))) in
+      let is : times_in n (located_in nat_eq after k) ≡ count_in new k n ((all_locations world ++ map root_of new) ++ points new)
+      = (λ i. count_in (are i) k n (locations i ++ map root_of (are i) ++ points (are i))) in
+      let alike : count_in new k n ((all_locations world ++ map root_of old) ++ points old) ≡ count_in old k n ((all_locations world ++ map root_of old) ++ points old) = same_counts n in
+      let gains : times (is_inode k n) (map (inode_at after) (places_of added)) ≡ count_in new k n (map root_of added ++ points added)
+      = (λ i. times (is_inode k n) (map (λ (l : Location ℕ). ((mount_in nat_eq (are i) l.mount).filesystem, l.node)) (places_of added))) ∙ count_places new k n (places_of added) in
+      let a = count_append new k n (map root_of added) (points added) in
+      let b = count_append new k n (all_locations world ++ map root_of old) (points old) in
+      let c = count_append new k n (all_locations world) (map root_of old) in
+      let d = count_append new k n (all_locations world ++ map root_of new) (points new) in
+      let e = count_append new k n (all_locations world) (map root_of new) in
+      let r = roots n in let p = parts n in
+      omega arith);
+}
+  where
+    old : List (Mount ℕ)
+    old = front ++ back
+
+    new : List (Mount ℕ)
+    new = front ++ (added ++ back)
+
+    points : List (Mount ℕ) → List (Location ℕ)
+    points mounts = filter_map (λ mount. mount.mount_point) mounts
+
+    one_new : any_pair (λ (a b : Mount ℕ). nat_eq a.number b.number) new ≡ false
+    one_new = subst (λ m. any_pair (λ (a b : Mount ℕ). nat_eq a.number b.number) m ≡ false) are one
+
+    on_old : list_all (is_on old) ((all_locations world ++ map root_of old) ++ points old) ≡ true
+    on_old = subst (λ m. list_all (is_on m) ((all_locations world ++ map root_of m) ++ points m) ≡ true) were (assoc (list_all (is_on world.mounts)) ∙ on)
+      where
+        append_again : (a b c : List (Location ℕ)) → (a ++ b) ++ c ≡ a ++ (b ++ c)
+        append_again [] b c = refl
+        append_again (x ∷ a) b c = ap (λ l. x ∷ l) (append_again a b c)
+
+        assoc : (p : List (Location ℕ) → Bool) → p ((all_locations world ++ map root_of world.mounts) ++ points world.mounts) ≡ p (all_locations world ++ (map root_of world.mounts ++ points world.mounts))
+        assoc p = ap p (append_again (all_locations world) (map root_of world.mounts) (points world.mounts))
+
+    same_counts : (n : ℕ) → count_in new k n ((all_locations world ++ map root_of old) ++ points old) ≡ count_in old k n ((all_locations world ++ map root_of old) ++ points old)
+    same_counts n =
+        ap (λ l. times_in n (map (λ location. location.node) l))
+        (filter_alike (shown new k n) (shown old k n) ((all_locations world ++ map root_of old) ++ points old)
+        (λ l m. ap (λ (mount : Mount ℕ). nat_eq k mount.filesystem)
+        (found_still front added back l.mount one_new (passes (is_on old) ((all_locations world ++ map root_of old) ++ points old) on_old l m))))
+
+    roots : (n : ℕ) → count_in new k n (map root_of new) ≡ count_in new k n (map root_of old) + count_in new k n (map root_of added)
+    roots n =
+        let a : count_in new k n (map root_of new) ≡ count_in new k n (map root_of front ++ (map root_of added ++ map root_of back))
+        = ap (count_in new k n) (roots_append front (added ++ back) ∙ ap (λ l. map root_of front ++ l) (roots_append added back)) in
+        let b : count_in new k n (map root_of old) ≡ count_in new k n (map root_of front ++ map root_of back) = ap (count_in new k n) (roots_append front back) in
+        let c = count_append new k n (map root_of front) (map root_of added ++ map root_of back) in
+        let d = count_append new k n (map root_of added) (map root_of back) in
+        let e = count_append new k n (map root_of front) (map root_of back) in
+        omega arith
+
+    parts : (n : ℕ) → count_in new k n (points new) ≡ count_in new k n (points old) + count_in new k n (points added)
+    parts n =
+        let a : count_in new k n (points new) ≡ count_in new k n (points front ++ (points added ++ points back))
+        = ap (count_in new k n) (points_append front (added ++ back) ∙ ap (λ l. points front ++ l) (points_append added back)) in
+        let b : count_in new k n (points old) ≡ count_in new k n (points front ++ points back) = ap (count_in new k n) (points_append front back) in
+        let c = count_append new k n (points front) (points added ++ points back) in
+        let d = count_append new k n (points added) (points back) in
+        let e = count_append new k n (points front) (points back) in
+        omega arith
+
+-- A new tree
+pub new_tree_is_counted : NewTreeIsCounted
+new_tree_is_counted world number root plain one own outside = record {
+  root = refl;
+  node = λ n. nodes n (nat_eq n root);
+  uses = λ n. uses n;
+  count = refl;
+  once = refl;
+}
+  where
+    nodes : (n : ℕ) (b : Bool) → node_in (cond b (Some (record { node = record { attr = root_attr; content = new_directory root }; uses = 1 + mounts_showing world number })) None)
+        ≡ cond b (Some (record { attr = root_attr; content = new_directory root })) None
+    nodes n true = refl
+    nodes n false = refl
+
+    -- roots of mounts that show it
+    roots : (n : ℕ) (mounts : List (Mount ℕ)) → ((mount : Mount ℕ) → Among mount mounts → Among mount world.mounts)
+        → count_in world.mounts number n (map root_of mounts) ≡ cond (nat_eq n root) (times (λ mount. nat_eq number mount.filesystem) mounts) 0
+    roots n [] within = by (nat_eq n root)
+      where
+        by : (b : Bool) → ◌≡◌ {A = ℕ} 0 (cond b 0 0)
+        by true = refl
+        by false = refl
+    roots n (first ∷ rest) within =
+        ap (λ (mount : Mount ℕ). times_in n (map (λ location. location.node) (cond (nat_eq number mount.filesystem) (root_of first ∷ filter (shown world.mounts number n) (map root_of rest)) (filter (shown world.mounts number n) (map root_of rest)))))
+        (found_itself world.mounts one first (within first (inl refl)))
+        ∙ by (nat_eq number first.filesystem) (passes (λ mount. not (nat_eq number mount.filesystem) || nat_eq root mount.root) world.mounts own first (within first (inl refl))) (roots n rest (λ mount m. within mount (inr m)))
+      where
+        by : (b : Bool) → (not b || nat_eq root first.root) ≡ true
+            → count_in world.mounts number n (map root_of rest) ≡ cond (nat_eq n root) (times (λ mount. nat_eq number mount.filesystem) rest) 0
+            → times_in n (map (λ location. location.node) (cond b (root_of first ∷ filter (shown world.mounts number n) (map root_of rest)) (filter (shown world.mounts number n) (map root_of rest))))
+            ≡ cond (nat_eq n root) (cond b 1 0 + times (λ mount. nat_eq number mount.filesystem) rest) 0
+        by true same later =
+            ap (λ r. one_if n r + count_in world.mounts number n (map root_of rest)) (sym (eqb-true root first.root same))
+            ∙ (λ i. one_if n root + later i) ∙ add (nat_eq n root) (times (λ mount. nat_eq number mount.filesystem) rest)
+          where
+            add : (b : Bool) (m : ℕ) → cond b 1 0 + cond b m 0 ≡ cond b (1 + m) 0
+            add true m = refl
+            add false m = refl
+        by false same later = later ∙ ap (λ m. cond (nat_eq n root) m 0) (let e : times (λ (mount : Mount ℕ). nat_eq number mount.filesystem) rest ≡ 0 + times (λ (mount : Mount ℕ). nat_eq number mount.filesystem) rest = omega arith in e)
+
+    locs : List (Location ℕ)
+    locs = all_locations world
+
+    tops : List (Location ℕ)
+    tops = map root_of world.mounts
+
+    points : List (Location ℕ)
+    points = filter_map (λ mount. mount.mount_point) world.mounts
+
+    uses : (n : ℕ) → uses_in ((one_counted root (1 + mounts_showing world number)).inode n) ≡ inode_uses world (new_plain nat_eq number root) n
+    uses n =
+        by (nat_eq n root) refl
+        ∙ sym (let split = uses_split world (new_plain nat_eq number root) n in
+        let bare : times_in n (named_in (new_plain nat_eq number root).files) ≡ 0 = ap (λ b. times_in n (targets_in (cond b (Some (record { attr = root_attr; content = new_directory root })) None) ++ [])) (eq-eqb root root refl) in
+        let layers : times_in n (layers_in nat_eq world number) ≡ 0 = ap (times_in n) (no_layers_of world (plain_of world plain) number) in
+        let objects : times_in n (flat_map (objects_of_overlay nat_eq number) world.filesystems) ≡ 0 = ap (times_in n) (no_objects_of world (plain_of world plain) number) in
+        let a : times_in n (located_in nat_eq world number) ≡ count_in world.mounts number n (locs ++ tops) + count_in world.mounts number n points = count_append world.mounts number n (locs ++ tops) points in
+        let b = count_append world.mounts number n locs tops in
+        let c = count_append world.mounts number n locs points in
+        let none = count_none world.mounts number n (locs ++ points) outside in
+        let here = roots n world.mounts (λ mount m. m) in
+        let all : inode_uses world (new_plain nat_eq number root) n ≡ one_if n root + cond (nat_eq n root) (mounts_showing world number) 0 = omega arith in
+        all)
+      where
+        by : (b : Bool) → nat_eq n root ≡ b
+            → uses_in (cond b (Some (record { node = record { attr = root_attr; content = new_directory root }; uses = 1 + mounts_showing world number })) None)
+            ≡ cond b 1 0 + cond b (mounts_showing world number) 0
+        by true e = refl
+        by false e = refl

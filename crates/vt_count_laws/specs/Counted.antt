@@ -1,0 +1,20 @@
+-- The inodes of a filesystem in a world, each with the count of its uses: inode(7), "Hard link count", and unlink(2) on a
+-- file that is still open.
+use Rattle.std.specs.Prelude.{All, false, length, nat_eq, ℕ, ◌≡◌}
+use Rattle.vt_spec.specs.Lists.{any_pair}
+use Rattle.vt_spec.specs.Machine.World.{Filesystem, World, is_overlay}
+use Rattle.vt_spec.specs.OneTree.Inodes.{Inodes, node_in, uses_in}
+use Rattle.vt_letting_go.specs.Counts.{inode_uses}
+
+-- no filesystem is an overlay
+abbrev pub IsPlain : World ℕ → Type 0
+IsPlain world = All (λ filesystem. is_overlay filesystem ≡ false) world.filesystems
+
+-- Counted inodes are those of a filesystem in a world: the same root, the same nodes, each with the count of its uses. The
+-- numbers beside the tree stand once each.
+pub record IsCounted (world : World ℕ) (filesystem : Filesystem ℕ) (inodes : Inodes ℕ) : Type 0 where
+  pub root : inodes.root ≡ filesystem.files.tree.root
+  pub node : (number : ℕ) → node_in (inodes.inode number) ≡ filesystem.files.tree.node number
+  pub uses : (number : ℕ) → uses_in (inodes.inode number) ≡ inode_uses world filesystem number
+  pub count : inodes.count ≡ length filesystem.files.numbers
+  pub once : any_pair nat_eq filesystem.files.numbers ≡ false

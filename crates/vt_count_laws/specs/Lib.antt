@@ -1,0 +1,5 @@
+pub mod Counted
+pub mod Numbers
+pub mod Changing
+pub mod Using
+pub mod Going
