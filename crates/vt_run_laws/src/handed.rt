@@ -1,0 +1,24 @@
+//! The numbers that a program hands to a call.
+ghost use Rattle.vt_run_laws.specs.Handed.{AllottedNumbersOpen, AllottedNumbersServe, AllottedNumbersServeNamed, CountsAreAllotted, CountsServe, CountsServeNamed, NumbersAreAllotted, ProgramsHaveOneText};
+
+/// Counts from the next one on, `4·c + 1` for the count `c`, are a supply with room: numbers `4·c + 3` are left over, and
+/// all others are kept. They serve in a world that keeps to even numbers and to counts before the next one.
+pub fn counts_are_allotted()
+    ensures allotted { CountsAreAllotted }
+    ensures serves { CountsServe }
+    ensures named { CountsServeNamed }
+{}
+
+/// So are those counts with the even number of an inode at one place of them: the count that it stands for is kept. They
+/// serve in a world that keeps to even numbers but the inode's, and to counts before the next one.
+pub fn counts_and_an_inode_are_allotted()
+    ensures allotted { NumbersAreAllotted }
+    ensures serves { AllottedNumbersServe }
+    ensures named { AllottedNumbersServeNamed }
+{}
+
+/// A program that hands out such numbers, from the opening world on, writes the one text of each script without overlays.
+pub fn programs_have_one_text()
+    ensures opening { AllottedNumbersOpen }
+    ensures text { ProgramsHaveOneText }
+{}

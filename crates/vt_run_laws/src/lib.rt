@@ -1,0 +1,9 @@
+//! Laws of the runs of a program: it keeps its world but for change numbers and the order of numbers beside trees, and
+//! gives the numbers of inodes out again.
+//!
+//! Each public function is a theorem of the written policy, and does nothing.
+#![tactic(auto)]
+
+pub mod answered;
+pub mod handed;
+pub mod runs;
