@@ -1,0 +1,3 @@
+pub mod WorldValue
+pub mod Held
+pub mod Events

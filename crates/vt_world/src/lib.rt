@@ -1,0 +1,7 @@
+//! `World`: filesystems, mounts, namespaces and tasks, and the events that change them.
+#![tactic(auto)]
+
+mod namespaces;
+mod world;
+
+pub use world::World;
