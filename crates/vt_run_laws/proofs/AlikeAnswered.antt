@@ -5,8 +5,7 @@ use Rattle.vt_call_laws.specs.Given.{IsFor}
 use Rattle.vt_laws.proofs.CallsJudged.{policy_judges_then_applies}
 use Rattle.vt_laws.proofs.SameJudged.{plain_has_one_name}
 use Rattle.vt_laws.proofs.SameMany.{same_worlds_judge_alike}
-use Rattle.vt_run_laws.proofs.AlikeApplied.{OutcomesAlike, apply_alike}
-use Rattle.vt_run_laws.proofs.AlikeApplied as applied
+use Rattle.vt_run_laws.proofs.AlikeApplied.{OutcomesAlike, apply_alike, is_for_overlay}
 use Rattle.vt_run_laws.proofs.AlikeChanges.{task_alike}
 use Rattle.vt_run_laws.proofs.AlikeDirected.{directed_alike}
 use Rattle.vt_run_laws.proofs.AlikeSettled.{raised_alike, settled_alike}
@@ -31,7 +30,7 @@ use Rattle.vt_tree_laws.specs.Trees.Calls.{mounts_overlay}
 -- a permit for another call mounts no overlay
 no_overlay : (fresh : Fresh ℕ) (world : World ℕ) (task : Task ℕ) (call : Call) (permit : Permit ℕ)
     → mounts_overlay call ≡ false → IsFor (looks_of nat_eq world) task call permit
-    → applied.mounts_overlay permit ≡ false
+    → is_for_overlay permit ≡ false
 no_overlay fresh world task call (ToMountOverlay place overlay flags) plain for =
     sym (ap mounts_overlay for.2) ∙ plain
 no_overlay fresh world task call permit plain for = refl

@@ -26,15 +26,16 @@ use Rattle.vt_spec.specs.Machine.Permits.{Permit}
 use Rattle.vt_spec.specs.Machine.Permits.Permit.{Allowed, ToBind, ToChange, ToClose, ToEnterNamespace, ToExit, ToFork, ToList, ToListMounts, ToMake, ToMountOverlay, ToMountPlain, ToMove, ToOpen, ToOpenNew, ToPivot, ToRead, ToReadPart, ToRemoveDirectory, ToRename, ToSetCredentials, ToSetDirectory, ToSetFlags, ToSetRoot, ToSetType, ToSetUmask, ToStat, ToUnmount, ToUnmountLazily, ToUnshare, ToWritePart}
 use Rattle.vt_spec.specs.Machine.World.{Task, World, mount_at, mount_numbered, node_at, without_task}
 use Rattle.vt_spec.specs.Tree.{bytes_in, names_in}
+use Rattle.vt_spec.specs.Machine.Attach.{attach}
 
 -- one answer, and worlds that are alike
 pub record OutcomesAlike (one other : Outcome ℕ) : Type 0 where
   pub answer : one.answer ≡ other.answer
   pub worlds : Alike one.world other.world
 
-abbrev pub mounts_overlay : Permit ℕ → Bool
-mounts_overlay (ToMountOverlay place overlay flags) = true
-mounts_overlay permit = false
+abbrev pub is_for_overlay : Permit ℕ → Bool
+is_for_overlay (ToMountOverlay place overlay flags) = true
+is_for_overlay permit = false
 
 module _ (fresh : Fresh ℕ) (one other : World ℕ) (same : Alike one other) (task again : Task ℕ)
     (alike : SameTask task again) where
@@ -70,7 +71,7 @@ module _ (fresh : Fresh ℕ) (one other : World ℕ) (same : Alike one other) (t
       (change_alike one other same fresh file
       (SetBytes file.node (overwritten offset (byte ∷ bytes) (bytes_in (node_at nat_eq one file)))))
 
-  pub apply_alike : (permit : Permit ℕ) → mounts_overlay permit ≡ false
+  pub apply_alike : (permit : Permit ℕ) → is_for_overlay permit ≡ false
       → OutcomesAlike (apply nat_eq fresh one task permit) (apply nat_eq fresh other again permit)
   apply_alike Allowed plain = done one other same
   apply_alike (ToList directory) plain =
@@ -131,7 +132,7 @@ module _ (fresh : Fresh ℕ) (one other : World ℕ) (same : Alike one other) (t
   apply_alike (ToMove mount place) plain =
       done _ _
       (subst (λ mounts. Alike (apply nat_eq fresh one task (ToMove mount place)).world
-      (Rattle.vt_spec.specs.Machine.Attach.attach nat_eq other fresh place true mounts))
+      (attach nat_eq other fresh place true mounts))
       (λ i. mount_tree nat_eq (same.mounts i) (mount_in nat_eq (same.mounts i) mount))
       (attach_alike fresh place true (mount_tree nat_eq one.mounts (mount_numbered nat_eq one mount)) one other same))
   apply_alike (ToUnmount mount) plain = done _ _ (unmounted_alike mount one other same)

@@ -7,7 +7,7 @@ use Rattle.vt_run_laws.proofs.AlikeWorlds.{Alike, AlikeFilesystem, files_itself,
 use Rattle.vt_run_laws.proofs.Each.{each_append}
 use Rattle.vt_spec.specs.Language.Calls.{MountFlags}
 use Rattle.vt_spec.specs.Lists.{Fresh, holds_of}
-use Rattle.vt_spec.specs.Machine.Attach.{attach, attached_at, bind_tree, bindable_children, bindable_tree, bound, copies_from, graft_of, parts_of, receivers_of, takes_part}
+use Rattle.vt_spec.specs.Machine.Attach.{attach, attached_at, bind_tree, bindable_children, bindable_tree, bound, copies_from, graft_of, parts_of, receivers_of, stands_under, takes_part}
 use Rattle.vt_spec.specs.Machine.Mounts.{Location, Mount}
 use Rattle.vt_spec.specs.Machine.Outcome.Mounting.{bound_at, mounted, new_mount, with_new_filesystem}
 use Rattle.vt_spec.specs.Machine.World.{Filesystem, World, mount_at}
@@ -44,8 +44,8 @@ module _ (one other : World ℕ) (same : Alike one (with_mounts_of one other)) w
   }
 
   under_same : (source : Location ℕ) (mount : Mount ℕ)
-      → Rattle.vt_spec.specs.Machine.Attach.stands_under nat_eq one source mount
-      ≡ Rattle.vt_spec.specs.Machine.Attach.stands_under nat_eq (with_mounts_of one other) source mount
+      → stands_under nat_eq one source mount
+      ≡ stands_under nat_eq (with_mounts_of one other) source mount
   under_same source mount = λ i.
       holds_of (λ (place : Location ℕ). directory_under_same _ _
       (found_alike one (with_mounts_of one other) same (mount_at nat_eq one source).filesystem).files

@@ -5,7 +5,7 @@ use Rattle.vt_run_laws.proofs.AlikeApplied.{OutcomesAlike}
 use Rattle.vt_run_laws.proofs.AlikeChanges.{found_alike, task_alike}
 use Rattle.vt_run_laws.proofs.AlikeSettled.{overlay_same}
 use Rattle.vt_run_laws.proofs.AlikeWorlds.{Alike, AlikeFilesystem, SameNamespace, SameTask, mounts_of_one, with_mounts_of}
-use Rattle.vt_run_laws.proofs.Each.{Each, IfAny, each_any, each_filter, each_flat}
+use Rattle.vt_run_laws.proofs.Each.{Each, IfAny, each_any, each_filter, each_flat, each_to_one}
 use Rattle.vt_spec.specs.declared.errors.Rule.TheVariants.{S2}
 use Rattle.vt_spec.specs.Language.Answers.{PeerLine}
 use Rattle.vt_spec.specs.Language.Answers.Answer.{PeerList, YesNo}
@@ -19,6 +19,8 @@ use Rattle.vt_spec.specs.Machine.Outcomes.{granted, judged}
 use Rattle.vt_spec.specs.Machine.Receives.{is_member_of}
 use Rattle.vt_spec.specs.Machine.Sealed.{all_named, change_layers, directed, holds_all_tasks, has_no_link, is_linked, is_lower_root, is_member_task, is_own_namespace, locations, members, no_outsider_on, no_outsider_on_mounts, no_such_task, outsiders, sealed, used_alone, used_directly, used_filesystems, wholly_locked}
 use Rattle.vt_spec.specs.Machine.World.{Filesystem, Layer, Namespace, Overlay, Task, World, filesystem_numbered, is_overlay, locations_of, mount_at, task_called}
+use Rattle.std.specs.Prelude.{option_to_list}
+use Rattle.vt_spec.specs.Machine.Settled.{has_layer_on}
 
 -- Peers
 module _ (one other : World ℕ) (same : Alike one (with_mounts_of one other)) where
@@ -103,7 +105,7 @@ module _ (one other : World ℕ) (same : Alike one (with_mounts_of one other)) (
   namespaces_of : (ones others : List (Task ℕ)) → Each SameTask ones others
       → map (λ (task : Task ℕ). task.namespace) ones ≡ map (λ (task : Task ℕ). task.namespace) others
   namespaces_of ones others each =
-      Rattle.vt_run_laws.proofs.Each.each_to_one SameTask (λ (task : Task ℕ). task.namespace)
+      each_to_one SameTask (λ (task : Task ℕ). task.namespace)
       (λ (task : Task ℕ). task.namespace) (λ a b alike. ap (λ (task : Task ℕ). task.namespace) alike) ones others each
 
   all_by_namespace : (test : ℕ → Bool) (tasks : List (Task ℕ))
@@ -139,7 +141,7 @@ module _ (one other : World ℕ) (same : Alike one (with_mounts_of one other)) (
       → change_layers (filesystem_numbered nat_eq one number) ≡ change_layers (filesystem_numbered nat_eq second number)
   layers_at number =
       ap (overlay_or [] (λ (overlay : Overlay ℕ). map (λ (layer : Layer ℕ). layer.filesystem)
-      (Rattle.std.specs.Prelude.option_to_list overlay.upper ++ Rattle.std.specs.Prelude.option_to_list overlay.work)))
+      (option_to_list overlay.upper ++ option_to_list overlay.work)))
       (overlay_same _ _ (found_alike one second same number))
 
   used_same : used_filesystems nat_eq one names ≡ used_filesystems nat_eq second names
@@ -159,11 +161,11 @@ module _ (one other : World ℕ) (same : Alike one (with_mounts_of one other)) (
   alone_same : (filesystem : ℕ) → used_alone nat_eq one names filesystem ≡ used_alone nat_eq second names filesystem
   alone_same filesystem =
       ap (λ merged. no_outsider_on nat_eq one names filesystem && list_all (λ (merged : Filesystem ℕ).
-      not (Rattle.vt_spec.specs.Machine.Settled.has_layer_on nat_eq filesystem merged)
+      not (has_layer_on nat_eq filesystem merged)
       || no_outsider_on nat_eq one names merged.number) merged) none.0
       ∙ ap (λ b. b && true) (no_outsider_same filesystem)
       ∙ sym (ap (λ merged. no_outsider_on nat_eq second names filesystem && list_all (λ (merged : Filesystem ℕ).
-      not (Rattle.vt_spec.specs.Machine.Settled.has_layer_on nat_eq filesystem merged)
+      not (has_layer_on nat_eq filesystem merged)
       || no_outsider_on nat_eq second names merged.number) merged) none.1)
 
   locked_no : (world : World ℕ) → overlays world ≡ [] → (filesystem : ℕ)

@@ -13,6 +13,7 @@ use Rattle.vt_spec.specs.Lists.{Fresh}
 use Rattle.vt_spec.specs.Machine.Run.{Step, line_step, line_step_by, requested, spoken_step, step_text, step_world}
 use Rattle.vt_spec.specs.Machine.Run.Step.{Answered}
 use Rattle.vt_spec.specs.Machine.World.{World}
+use Rattle.vt_spec.specs.Machine.Outcomes.{Outcome}
 
 -- the two steps write the same, and lead to worlds that are alike
 pub record StepsAlike (one other : World ℕ) (step again : Step ℕ) : Type 0 where
@@ -20,7 +21,7 @@ pub record StepsAlike (one other : World ℕ) (step again : Step ℕ) : Type 0 w
   pub worlds : Alike (step_world one step) (step_world other again)
 
 module _ (one other : World ℕ) (same : Alike one other) where
-  answered : (outcome again : Rattle.vt_spec.specs.Machine.Outcomes.Outcome ℕ) → OutcomesAlike outcome again
+  answered : (outcome again : Outcome ℕ) → OutcomesAlike outcome again
       → StepsAlike one other (Answered outcome) (Answered again)
   answered outcome again alike =
       record { text = λ number. ap (reply_line number) alike.answer; worlds = alike.worlds }

@@ -6,7 +6,7 @@ use Rattle.vt_run_laws.proofs.AlikeWorlds.{Alike, mounts_of_one, with_mounts_of}
 use Rattle.vt_run_laws.proofs.Each.{chosen}
 use Rattle.vt_spec.specs.Language.Calls.{MountFlags, TypeWord}
 use Rattle.vt_spec.specs.Lists.{Fresh, folded}
-use Rattle.vt_spec.specs.Machine.Detach.{after_going, deepest_first, going, is_point, lazily_unmounted, mounts_on, points_of, taken_away, trees_taken_away, unmounted, unmounted_if_there, without_mounts_on}
+use Rattle.vt_spec.specs.Machine.Detach.{after_going, deepest_first, going, is_point, lazily_unmounted, points_of, taken_away, unmounted, unmounted_if_there, upper_points, without_mounts_on}
 use Rattle.vt_spec.specs.Machine.Locked.{overlay_or}
 use Rattle.vt_spec.specs.Machine.Mounts.{Location, Mount, mount_tree, numbers_by, with_mount}
 use Rattle.vt_spec.specs.Machine.Outcome.Removing.{without_replaced}
@@ -128,11 +128,11 @@ points_same : (location : Location ℕ) (one other : World ℕ) → Alike one ot
 points_same location one other same =
     let here = here_alike one other same location in
     (λ i. ((filesystem_at nat_eq one location).number, location.node)
-    ∷ overlay_or [] (λ overlay. Rattle.vt_spec.specs.Machine.Detach.upper_points one (filesystem_at nat_eq one location)
+    ∷ overlay_or [] (λ overlay. upper_points one (filesystem_at nat_eq one location)
     overlay location.node) (here.plain i))
     ∙ (λ i. (here.number i, location.node) ∷ [])
     ∙ sym (λ i. ((filesystem_at nat_eq other location).number, location.node)
-    ∷ overlay_or [] (λ overlay. Rattle.vt_spec.specs.Machine.Detach.upper_points other
+    ∷ overlay_or [] (λ overlay. upper_points other
     (filesystem_at nat_eq other location) overlay location.node) (here.plain_too i))
 
 pub without_mounts_on_alike : (location : Location ℕ) (one other : World ℕ) → Alike one other

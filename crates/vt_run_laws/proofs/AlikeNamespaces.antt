@@ -4,7 +4,7 @@ use Rattle.std.specs.Prelude.{unwrap_or}
 use Rattle.std.specs.List.{list_any}
 use Rattle.vt_run_laws.proofs.AlikeChanges.{replaced_alike, with_task_alike, with_tasks_alike}
 use Rattle.vt_run_laws.proofs.AlikeMounts.{of_one, taken_alike}
-use Rattle.vt_run_laws.proofs.AlikeWorlds.{Alike, SameNamespace, SameTask, with_mounts_of}
+use Rattle.vt_run_laws.proofs.AlikeWorlds.{Alike, SameNamespace, SameTask, mounts_of_one, with_mounts_of}
 use Rattle.vt_run_laws.proofs.Each.{chosen, each_any, each_append, each_filter, each_map}
 use Rattle.vt_spec.specs.Language.Calls.{TaskName, same_name}
 use Rattle.vt_spec.specs.Lists.{Fresh, evens, holds_of, odds}
@@ -69,7 +69,7 @@ ended_alike = of_one (namespaces_ended nat_eq) (λ one other same.
 pub unshared_alike : (fresh : Fresh ℕ) (task again : Task ℕ) → SameTask task again → (one other : World ℕ)
     → Alike one other → Alike (unshared nat_eq one fresh task) (unshared nat_eq other fresh again)
 unshared_alike fresh task again alike one other same =
-    Rattle.vt_run_laws.proofs.AlikeWorlds.mounts_of_one
+    mounts_of_one
     (λ world. Alike one world → Alike (unshared nat_eq one fresh task) (unshared nat_eq world fresh again)) one other
     same (λ same. record {
       mounts = λ i. one.mounts
@@ -91,7 +91,7 @@ unshared_alike fresh task again alike one other same =
 pub entered_alike : (namespace : ℕ) (task again : Task ℕ) → SameTask task again → (one other : World ℕ) → Alike one other
     → Alike (namespace_entered nat_eq one task namespace) (namespace_entered nat_eq other again namespace)
 entered_alike namespace task again alike one other same =
-    Rattle.vt_run_laws.proofs.AlikeWorlds.mounts_of_one
+    mounts_of_one
     (λ world. Alike one world
     → Alike (namespace_entered nat_eq one task namespace) (namespace_entered nat_eq world again namespace)) one other
     same (λ same.

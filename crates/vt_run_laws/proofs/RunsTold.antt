@@ -15,7 +15,7 @@ use Rattle.vt_one_text.specs.Renaming.{Renaming}
 use Rattle.vt_run_laws.proofs.AlikeLines.{line_step_alike}
 use Rattle.vt_run_laws.proofs.AlikeRenamed.{same_renamed}
 use Rattle.vt_run_laws.proofs.AlikeWorlds.{Alike, alike_back, alike_from_same, alike_onward, plain_from_alike, sameness_is_an_equivalence}
-use Rattle.vt_run_laws.proofs.Seats.{started}
+use Rattle.vt_run_laws.proofs.Seats.{Start, started}
 use Rattle.vt_run_laws.specs.Answered.{IsPlain}
 use Rattle.vt_run_laws.specs.Runs.{RunsHaveOneText, TellsAlike, asks_for_overlay}
 use Rattle.vt_spec.specs.Language.Script.{Grammar, lines_of, request_of}
@@ -73,10 +73,6 @@ module _ (m : ℕ) (renaming : Renaming ℕ ℕ) (in_hand : ℕ → Bool) (world
           omega arith
       by (LeftOver k) e is = absurd (true≢false (sym is))
 
--- a line that was refused memory changes nothing
-nothing_renamed : Renaming ℕ ℕ
-nothing_renamed = record { there = λ n. n; back = λ n. n; there_back = λ n. refl; back_there = λ n. refl }
-
 -- The next world, renamed, and the one that the row leads to
 module _ (renaming : Renaming ℕ ℕ) (left next reached there : World ℕ) (same : SameWorlds left next)
     (leads : renamed renaming.there renaming.back left ≡ reached) (alike : Alike reached there) where
@@ -91,6 +87,7 @@ module _ (renaming : Renaming ℕ ℕ) (left next reached there : World ℕ) (sa
       alike
 
 module _ (grammar : Grammar) (in_hand : ℕ → Bool) where
+  -- a line that was refused memory changes nothing
   refused_keeps : (mine : ℕ → Bool) (world : World ℕ) (line : List ℕ) → KeepsTo mine world
       → KeepsTo mine (step_world world (line_step nat_eq grammar world line None))
   refused_keeps mine world line keeps renaming leaves =
@@ -198,7 +195,7 @@ runs_have_one_text grammar refused script text in_hand fresh leaves opens asks t
     (λ k is. let first : row (start.renaming.there k) ≡ 0 = start.early k is in omega arith)
     (opening_keeps_to_four first_four (λ place. place) refl refl refl refl) first_early asks text tells)
   where
-    start : Rattle.vt_run_laws.proofs.Seats.Start in_hand leaves fresh 4
+    start : Start in_hand leaves fresh 4
     start = started in_hand leaves fresh opens
 
     opened : renamed start.renaming.there start.renaming.back (opening nat_eq fresh) ≡ first_world
