@@ -6,13 +6,13 @@ use Rattle.vt_spec.specs.Lists.{Fresh}
 use Rattle.vt_spec.specs.Machine.Apply.{apply}
 use Rattle.vt_spec.specs.Machine.Mounts.{Location}
 use Rattle.vt_spec.specs.Machine.Permits.{Permit}
-use Rattle.vt_spec.specs.Machine.Permits.Permit.{ToBind, ToMake, ToMountPlain, ToOpenNew, ToUnshare}
+use Rattle.vt_spec.specs.Machine.Permits.Permit.{ToMake, ToMountPlain, ToOpenNew}
 use Rattle.vt_spec.specs.Machine.SameWorlds.{SameWorlds}
 use Rattle.vt_spec.specs.Machine.Settled.{settled}
 use Rattle.vt_spec.specs.Machine.World.{Task, World, mount_at, task_called}
 use Rattle.vt_fs.specs.FilesystemsValue.{entry_at, next_seen}
 use Rattle.vt_location.specs.Numbers.{inode_number}
-use Rattle.vt_run_laws.specs.Handed.{handed_from}
+use Rattle.vt_run_laws.specs.Handed.{counts_from, handed_from}
 use Rattle.vt_world.specs.WorldValue.{WorldValue, world_of}
 use Rattle.vt_world_laws.specs.Worlds.Permits.{IsFitPermit}
 
@@ -25,14 +25,12 @@ abbrev pub next_inode : WorldValue → Location ℕ → ℕ
 next_inode value location = next_seen (entry_at value.filesystems (filesystem_count value location))
 
 -- The numbers that a permit is handed: counts from the next one on, and where an inode is made the number that its slot
--- gives it. No inode has the number 0.
+-- gives it.
 abbrev pub supply_of : WorldValue → Permit ℕ → Fresh ℕ
 supply_of value (ToMake directory name node) = handed_from value.next 0 (next_inode value directory)
 supply_of value (ToOpenNew directory name node access) = handed_from value.next 0 (next_inode value directory)
 supply_of value (ToMountPlain place flags) = handed_from value.next 2 (inode_number value.next 0)
-supply_of value (ToBind source place recursive) = handed_from value.next 1 0
-supply_of value ToUnshare = handed_from value.next 2 0
-supply_of value permit = handed_from value.next 0 0
+supply_of value permit = counts_from value.next
 
 -- the task is there, and its permit names what is there
 pub record Permits (value : WorldValue) (name : TaskName) (permit : Permit ℕ) : Type 0 where

@@ -1,6 +1,6 @@
 -- What holds of each world of the code: the invariants of a world, and that what is counted beside it is what the
 -- definitions count.
-use Rattle.std.specs.Prelude.{All, Bool, List, Some, [], false, length, nat_eq, nat_lt, option_map, true, ℕ, ◌%◌, ◌&&◌, ◌+◌, ◌/◌, ◌==◌, ◌||◌, ◌∷◌, ◌≡◌}
+use Rattle.std.specs.Prelude.{All, Bool, List, Some, [], false, length, nat_eq, option_map, true, ℕ, ◌&&◌, ◌+◌, ◌∷◌, ◌≡◌}
 use Rattle.std.specs.List.{list_all}
 use Rattle.vt_spec.specs.Machine.Mounts.{Mount, Propagation}
 use Rattle.vt_spec.specs.Machine.Mounts.Propagation.{Private, Shared, Slave, Unbindable}
@@ -8,10 +8,11 @@ use Rattle.vt_spec.specs.Machine.World.{Descriptor, Task, World, mounts_of, root
 use Rattle.vt_spec.specs.Machine.WorldLaws.{IsWorld}
 use Rattle.vt_count_laws.specs.Counted.{IsCounted}
 use Rattle.vt_fs.specs.FilesystemsValue.{FilesystemEntry, filesystem_seen, inodes_seen}
-use Rattle.vt_laws.specs.Numbers.{WorldNamed}
+use Rattle.vt_laws.specs.Numbers.{KeepsTo}
 use Rattle.vt_letting_go.specs.Counts.{mount_uses, mounts_showing, times}
 use Rattle.vt_location.specs.Numbers.{counted}
 use Rattle.vt_mount.specs.MountsValue.{MountEntry}
+use Rattle.vt_run_laws.specs.Handed.{is_counted_before}
 use Rattle.vt_world.specs.WorldValue.{NamespaceEntry, WorldValue, world_of}
 
 -- in no peer group, and no slave of one
@@ -20,10 +21,6 @@ is_ungrouped (Shared group) = false
 is_ungrouped (Slave master) = false
 is_ungrouped Private = true
 is_ungrouped Unbindable = true
-
--- the number of an inode, or of what was counted before
-abbrev pub is_given : ℕ → ℕ → Bool
-is_given next number = (number % 2 == 0) || (number % 4 == 1 && nat_lt (number / 4) next)
 
 -- the descriptors of a task that are open for writing on a mount
 abbrev pub writes_on : ℕ → Descriptor ℕ → Bool
@@ -55,7 +52,7 @@ pub record CountsWhatIsInIt (world : World ℕ) (entry : NamespaceEntry) : Type 
 pub record IsHeld (value : WorldValue) : Type 0 where
   pub in_world : IsWorld nat_eq (world_of value)
   pub ungrouped : list_all (λ entry. is_ungrouped entry.mount.propagation) value.mounts ≡ true
-  pub given : WorldNamed (is_given value.next) (world_of value)
+  pub given : KeepsTo (is_counted_before value.next) (world_of value)
   pub mounts : All (CountsItsUses (world_of value)) value.mounts
   pub filesystems : All (CountsItsMounts (world_of value)) value.filesystems
   pub namespaces : All (CountsWhatIsInIt (world_of value)) value.namespaces
