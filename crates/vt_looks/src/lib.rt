@@ -3,4 +3,4 @@
 
 mod look;
 
-pub use look::{Attachment, Look};
+pub use look::{Attachment, Look, LookAtMounts};

@@ -20,7 +20,10 @@ use vt_spec::errors::Deny;
 #[derive(Clone, Copy, Debug, PartialEq, Eq)]
 pub enum Attachment {
     /// The mount of a new, empty filesystem: mount(2) of a tmpfs.
-    Plain { place: Location, flags: MountFlags },
+    Plain {
+        place: Location,
+        flags: MountFlags,
+    },
     /// A copy of the mount of a source, or of its tree: mount(2) with `MS_BIND`, and `MS_REC`.
     Bind {
         source: Location,
@@ -28,16 +31,16 @@ pub enum Attachment {
         recursive: bool,
     },
     /// A mount with its descendants: mount(2) with `MS_MOVE`.
-    Move { mount: MountId, place: Location },
+    Move {
+        mount: MountId,
+        place: Location,
+    },
 }
 
-/// A world, as walks and rules look at it. They change nothing.
+/// A world, as walks and the rules of calls on files and tasks look at it. They change nothing.
 pub trait Look {
     // what the world shows
     ghost looks: { Self → Looks ℕ };
-
-    // what a permit attaches leaves a namespace with too many mounts
-    ghost overfills: { Self → Permit ℕ → Bool };
 
     /// The namespace of the task of this name, if there is such a task: setns(2).
     fn namespace_called(&self, name: &TaskName) -> Option<NamespaceId>
@@ -51,14 +54,6 @@ pub trait Look {
     fn mount_count(&self) -> usize
         ensures { result ≡ (looks self.now).mount_count };
 
-    /// Whether a mount is this one or a descendant of it: ELOOP of mount(2) with `MS_MOVE`.
-    fn is_at_or_below(&self, top: MountId, mount: MountId) -> bool
-        ensures { result ≡ is_at_or_below (looks self.now) (counted top.count) (counted mount.count) };
-
-    /// Whether a mount or a descendant of it is unbindable: EINVAL of mount(2) with `MS_MOVE`.
-    fn has_unbindable(&self, top: MountId) -> bool
-        ensures { result ≡ list_any (λ mount. is_unbindable mount.propagation) ((looks self.now).mount_tree (counted top.count)) };
-
     /// The root of the topmost mount over a location, or the location itself.
     fn topmost(&self, at: Location) -> Location
         ensures { location_of result ≡ topmost (looks self.now) (location_of at) };
@@ -70,17 +65,6 @@ pub trait Look {
     /// Whether a mount of any namespace stands on a directory: EBUSY of rename(2).
     fn is_point_anywhere(&self, at: Location) -> bool
         ensures { result ≡ is_point_anywhere (looks self.now) (location_of at) };
-
-    /// Whether an unmount is refused: the mount has a child, or one that would go is in use: EBUSY of umount(2).
-    ///
-    /// S5 (ENOMEM): memory was refused for the receivers of the event.
-    fn is_busy(&self, mount: MountId) -> Result<bool, Deny>
-        ensures ok { IfOk result (λ busy. busy ≡ (looks self.now).is_busy (counted mount.count)) }
-        ensures memory { IfErr result (λ deny. deny ≡ denial S5) };
-
-    /// Whether a file is open for writing through a mount: EBUSY of mount(2) with `MS_REMOUNT`.
-    fn is_written_through(&self, mount: MountId) -> bool
-        ensures { result ≡ (looks self.now).is_written_through (counted mount.count) };
 
     /// The inode at a location.
     fn node(&self, at: Location) -> Option<&Node>
@@ -98,14 +82,39 @@ pub trait Look {
     fn is_under_root(&self, at: Location) -> bool
         ensures { result ≡ (looks self.now).is_under (mount_at (looks self.now) (location_of at)).filesystem (mount_at (looks self.now) (location_of at)).root (number_of at.node) };
 
+    /// No filesystem is an overlay: no location is in one, no mounter is asked, and nothing is locked.
+    fn has_no_overlays(&self)
+        ensures { HasNoOverlays (looks self.now) };
+}
+
+/// What the rules of mount calls look at beside.
+pub trait LookAtMounts: Look {
+    // what a permit attaches leaves a namespace with too many mounts
+    ghost overfills: { Self → Permit ℕ → Bool };
+
+    /// Whether a mount is this one or a descendant of it: ELOOP of mount(2) with `MS_MOVE`.
+    fn is_at_or_below(&self, top: MountId, mount: MountId) -> bool
+        ensures { result ≡ is_at_or_below (Self.looks self.now) (counted top.count) (counted mount.count) };
+
+    /// Whether a mount or a descendant of it is unbindable: EINVAL of mount(2) with `MS_MOVE`.
+    fn has_unbindable(&self, top: MountId) -> bool
+        ensures { result ≡ list_any (λ mount. is_unbindable mount.propagation) ((Self.looks self.now).mount_tree (counted top.count)) };
+
+    /// Whether an unmount is refused: the mount has a child, or one that would go is in use: EBUSY of umount(2).
+    ///
+    /// S5 (ENOMEM): memory was refused for the receivers of the event.
+    fn is_busy(&self, mount: MountId) -> Result<bool, Deny>
+        ensures ok { IfOk result (λ busy. busy ≡ (Self.looks self.now).is_busy (counted mount.count)) }
+        ensures memory { IfErr result (λ deny. deny ≡ denial S5) };
+
+    /// Whether a file is open for writing through a mount: EBUSY of mount(2) with `MS_REMOUNT`.
+    fn is_written_through(&self, mount: MountId) -> bool
+        ensures { result ≡ (Self.looks self.now).is_written_through (counted mount.count) };
+
     /// Whether what is attached would leave a namespace with more than 4,096 mounts: ENOSPC of mount(2).
     ///
     /// S5 (ENOMEM): memory was refused for the receivers of the event.
     fn overfills(&self, attachment: Attachment) -> Result<bool, Deny>
         ensures ok { IfOk result (λ too_many. too_many ≡ overfills self.now (permit_of attachment)) }
         ensures memory { IfErr result (λ deny. deny ≡ denial S5) };
-
-    /// No filesystem is an overlay: no location is in one, no mounter is asked, and nothing is locked.
-    fn has_no_overlays(&self)
-        ensures { HasNoOverlays (looks self.now) };
 }
