@@ -7,7 +7,7 @@ use Rattle.vt_spec.specs.Language.Changes as Changes
 use Rattle.vt_spec.specs.Language.Changes.{Change, content_with_mark, node_with_attr, node_with_mark, node_with_parent}
 use Rattle.vt_spec.specs.Language.Changes.Change.{AddName, CopyUp, Make, Move, Remove, SetAttr, SetBytes, SetMark}
 use Rattle.vt_spec.specs.Lists.{Fresh, is_among, is_empty_list}
-use Rattle.vt_spec.specs.Machine.Filesystems.{filesystem_changed, with_files}
+use Rattle.vt_spec.specs.Machine.Filesystems.{filesystem_changed, with_change, with_files}
 use Rattle.vt_spec.specs.Machine.Mounts.{Location}
 use Rattle.vt_spec.specs.Machine.Settled.{settled}
 use Rattle.vt_spec.specs.Machine.World.{Filesystem, Overlay, World, filesystem_at, filesystem_numbered, is_overlay}
@@ -26,7 +26,7 @@ use Rattle.vt_letting_go.proofs.OfWorlds.{uppers_of_worlds_are_plain, worlds_hav
 use Rattle.vt_one_text.specs.OneTree.{times_in}
 use Rattle.vt_one_text.proofs.OneTreeEntries.{one_if}
 use Rattle.vt_one_text.proofs.OneTreeCounts.{other_if}
-use Rattle.vt_count_laws.specs.Changing.{CountsFollowChanges, IsChange, LinksWhatIsThere, OnlyFilesChange, OtherCountsStay, after_change, place_of}
+use Rattle.vt_count_laws.specs.Changing.{CountsFollowChanges, IsChange, LinksWhatIsThere, OnlyFilesChange, OtherCountsStay, after_change, filesystem_of}
 use Rattle.vt_count_laws.specs.Counted.{IsCounted}
 use Rattle.vt_count_laws.proofs.NameCounts as Names
 use Rattle.vt_count_laws.proofs.Swept as Swept
@@ -116,7 +116,7 @@ module _ (base : ℕ → ℕ) (files : FileTree ℕ) (inodes : Inodes ℕ) (root
   tallied (CopyUp object) fits links = start.tallied
 
   -- the root stays
-  root_of_files : (change : Change ℕ) → (Changes.changed nat_eq files change).tree.root ≡ files.tree.root
+  pub root_of_files : (change : Change ℕ) → (Changes.changed nat_eq files change).tree.root ≡ files.tree.root
   root_of_files (Make directory name number new) = refl
   root_of_files (AddName directory name object) = refl
   root_of_files (Remove directory name object) = refl
@@ -145,7 +145,7 @@ module _ (base : ℕ → ℕ) (files : FileTree ℕ) (inodes : Inodes ℕ) (root
   root_of_inodes (SetMark directory opaque) = refl
   root_of_inodes (CopyUp object) = refl
 
-  root_is : (change : Change ℕ) → (changed nat_eq inodes change).root ≡ (Changes.changed nat_eq files change).tree.root
+  pub root_is : (change : Change ℕ) → (changed nat_eq inodes change).root ≡ (Changes.changed nat_eq files change).tree.root
   root_is change = root_of_inodes change ∙ root ∙ sym (root_of_files change)
 
 -- The world
@@ -154,13 +154,13 @@ pub world_in_use : (world : World ℕ) → IsWorld nat_eq world → AllInUse wor
 world_in_use world is = subst AllInUse is.nothing_unused (what_is_left_is_in_use world (worlds_have_trees world is) (uppers_of_worlds_are_plain world is))
 
 module _ (fresh : Fresh ℕ) (world : World ℕ) (location : Location ℕ) (inodes : Inodes ℕ) (change : Change ℕ) (is : IsChange world location inodes change) where
-  abbrev number : ℕ
-  number = place_of world location
+  abbrev pub number : ℕ
+  number = filesystem_of world location
 
-  abbrev old : Filesystem ℕ
+  abbrev pub old : Filesystem ℕ
   old = filesystem_numbered nat_eq world number
 
-  abbrev files : FileTree ℕ
+  abbrev pub files : FileTree ℕ
   files = Changes.changed nat_eq old.files change
 
   pub in_use : AllInUse world
@@ -178,22 +178,23 @@ module _ (fresh : Fresh ℕ) (world : World ℕ) (location : Location ℕ) (inod
   tree : IsListedTree old.files
   tree = among_from_all (λ f. IsListedTree f.files) world.filesystems (worlds_have_trees world is.in_world) old old_there
 
-  start : IsStart (base_of world old) old.files.tree.node old.files.numbers inodes
+  pub start : IsStart (base_of world old) old.files.tree.node old.files.numbers inodes
   start =
       counted_start world old inodes plain tree
       (among_from_all (λ f. list_all (is_inode_used world f) f.files.numbers ≡ true) world.filesystems in_use.inodes old old_there) is.counted
 
-  new_tallied : IsTallied (base_of world old) files.tree.node files.numbers (changed nat_eq inodes change)
+  pub new_tallied : IsTallied (base_of world old) files.tree.node files.numbers (changed nat_eq inodes change)
   new_tallied = tallied (base_of world old) old.files inodes is.counted.root start change is.fits is.links
 
-  abbrev done : World ℕ
+  abbrev pub done : World ℕ
   done = Swept.done world number files in_use plain there
 
   abbrev pub left : FileTree ℕ
   left = Swept.swept world number files in_use plain there
 
-  pub after_is : after_change fresh world location change ≡ done
-  after_is = ap (settled nat_eq) (by old.overlay no_overlay) ∙ Swept.settled_is world number files in_use plain there new_tallied.once
+  -- before the sweep
+  pub raw_is : with_change nat_eq fresh world location change ≡ with_tree world number files
+  raw_is = by old.overlay no_overlay
     where
       no_overlay : is_some old.overlay ≡ false
       no_overlay = fails is_overlay world.filesystems plain old old_there
@@ -201,6 +202,9 @@ module _ (fresh : Fresh ℕ) (world : World ℕ) (location : Location ℕ) (inod
       by : (o : Option (Overlay ℕ)) → is_some o ≡ false → filesystem_changed nat_eq fresh world old o change ≡ with_tree world number files
       by None e = refl
       by (Some overlay) e = cc
+
+  pub after_is : after_change fresh world location change ≡ done
+  after_is = ap (settled nat_eq) raw_is ∙ Swept.settled_is world number files in_use plain there new_tallied.once
 
   found : filesystem_numbered nat_eq done number ≡ with_files old left
   found = Swept.found_done world number files in_use plain there new_tallied.once

@@ -105,7 +105,7 @@ module _ (k : ℕ) (node : ℕ → Option (Node ℕ)) where
 -- The world
 
 -- a filesystem among others that are changed one by one, with their numbers
-found_mapped : (step : Filesystem ℕ → Filesystem ℕ) → ((f : Filesystem ℕ) → (step f).number ≡ f.number) → (filesystems : List (Filesystem ℕ)) (k : ℕ)
+pub found_mapped : (step : Filesystem ℕ → Filesystem ℕ) → ((f : Filesystem ℕ) → (step f).number ≡ f.number) → (filesystems : List (Filesystem ℕ)) (k : ℕ)
     → is_among nat_eq k (map (λ f. f.number) filesystems) ≡ true
     → unwrap_or (find (λ f. nat_eq k f.number) (map step filesystems)) (no_filesystem k) ≡ step (unwrap_or (find (λ f. nat_eq k f.number) filesystems) (no_filesystem k))
 found_mapped step same [] k there = absurd (true≢false (sym there))
@@ -119,7 +119,7 @@ found_mapped step same (first ∷ rest) k there =
     by true h later = refl
     by false h later = later h
 
-numbers_mapped : (step : Filesystem ℕ → Filesystem ℕ) → ((f : Filesystem ℕ) → (step f).number ≡ f.number) → (filesystems : List (Filesystem ℕ)) → map (λ f. f.number) (map step filesystems) ≡ map (λ f. f.number) filesystems
+pub numbers_mapped : (step : Filesystem ℕ → Filesystem ℕ) → ((f : Filesystem ℕ) → (step f).number ≡ f.number) → (filesystems : List (Filesystem ℕ)) → map (λ f. f.number) (map step filesystems) ≡ map (λ f. f.number) filesystems
 numbers_mapped step same [] = refl
 numbers_mapped step same (first ∷ rest) = λ i. same first i ∷ numbers_mapped step same rest i
 
@@ -132,10 +132,10 @@ pub record IsLeft (k : ℕ) (world : World ℕ) (filesystem : Filesystem ℕ) (l
   pub root : left.files.tree.root ≡ filesystem.files.tree.root
   pub once : (n : ℕ) → times_in n left.files.numbers ≡ cond (is_some (left.files.tree.node n)) 1 0
 
-abbrev EmptyUnused : World ℕ → Filesystem ℕ → Type 0
+abbrev pub EmptyUnused : World ℕ → Filesystem ℕ → Type 0
 EmptyUnused world filesystem = (n : ℕ) → inode_uses world filesystem n ≡ 0 → targets_in (filesystem.files.tree.node n) ≡ []
 
-abbrev StandOnce : Filesystem ℕ → Type 0
+abbrev pub StandOnce : Filesystem ℕ → Type 0
 StandOnce filesystem = (n : ℕ) → times_in n filesystem.files.numbers ≡ cond (is_some (filesystem.files.tree.node n)) 1 0
 
 -- an inode is used or counted zero
@@ -325,28 +325,28 @@ all_left k world (inode ∷ rest) plain there empty stand =
 
 module _ (world after : World ℕ) (gained lost : List Inode) (k : ℕ) (inodes : Inodes ℕ) (trees : HasTrees world) (in_use : InodesInUse world) (plain : IsPlain after)
     (exchange : Exchanges gained lost k world after) (counted : IsCounted world (filesystem_numbered nat_eq world k) inodes) (gains : AreThere k inodes gained) where
-  abbrev f : Filesystem ℕ
+  abbrev pub f : Filesystem ℕ
   f = filesystem_numbered nat_eq world k
 
   there : is_among nat_eq k (map (λ g. g.number) world.filesystems) ≡ true
   there = there_if_counted world k inodes counted
 
-  there_after : is_among nat_eq k (map (λ g. g.number) after.filesystems) ≡ true
+  pub there_after : is_among nat_eq k (map (λ g. g.number) after.filesystems) ≡ true
   there_after = there_if_some after world k inodes (subst (λ g. IsCounted world g inodes) (sym exchange.same) counted)
 
-  tree : IsListedTree f.files
+  pub tree : IsListedTree f.files
   tree = among_from_all (λ g. IsListedTree g.files) world.filesystems trees f (found_is world.filesystems k there)
 
   start : Counts.IsCounted (inode_uses world f) f.files.tree.node inodes
   start = start_counts world f inodes tree (among_from_all (λ g. list_all (is_inode_used world g) g.files.numbers ≡ true) world.filesystems in_use f (found_is world.filesystems k there)) counted
 
-  abbrev used_then : ℕ → ℕ
+  abbrev pub used_then : ℕ → ℕ
   used_then = inode_uses after f
 
   exchange_uses : (n : ℕ) → inode_uses world f n + times (is_inode k n) gained ≡ used_then n + times (is_inode k n) lost
   exchange_uses n = exchange.uses n ∙ ap (λ g. inode_uses after g n + times (is_inode k n) lost) exchange.same
 
-  empty_then : EmptyUnused after f
+  pub empty_then : EmptyUnused after f
   empty_then n none = unused_are_empty after f tree n (by (is_among nat_eq n (used_in nat_eq after f)) refl)
     where
       by : (b : Bool) → is_among nat_eq n (used_in nat_eq after f) ≡ b → b ≡ false
@@ -356,7 +356,7 @@ module _ (world after : World ℕ) (gained lost : List Inode) (k : ℕ) (inodes 
           let zero_uses : times (nat_eq n) (used_in nat_eq after f) ≡ 0 = none in absurd (omega arith)
       by false e = refl
 
-  counted_then : Counts.IsCounted used_then f.files.tree.node (exchanged k gained lost inodes)
+  pub counted_then : Counts.IsCounted used_then f.files.tree.node (exchanged k gained lost inodes)
   counted_then =
       all_unpinned k f.files.tree.node lost (λ n. inode_uses world f n + times (is_inode k n) gained) used_then (folded (pinned_if k) inodes gained)
       (all_pinned k f.files.tree.node gained (inode_uses world f) inodes start
@@ -373,7 +373,7 @@ module _ (world after : World ℕ) (gained lost : List Inode) (k : ℕ) (inodes 
   abbrev f_last : Filesystem ℕ
   f_last = filesystem_numbered nat_eq last k
 
-  once_f : StandOnce f
+  pub once_f : StandOnce f
   once_f n = Rattle.vt_count_laws.proofs.Listed.once_or_none n f.files.numbers counted.once ∙ ap (λ b. cond b 1 0) (tree.numbers n)
 
   left : IsLeft k after f lost last f_last

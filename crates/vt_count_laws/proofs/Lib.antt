@@ -7,3 +7,8 @@ pub mod SameAfter
 pub mod Exchanged
 pub mod Places
 pub mod Gone
+pub mod KeptAll
+pub mod Sweeps
+pub mod Alike
+pub mod Looks
+pub mod MountRoots

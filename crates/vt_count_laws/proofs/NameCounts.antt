@@ -46,13 +46,13 @@ module _ (base : ℕ → ℕ) (node : ℕ → Option (Node ℕ)) (numbers : List
   abbrev made_uses : ℕ → ℕ
   made_uses = uses_of base node numbers
 
-  abbrev node_on : ℕ → Option (Node ℕ)
+  abbrev pub node_on : ℕ → Option (Node ℕ)
   node_on = at_place node directory (node_with_entry name number)
 
   abbrev inodes_on : Inodes ℕ
   inodes_on = with_changed nat_eq inodes directory (node_with_entry name number)
 
-  abbrev node_made : ℕ → Option (Node ℕ)
+  abbrev pub node_made : ℕ → Option (Node ℕ)
   node_made = changed_at node_on number (Some new)
 
   abbrev pub node_made_there : ℕ → Option (Node ℕ)
@@ -64,7 +64,7 @@ module _ (base : ℕ → ℕ) (node : ℕ → Option (Node ℕ)) (numbers : List
   apart : number ≢ directory
   apart e = true≢false (sym (there_directory base node numbers inodes start directory is) ∙ ap (λ n. is_some (node n)) (sym e) ∙ ap is_some no_node)
 
-  either_way : (n : ℕ) → node_made n ≡ node_made_there n
+  pub either_way : (n : ℕ) → node_made n ≡ node_made_there n
   either_way n =
       sym (ap (λ b. cond (nat_eq n directory) (node_with_entry name number (cond b (Some new) (node directory))) (cond (nat_eq n number) (Some new) (node n))) (ne_eqb directory number (λ e. apart (sym e)))
       ∙ ⊎_elim

@@ -1,6 +1,6 @@
 -- Locations and mounts as uses of inodes.
 use Rattle.std.proofs.Common.{◌≡◌, refl, sym, ap, subst, ◌∙◌, ⊎_elim, inl, inr, ℕ, ◌+◌, nat_eq, eqb-true, eq-eqb, Bool, true, false, true≢false, cond, not, ◌&&◌, ◌||◌, List, [], ◌∷◌, ◌++◌, map, filter, find, flat_map, Option, Some, None, unwrap_or, arith}
-use Rattle.std.specs.Prelude.{filter_map}
+use Rattle.std.specs.Prelude.{filter_map, option_to_list}
 use Rattle.std.specs.List.{cons_option, list_all}
 use Rattle.std.proofs.lemmas.Bool.{and_parts}
 use Rattle.vt_spec.specs.FileTree.{targets_in}
@@ -8,7 +8,7 @@ use Rattle.vt_spec.specs.Lists.{any_pair, is_among}
 use Rattle.vt_spec.specs.Machine.Locked.{of_overlay}
 use Rattle.vt_spec.specs.Machine.Mounts.{Location, Mount, mount_in, no_mount, root_of}
 use Rattle.vt_spec.specs.Machine.Settled.{layers_in, located_in, named_in, objects_of_overlay, used_in}
-use Rattle.vt_spec.specs.Machine.World.{Filesystem, World, all_locations, filesystem_numbered, layers_of, new_plain, no_filesystem, root_attr}
+use Rattle.vt_spec.specs.Machine.World.{first_mount, first_place, opening, Filesystem, World, all_locations, filesystem_numbered, layers_of, new_plain, no_filesystem, root_attr}
 use Rattle.vt_spec.specs.OneTree.Inodes.{node_in, uses_in}
 use Rattle.vt_spec.specs.Tree.{new_directory}
 use Rattle.vt_letting_go.specs.Counts.{inode_uses, mounts_showing, times}
@@ -19,9 +19,12 @@ use Rattle.vt_letting_go.proofs.PlacesLeft.{found_itself, no_layers_of, no_objec
 use Rattle.vt_one_text.specs.OneTree.{times_in}
 use Rattle.vt_one_text.proofs.OneTreeEntries.{one_if}
 use Rattle.vt_one_text.proofs.OneTreeTrees.{times_append}
-use Rattle.vt_count_laws.specs.Using.{LocationsAreUses, MountsAreUses, NewTreeIsCounted, is_inode, is_on, one_counted, places_of}
+use Rattle.vt_count_laws.specs.Counted.{IsCounted}
+use Rattle.vt_count_laws.specs.Going.{LocationsUseMounts, MountsUseFilesystems}
+use Rattle.vt_count_laws.specs.Using.{ExchangesFollow, MountIsPlaced, OthersUseNothing, LocationsAreUses, MountsAreUses, NewTreeIsCounted, OpeningIsCounted, is_inode, is_on, one_counted, places_of, root_counted}
 use Rattle.vt_count_laws.proofs.Listed.{times_is}
-use Rattle.vt_count_laws.proofs.Swept.{found_number, plain_of}
+use Rattle.vt_count_laws.proofs.Swept.{base_of, found_number, plain_of, plain_uses_are}
+use Rattle.vt_count_laws.proofs.TreeCounts.{uses_of}
 
 -- What uses an inode
 
@@ -253,6 +256,122 @@ mounts_are_uses world after front added back filesystems locations were are one 
         let e = count_append new k n (points front) (points back) in
         omega arith
 
+-- A mount that is placed
+
+found_placed : (front back : List (Mount ℕ)) (old new : Mount ℕ) → new.number ≡ old.number → new.filesystem ≡ old.filesystem → (number : ℕ)
+    → (mount_in nat_eq (front ++ (new ∷ back)) number).filesystem ≡ (mount_in nat_eq (front ++ (old ∷ back)) number).filesystem
+found_placed [] back old new numbered shows number =
+    (λ i. (unwrap_or (cond (nat_eq number (numbered i)) (Some new) (find (λ mount. nat_eq number mount.number) back)) (no_mount number)).filesystem) ∙ by (nat_eq number old.number)
+  where
+    by : (b : Bool) → (unwrap_or (cond b (Some new) (find (λ mount. nat_eq number mount.number) back)) (no_mount number)).filesystem
+        ≡ (unwrap_or (cond b (Some old) (find (λ mount. nat_eq number mount.number) back)) (no_mount number)).filesystem
+    by true = shows
+    by false = refl
+found_placed (first ∷ front) back old new numbered shows number = by (nat_eq number first.number) (found_placed front back old new numbered shows number)
+  where
+    by : (b : Bool) → (mount_in nat_eq (front ++ (new ∷ back)) number).filesystem ≡ (mount_in nat_eq (front ++ (old ∷ back)) number).filesystem
+        → (unwrap_or (cond b (Some first) (find (λ mount. nat_eq number mount.number) (front ++ (new ∷ back)))) (no_mount number)).filesystem
+        ≡ (unwrap_or (cond b (Some first) (find (λ mount. nat_eq number mount.number) (front ++ (old ∷ back)))) (no_mount number)).filesystem
+    by true later = refl
+    by false later = later
+
+pub mount_is_placed : MountIsPlaced
+mount_is_placed world after front back old new filesystems locations were are numbered shows rooted k = record {
+  same = same_found world after filesystems k;
+  uses = λ n.
+      located_uses world after filesystems k n (times (is_inode k n) (map (inode_at world) (option_to_list new.mount_point))) (times (is_inode k n) (map (inode_at world) (option_to_list old.mount_point)))
+      (let was : times_in n (located_in nat_eq world k) ≡ count_in olds k n ((all_locations world ++ map root_of olds) ++ points olds)
+      = (λ i. count_in (were i) k n (all_locations world ++ map root_of (were i) ++ points (were i))) in
+      let is : times_in n (located_in nat_eq after k) ≡ count_in olds k n ((all_locations world ++ map root_of olds) ++ points news)
+      = (λ i. count_in (are i) k n (locations i ++ map root_of (are i) ++ points (are i)))
+      ∙ (λ i. times_in n (map (λ location. location.node) (filter (λ (location : Location ℕ). nat_eq k (found_placed front back old new numbered shows location.mount i)) ((all_locations world ++ same_roots i) ++ points news)))) in
+      let a = count_append olds k n (all_locations world ++ map root_of olds) (points olds) in
+      let b = count_append olds k n (all_locations world ++ map root_of olds) (points news) in
+      let c = parts n old in
+      let d = parts n new in
+      let e = gains n (option_to_list new.mount_point) in
+      let f = gains n (option_to_list old.mount_point) in
+      omega arith);
+}
+  where
+    olds : List (Mount ℕ)
+    olds = front ++ (old ∷ back)
+
+    news : List (Mount ℕ)
+    news = front ++ (new ∷ back)
+
+    points : List (Mount ℕ) → List (Location ℕ)
+    points mounts = filter_map (λ mount. mount.mount_point) mounts
+
+    same_roots : map root_of news ≡ map root_of olds
+    same_roots =
+        roots_append front (new ∷ back)
+        ∙ (λ i. map root_of front ++ (record { mount = numbered i; node = rooted i } ∷ map root_of back))
+        ∙ sym (roots_append front (old ∷ back))
+
+    gains : (n : ℕ) (some : List (Location ℕ)) → times (is_inode k n) (map (inode_at world) some) ≡ count_in olds k n some
+    gains n some = (λ i. times (is_inode k n) (map (λ (l : Location ℕ). ((mount_in nat_eq (were i) l.mount).filesystem, l.node)) some)) ∙ count_places olds k n some
+
+    parts : (n : ℕ) (mount : Mount ℕ) → count_in olds k n (points (front ++ (mount ∷ back))) ≡ (count_in olds k n (points front) + count_in olds k n (option_to_list mount.mount_point)) + count_in olds k n (points back)
+    parts n mount =
+        ap (count_in olds k n) (points_append front (mount ∷ back))
+        ∙ by mount.mount_point
+      where
+        by : (o : Option (Location ℕ)) → count_in olds k n (points front ++ cons_option o (points back)) ≡ (count_in olds k n (points front) + count_in olds k n (option_to_list o)) + count_in olds k n (points back)
+        by None = let a = count_append olds k n (points front) (points back) in let none : count_in olds k n [] ≡ 0 = refl in omega arith
+        by (Some place) =
+            let a = count_append olds k n (points front) (place ∷ points back) in
+            let b : count_in olds k n (place ∷ points back) ≡ count_in olds k n (place ∷ []) + count_in olds k n (points back) = count_append olds k n (place ∷ []) (points back) in
+            omega arith
+
+-- Exchanges
+
+times_both : {A : Type 0} (test : A → Bool) (one other : List A) → times test (one ++ other) ≡ times test one + times test other
+times_both test [] other = omega arith
+times_both test (first ∷ rest) other = let later = times_both test rest other in omega arith
+
+pub exchanges_follow : ExchangesFollow
+exchanges_follow world between after gained lost more less k first second = record {
+  same = second.same ∙ first.same;
+  uses = λ n.
+      let a = first.uses n in let b = second.uses n in
+      let c = times_both (is_inode k n) gained more in let d = times_both (is_inode k n) lost less in omega arith;
+}
+
+pub others_use_nothing : OthersUseNothing
+others_use_nothing world after k plain plain_after mounts locations same = record {
+  same = same;
+  uses = λ n.
+      let f = filesystem_numbered nat_eq world k in
+      let one = plain_uses_are world (plain_of world plain) f n in
+      let two = plain_uses_are after (plain_of after plain_after) f n in
+      let there : inode_uses after (filesystem_numbered nat_eq after k) n ≡ inode_uses after f n = ap (λ g. inode_uses after g n) same in
+      let here : base_of after f n ≡ base_of world f n
+      = (λ i. one_if n f.files.tree.root + count_in (mounts i) f.number n (locations i ++ map root_of (mounts i) ++ filter_map (λ mount. mount.mount_point) (mounts i))) in
+      let whole : uses_of (base_of after f) f.files.tree.node f.files.numbers n ≡ uses_of (base_of world f) f.files.tree.node f.files.numbers n
+      = ap (λ m. m + times_in n (named_in f.files)) here in
+      omega arith;
+}
+
+-- Uses of mounts and filesystems
+
+exchanged_times : {A : Type 0} (test : A → Bool) (front one other back : List A) → times test (front ++ (one ++ back)) + times test other ≡ times test (front ++ (other ++ back)) + times test one
+exchanged_times test front one other back =
+    let a = times_both test front (one ++ back) in let b = times_both test one back in
+    let c = times_both test front (other ++ back) in let d = times_both test other back in omega arith
+
+pub locations_use_mounts : LocationsUseMounts
+locations_use_mounts world after gained lost front back was is number =
+    (λ i. times (λ (location : Location ℕ). nat_eq number location.mount) (was i) + times (λ (location : Location ℕ). nat_eq number location.mount) gained)
+    ∙ exchanged_times (λ (location : Location ℕ). nat_eq number location.mount) front lost gained back
+    ∙ (λ i. times (λ (location : Location ℕ). nat_eq number location.mount) (sym is i) + times (λ (location : Location ℕ). nat_eq number location.mount) lost)
+
+pub mounts_use_filesystems : MountsUseFilesystems
+mounts_use_filesystems world after gained lost front back was is number =
+    (λ i. times (λ (mount : Mount ℕ). nat_eq number mount.filesystem) (was i) + times (λ (mount : Mount ℕ). nat_eq number mount.filesystem) gained)
+    ∙ exchanged_times (λ (mount : Mount ℕ). nat_eq number mount.filesystem) front lost gained back
+    ∙ (λ i. times (λ (mount : Mount ℕ). nat_eq number mount.filesystem) (sym is i) + times (λ (mount : Mount ℕ). nat_eq number mount.filesystem) lost)
+
 -- A new tree
 pub new_tree_is_counted : NewTreeIsCounted
 new_tree_is_counted world number root plain one own outside = record {
@@ -323,3 +442,59 @@ new_tree_is_counted world number root plain one own outside = record {
             ≡ cond b 1 0 + cond b (mounts_showing world number) 0
         by true e = refl
         by false e = refl
+
+-- The opening world
+pub opening_is_counted : OpeningIsCounted
+opening_is_counted fresh = subst (λ f. IsCounted world f (one_counted root 4)) (sym found) (record {
+  root = refl;
+  node = λ n. nodes (nat_eq n root);
+  uses = λ n. uses n;
+  count = refl;
+  once = refl;
+})
+  where
+    world : World ℕ
+    world = opening nat_eq fresh
+
+    root : ℕ
+    root = fresh 3
+
+    tree : Filesystem ℕ
+    tree = new_plain nat_eq (fresh 2) root
+
+    found : filesystem_numbered nat_eq world (fresh 2) ≡ tree
+    found = ap (λ b. unwrap_or (cond b (Some tree) None) (no_filesystem (fresh 2))) (eq-eqb (fresh 2) (fresh 2) refl)
+
+    nodes : (b : Bool) → node_in (cond b (Some (root_counted root 4)) None) ≡ cond b (Some (record { attr = root_attr; content = new_directory root })) None
+    nodes true = refl
+    nodes false = refl
+
+    here : Location ℕ
+    here = first_place nat_eq fresh
+
+    is_shown : shown world.mounts (fresh 2) 0 here ≡ true
+    is_shown =
+        ap (λ b. nat_eq (fresh 2) (unwrap_or (cond b (Some (first_mount nat_eq fresh)) None) (no_mount (fresh 0))).filesystem) (eq-eqb (fresh 0) (fresh 0) refl)
+        ∙ eq-eqb (fresh 2) (fresh 2) refl
+
+    one_here : (n : ℕ) (rest : List (Location ℕ)) → count_in world.mounts (fresh 2) n (here ∷ rest) ≡ one_if n root + count_in world.mounts (fresh 2) n rest
+    one_here n rest = ap (λ b. times_in n (map (λ location. location.node) (cond b (here ∷ filter (shown world.mounts (fresh 2) n) rest) (filter (shown world.mounts (fresh 2) n) rest)))) is_shown
+
+    uses : (n : ℕ) → uses_in ((one_counted root 4).inode n) ≡ inode_uses world tree n
+    uses n =
+        by (nat_eq n root)
+        ∙ sym (let split = uses_split world tree n in
+        let bare : times_in n (named_in tree.files) ≡ 0 = ap (λ b. times_in n (targets_in (cond b (Some (record { attr = root_attr; content = new_directory root })) None) ++ [])) (eq-eqb root root refl) in
+        let layers : times_in n (layers_in nat_eq world (fresh 2)) ≡ 0 = refl in
+        let objects : times_in n (flat_map (objects_of_overlay nat_eq (fresh 2)) world.filesystems) ≡ 0 = refl in
+        let a : times_in n (located_in nat_eq world (fresh 2)) ≡ count_in world.mounts (fresh 2) n (here ∷ here ∷ here ∷ []) = refl in
+        let b = one_here n (here ∷ here ∷ []) in
+        let c = one_here n (here ∷ []) in
+        let d = one_here n [] in
+        let none : count_in world.mounts (fresh 2) n [] ≡ 0 = refl in
+        let all : inode_uses world tree n ≡ one_if n root + (one_if n root + (one_if n root + one_if n root)) = omega arith in
+        all)
+      where
+        by : (b : Bool) → uses_in (cond b (Some (root_counted root 4)) None) ≡ cond b 1 0 + (cond b 1 0 + (cond b 1 0 + cond b 1 0))
+        by true = refl
+        by false = refl

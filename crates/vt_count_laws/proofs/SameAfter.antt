@@ -7,7 +7,7 @@ use Rattle.vt_spec.specs.Machine.SameWorlds.{SameFilesystem, SameFilesystems, Sa
 use Rattle.vt_spec.specs.Machine.World.{Filesystem, filesystem_numbered, replaced_if_numbered}
 use Rattle.vt_spec.specs.OneTree.Inodes.{changed, node_in}
 use Rattle.vt_letting_go.specs.TreeChanges.{with_tree}
-use Rattle.vt_count_laws.specs.Changing.{CountedChangesAreSwept, place_of}
+use Rattle.vt_count_laws.specs.Changing.{CountedChangesAreSwept, filesystem_of}
 use Rattle.vt_count_laws.proofs.Changes as Changes
 use Rattle.vt_count_laws.proofs.Listed.{among_by_times, same_numbers_are_permuted}
 
@@ -27,7 +27,7 @@ same_filesystems one other number same (first ∷ rest) =
 
 pub counted_changes_are_swept : CountedChangesAreSwept
 counted_changes_are_swept fresh world location inodes change is files tree once lists =
-    subst (SameWorlds (with_tree world (place_of world location) files)) (sym (Changes.after_is fresh world location inodes change is)) (record {
+    subst (SameWorlds (with_tree world (filesystem_of world location) files)) (sym (Changes.after_is fresh world location inodes change is)) (record {
       mounts = refl;
       master = refl;
       filesystems = same_filesystems (with_files old files) (with_files old left) refl (record { number = refl; files = record { tree = same_tree; numbers = same_numbers }; overlay = refl }) world.filesystems;
@@ -36,7 +36,7 @@ counted_changes_are_swept fresh world location inodes change is files tree once 
     })
   where
     old : Filesystem ℕ
-    old = filesystem_numbered nat_eq world (place_of world location)
+    old = filesystem_numbered nat_eq world (filesystem_of world location)
 
     left : FileTree ℕ
     left = Changes.left fresh world location inodes change is

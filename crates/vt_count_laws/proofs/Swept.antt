@@ -206,16 +206,16 @@ counted_start world filesystem inodes plain tree used counted = record {
 -- The sweep
 module _ (world : World ℕ) (number : ℕ) (files : FileTree ℕ) (in_use : AllInUse world) (plain : LettingGo.IsPlain world)
     (there : is_among nat_eq number (map (λ f. f.number) world.filesystems) ≡ true) where
-  abbrev old : Filesystem ℕ
+  abbrev pub old : Filesystem ℕ
   old = filesystem_numbered nat_eq world number
 
-  abbrev new : Filesystem ℕ
+  abbrev pub new : Filesystem ℕ
   new = with_files old files
 
-  abbrev raw : World ℕ
+  abbrev pub raw : World ℕ
   raw = with_tree world number files
 
-  abbrev used : List ℕ
+  abbrev pub used : List ℕ
   used = used_in nat_eq raw new
 
   abbrev pub swept : FileTree ℕ
@@ -285,7 +285,7 @@ module _ (world : World ℕ) (number : ℕ) (files : FileTree ℕ) (in_use : All
 
   module _ (once : (n : ℕ) → times_in n files.numbers ≡ cond (is_some (files.tree.node n)) 1 0) where
     -- where all are used, all are kept
-    all_kept : list_all (λ n. is_among nat_eq n used) files.numbers ≡ true → files ≡ swept
+    pub all_kept : list_all (λ n. is_among nat_eq n used) files.numbers ≡ true → files ≡ swept
     all_kept all = λ i. record {
       tree = record { root = files.tree.root; node = λ n. kept n i };
       numbers = same i;
@@ -364,7 +364,7 @@ module _ (world : World ℕ) (number : ℕ) (files : FileTree ℕ) (in_use : All
         ∙ sym (plain_uses_are raw (plain_with files) new n)
         ∙ times_is n used
 
-    used_there : (n : ℕ) → is_among nat_eq n used ≡ is_some (inodes.inode n)
+    pub used_there : (n : ℕ) → is_among nat_eq n used ≡ is_some (inodes.inode n)
     used_there n = by (is_some (inodes.inode n)) refl
       where
         unused : (o : Option (Inode ℕ)) → is_some o ≡ false → uses_in o ≡ 0

@@ -35,9 +35,9 @@ pub record IsChange (world : World ℕ) (location : Location ℕ) (inodes : Inod
   pub fits : Fits inodes change
   pub links : LinksWhatIsThere inodes change
 
--- the filesystem that a location is in, by its number
-abbrev pub place_of : World ℕ → Location ℕ → ℕ
-place_of world location = (mount_at nat_eq world location).filesystem
+-- the number of the filesystem that a location is in
+abbrev pub filesystem_of : World ℕ → Location ℕ → ℕ
+filesystem_of world location = (mount_at nat_eq world location).filesystem
 
 -- the world after a change at a location, swept
 abbrev pub after_change : Fresh ℕ → World ℕ → Location ℕ → Change ℕ → World ℕ
@@ -49,7 +49,7 @@ OnlyFilesChange =
     (fresh : Fresh ℕ) (world : World ℕ) (location : Location ℕ) (inodes : Inodes ℕ) (change : Change ℕ)
     → IsChange world location inodes change
     → after_change fresh world location change
-    ≡ with_tree world (place_of world location)
+    ≡ with_tree world (filesystem_of world location)
     (filesystem_at nat_eq (after_change fresh world location change) location).files
 
 -- The changed inodes are those of the filesystem then, with the counts of their uses.
@@ -65,7 +65,7 @@ abbrev pub OtherCountsStay : Type 0
 OtherCountsStay =
     (fresh : Fresh ℕ) (world : World ℕ) (location : Location ℕ) (inodes : Inodes ℕ) (change : Change ℕ)
     → IsChange world location inodes change
-    → (other : ℕ) (others : Inodes ℕ) → other ≢ place_of world location
+    → (other : ℕ) (others : Inodes ℕ) → other ≢ filesystem_of world location
     → IsCounted world (filesystem_numbered nat_eq world other) others
     → IsCounted (after_change fresh world location change)
     (filesystem_numbered nat_eq (after_change fresh world location change) other) others
@@ -77,4 +77,22 @@ CountedChangesAreSwept =
     → IsChange world location inodes change
     → (files : FileTree ℕ) → files.tree ≡ tree_of (changed nat_eq inodes change)
     → any_pair nat_eq files.numbers ≡ false → ListsNumbers nat_eq files
-    → SameWorlds (with_tree world (place_of world location) files) (after_change fresh world location change)
+    → SameWorlds (with_tree world (filesystem_of world location) files) (after_change fresh world location change)
+
+-- bytes, attributes, new names and new inodes: no name goes
+abbrev pub TakesNoName : Change ℕ → Type 0
+TakesNoName (Remove directory name object) = ⊥
+TakesNoName (Move from old to new object) = ⊥
+TakesNoName (Make directory name number node) = ⊤
+TakesNoName (AddName directory name object) = ⊤
+TakesNoName (SetBytes file bytes) = ⊤
+TakesNoName (SetAttr object attr) = ⊤
+TakesNoName (SetMark directory opaque) = ⊤
+TakesNoName (CopyUp object) = ⊤
+
+-- Then nothing goes: open(2) with O_CREAT has its descriptor on the new inode before the sweep.
+abbrev pub NamesKeepAll : Type 0
+NamesKeepAll =
+    (fresh : Fresh ℕ) (world : World ℕ) (location : Location ℕ) (inodes : Inodes ℕ) (change : Change ℕ)
+    → IsChange world location inodes change → TakesNoName change
+    → after_change fresh world location change ≡ with_change nat_eq fresh world location change

@@ -1,9 +1,9 @@
 -- Mounts and filesystems with the counts of their uses: umount(2) with MNT_DETACH.
-use Rattle.std.specs.Prelude.{false, if◌then◌else◌, is_some, nat_eq, nat_lt, true, ℕ, ◌+◌, ◌||◌, ◌≡◌, map}
+use Rattle.std.specs.Prelude.{List, false, if◌then◌else◌, is_some, map, nat_eq, nat_lt, true, ℕ, ◌+◌, ◌++◌, ◌||◌, ◌≡◌}
 use Rattle.vt_spec.specs.Lists.{any_pair, is_among}
-use Rattle.vt_spec.specs.Machine.Mounts.{Mount}
-use Rattle.vt_spec.specs.Machine.World.{World, mount_numbered}
-use Rattle.vt_letting_go.specs.Counts.{mount_uses, mounts_showing}
+use Rattle.vt_spec.specs.Machine.Mounts.{Location, Mount}
+use Rattle.vt_spec.specs.Machine.World.{World, all_locations, mount_numbered}
+use Rattle.vt_letting_go.specs.Counts.{mount_uses, mounts_showing, times}
 use Rattle.vt_letting_go.specs.OneByOne.{let_go_filesystem, let_go_mount, without_filesystem, without_mount}
 use Rattle.vt_count_laws.specs.Counted.{IsPlain}
 
@@ -31,3 +31,21 @@ MountTakesItsCount =
     → mounts_showing world filesystem
     ≡ mounts_showing (without_mount world number) filesystem
     + (if nat_eq filesystem (mount_numbered nat_eq world number).filesystem then 1 else 0)
+
+-- Locations that come to mounts and leave them are as many uses more and less.
+abbrev pub LocationsUseMounts : Type 0
+LocationsUseMounts =
+    (world after : World ℕ) (gained lost front back : List (Location ℕ))
+    → all_locations world ≡ front ++ (lost ++ back) → all_locations after ≡ front ++ (gained ++ back)
+    → (number : ℕ)
+    → mount_uses world number + times (λ location. nat_eq number location.mount) gained
+    ≡ mount_uses after number + times (λ location. nat_eq number location.mount) lost
+
+-- So are mounts of what they show.
+abbrev pub MountsUseFilesystems : Type 0
+MountsUseFilesystems =
+    (world after : World ℕ) (gained lost front back : List (Mount ℕ))
+    → world.mounts ≡ front ++ (lost ++ back) → after.mounts ≡ front ++ (gained ++ back)
+    → (number : ℕ)
+    → mounts_showing world number + times (λ mount. nat_eq number mount.filesystem) gained
+    ≡ mounts_showing after number + times (λ mount. nat_eq number mount.filesystem) lost

@@ -1,15 +1,19 @@
 -- Uses of inodes that come and go with locations and mounts: open(2), close(2), chdir(2), mount(2), umount(2).
-use Rattle.std.specs.Prelude.{Bool, List, None, Some, [], false, filter_map, if◌then◌else◌, is_some, map, nat_eq, not, true, ℕ, ◌&&◌, ◌+◌, ◌++◌, ◌||◌, ◌≡◌}
+use Rattle.std.specs.Prelude.{Bool, List, None, Some, [], false, filter_map, if◌then◌else◌, is_some, map, nat_eq, not, option_to_list, true, ℕ, ◌&&◌, ◌+◌, ◌++◌, ◌||◌, ◌∷◌, ◌≡◌}
 use Rattle.std.specs.List.{list_all}
-use Rattle.vt_spec.specs.Lists.{any_pair, folded, is_among}
+use Rattle.vt_spec.specs.Lists.{Fresh, any_pair, folded, is_among}
 use Rattle.vt_spec.specs.Machine.Mounts.{Location, Mount, root_of}
-use Rattle.vt_spec.specs.Machine.World.{World, all_locations, filesystem_numbered, mount_at, new_plain, root_attr}
+use Rattle.vt_spec.specs.Machine.World.{World, all_locations, filesystem_numbered, mount_at, new_plain, opening, root_attr}
+use Rattle.vt_spec.specs.Machine.WorldLaws.{IsWorld}
+use Rattle.vt_spec.specs.OneTree.Inodes as Trees
 use Rattle.vt_spec.specs.OneTree.Inodes.{Inodes, one_directory, pinned, unpinned}
 use Rattle.vt_spec.specs.Tree.{new_directory}
 use Rattle.vt_letting_go.specs.Counts.{inode_uses, mounts_showing, times}
 use Rattle.vt_letting_go.specs.InUse.{HasTrees, InodesInUse}
-use Rattle.vt_letting_go.specs.Mounting.{inode_at}
-use Rattle.vt_letting_go.specs.OneByOne.{Inode, let_go_inodes}
+use Rattle.vt_letting_go.specs.Keeping.{LocationsStand}
+use Rattle.vt_letting_go.specs.Leaving.{MountsStand}
+use Rattle.vt_letting_go.specs.Mounting.{inode_at, root_inode}
+use Rattle.vt_letting_go.specs.OneByOne.{Inode, is_mount_used, let_go_inodes, without_mount}
 use Rattle.vt_count_laws.specs.Counted.{IsCounted, IsPlain}
 
 -- this inode of this filesystem
@@ -53,6 +57,13 @@ ExchangesTurn =
     (world after : World ℕ) (gained lost : List Inode) (filesystem : ℕ)
     → Exchanges gained lost filesystem world after → Exchanges lost gained filesystem after world
 
+-- One exchange follows another.
+abbrev pub ExchangesFollow : Type 0
+ExchangesFollow =
+    (world between after : World ℕ) (gained lost more less : List Inode) (filesystem : ℕ)
+    → Exchanges gained lost filesystem world between → Exchanges more less filesystem between after
+    → Exchanges (gained ++ more) (lost ++ less) filesystem world after
+
 -- Roots, working directories and descriptors come to locations and leave others.
 abbrev pub LocationsAreUses : Type 0
 LocationsAreUses =
@@ -79,10 +90,49 @@ MountsAreUses =
     → list_all (is_on world.mounts) (all_locations world ++ places_of world.mounts) ≡ true
     → (filesystem : ℕ) → Exchanges (map (inode_at after) (places_of added)) [] filesystem world after
 
--- one empty directory with this count
+-- A mount gets another mount point, or loses its own.
+abbrev pub MountIsPlaced : Type 0
+MountIsPlaced =
+    (world after : World ℕ) (front back : List (Mount ℕ)) (old new : Mount ℕ)
+    → after.filesystems ≡ world.filesystems → all_locations after ≡ all_locations world
+    → world.mounts ≡ front ++ (old ∷ back) → after.mounts ≡ front ++ (new ∷ back)
+    → new.number ≡ old.number → new.filesystem ≡ old.filesystem → new.root ≡ old.root
+    → (filesystem : ℕ)
+    → Exchanges (map (inode_at world) (option_to_list new.mount_point)) (map (inode_at world) (option_to_list old.mount_point))
+    filesystem world after
+
+-- Where other plain filesystems come and go, the uses in this one stay.
+abbrev pub OthersUseNothing : Type 0
+OthersUseNothing =
+    (world after : World ℕ) (filesystem : ℕ) → IsPlain world → IsPlain after
+    → after.mounts ≡ world.mounts → all_locations after ≡ all_locations world
+    → filesystem_numbered nat_eq after filesystem ≡ filesystem_numbered nat_eq world filesystem
+    → Exchanges [] [] filesystem world after
+
+-- Where locations stand, so do the roots and the mount points of mounts.
+abbrev pub PlacesStand : Type 0
+PlacesStand =
+    (world : World ℕ) → MountsStand world → LocationsStand world
+    → list_all (is_on world.mounts) (all_locations world ++ places_of world.mounts) ≡ true
+
+abbrev pub LocationsOfWorldsStand : Type 0
+LocationsOfWorldsStand = (world : World ℕ) → IsWorld nat_eq world → LocationsStand world
+
+-- A mount that goes is one use less of its root.
+abbrev pub MountsLeaveTheirRoots : Type 0
+MountsLeaveTheirRoots =
+    (world : World ℕ) (number : ℕ) → MountsStand world → LocationsStand world
+    → is_among nat_eq number (map (λ mount. mount.number) world.mounts) ≡ true → is_mount_used world number ≡ false
+    → (filesystem : ℕ) → Exchanges [] (root_inode world number ∷ []) filesystem world (without_mount world number)
+
+-- an empty directory that is its own parent, with this count
+abbrev pub root_counted : ℕ → ℕ → Trees.Inode ℕ
+root_counted root uses = record { node = record { attr = root_attr; content = new_directory root }; uses = uses }
+
+-- a tree of one such directory
 abbrev pub one_counted : ℕ → ℕ → Inodes ℕ
 one_counted root uses = record (one_directory nat_eq root root_attr) {
-  inode = λ other. if nat_eq other root then Some (record { node = record { attr = root_attr; content = new_directory root }; uses = uses }) else None;
+  inode = λ other. if nat_eq other root then Some (root_counted root uses) else None;
 }
 
 -- a location is in another filesystem
@@ -97,3 +147,9 @@ NewTreeIsCounted =
     → list_all (λ mount. not (nat_eq number mount.filesystem) || nat_eq root mount.root) world.mounts ≡ true
     → list_all (is_outside world number) (all_locations world ++ filter_map (λ mount. mount.mount_point) world.mounts) ≡ true
     → IsCounted world (new_plain nat_eq number root) (one_counted root (1 + mounts_showing world number))
+
+-- The root directory of the opening world counts itself, the mount, and the root and the working directory of the task.
+abbrev pub OpeningIsCounted : Type 0
+OpeningIsCounted =
+    (fresh : Fresh ℕ)
+    → IsCounted (opening nat_eq fresh) (filesystem_numbered nat_eq (opening nat_eq fresh) (fresh 2)) (one_counted (fresh 3) 4)

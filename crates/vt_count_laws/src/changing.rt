@@ -1,5 +1,5 @@
 //! A change of a plain tree, with the counts of its inodes.
-ghost use Rattle.vt_count_laws.specs.Changing.{CountedChangesAreSwept, CountsFollowChanges, OnlyFilesChange, OtherCountsStay};
+ghost use Rattle.vt_count_laws.specs.Changing.{CountedChangesAreSwept, CountsFollowChanges, NamesKeepAll, OnlyFilesChange, OtherCountsStay};
 ghost use Rattle.vt_count_laws.specs.Numbers.{SameNumbersArePermuted};
 
 /// A change of the counted inodes is the change of the tree and the sweep of the world after it.
@@ -9,6 +9,7 @@ pub fn changes_are_counted()
     ensures only { OnlyFilesChange }
     ensures counts { CountsFollowChanges }
     ensures others { OtherCountsStay }
+    ensures named { NamesKeepAll }
 {}
 
 /// A world that has the tree of the changed inodes, with their numbers in any order, is the world after the change.

@@ -4,4 +4,5 @@
 
 pub mod changing;
 pub mod going;
+pub mod looking;
 pub mod using;

@@ -1,19 +1,43 @@
 //! Locations and mounts that come and go, with the counts of inodes.
-ghost use Rattle.vt_count_laws.specs.Using.{ExchangesTurn, LocationsAreUses, MountsAreUses, NewTreeIsCounted, UsesAreExchanged};
+ghost use Rattle.vt_count_laws.specs.Sweeping.{SameWorldsCountAlike, UsesAreSwept};
+ghost use Rattle.vt_count_laws.specs.Using.{ExchangesFollow, ExchangesTurn, LocationsAreUses, LocationsOfWorldsStand, MountIsPlaced, MountsAreUses, MountsLeaveTheirRoots, NewTreeIsCounted, OpeningIsCounted, OthersUseNothing, PlacesStand, UsesAreExchanged};
 
 /// Where inodes get some uses and lose some, those go that are left with none, and the others count on.
+///
+/// So does the sweep at the end of a call, once mounts and filesystems without a use are gone.
 pub fn uses_are_exchanged()
-    ensures { UsesAreExchanged }
+    ensures one_by_one { UsesAreExchanged }
+    ensures swept { UsesAreSwept }
+{}
+
+/// Uses that are exchanged may be given back, and exchanged again.
+pub fn exchanges_follow_one_another()
+    ensures turned { ExchangesTurn }
+    ensures both { ExchangesFollow }
 {}
 
 /// A location is a use of its inode; a mount is one of its root, and one of its mount point's inode.
 pub fn locations_and_mounts_are_uses()
     ensures locations { LocationsAreUses }
     ensures mounts { MountsAreUses }
-    ensures turned { ExchangesTurn }
+    ensures place { MountIsPlaced }
+    ensures others { OthersUseNothing }
 {}
 
-/// A new tree counts its root, and each mount that shows it.
+/// Locations are on mounts that are there, and a mount on which there is none goes with one use of its root.
+pub fn mounts_leave_their_roots()
+    ensures locations { LocationsOfWorldsStand }
+    ensures places { PlacesStand }
+    ensures root { MountsLeaveTheirRoots }
+{}
+
+/// A new tree counts its root, and each mount that shows it. In the opening world the one task stands there, too.
 pub fn a_new_tree_is_counted()
-    ensures { NewTreeIsCounted }
+    ensures shown { NewTreeIsCounted }
+    ensures opening { OpeningIsCounted }
+{}
+
+/// Worlds that differ in change numbers and in the order of numbers alone have the same counts.
+pub fn same_worlds_count_alike()
+    ensures { SameWorldsCountAlike }
 {}

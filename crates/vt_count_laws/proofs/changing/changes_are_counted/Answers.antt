@@ -1,4 +1,5 @@
 use Rattle.vt_count_laws.proofs.Changes.{counts_follow_changes, only_files_change, other_counts_stay}
+use Rattle.vt_count_laws.proofs.KeptAll.{names_keep_all}
 use Rattle.vt_count_laws.proofs.changing.changes_are_counted.Goals as goal
 
 pub returns-clause-only : goal.returns-clause-only
@@ -9,3 +10,6 @@ returns-clause-counts c = counts_follow_changes
 
 pub returns-clause-others : goal.returns-clause-others
 returns-clause-others c = other_counts_stay
+
+pub returns-clause-named : goal.returns-clause-named
+returns-clause-named c = names_keep_all

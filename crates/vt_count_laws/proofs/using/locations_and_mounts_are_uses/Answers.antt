@@ -1,5 +1,4 @@
-use Rattle.vt_count_laws.proofs.Exchanged.{exchanges_turn}
-use Rattle.vt_count_laws.proofs.Places.{locations_are_uses, mounts_are_uses}
+use Rattle.vt_count_laws.proofs.Places.{locations_are_uses, mount_is_placed, mounts_are_uses, others_use_nothing}
 use Rattle.vt_count_laws.proofs.using.locations_and_mounts_are_uses.Goals as goal
 
 pub returns-clause-locations : goal.returns-clause-locations
@@ -8,5 +7,8 @@ returns-clause-locations c = locations_are_uses
 pub returns-clause-mounts : goal.returns-clause-mounts
 returns-clause-mounts c = mounts_are_uses
 
-pub returns-clause-turned : goal.returns-clause-turned
-returns-clause-turned c = exchanges_turn
+pub returns-clause-place : goal.returns-clause-place
+returns-clause-place c = mount_is_placed
+
+pub returns-clause-others : goal.returns-clause-others
+returns-clause-others c = others_use_nothing

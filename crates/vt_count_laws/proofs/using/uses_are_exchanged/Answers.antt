@@ -1,5 +1,9 @@
 use Rattle.vt_count_laws.proofs.Exchanged.{uses_are_exchanged}
+use Rattle.vt_count_laws.proofs.Sweeps.{uses_are_swept}
 use Rattle.vt_count_laws.proofs.using.uses_are_exchanged.Goals as goal
 
-pub returns : goal.returns
-returns c = uses_are_exchanged
+pub returns-clause-one_by_one : goal.returns-clause-one_by_one
+returns-clause-one_by_one c = uses_are_exchanged
+
+pub returns-clause-swept : goal.returns-clause-swept
+returns-clause-swept c = uses_are_swept

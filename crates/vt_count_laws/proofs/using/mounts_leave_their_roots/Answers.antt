@@ -1,0 +1,11 @@
+use Rattle.vt_count_laws.proofs.MountRoots as Roots
+use Rattle.vt_count_laws.proofs.using.mounts_leave_their_roots.Goals as goal
+
+pub returns-clause-locations : goal.returns-clause-locations
+returns-clause-locations c = Roots.locations_of_worlds_stand
+
+pub returns-clause-places : goal.returns-clause-places
+returns-clause-places c = Roots.places_stand
+
+pub returns-clause-root : goal.returns-clause-root
+returns-clause-root c = Roots.mounts_leave_their_roots
