@@ -1,12 +1,11 @@
 -- Names are given once, and no two tasks have one name.
 use Rattle.std.proofs.Common.{◌≡◌, ◌≢◌, ℕ, ◌+◌, ◌≤◌, ◌<◌, Bool, true, false, cond, ◌&&◌, ◌||◌, List, [], ◌∷◌, ◌++◌, filter, not, nat_eq, Option, Some, None, refl, sym, ap, ◌∙◌, true≢false, arith, eq-eqb, ne_eqb}
-use Rattle.std.specs.Prelude.{find, map, nat_le}
+use Rattle.std.specs.Prelude.{nat_le}
 use Rattle.std.specs.List.{list_all, list_any}
 use Rattle.std.specs.Cmp.Lexicographic.{pointwise}
 use Rattle.std.proofs.lemmas.Bool.{eqb-true, leb-true, le-leb, or_parts}
 use Rattle.vt_spec.proofs.Lists.{pair-filter, pair-map}
 use Rattle.vt_spec.specs.Language.Calls.{TaskName, same_name}
-use Rattle.vt_spec.specs.Lists.{any_pair}
 use Rattle.vt_spec.specs.Machine.Outcome.Tasks.{child_name, child_of}
 use Rattle.vt_spec.specs.Machine.World.{Task, replaced_if_called}
 use Rattle.vt_spec.specs.Rights.{Credentials}
@@ -47,7 +46,7 @@ module _ {X : Type 0} where
   all-kept p q [] keeps e = refl
   all-kept p q (x ∷ xs) keeps e = both _ _ (keeps x (both-first _ _ e)) (all-kept p q xs keeps (both-second _ _ e))
 
-  all-filter : (p test : X → Bool) (xs : List X) → list_all p xs ≡ true → list_all p (filter test xs) ≡ true
+  pub all-filter : (p test : X → Bool) (xs : List X) → list_all p xs ≡ true → list_all p (filter test xs) ≡ true
   all-filter p test [] e = refl
   all-filter p test (x ∷ xs) e = by (test x) (all-filter p test xs (both-second _ _ e))
     where
@@ -55,7 +54,7 @@ module _ {X : Type 0} where
       by true rest = both _ _ (both-first _ _ e) rest
       by false rest = rest
 
-  all-behind : (p : X → Bool) (xs : List X) (y : X) → list_all p xs ≡ true → p y ≡ true → list_all p (xs ++ y ∷ []) ≡ true
+  pub all-behind : (p : X → Bool) (xs : List X) (y : X) → list_all p xs ≡ true → p y ≡ true → list_all p (xs ++ y ∷ []) ≡ true
   all-behind p [] y e last = both _ _ last refl
   all-behind p (x ∷ xs) y e last = both _ _ (both-first _ _ e) (all-behind p xs y (both-second _ _ e) last)
 
@@ -77,7 +76,7 @@ name-of-called name (first ∷ tasks) task found =
     by false same here rest = rest here
 
 -- what holds of each task holds of the one of a name
-all-called : (p : Task ℕ → Bool) (name : TaskName) (task : Task ℕ) (tasks : Tasks)
+pub all-called : (p : Task ℕ → Bool) (name : TaskName) (task : Task ℕ) (tasks : Tasks)
     → list_all p tasks ≡ true → called name tasks ≡ Some task → p task ≡ true
 all-called p name task [] e found = absurd cc
 all-called p name task (first ∷ tasks) e found = by (same_name name first.name) found (all-called p name task tasks (both-second _ _ e))
@@ -99,7 +98,7 @@ name-called p name task (first ∷ tasks) e found =
     by false same here rest = rest here
 
 -- a task gives way to another of its name: what holds of that and of the others
-all-replaced : (p q : Task ℕ → Bool) (new : Task ℕ) (tasks : Tasks) → list_all p tasks ≡ true → q new ≡ true
+pub all-replaced : (p q : Task ℕ → Bool) (new : Task ℕ) (tasks : Tasks) → list_all p tasks ≡ true → q new ≡ true
     → ((other : Task ℕ) → new.name ≢ other.name → p other ≡ true → q other ≡ true) → list_all q (replaced new tasks) ≡ true
 all-replaced p q new [] e here others = refl
 all-replaced p q new (first ∷ tasks) e here others =

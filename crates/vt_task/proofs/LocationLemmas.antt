@@ -1,21 +1,24 @@
 -- How often tasks use locations and namespaces, where one of them changes.
-use Rattle.std.proofs.Common.{◌≡◌, ◌<◌, ℕ, ◌+◌, ◌||◌, Bool, true, false, cond, List, [], ◌∷◌, ◌++◌, filter, map, nat_eq, not, Option, Some, None, refl, sym, ap, ◌∙◌, true≢false, arith, ne_eqb}
-use Rattle.std.specs.Prelude.{find, flat_map, nat_lt}
+use Rattle.std.proofs.Common.{◌≡◌, ◌≢◌, ◌<◌, ℕ, ◌+◌, ◌||◌, Bool, true, false, cond, List, [], ◌∷◌, ◌++◌, filter, map, nat_eq, not, Some, refl, sym, ap, ◌∙◌, arith, eq-eqb, ne_eqb}
+use Rattle.std.specs.Prelude.{count_by, find, nat_lt}
 use Rattle.std.specs.List.{list_any}
-use Rattle.std.proofs.lemmas.Bool.{eqb-true, leb-true, or_parts}
+use Rattle.std.proofs.lemmas.Bool.{eqb-false, eqb-true, leb-true, or_parts}
 use Rattle.std.proofs.lemmas.Bool.Decides.{nat_tests}
 use Rattle.std.proofs.lemmas.List.Concat.{flat_map-cons}
+use Rattle.std.proofs.lemmas.List.Recursion.{is_count_by}
+use Rattle.vt_location.specs.Numbers.{counted}
 use Rattle.vt_spec.specs.Language.Calls.{TaskName, same_name}
 use Rattle.vt_spec.specs.Machine.Mounts.{Location}
-use Rattle.vt_spec.specs.Machine.Namespaces.{entered_at}
 use Rattle.vt_spec.specs.Machine.Outcome.Descriptors.{free_number, inserted, with_descriptor, without_descriptor}
 use Rattle.vt_spec.specs.Machine.Outcome.Tasks.{child_of}
-use Rattle.vt_spec.specs.Machine.World.{Descriptor, Task, World, locations_of}
+use Rattle.vt_spec.specs.Machine.World.{Descriptor, Task, locations_of}
 use Rattle.vt_spec.specs.Machine.WorldLaws.{are_ascending_from}
 use Rattle.vt_task.proofs.GivenOnce.{name-of-called, same_names}
 use Rattle.vt_task.proofs.OpenLemmas.{both-first, both-second}
 use Rattle.vt_task.proofs.TasksLemmas.{put}
 use Rattle.vt_task.specs.Counts.{ClosedUses, DirectoryUses, EnteredUses, ExitedTasks, ExitedUses, ForkedTasks, ForkedUses, HasTasksWhileCounted, MovedUses, OpenedUses, ReplacedTasks, ReplacedUses, RootUses, locations_in, one_if, tasks_in, times, uses}
+use Rattle.vt_task.specs.declared.task.Task.{Task as Held}
+use Rattle.vt_task.specs.TaskValue.{task_of}
 use Rattle.vt_task.specs.TasksValue.{AreNamedApart, Tasks, called, forked_once, replaced, without_called}
 
 -- Where no task has a name
@@ -138,7 +141,7 @@ module _ {A : Type 0} (test : A → Bool) where
       by false e = e ∙ as_many (times test rest)
 
 module _ (test : Location ℕ → Bool) where
-  abbrev weight : Task ℕ → ℕ
+  abbrev pub weight : Task ℕ → ℕ
   weight task = times test (locations_of task)
 
   pub uses-total : (tasks : Tasks) → uses test tasks ≡ total weight tasks
@@ -148,17 +151,41 @@ module _ (test : Location ℕ → Bool) where
       ∙ times-append test (locations_of task) (locations_in tasks)
       ∙ ap (λ n. weight task + n) (uses-total tasks)
 
-tasks_in-total : (namespace : ℕ) (tasks : Tasks) → tasks_in namespace tasks ≡ total (λ task. one_if (nat_eq namespace task.namespace)) tasks
+pub tasks_in-total : (namespace : ℕ) (tasks : Tasks) → tasks_in namespace tasks ≡ total (λ task. one_if (nat_eq namespace task.namespace)) tasks
 tasks_in-total namespace [] = refl
 tasks_in-total namespace (task ∷ tasks) = ap (λ n. one_if (nat_eq namespace task.namespace) + n) (tasks_in-total namespace tasks)
 
+same_counts : (n k : ℕ) → nat_eq (counted n) (counted k) ≡ nat_eq k n
+same_counts n k = by (nat_eq k n) (eqb-true k n) (eqb-false k n)
+  where
+    by : (b : Bool) → (b ≡ true → k ≡ n) → (b ≡ false → k ≢ n) → nat_eq (counted n) (counted k) ≡ b
+    by true same apart = eq-eqb (counted n) (counted k) (ap counted (sym (same refl)))
+    by false same apart = ne_eqb (counted n) (counted k) (λ e. apart refl (omega (arith, e)))
+
+-- the tasks in a namespace, by the count of that
+pub tasks_in-values : (count : ℕ) (tasks : List Held)
+    → tasks_in (counted count) (map task_of tasks) ≡ count_by (λ task. nat_eq task.namespace.count count) tasks
+tasks_in-values count tasks =
+    is_count_by (λ others. tasks_in (counted count) (map task_of others)) (λ task. nat_eq task.namespace.count count) refl more tasks
+  where
+    by : (b : Bool) (n : ℕ) → one_if b + n ≡ cond b (1 + n) n
+    by true n = refl
+    by false n = omega arith
+
+    more : (task : Held) (others : List Held)
+        → tasks_in (counted count) (map task_of (task ∷ others))
+        ≡ cond (nat_eq task.namespace.count count) (1 + tasks_in (counted count) (map task_of others)) (tasks_in (counted count) (map task_of others))
+    more task others =
+        ap (λ b. one_if b + tasks_in (counted count) (map task_of others)) (same_counts count task.namespace.count)
+        ∙ by (nat_eq task.namespace.count count) (tasks_in (counted count) (map task_of others))
+
 -- Open files
 
-abbrev place_of : Descriptor ℕ → Location ℕ
+abbrev pub place_of : Descriptor ℕ → Location ℕ
 place_of descriptor = descriptor.location
 
 module _ (test : Location ℕ → Bool) where
-  abbrev files : List (Descriptor ℕ) → ℕ
+  abbrev pub files : List (Descriptor ℕ) → ℕ
   files descriptors = times test (map place_of descriptors)
 
   files-inserted : (new : Descriptor ℕ) (descriptors : List (Descriptor ℕ)) → files (inserted new descriptors) ≡ files descriptors + one_if (test new.location)

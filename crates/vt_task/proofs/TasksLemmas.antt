@@ -1,11 +1,11 @@
 -- Tasks as the map keeps them, each under its name, and as contracts see them.
 use Rattle.std.proofs.Common.{◌<◌, ◌||◌, Result, Ok, Err, IfOk, IfErr, OnOk, OnErr, if◌then◌else◌, le-leb, ◌≡◌, ℕ, ◌+◌, ◌≤◌, Bool, true, false, cond, List, [], ◌∷◌, ◌++◌, not, length, map, nat_eq, Option, Some, None, option_map, refl, sym, ap, ◌∙◌, true≢false, subst}
-use Rattle.std.specs.Prelude.{find, nat_le}
+use Rattle.std.specs.Prelude.{nat_le}
 use Rattle.std.specs.declared.vec.Vec.{Vec}
 use Rattle.std.specs.Cmp.Lexicographic.{pointwise}
 use Rattle.std.proofs.lemmas.Cmp.{nat_list_eq_equiv}
 use Rattle.std.proofs.lemmas.Bool.{lt-leb}
-use Rattle.std.specs.List.{AllByRecursion, IsDistinct}
+use Rattle.std.specs.List.{AllByRecursion, IsDistinct, list_all}
 use Rattle.std.proofs.lemmas.Map.Keys.{IsDistinct-head, IsDistinct-tail}
 use Rattle.std.specs.Map.{keys_of, lookup, remove_entry, set_value, values_of}
 use Rattle.indexmap.specs.IndexMap.{IndexMap, IsUnique, WritesThrough, get_by, insert_entry}
@@ -15,16 +15,18 @@ use Rattle.vt_spec.specs.declared.errors.Rule.TheVariants.{S3, S5, S6}
 use Rattle.vt_spec.specs.Errors.{denial}
 use Rattle.vt_spec.specs.Language.Calls.{TaskName, same_name}
 use Rattle.vt_spec.specs.Language.Limits.{deepest_name, most_descriptors, most_forks}
-use Rattle.vt_spec.specs.Machine.Outcome.Descriptors.{inserted}
+use Rattle.vt_spec.specs.Machine.Outcome.Descriptors.{free_from, inserted}
 use Rattle.vt_spec.specs.Machine.Outcome.Tasks.{child_name, child_of}
 use Rattle.vt_spec.specs.Machine.World.{Descriptor, Task, replaced_if_called}
+use Rattle.vt_spec.specs.Machine.WorldLaws.{are_ascending_from}
 use Rattle.vt_spec.specs.Rights.{Credentials}
-use Rattle.vt_task.proofs.GivenOnce.{apart-forked, apart-replaced, apart-without, child-new, given-changed, given-forked, given-without, name-of-called, other-child, same_names}
+use Rattle.vt_task.proofs.GivenOnce.{all-behind, all-called, all-filter, all-replaced, apart-forked, apart-replaced, apart-without, child-new, given-changed, given-forked, given-without, name-of-called, other-child, same_names}
+use Rattle.vt_task.proofs.OrderLemmas.{rising-inserted}
 use Rattle.vt_task.specs.declared.descriptors.OpenFile.{OpenFile}
 use Rattle.vt_task.specs.declared.task.Task.{Task as Held}
 use Rattle.vt_task.specs.Open.{numbered}
 use Rattle.vt_task.specs.TaskValue.{task_of}
-use Rattle.vt_task.specs.TasksValue.{AreFit, AreKeyed, AreNamedApart, Tasks, are_given_once, called, changed_by, changed_called, fork_refusal, forked, forked_by, forked_once, open_refusal, replaced, tasks_of, with_child_behind, without_called}
+use Rattle.vt_task.specs.TasksValue.{AreFit, AreKeyed, AreNamedApart, Tasks, are_given_once, called, changed_by, changed_called, fork_refusal, forked, forked_by, forked_once, has_files_in_order, open_refusal, replaced, tasks_of, with_child_behind, without_called}
 
 -- the tasks with this one in the place of the one of a name
 abbrev pub put_if : TaskName → Task ℕ → Task ℕ → Task ℕ
@@ -151,6 +153,8 @@ module _ {A : Type 0} where
         subst AreKeyed (sym is) (keyed-removed (is_key name) es fit.0),
         ap are_given_once so ∙ given-without name (tasks_of es) fit.1,
         subst AreNamedApart (sym so) (apart-without name (tasks_of es) fit.2),
+        ap (list_all has_files_in_order) so
+            ∙ all-filter has_files_in_order (λ task. not (same_name name task.name)) (tasks_of es) fit.3,
       )
 
   -- a task that is written back as it was changes nothing
@@ -187,14 +191,22 @@ module _ {A S : Type 0} (name : TaskName) (m n : IndexMap (Vec ℕ A) Held S) (f
       ∙ ap (λ task. replaced task (tasks_of m.entries)) is
       ∙ sym (ap (changed_by change (tasks_of m.entries)) (called-found x found))
 
+  in_order : (x : Held) → get_by (is_key name) m ≡ Some x → has_files_in_order (task_of x) ≡ true
+  in_order x found = all-called has_files_in_order name (task_of x) (tasks_of m.entries) fit.3 (called-found x found)
+
+  files-replaced : (old new : Task ℕ) → called name (tasks_of m.entries) ≡ Some old → has_files_in_order new ≡ true
+      → list_all has_files_in_order (replaced new (tasks_of m.entries)) ≡ true
+  files-replaced old new found files = all-replaced has_files_in_order has_files_in_order new (tasks_of m.entries) fit.3 files (λ other apart e. e)
+
   pub written-fit : (x w : Held) → get_by (is_key name) m ≡ Some x → w.name ≡ x.name → IsUnique key_eq m → WritesThrough key_eq (is_key name) m w n
-      → x.forks ≤ w.forks → AreFit n.entries
-  written-fit x w found same unique writes le =
+      → x.forks ≤ w.forks → (has_files_in_order (task_of x) ≡ true → has_files_in_order (task_of w) ≡ true) → AreFit n.entries
+  written-fit x w found same unique writes le files =
       let own = same ∙ name-found x found in
       let so = written w own unique writes in (
         subst AreKeyed (sym writes.0) (keyed-set_value name w m.entries fit.0 own),
         ap are_given_once so ∙ given-changed name (task_of x) (task_of w) (tasks_of m.entries) fit.1 (called-found x found) same le,
         subst AreNamedApart (sym so) (apart-replaced (task_of w) (tasks_of m.entries) fit.2),
+        ap (list_all has_files_in_order) so ∙ files-replaced (task_of x) (task_of w) (called-found x found) (files (in_order x found)),
       )
 
   pub written-same : (x w : Held) → w ≡ x → get_by (is_key name) m ≡ Some x → WritesThrough key_eq (is_key name) m w n → n.entries ≡ m.entries
@@ -272,6 +284,13 @@ pub opened-under : (r : Result ℕ Deny) (held : OpenFile) (free : ℕ) (old new
     → IfOk r (λ number. new ≡ inserted (numbered number held) old) → OnOk r (new ≡ inserted (numbered free held) old)
 opened-under (Ok number) held free old new here is = is ∙ ap (λ number. inserted (numbered number held) old) here
 opened-under (Err e) held free old new here is = tt
+
+-- and the others stay in order
+pub opened-in_order : (r : Result ℕ Deny) (held : OpenFile) (old new : List (Descriptor ℕ)) → IfOk r (λ number. number ≡ free_from 0 old)
+    → IfOk r (λ number. new ≡ inserted (numbered number held) old) → OnErr r (new ≡ old) → are_ascending_from 0 old ≡ true → are_ascending_from 0 new ≡ true
+opened-in_order (Ok number) held old new here is same rising =
+    ap (are_ascending_from 0) is ∙ rising-inserted (numbered number held) 0 old rising (sym here)
+opened-in_order (Err e) held old new here is same rising = ap (are_ascending_from 0) same ∙ rising
 
 -- Why a call is refused
 
@@ -390,4 +409,7 @@ module _ {A S : Type 0} (name : TaskName) (m middle n : IndexMap (Vec ℕ A) Hel
         subst AreKeyed (sym writes.0) (keyed-set_value name w middle.entries keyed-middle (ap (λ (task : Task ℕ). task.name) once ∙ own)),
         ap are_given_once so ∙ given-forked name (task_of parent) (tasks_of m.entries) fit.1 here credentials,
         subst AreNamedApart (sym so) (apart-forked name (task_of parent) (tasks_of m.entries) fit.1 here credentials fit.2),
+        ap (list_all has_files_in_order) so
+            ∙ all-behind has_files_in_order (replaced (forked_once (task_of parent)) (tasks_of m.entries)) (child_of (task_of parent) credentials)
+            (files-replaced name m m fit (task_of parent) (forked_once (task_of parent)) here (in_order name m m fit parent is)) refl,
       )

@@ -1,8 +1,8 @@
 -- How often tasks use locations and namespaces, before and after one of them changes.
-use Rattle.std.specs.Prelude.{Bool, List, Option, Some, [], flat_map, if◌then◌else◌, nat_eq, nat_lt, true, ℕ, ◌+◌, ◌∷◌, ◌≡◌}
+use Rattle.std.specs.Prelude.{Bool, List, Some, [], flat_map, if◌then◌else◌, map, nat_eq, nat_lt, true, ℕ, ◌+◌, ◌∷◌, ◌≡◌}
 use Rattle.vt_spec.specs.Language.Calls.{Access, TaskName}
-use Rattle.vt_spec.specs.Machine.Mounts.{Location}
-use Rattle.vt_spec.specs.Machine.Namespaces.{entered_at, has_tasks}
+use Rattle.vt_spec.specs.Machine.Mounts.{Location, Mount, root_of, same_location}
+use Rattle.vt_spec.specs.Machine.Namespaces.{entered_at, has_tasks, pivoted_task}
 use Rattle.vt_spec.specs.Machine.Outcome.Descriptors.{with_descriptor, without_descriptor}
 use Rattle.vt_spec.specs.Machine.Outcome.Tasks.{child_of}
 use Rattle.vt_spec.specs.Machine.Rules.Descriptors.{descriptor_numbered}
@@ -30,6 +30,17 @@ uses test tasks = times test (locations_in tasks)
 -- how many tasks are in a namespace
 abbrev pub tasks_in : ℕ → Tasks → ℕ
 tasks_in namespace tasks = times (λ task. nat_eq namespace task.namespace) tasks
+
+-- how many roots and working directories of a namespace's tasks are at a location
+abbrev pub places_at : ℕ → Location ℕ → Task ℕ → ℕ
+places_at namespace place task =
+    if nat_eq namespace task.namespace then
+    one_if (same_location nat_eq task.root place) + one_if (same_location nat_eq task.directory place)
+    else 0
+
+abbrev pub all_places_at : ℕ → Location ℕ → Tasks → ℕ
+all_places_at namespace place [] = 0
+all_places_at namespace place (task ∷ tasks) = places_at namespace place task + all_places_at namespace place tasks
 
 -- Locations: `task` is the task of a name
 
@@ -95,6 +106,14 @@ ExitedUses =
     → called name tasks ≡ Some task
     → uses test (without_called name tasks) + times test (locations_of task) ≡ uses test tasks
 
+-- what is moved by a pivot was at the root of the first mount, and is at that of the second
+abbrev pub PivotedUses : Type 0
+PivotedUses =
+    (test : Location ℕ → Bool) (tasks : Tasks) (namespace : ℕ) (root new : Mount ℕ)
+    → uses test (map (pivoted_task nat_eq namespace root new) tasks)
+    + (if test (root_of root) then all_places_at namespace (root_of root) tasks else 0)
+    ≡ uses test tasks + (if test (root_of new) then all_places_at namespace (root_of root) tasks else 0)
+
 -- Namespaces
 
 abbrev pub HasTasksWhileCounted : Type 0
@@ -108,6 +127,11 @@ ReplacedTasks =
     → called name tasks ≡ Some task → new.name ≡ task.name
     → tasks_in namespace (replaced new tasks) + one_if (nat_eq namespace task.namespace)
     ≡ tasks_in namespace tasks + one_if (nat_eq namespace new.namespace)
+
+abbrev pub PivotedTasks : Type 0
+PivotedTasks =
+    (number : ℕ) (tasks : Tasks) (namespace : ℕ) (root new : Mount ℕ)
+    → tasks_in number (map (pivoted_task nat_eq namespace root new) tasks) ≡ tasks_in number tasks
 
 abbrev pub ForkedTasks : Type 0
 ForkedTasks =

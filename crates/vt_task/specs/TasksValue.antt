@@ -1,7 +1,6 @@
 -- What contracts see of tasks: a list, as the worlds of the definitions have it.
 use Rattle.std.specs.Prelude.{Bool, List, None, Option, Some, [], false, filter, find, if◌then◌else◌, length, map, nat_eq, nat_le, not, true, ℕ, ◌+◌, ◌++◌, ◌==◌, ◌||◌, ◌∷◌, ◌≡◌}
 use Rattle.std.specs.List.{AllByRecursion, list_all}
-use Rattle.std.specs.Map.{values_of}
 use Rattle.std.specs.declared.vec.Vec.{Vec}
 use Rattle.vt_spec.specs.declared.errors.Deny.{Deny}
 use Rattle.vt_spec.specs.declared.errors.Rule.TheVariants.{S2, S3, S5, S6}
@@ -14,6 +13,7 @@ use Rattle.vt_spec.specs.Machine.Namespaces.{entered_at}
 use Rattle.vt_spec.specs.Machine.Outcome.Descriptors.{with_descriptor}
 use Rattle.vt_spec.specs.Machine.Outcome.Tasks.{child_of}
 use Rattle.vt_spec.specs.Machine.World.{Task, first_task, replaced_if_called}
+use Rattle.vt_spec.specs.Machine.WorldLaws.{are_ascending_from}
 use Rattle.vt_spec.specs.Rights.{Credentials}
 use Rattle.vt_location.specs.Locations.{location_of}
 use Rattle.vt_location.specs.Numbers.{counted}
@@ -92,6 +92,10 @@ fork_refusal (Some task) =
 abbrev pub AreNamedApart : Tasks → Type 0
 AreNamedApart tasks = any_pair (λ a b. same_name a.name b.name) tasks ≡ false
 
+-- each has its open files in the order of their numbers
+abbrev pub has_files_in_order : Task ℕ → Bool
+has_files_in_order task = are_ascending_from 0 task.descriptors
+
 -- whether a name, if it goes on from another's, goes on by the number of one of these many forks
 abbrev pub is_of_forks : ℕ → TaskName → TaskName → Bool
 is_of_forks forks [] [] = true
@@ -118,4 +122,6 @@ module _ {A : Type 0} where
   AreKeyed entries = AllByRecursion (λ entry. entry.0.items ≡ entry.1.name) entries
 
   abbrev pub AreFit : List (Vec ℕ A × Held) → Type 0
-  AreFit entries = AreKeyed entries × (are_given_once (tasks_of entries) ≡ true) × AreNamedApart (tasks_of entries)
+  AreFit entries =
+      AreKeyed entries × (are_given_once (tasks_of entries) ≡ true) × AreNamedApart (tasks_of entries)
+      × (list_all has_files_in_order (tasks_of entries) ≡ true)

@@ -1,7 +1,9 @@
 -- A list of tasks changes as the tasks of a world do.
-use Rattle.std.specs.Prelude.{List, Option, Some, [], ℕ, ◌∷◌, ◌≡◌, nat_eq}
+use Rattle.std.specs.Prelude.{Some, [], map, ℕ, ◌∷◌, ◌≡◌, nat_eq}
 use Rattle.vt_spec.specs.Language.Calls.{TaskName}
 use Rattle.vt_spec.specs.Lists.{Fresh}
+use Rattle.vt_spec.specs.Machine.Mounts.{Location, Mount}
+use Rattle.vt_spec.specs.Machine.Namespaces.{pivoted, pivoted_task}
 use Rattle.vt_spec.specs.Machine.Outcome.Tasks.{with_child}
 use Rattle.vt_spec.specs.Machine.World.{Task, World, all_locations, first_place, opening, task_called, with_task, without_task}
 use Rattle.vt_task.specs.Counts.{locations_in}
@@ -23,6 +25,11 @@ OneGoes = (world : World ℕ) (name : TaskName) → (without_task world name).ta
 abbrev pub OneIsForked : Type 0
 OneIsForked =
     (world : World ℕ) (task child : Task ℕ) → (with_child world task child).tasks ≡ with_child_behind task child world.tasks
+
+abbrev pub TasksArePivoted : Type 0
+TasksArePivoted =
+    (world : World ℕ) (namespace : ℕ) (root new : Mount ℕ) (put : Location ℕ)
+    → (pivoted nat_eq world namespace root new put).tasks ≡ map (pivoted_task nat_eq namespace root new) world.tasks
 
 abbrev pub LocationsAreOfTasks : Type 0
 LocationsAreOfTasks = (world : World ℕ) → all_locations world ≡ locations_in world.tasks

@@ -1,7 +1,7 @@
 //! Lists of tasks: what they are to the worlds of the definitions, and how often they use locations and namespaces. Each public
 //! function is a theorem, and does nothing.
-ghost use Rattle.vt_task.specs.Counts.{ClosedUses, DirectoryUses, EnteredUses, ExitedTasks, ExitedUses, ForkedTasks, ForkedUses, HasTasksWhileCounted, MovedUses, OpenedUses, ReplacedTasks, ReplacedUses, RootUses};
-ghost use Rattle.vt_task.specs.WorldTasks.{LocationsAreOfTasks, OneGoes, OneIsCalled, OneIsForked, OneIsReplaced, OpensWithTheFirst, TheCalledHasTheName, TheCalledIsReplaced};
+ghost use Rattle.vt_task.specs.Counts.{ClosedUses, DirectoryUses, EnteredUses, ExitedTasks, ExitedUses, ForkedTasks, ForkedUses, HasTasksWhileCounted, MovedUses, OpenedUses, PivotedTasks, PivotedUses, ReplacedTasks, ReplacedUses, RootUses};
+ghost use Rattle.vt_task.specs.WorldTasks.{LocationsAreOfTasks, OneGoes, OneIsCalled, OneIsForked, OneIsReplaced, OpensWithTheFirst, TasksArePivoted, TheCalledHasTheName, TheCalledIsReplaced};
 
 /// A list of tasks changes as the tasks of a world do.
 pub fn tasks_change_as_in_worlds()
@@ -10,18 +10,21 @@ pub fn tasks_change_as_in_worlds()
     ensures replaced { OneIsReplaced }
     ensures without { OneGoes }
     ensures forked { OneIsForked }
+    ensures pivoted { TasksArePivoted }
     ensures locations { LocationsAreOfTasks }
     ensures changed { TheCalledIsReplaced }
     ensures name { TheCalledHasTheName }
 {}
 
-/// How many roots, working directories and open files pass a test, where one task changes, forks or ends.
+/// How many roots, working directories and open files pass a test, where one task changes, forks or ends, or
+/// where tasks are moved by a pivot.
 pub fn uses_of_locations_are_counted()
     ensures replaced { ReplacedUses }
     ensures directory { DirectoryUses }
     ensures root { RootUses }
     ensures entered { EnteredUses }
     ensures moved { MovedUses }
+    ensures pivoted { PivotedUses }
     ensures opened { OpenedUses }
     ensures closed { ClosedUses }
     ensures forked { ForkedUses }
@@ -32,6 +35,7 @@ pub fn uses_of_locations_are_counted()
 pub fn tasks_of_namespaces_are_counted()
     ensures used { HasTasksWhileCounted }
     ensures replaced { ReplacedTasks }
+    ensures pivoted { PivotedTasks }
     ensures forked { ForkedTasks }
     ensures exited { ExitedTasks }
 {}

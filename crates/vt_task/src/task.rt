@@ -1,7 +1,9 @@
 //! A task: credentials(7), umask(2), fork(2).
-ghost use Rattle.std.specs.Prelude.{◌≡◌, ◌<◌, IfOk};
+ghost use Rattle.std.specs.Prelude.{◌≡◌, ◌<◌, nat_eq, IfOk};
+ghost use Rattle.vt_spec.specs.Machine.Namespaces.{pivoted_location, pivoted_task};
 ghost use Rattle.vt_spec.specs.Machine.Outcome.Tasks.{child_of};
 ghost use Rattle.vt_location.specs.Locations.{location_of};
+ghost use Rattle.vt_location.specs.MountValue.{mount_of};
 ghost use Rattle.vt_location.specs.Numbers.{counted};
 ghost use Rattle.vt_task.specs.TaskValue.{task_of};
 ghost use Rattle.vt_task.specs.TasksValue.{first_task_at};
@@ -9,7 +11,7 @@ ghost use Rattle.vt_task.specs.TasksValue.{first_task_at};
 use crate::descriptors::Descriptors;
 use std::alloc::{AllocError, Global};
 use vt_cred::{Cred, Mode};
-use vt_location::{Location, NamespaceId};
+use vt_location::{Location, Mount, NamespaceId};
 use vt_request::TaskName;
 
 /// The most forks of a task: RLIMIT_NPROC of setrlimit(2).
@@ -80,5 +82,28 @@ impl Task {
             descriptors: Descriptors::new(alloc),
             forks: 0,
         })
+    }
+
+    /// Where it is in this namespace, moves its root and its working directory from the root of the first mount to that of the
+    /// second: pivot_root(2). It takes no memory.
+    pub fn pivot(&mut self, namespace: NamespaceId, root: &Mount, new: &Mount)
+        ensures { task_of self.new
+            ≡ pivoted_task nat_eq (counted namespace.count) (mount_of root.now) (mount_of new.now) (task_of self.old) }
+    {
+        if self.namespace == namespace {
+            self.root = pivoted(self.root, root, new);
+            self.directory = pivoted(self.directory, root, new);
+        }
+    }
+}
+
+/// A location, or the root of the second mount where it is the root of the first.
+fn pivoted(at: Location, root: &Mount, new: &Mount) -> Location
+    ensures { location_of result ≡ pivoted_location nat_eq (mount_of root.now) (mount_of new.now) (location_of at) }
+{
+    if at == root.root_location() {
+        new.root_location()
+    } else {
+        at
     }
 }

@@ -1,8 +1,9 @@
 //! The tasks that there are, by their names.
-ghost use Rattle.std.specs.Prelude.{◌≡◌, ◌<◌, [], ◌∷◌, length, map, Some, IfOk, IfErr, OnOk, OnErr, option_map, option_copied};
+ghost use Rattle.std.specs.Prelude.{◌≡◌, ◌<◌, [], ◌∷◌, length, map, nat_eq, true, Some, IfOk, IfErr, OnOk, OnErr, option_map, option_copied};
+ghost use Rattle.std.specs.List.{list_all};
 ghost use Rattle.std.specs.Option.{option_and_then};
 ghost use Rattle.vt_spec.specs.Language.Limits.{deepest_name};
-ghost use Rattle.vt_spec.specs.Machine.Namespaces.{entered_at};
+ghost use Rattle.vt_spec.specs.Machine.Namespaces.{entered_at, pivoted_task};
 ghost use Rattle.vt_spec.specs.Machine.Outcome.Descriptors.{free_number, without_descriptor};
 ghost use Rattle.vt_spec.specs.Machine.Outcome.Tasks.{child_name, with_dropped};
 ghost use Rattle.vt_spec.specs.Machine.Rules.Descriptors.{descriptor_numbered};
@@ -10,18 +11,21 @@ ghost use Rattle.vt_spec.specs.declared.errors.Rule.TheVariants.{S5};
 ghost use Rattle.vt_spec.specs.Errors.{denial};
 ghost use Rattle.vt_cred.specs.Caps.{capability_bits};
 ghost use Rattle.vt_location.specs.Locations.{location_of};
+ghost use Rattle.vt_location.specs.MountValue.{mount_of};
 ghost use Rattle.vt_location.specs.Numbers.{counted};
+ghost use Rattle.vt_task.specs.Counts.{tasks_in};
 ghost use Rattle.vt_task.specs.Open.{numbered};
 ghost use Rattle.vt_task.specs.TaskValue.{task_of};
-ghost use Rattle.vt_task.specs.TasksValue.{AreNamedApart, called, changed_called, first_task_at, fork_refusal, forked, left_by, left_of, open_refusal, with_open, without_called};
+ghost use Rattle.vt_task.specs.TasksValue.{AreNamedApart, called, changed_called, first_task_at, fork_refusal, forked, has_files_in_order, left_by, left_of, open_refusal, with_open, without_called};
 
 use crate::descriptors::{MAX_DESCRIPTORS, OpenFile};
 use crate::task::{Left, MAX_DEPTH, MAX_FORKS, Task};
 use indexmap::IndexMap;
 use std::alloc::Global;
 use std::marker::Model;
+use std::mem;
 use vt_cred::{Caps, Cred, Mode};
-use vt_location::{Location, NamespaceId};
+use vt_location::{Location, Mount, NamespaceId};
 use vt_request::TaskName;
 use vt_spec::errors::{Deny, Rule};
 
@@ -65,6 +69,13 @@ impl Tasks {
         let _ = &self.by_name;
     }
 
+    /// Each task has its open files in the order of their numbers.
+    pub fn files_are_in_order(&self)
+        ensures { list_all has_files_in_order self.now ≡ true }
+    {
+        let _ = &self.by_name;
+    }
+
     /// The task of this name.
     pub fn get(&self, name: &TaskName) -> Option<&Task>
         ensures { option_map task_of (option_copied result) ≡ called name.now self.now }
@@ -74,7 +85,8 @@ impl Tasks {
 
     /// The namespace of the task of this name.
     pub fn namespace_called(&self, name: &TaskName) -> Option<NamespaceId>
-        ensures { option_map (λ namespace. counted namespace.count) result ≡ option_map (λ task. task.namespace) (called name.now self.now) }
+        ensures { option_map (λ namespace. counted namespace.count) result
+            ≡ option_map (λ task. task.namespace) (called name.now self.now) }
     {
         let task = self.get(name)?;
         Some(task.namespace)
@@ -85,6 +97,16 @@ impl Tasks {
         ensures { map task_of result.now ≡ self.now }
     {
         self.by_name.values().as_slice()
+    }
+
+    /// How many tasks are in a namespace.
+    pub fn count_in(&self, namespace: NamespaceId) -> usize
+        ensures { result ≡ tasks_in (counted namespace.count) self.now }
+    {
+        self.by_name
+            .values()
+            .filter(|task| task.namespace == namespace)
+            .count()
     }
 
     /// Sets the umask of a task: umask(2). It takes no memory.
@@ -113,9 +135,7 @@ impl Tasks {
         ensures rest { self.new ≡ changed_called name.now (λ task. record task { directory = location_of directory }) self.old }
     {
         let task = self.by_name.get_mut(name.numbers())?;
-        let left = task.directory;
-        task.directory = directory;
-        Some(left)
+        Some(mem::replace(&mut task.directory, directory))
     }
 
     /// Sets the root of a task, and tells which it had: chroot(2). It takes no memory.
@@ -124,16 +144,15 @@ impl Tasks {
         ensures rest { self.new ≡ changed_called name.now (λ task. record task { root = location_of root }) self.old }
     {
         let task = self.by_name.get_mut(name.numbers())?;
-        let left = task.root;
-        task.root = root;
-        Some(left)
+        Some(mem::replace(&mut task.root, root))
     }
 
     /// Moves a task into a namespace, to this directory as its root and its working directory, and tells what it left: setns(2).
     /// It takes no memory.
     pub fn enter(&mut self, name: &TaskName, namespace: NamespaceId, root: Location) -> Option<Left>
         ensures left { option_map left_of result ≡ option_map left_by (called name.now self.old) }
-        ensures rest { self.new ≡ changed_called name.now (λ task. entered_at task (counted namespace.count) (location_of root)) self.old }
+        ensures rest { self.new
+            ≡ changed_called name.now (λ task. entered_at task (counted namespace.count) (location_of root)) self.old }
     {
         self.move_root_and_directory(name, namespace, root, root)
     }
@@ -163,6 +182,18 @@ impl Tasks {
         task.root = root;
         task.directory = directory;
         Some(left)
+    }
+
+    /// Moves the roots and working directories of a namespace's tasks from the root of the first mount to that of the second:
+    /// pivot_root(2). It takes no memory.
+    pub fn pivot(&mut self, namespace: NamespaceId, root: &Mount, new: &Mount)
+        ensures { self.new ≡ map (pivoted_task nat_eq (counted namespace.count) (mount_of root.now) (mount_of new.now)) self.old }
+    {
+        for index in 0..self.by_name.len() {
+            if let Some(task) = self.by_name.get_index_mut(index) {
+                task.pivot(namespace, root, new);
+            }
+        }
     }
 
     /// Opens a file of a task under the least number that is free, and tells that number: open(2).

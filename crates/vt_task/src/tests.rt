@@ -25,7 +25,10 @@ fn a_task_forks_and_opens_files(rt: HostRuntime) -> Result<(), Fail> {
     let mut tasks = Tasks::new(rt.alloc(), NamespaceId::new(3), directory(0))?;
     let child = tasks.fork(&TaskName::new(rt.alloc()), Cred::root(rt.alloc()))?;
     assert_eq!(rt; child.numbers(), [1].as_slice());
-    assert_eq!(rt; tasks.set_directory(&child, directory(5)), Some(directory(0)));
+    assert_eq!(rt;
+        tasks.set_directory(&child, directory(5)),
+        Some(directory(0))
+    );
     assert_eq!(rt; tasks.open(&child, reading(7)), Ok(0));
     assert_eq!(rt; tasks.open(&child, reading(8)), Ok(1));
     assert_eq!(rt; tasks.close(&child, 0), Some(reading(7)));

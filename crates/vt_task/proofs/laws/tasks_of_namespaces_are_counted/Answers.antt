@@ -1,4 +1,5 @@
 use Rattle.vt_task.proofs.LocationLemmas.{exited_tasks, forked_tasks, has_tasks_while_counted, replaced_tasks}
+use Rattle.vt_task.proofs.PivotCounts.{pivoted_tasks}
 use Rattle.vt_task.proofs.laws.tasks_of_namespaces_are_counted.Goals as goal
 
 pub returns-clause-used : goal.returns-clause-used
@@ -12,3 +13,6 @@ returns-clause-forked c = forked_tasks
 
 pub returns-clause-exited : goal.returns-clause-exited
 returns-clause-exited c = exited_tasks
+
+pub returns-clause-pivoted : goal.returns-clause-pivoted
+returns-clause-pivoted c = pivoted_tasks

@@ -1,4 +1,5 @@
 use Rattle.vt_task.proofs.LocationLemmas.{closed_uses, directory_uses, entered_uses, exited_uses, forked_uses, moved_uses, opened_uses, replaced_uses, root_uses}
+use Rattle.vt_task.proofs.PivotCounts.{pivoted_uses}
 use Rattle.vt_task.proofs.laws.uses_of_locations_are_counted.Goals as goal
 
 pub returns-clause-replaced : goal.returns-clause-replaced
@@ -27,3 +28,6 @@ returns-clause-forked c = forked_uses
 
 pub returns-clause-exited : goal.returns-clause-exited
 returns-clause-exited c = exited_uses
+
+pub returns-clause-pivoted : goal.returns-clause-pivoted
+returns-clause-pivoted c = pivoted_uses

@@ -1,10 +1,12 @@
-use Rattle.std.proofs.Common.{arith, ap, sym, refl, ◌∙◌, option_map}
+use Rattle.std.proofs.Common.{nat_eq, not, arith, ap, sym, refl, ◌∙◌, option_map}
 use Rattle.std.specs.Option.{option_and_then, option_copied_mut}
 use Rattle.vt_spec.specs.Machine.Outcome.Descriptors.{without_descriptor}
 use Rattle.vt_spec.specs.Machine.Rules.Descriptors.{descriptor_numbered}
+use Rattle.vt_spec.specs.Machine.WorldLaws.{are_ascending_from}
 use Rattle.vt_task.specs.Open.{numbered}
 use Rattle.vt_task.specs.TaskValue.{task_of}
 use Rattle.vt_task.specs.TasksValue.{called, changed_called, tasks_of}
+use Rattle.vt_task.proofs.OrderLemmas.{rising-filter}
 use Rattle.vt_task.proofs.TasksLemmas.{called-absent, called-found, changed-absent, written-change, written-fit}
 use Rattle.vt_task.proofs.tasks.Tasks.close.Goals as goal
 
@@ -27,6 +29,7 @@ pub invariant_of-self-2 : goal.invariant_of-self-2
 invariant_of-self-2 c =
     written-fit c.numbers.result.now c.self.inside.by_name _ c.self.invariant c.in_ok-task.task.now _
     (sym c.get_mut.ensures.value ∙ ap option_copied_mut c.in_ok-task.was) refl c.get_mut.ensures.unique (c.get_mut.follows.holds _) (omega arith)
+    (λ e. ap (are_ascending_from 0) c.remove.ensures.rest ∙ rising-filter (λ d. not (nat_eq c.args.number d.number)) 0 c.in_ok-task.task.now.descriptors e)
 
 pub returns-clause-value : goal.returns-clause-value
 returns-clause-value c =

@@ -20,7 +20,7 @@ invariant_of-self c =
       | in-Some w ↦
           subst AreFit (sym (ap (λ inside. inside.by_name.entries) w.self-inside-is))
           (written-fit c.numbers.result.now c.self.inside.by_name _ c.self.invariant w.in-Some.task.now _
-          (sym c.get_mut.ensures.value ∙ ap option_copied_mut w.in-Some.is) refl c.get_mut.ensures.unique (c.get_mut.follows.holds _) (omega arith))
+          (sym c.get_mut.ensures.value ∙ ap option_copied_mut w.in-Some.is) refl c.get_mut.ensures.unique (c.get_mut.follows.holds _) (omega arith) (λ e. e))
       | in_default w ↦
           subst AreFit (sym (ap (λ inside. inside.by_name.entries) w.self-inside-is ∙ ap (λ map. map.entries) c.get_mut.follows.holds-at-none))
           c.self.invariant

@@ -1,5 +1,4 @@
-use Rattle.std.proofs.Common.{ap, sym, ◌∙◌, option_map}
-use Rattle.vt_task.specs.TaskValue.{task_of}
+use Rattle.std.proofs.Common.{◌∙◌}
 use Rattle.vt_task.specs.TasksValue.{called, without_called}
 use Rattle.vt_task.proofs.TasksLemmas.{called-got, fit-removed, tasks-removed}
 use Rattle.vt_task.proofs.tasks.Tasks.exit.Goals as goal

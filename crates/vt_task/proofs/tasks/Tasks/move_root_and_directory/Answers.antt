@@ -24,7 +24,7 @@ returns-in_err-task-clause-rest c =
 pub invariant_of-self-2 : goal.invariant_of-self-2
 invariant_of-self-2 c =
     written-fit c.numbers.result.now c.self.inside.by_name _ c.self.invariant c.in_ok-task.task.now _
-    (sym c.get_mut.ensures.value ∙ ap option_copied_mut c.in_ok-task.was) refl c.get_mut.ensures.unique (c.get_mut.follows.holds _) (omega arith)
+    (sym c.get_mut.ensures.value ∙ ap option_copied_mut c.in_ok-task.was) refl c.get_mut.ensures.unique (c.get_mut.follows.holds _) (omega arith) (λ e. e)
 
 pub returns-clause-left : goal.returns-clause-left
 returns-clause-left c =

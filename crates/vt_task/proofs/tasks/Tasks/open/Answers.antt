@@ -3,7 +3,7 @@ use Rattle.std.specs.Option.{option_copied_mut}
 use Rattle.vt_spec.specs.Machine.Outcome.Descriptors.{free_number, without_descriptor}
 use Rattle.vt_task.specs.TaskValue.{task_of}
 use Rattle.vt_task.specs.TasksValue.{called, changed_called, open_refusal, tasks_of, with_open}
-use Rattle.vt_task.proofs.TasksLemmas.{called-absent, called-found, err-equal, if-ok, ok-equal, on-err, on-ok, opened-under, refused-full, refused-room, written-back, written-change, written-fit, written-same}
+use Rattle.vt_task.proofs.TasksLemmas.{called-absent, called-found, err-equal, if-ok, ok-equal, on-err, on-ok, opened-in_order, opened-under, refused-full, refused-room, written-back, written-change, written-fit, written-same}
 use Rattle.vt_task.proofs.tasks.Tasks.open.Goals as goal
 
 pub returns-in_default-clause-refused : goal.returns-in_default-clause-refused
@@ -16,7 +16,7 @@ returns-in_default-clause-refused c =
 pub invariant_of-self-then-len-ge-MAX_DESCRIPTORS : goal.invariant_of-self-then-len-ge-MAX_DESCRIPTORS
 invariant_of-self-then-len-ge-MAX_DESCRIPTORS c =
     written-fit c.numbers.result.now c.self.inside.by_name _ c.self.invariant c.in-Some.task.now _
-    (sym c.get_mut.ensures.value ∙ ap option_copied_mut c.in-Some.is) refl c.get_mut.ensures.unique (c.get_mut.follows.holds _) (omega arith)
+    (sym c.get_mut.ensures.value ∙ ap option_copied_mut c.in-Some.is) refl c.get_mut.ensures.unique (c.get_mut.follows.holds _) (omega arith) (λ e. e)
 
 pub returns-then-len-ge-MAX_DESCRIPTORS-clause-refused : goal.returns-then-len-ge-MAX_DESCRIPTORS-clause-refused
 returns-then-len-ge-MAX_DESCRIPTORS-clause-refused c =
@@ -36,6 +36,7 @@ pub invariant_of-self-2 : goal.invariant_of-self-2
 invariant_of-self-2 c =
     written-fit c.numbers.result.now c.self.inside.by_name _ c.self.invariant c.in-Some.task.now _
     (sym c.get_mut.ensures.value ∙ ap option_copied_mut c.in-Some.is) refl c.get_mut.ensures.unique (c.get_mut.follows.holds _) (omega arith)
+    (opened-in_order c.insert.result c.args.opened _ _ c.insert.ensures.number c.insert.ensures.ok c.insert.ensures.err)
 
 pub returns-clause-number : goal.returns-clause-number
 returns-clause-number c =
