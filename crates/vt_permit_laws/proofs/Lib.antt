@@ -1,0 +1,4 @@
+pub mod EachHas
+pub mod SameInvariants
+pub mod SameInUse
+pub mod SameNumbers
