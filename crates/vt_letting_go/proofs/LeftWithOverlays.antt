@@ -11,7 +11,7 @@ use Rattle.vt_spec.specs.Machine.World.{Filesystem, Layer, Task, World, layers_o
 use Rattle.vt_letting_go.specs.InUse.{AllInUse, is_inode_used}
 use Rattle.vt_letting_go.specs.Leaving.{MountsStand, inodes_of_location, only_these_are_left, with_tasks}
 use Rattle.vt_letting_go.specs.LeavingOverlays.{LeavingOverlaysLetsGo, StayingKeepsOverlays, filesystems_of_layers, filesystems_of_location, used_with_layers}
-use Rattle.vt_letting_go.specs.OneByOne.{FilesystemsInUseBut, Inode, InodesInUseBut, is_inode_among, is_used_or_among}
+use Rattle.vt_letting_go.specs.OneByOne.{AllInUseBut, FilesystemsInUseBut, Inode, InodesInUseBut, is_inode_among, is_used_or_among}
 use Rattle.vt_letting_go.proofs.InUse.{layers_on}
 use Rattle.vt_letting_go.proofs.Lists.{Among, all_from_among, all_pass, among-filter, among-flat_map, among-map, among_from_all, among_numbers, any_passes, decided, is_among_left, is_among_numbers, is_among_right, one_passes, or_first, or_second, passes}
 use Rattle.vt_letting_go.proofs.OverlaysGone.{filesystems_take_their_uses}
@@ -118,16 +118,22 @@ module _ (world : World ℕ) (tasks : List (Task ℕ)) (left : List (Location �
       (passes (is_inode_used world f) f.files.numbers
       (among_from_all (λ x. list_all (is_inode_used world x) x.files.numbers ≡ true) world.filesystems in_use.inodes f m) number n)))
 
+-- all but what the locations that were left used is in use
+pub leaving_but : (world : World ℕ) (tasks : List (Task ℕ)) (left : List (Location ℕ)) → AllInUse world → MountsStand world
+    → only_these_are_left world tasks left ≡ true → AllInUseBut (used_with_layers world left) (with_tasks world tasks)
+leaving_but world tasks left in_use stand only = record {
+  mounts = mounts_but world tasks left in_use stand only;
+  filesystems = all_filesystems_but world tasks left in_use stand only;
+  inodes = filesystems_take_their_uses (mounted world tasks left in_use stand only) (flat_map (filesystems_of_location world) left)
+      (flat_map (inodes_of_location world) left) (all_filesystems_but world tasks left in_use stand only)
+      (all_inodes_but world tasks left in_use stand only);
+  groups = groups_but world tasks left in_use stand only;
+}
+
 pub leaving_overlays_lets_go : LeavingOverlaysLetsGo
 leaving_overlays_lets_go world tasks left is only =
-    with_overlays_all_goes (with_tasks world tasks) (used_with_layers world left) is.trees is.uppers is.reals (record {
-      mounts = mounts_but world tasks left is.in_use is.mounts only;
-      filesystems = all_filesystems_but world tasks left is.in_use is.mounts only;
-      inodes = filesystems_take_their_uses (mounted world tasks left is.in_use is.mounts only) (flat_map (filesystems_of_location world) left)
-          (flat_map (inodes_of_location world) left) (all_filesystems_but world tasks left is.in_use is.mounts only)
-          (all_inodes_but world tasks left is.in_use is.mounts only);
-      groups = groups_but world tasks left is.in_use is.mounts only;
-    })
+    with_overlays_all_goes (with_tasks world tasks) (used_with_layers world left) is.trees is.uppers is.reals
+    (leaving_but world tasks left is.in_use is.mounts only)
 
 pub staying_keeps_overlays : StayingKeepsOverlays
 staying_keeps_overlays world tasks is only = leaving_overlays_lets_go world tasks [] is only

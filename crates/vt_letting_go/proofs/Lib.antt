@@ -11,6 +11,7 @@ pub mod OverlaysGone
 pub mod LeftWithOverlays
 pub mod PlacesLeft
 pub mod TreesChanged
+pub mod TreesWithOverlays
 pub mod LeftOneByOne
 pub mod GroupsHandedOn
 pub mod NamespacesEnd
@@ -21,5 +22,15 @@ pub mod MountsAdded
 pub mod LookedUp
 pub mod OfWorlds
 pub mod MountingLosers
+pub mod MountingOverlays
 pub mod MountingTaken
 pub mod MountingMoved
+pub mod Attached
+pub mod AttachedSwept
+pub mod Pivoted
+pub mod Unmounted
+pub mod MountingWithOverlays
+pub mod TasksEnd
+pub mod Retyped
+pub mod NamesKept
+pub mod FilesChanged

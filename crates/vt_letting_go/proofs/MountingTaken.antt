@@ -11,7 +11,8 @@ use Rattle.vt_spec.specs.Machine.Receives.{heir, inherited, inheriting, lost_a_g
 use Rattle.vt_spec.specs.Machine.Settled.{is_located, mount_lives, settled}
 use Rattle.vt_spec.specs.Machine.World.{Namespace, World, mount_at, with_mounts}
 use Rattle.vt_spec.specs.Machine.WorldLaws.{is_nowhere_or_attached, is_private}
-use Rattle.vt_letting_go.specs.Leaving.{IsSettledPlain}
+use Rattle.vt_letting_go.specs.InUse.{AllInUse}
+use Rattle.vt_letting_go.specs.Leaving.{IsSettledPlain, MountsStand}
 use Rattle.vt_letting_go.specs.Mounting.{EndingLetsGo, TakingAwayLetsGo, ended_mounts, loses_its_place, places_lost, used_by_mounts}
 use Rattle.vt_letting_go.specs.OneByOne.{GroupsInUseBut, let_go}
 use Rattle.vt_letting_go.proofs.Detached.{found-map, not_found-map}
@@ -20,22 +21,22 @@ use Rattle.vt_letting_go.proofs.MountingLosers.{Loses, changed, losers_go}
 use Rattle.vt_letting_go.proofs.PlacesLeft.{nowhere_parts}
 
 module _ (world : World ℕ) (gone : List ℕ) (namespaces : List (Namespace ℕ)) where
-  abbrev without : World ℕ
+  abbrev pub without : World ℕ
   without = with_mounts world (map (after_going nat_eq world gone) world.mounts)
 
   -- a mount afterwards, where groups were handed on and where none was
-  abbrev change : Bool → Mount ℕ → Mount ℕ
+  abbrev pub change : Bool → Mount ℕ → Mount ℕ
   change true mount = inheriting nat_eq without (after_going nat_eq world gone mount)
   change false mount = after_going nat_eq world gone mount
 
-  abbrev masters : Bool → ℕ → Option ℕ
+  abbrev pub masters : Bool → ℕ → Option ℕ
   masters true = λ group. heir nat_eq without (world.master group)
   masters false = world.master
 
-  abbrev after : Bool → World ℕ
+  abbrev pub after : Bool → World ℕ
   after b = changed world (map (change b) world.mounts) (masters b) namespaces world.tasks
 
-  is_changed : (b : Bool) → record (regrouped_by nat_eq b without) { namespaces = namespaces } ≡ after b
+  pub is_changed : (b : Bool) → record (regrouped_by nat_eq b without) { namespaces = namespaces } ≡ after b
   is_changed true =
       ap (λ mounts. changed world mounts (masters true) namespaces world.tasks)
       (map_twice (inheriting nat_eq without) (after_going nat_eq world gone) world.mounts)
@@ -51,19 +52,19 @@ module _ (world : World ℕ) (gone : List ℕ) (namespaces : List (Namespace ℕ
       by true = down
       by false = up
 
-  same_root : (b : Bool) (mount : Mount ℕ) → root_of (change b mount) ≡ root_of mount
+  pub same_root : (b : Bool) (mount : Mount ℕ) → root_of (change b mount) ≡ root_of mount
   same_root true mount = same_part root_of mount refl refl
   same_root false mount = same_part root_of mount refl refl
 
-  same_number : (b : Bool) (mount : Mount ℕ) → (change b mount).number ≡ mount.number
+  pub same_number : (b : Bool) (mount : Mount ℕ) → (change b mount).number ≡ mount.number
   same_number true mount = same_part (λ m. m.number) mount refl refl
   same_number false mount = same_part (λ m. m.number) mount refl refl
 
-  same_filesystem : (b : Bool) (mount : Mount ℕ) → (change b mount).filesystem ≡ mount.filesystem
+  pub same_filesystem : (b : Bool) (mount : Mount ℕ) → (change b mount).filesystem ≡ mount.filesystem
   same_filesystem true mount = same_part (λ m. m.filesystem) mount refl refl
   same_filesystem false mount = same_part (λ m. m.filesystem) mount refl refl
 
-  shows_the_same : (b : Bool) (number : ℕ) → (mount_in nat_eq (map (change b) world.mounts) number).filesystem ≡ (mount_in nat_eq world.mounts number).filesystem
+  pub shows_the_same : (b : Bool) (number : ℕ) → (mount_in nat_eq (map (change b) world.mounts) number).filesystem ≡ (mount_in nat_eq world.mounts number).filesystem
   shows_the_same b number =
       ⊎_elim (λ e. e)
       (λ found. ap (λ x. x.filesystem) (found-map (change b) (same_number b) world.mounts number found.0 found.1 found.2 found.3)
@@ -71,11 +72,11 @@ module _ (world : World ℕ) (gone : List ℕ) (namespaces : List (Namespace ℕ
       (not_found-map (change b) (same_number b) world.mounts number)
 
   -- a mount that does not go
-  stays : (mount : Mount ℕ) → is_going nat_eq gone mount.number ≡ false
+  pub stays : (mount : Mount ℕ) → is_going nat_eq gone mount.number ≡ false
       → after_going nat_eq world gone mount ≡ record mount { mount_point = option_map (mount_point_left nat_eq world gone) mount.mount_point }
   stays mount isnt = ap (λ c. cond c (detached mount) (record mount { mount_point = option_map (mount_point_left nat_eq world gone) mount.mount_point })) isnt
 
-  same_namespace : (b : Bool) (mount : Mount ℕ) → is_going nat_eq gone mount.number ≡ false → (change b mount).namespace ≡ mount.namespace
+  pub same_namespace : (b : Bool) (mount : Mount ℕ) → is_going nat_eq gone mount.number ≡ false → (change b mount).namespace ≡ mount.namespace
   same_namespace true mount isnt = ap (λ m. m.namespace) (stays mount isnt)
   same_namespace false mount isnt = ap (λ m. m.namespace) (stays mount isnt)
 
@@ -90,7 +91,7 @@ module _ (world : World ℕ) (gone : List ℕ) (namespaces : List (Namespace ℕ
       by (suc n) =
           ap (λ (o : Option (Location ℕ)). last_or place (elim o [ None ↦ place ∷ [] | Some b ↦ place ∷ chain n (mount_point_of_parent nat_eq world gone) b ])) ends
 
-  same_place : (b : Bool) (mount : Mount ℕ) (place : Location ℕ) → mount.mount_point ≡ Some place → is_going nat_eq gone mount.number ≡ false
+  pub same_place : (b : Bool) (mount : Mount ℕ) (place : Location ℕ) → mount.mount_point ≡ Some place → is_going nat_eq gone mount.number ≡ false
       → is_going nat_eq gone place.mount ≡ false → (change b mount).mount_point ≡ Some place
   same_place true mount place p isnt on =
       ap (λ m. m.mount_point) (stays mount isnt) ∙ ap (option_map (mount_point_left nat_eq world gone)) p ∙ ap Some (stays_at place on)
@@ -104,7 +105,7 @@ module _ (world : World ℕ) (gone : List ℕ) (namespaces : List (Namespace ℕ
   private_still Private h = h
   private_still Unbindable h = h
 
-  nowhere_after : (b : Bool) (mount : Mount ℕ) → is_nowhere_or_attached mount ≡ true → is_nowhere_or_attached (change b mount) ≡ true
+  pub nowhere_after : (b : Bool) (mount : Mount ℕ) → is_nowhere_or_attached mount ≡ true → is_nowhere_or_attached (change b mount) ≡ true
   nowhere_after b mount h = by b (is_going nat_eq gone mount.number) refl
     where
       no_place : (o : Option (Location ℕ)) → is_some o ≡ false → not (is_some (option_map (mount_point_left nat_eq world gone) o)) ≡ true
@@ -126,8 +127,8 @@ module _ (world : World ℕ) (gone : List ℕ) (namespaces : List (Namespace ℕ
           ∙ whole (inherited nat_eq without mount.propagation) (private_still mount.propagation) (is_some mount.namespace) refl
       by false false e = ap is_nowhere_or_attached (stays mount e) ∙ whole mount.propagation (λ p. p) (is_some mount.namespace) refl
 
-  module _ (settles : IsSettledPlain world) where
-    loses : (b : Bool) → Loses world (after b) gone (places_lost world gone)
+  module _ (in_use : AllInUse world) (stand : MountsStand world) where
+    pub loses : (b : Bool) → Loses world (after b) gone (places_lost world gone)
     loses b = record {
       images = λ mount m. (change b mount, (among-map (change b) world.mounts mount m, (same_root b mount, same_filesystem b mount)));
       shown = λ location m. shows_the_same b location.mount;
@@ -135,19 +136,19 @@ module _ (world : World ℕ) (gone : List ℕ) (namespaces : List (Namespace ℕ
           let other : is_going nat_eq gone from.0.number ≡ false = ap (λ n. is_among nat_eq n gone) (sym (same_number b from.0) ∙ ap (λ x. x.number) (sym from.2)) ∙ isnt in
           ap (mount_lives nat_eq world) from.2
           ∙ (λ i. is_some (same_namespace b from.0 other i) || is_located nat_eq world (same_number b from.0 i))
-          ∙ passes (mount_lives nat_eq world) world.mounts settles.in_use.mounts from.0 from.1;
-      locations = λ location m. inl m;
+          ∙ passes (mount_lives nat_eq world) world.mounts in_use.mounts from.0 from.1;
+      locations = λ location m. inl (inl m);
       places = λ mount m place p. ⊎_elim
           (λ is. inr (among-filter_map (λ x. x.mount_point) (filter (loses_its_place gone) world.mounts) mount place
           (among-filter (loses_its_place gone) world.mounts mount m is) p))
           (λ isnt. let parts = or_parts (is_going nat_eq gone mount.number) (holds_of (λ l. is_going nat_eq gone l.mount) mount.mount_point) isnt in
           let on : is_going nat_eq gone place.mount ≡ false = sym (ap (holds_of (λ l. is_going nat_eq gone l.mount)) p) ∙ parts.1 in
-          inl (change b mount, (among-map (change b) world.mounts mount m, (same_place b mount place p parts.0 on, on))))
+          inl (change b mount, (among-map (change b) world.mounts mount m, (same_place b mount place p parts.0 on, inl on))))
           (decided (loses_its_place gone mount));
       nowhere = all_pass is_nowhere_or_attached (map (change b) world.mounts) (λ last m.
           let from = among-from_map (change b) world.mounts last m in
           ap is_nowhere_or_attached from.2
-          ∙ nowhere_after b from.0 (passes is_nowhere_or_attached world.mounts settles.mounts.nowhere from.0 from.1));
+          ∙ nowhere_after b from.0 (passes is_nowhere_or_attached world.mounts stand.nowhere from.0 from.1));
     }
 
 -- the world without mounts, with other namespaces
@@ -165,10 +166,10 @@ taken_with_namespaces world gone groups namespaces settles hears =
     by b h =
         subst (λ w. settled nat_eq w ≡ let_go w (used_by_mounts world gone (places_lost world gone) groups)) (sym (is_changed world gone namespaces b))
         (losers_go world (map (change world gone namespaces b) world.mounts) (masters world gone namespaces b) namespaces world.tasks gone
-        (places_lost world gone) groups settles (loses world gone namespaces settles b)
+        (places_lost world gone) groups settles (loses world gone namespaces settles.in_use settles.mounts b)
         (subst (GroupsInUseBut groups) (is_changed world gone namespaces b) h))
 
-same_namespaces : (world : World ℕ) (b : Bool) → record (regrouped_by nat_eq b world) { namespaces = world.namespaces } ≡ regrouped_by nat_eq b world
+pub same_namespaces : (world : World ℕ) (b : Bool) → record (regrouped_by nat_eq b world) { namespaces = world.namespaces } ≡ regrouped_by nat_eq b world
 same_namespaces world true = refl
 same_namespaces world false = refl
 

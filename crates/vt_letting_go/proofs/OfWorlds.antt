@@ -1,18 +1,19 @@
 -- What a world is by its conditions.
-use Rattle.std.proofs.Common.{◌≡◌, refl, sym, ap, subst, ◌∙◌, ◌⊎◌, inl, inr, ⊎_elim, ℕ, nat_eq, eqb-true, eq-eqb, Bool, true, false, cond, not, ◌&&◌, ◌++◌, List, [], ◌∷◌, find, true≢false, Option, Some, None, is_some, option_to_list, unwrap_or}
+use Rattle.std.proofs.Common.{◌≡◌, refl, sym, ap, subst, ◌∙◌, ◌⊎◌, inl, inr, ⊎_elim, ℕ, nat_eq, eqb-true, eq-eqb, Bool, true, false, cond, not, ◌&&◌, ◌++◌, List, [], ◌∷◌, find, map, true≢false, Option, Some, None, is_some, option_to_list, unwrap_or}
 use Rattle.std.specs.Prelude.{All}
 use Rattle.std.specs.List.{list_all, list_any}
 use Rattle.std.proofs.lemmas.Bool.{and_parts, not-true, or_parts}
-use Rattle.vt_spec.specs.Lists.{any_pair, holds_of}
+use Rattle.vt_spec.specs.Lists.{any_pair, holds_of, is_among}
 use Rattle.vt_spec.specs.Machine.Locked.{of_overlay, overlay_or}
 use Rattle.vt_spec.specs.Machine.Mounts.{Location, Mount, mount_in, no_mount}
-use Rattle.vt_spec.specs.Machine.World.{Filesystem, Layer, Overlay, World, filesystem_numbered, is_overlay, layers_of, mount_at, mount_numbered, no_filesystem}
-use Rattle.vt_spec.specs.Machine.WorldLaws.{IsWorld, ListsNumbers, Stands, is_nowhere_or_attached, is_plain_layer}
+use Rattle.vt_spec.specs.Machine.World.{Filesystem, Layer, Overlay, World, all_locations, filesystem_numbered, is_overlay, layers_of, mount_at, mount_numbered, no_filesystem}
+use Rattle.vt_spec.specs.Machine.WorldLaws.{IsWorld, ListsNumbers, Stands, is_located_well, is_nowhere_or_attached, is_plain_layer}
 use Rattle.vt_spec.specs.TreeLaws.{IsTree}
-use Rattle.vt_letting_go.specs.InUse.{IsListedTree, has_upper_in}
+use Rattle.vt_letting_go.specs.InUse.{AllInUse, IsListedTree, has_upper_in}
 use Rattle.vt_letting_go.specs.Leaving.{stands_on_attached}
 use Rattle.vt_letting_go.specs.Overlays.{real_in}
-use Rattle.vt_letting_go.specs.Worlds.{MountsOfWorldsStand, RealsOfWorldsAreThere, UppersOfWorldsArePlain, WorldsHaveTrees}
+use Rattle.vt_letting_go.specs.Worlds.{LocationsOfWorldsStand, MountsOfWorldsStand, PlainWorldsAreSettled, RealsOfWorldsAreThere, UppersOfWorldsArePlain, WorldsAreSettled, WorldsHaveTrees}
+use Rattle.vt_letting_go.proofs.InUse.{what_is_left_is_in_use}
 use Rattle.vt_letting_go.proofs.Lists.{Among, all_from_among, all_pass, among-append_left, among_from_all, fails, passes}
 use Rattle.vt_letting_go.proofs.PlacesLeft.{found_itself, nowhere_parts}
 use Rattle.std.proofs.lemmas.Option.{same_Some}
@@ -76,7 +77,7 @@ mounts_of_worlds_stand world is = record {
     by mount m (Some place) e = ap (λ b. b && true) (on_attached world is mount m place e)
 
 -- Filesystems by their numbers
-found_filesystem : (filesystems : List (Filesystem ℕ)) → any_pair (λ (a b : Filesystem ℕ). nat_eq a.number b.number) filesystems ≡ false
+pub found_filesystem : (filesystems : List (Filesystem ℕ)) → any_pair (λ (a b : Filesystem ℕ). nat_eq a.number b.number) filesystems ≡ false
     → (f : Filesystem ℕ) → Among f filesystems → unwrap_or (find (λ x. nat_eq f.number x.number) filesystems) (no_filesystem f.number) ≡ f
 found_filesystem [] one f m = absurd m
 found_filesystem (first ∷ rest) one f m =
@@ -142,3 +143,30 @@ reals_of_worlds_are_there world is =
         ap (overlay_or None (λ overlay. overlay.real number)) e
         ∙ (is.overlays.overlays_merge f.number overlay (ap (λ (x : Filesystem ℕ). x.overlay) found ∙ e)).real_there number
         (ap (λ (x : Filesystem ℕ). x.files.tree.node number) found ∙ none)
+
+pub locations_of_worlds_stand : LocationsOfWorldsStand
+locations_of_worlds_stand world is =
+    all_pass (λ location. is_among nat_eq location.mount (map (λ mount. mount.number) world.mounts)) (all_locations world) (λ location m.
+    (and_parts (is_among nat_eq location.mount (map (λ (mount : Mount ℕ). mount.number) world.mounts)) _
+    (passes (is_located_well nat_eq world) (all_locations world) is.tasks.locations_live location m)).0)
+
+all_in_use : (world : World ℕ) → IsWorld nat_eq world → AllInUse world
+all_in_use world is =
+    subst AllInUse is.nothing_unused (what_is_left_is_in_use world (worlds_have_trees world is) (uppers_of_worlds_are_plain world is))
+
+pub worlds_are_settled : WorldsAreSettled
+worlds_are_settled world is = record {
+  in_use = all_in_use world is;
+  trees = worlds_have_trees world is;
+  uppers = uppers_of_worlds_are_plain world is;
+  reals = reals_of_worlds_are_there world is;
+  mounts = mounts_of_worlds_stand world is;
+}
+
+pub plain_worlds_are_settled : PlainWorldsAreSettled
+plain_worlds_are_settled world is plain = record {
+  in_use = all_in_use world is;
+  plain = plain;
+  trees = worlds_have_trees world is;
+  mounts = mounts_of_worlds_stand world is;
+}

@@ -9,7 +9,7 @@ use Rattle.vt_spec.specs.Machine.Settled.{is_mounted, named_in, settled}
 use Rattle.vt_spec.specs.Machine.World.{Filesystem, World, all_locations, with_mounts}
 use Rattle.vt_letting_go.specs.Detaching.{with_changed}
 use Rattle.vt_letting_go.specs.InUse.{AllInUse, GroupsInUse}
-use Rattle.vt_letting_go.specs.Leaving.{IsSettledPlain}
+use Rattle.vt_letting_go.specs.Leaving.{MountsStand}
 
 -- a change of types or flags: each mount stands where it stood, and shows what it showed
 pub record KeepsUses (change : Mount ℕ → Mount ℕ) : Type 0 where
@@ -63,11 +63,12 @@ has_only_named filesystem =
     list_all (λ number. nat_eq number filesystem.files.tree.root || is_among nat_eq number (named_in filesystem.files))
     filesystem.files.numbers
 
--- Where mounts in a namespace are added, and plain filesystems that they show, nothing goes: a bind or a new mount.
+-- Where mounts in a namespace are added, and filesystems that they show, nothing goes, in any world in which all was in
+-- use: a bind or a new mount.
 abbrev pub NewMountsKeepAll : Type 0
 NewMountsKeepAll =
     (world : World ℕ) (mounts : List (Mount ℕ)) (filesystems : List (Filesystem ℕ)) (master : ℕ → Option ℕ)
-    → IsSettledPlain world → LocationsStand world
+    → AllInUse world → MountsStand world → LocationsStand world
     → list_all (λ mount. is_some mount.namespace) mounts ≡ true
     → list_all (λ filesystem. is_mounted nat_eq (with_new world mounts filesystems master) filesystem.number) filesystems
     ≡ true

@@ -6,8 +6,16 @@ pub mod Leaving
 pub mod LeavingOverlays
 pub mod Worlds
 pub mod TreeChanges
+pub mod TreesOverlays
 pub mod Detaching
 pub mod Keeping
 pub mod Groups
 pub mod Ends
 pub mod Mounting
+pub mod Attaching
+pub mod Pivoting
+pub mod Unmounting
+pub mod MountingOverlays
+pub mod EndingTasks
+pub mod Retyping
+pub mod FileChanges

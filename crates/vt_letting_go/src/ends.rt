@@ -1,4 +1,5 @@
 //! Groups and namespaces that come to their end, and how many mounts a namespace has.
+ghost use Rattle.vt_letting_go.specs.EndingTasks.{EntersLetGo, EntersWithOverlaysLetGo, ExitsLetGo, ExitsWithOverlaysLetGo, LeavingNamespacesLetsGo, LeavingNamespacesWithOverlaysLetsGo, UnsharesLetGo, UnsharesWithOverlaysLetGo};
 ghost use Rattle.vt_letting_go.specs.Ends.{AddedMountsCount, NoNamespaceEnds, OneNamespaceEnds, TooManyIsOfOne};
 ghost use Rattle.vt_letting_go.specs.Groups.{NoGroupIsHandedOn, OneGroupIsHandedOn};
 
@@ -18,4 +19,21 @@ pub fn a_namespace_ends_with_its_last_task()
 pub fn too_many_mounts_are_counted()
     ensures added { AddedMountsCount }
     ensures one { TooManyIsOfOne }
+{}
+
+/// Where tasks end or come to other namespaces, and namespaces end with them, that goes which nothing uses any more of what
+/// the locations that they left and the mounts of those namespaces used, and nothing else.
+pub fn what_tasks_leave_with_namespaces_goes()
+    ensures left { LeavingNamespacesLetsGo }
+    ensures exit { ExitsLetGo }
+    ensures setns { EntersLetGo }
+    ensures unshare { UnsharesLetGo }
+{}
+
+/// So it is in worlds with overlays.
+pub fn what_tasks_leave_with_namespaces_goes_with_overlays()
+    ensures left { LeavingNamespacesWithOverlaysLetsGo }
+    ensures exit { ExitsWithOverlaysLetGo }
+    ensures setns { EntersWithOverlaysLetGo }
+    ensures unshare { UnsharesWithOverlaysLetGo }
 {}

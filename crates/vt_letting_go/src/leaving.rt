@@ -1,9 +1,12 @@
 //! What goes with the uses that a change took away.
 ghost use Rattle.vt_letting_go.specs.Detaching.{DetachingLetsGo, UnmountIsOfOne};
+ghost use Rattle.vt_letting_go.specs.FileChanges.{ChangesKeepNames, FileChangesLetGo, MadeKeepsAll, OpenedNewKeepsAll, RemovedDirectoriesLetGo, ReplacingLetsGo, TakenAndFileChangesLetGo};
 ghost use Rattle.vt_letting_go.specs.Keeping.{FlagsAreOfOne, FlagsKeepAll, NewMountsKeepAll, TypesKeepAll};
 ghost use Rattle.vt_letting_go.specs.Leaving.{LeavingLetsGo, OneSweepForSeveral, StayingKeepsAll};
 ghost use Rattle.vt_letting_go.specs.LeavingOverlays.{LeavingOverlaysLetsGo, StayingKeepsOverlays};
+ghost use Rattle.vt_letting_go.specs.Retyping.{SetTypesLetGo};
 ghost use Rattle.vt_letting_go.specs.TreeChanges.{NamedStay, UnnamedGo};
+ghost use Rattle.vt_letting_go.specs.TreesOverlays.{ChangedTreesKeepAll, ChangedTreesLetGo, LeftAndChangedLetsGo, OpenedKeepsAll, TakenAndChangedLetsGo, UnnamedGoWithOverlays};
 
 /// Where tasks left places, what nothing uses any more goes of what they used there, and nothing else.
 ///
@@ -26,6 +29,38 @@ pub fn what_loses_its_name_goes()
     ensures named { NamedStay }
 {}
 
+/// After a call that changed a plain tree at the most the inode goes that lost a name: the one that was removed, or that
+/// another one replaced. With a directory that was removed or replaced that goes which only the mounts on it used.
+pub fn what_a_file_call_leaves_goes()
+    ensures names { ChangesKeepNames }
+    ensures change { FileChangesLetGo }
+    ensures with_mounts { TakenAndFileChangesLetGo }
+    ensures rmdir { RemovedDirectoriesLetGo }
+    ensures rename { ReplacingLetsGo }
+{}
+
+/// After a call that made an inode in a plain tree, and may have opened it, nothing goes.
+pub fn what_is_made_keeps_all()
+    ensures make { MadeKeepsAll }
+    ensures open { OpenedNewKeepsAll }
+{}
+
+/// Where trees changed in a world with overlays, the inodes go that lost their last name or overlay and where nothing is,
+/// with their real objects, and nothing else.
+pub fn what_loses_its_name_goes_with_overlays()
+    ensures trees { ChangedTreesLetGo }
+    ensures kept { ChangedTreesKeepAll }
+    ensures plain { UnnamedGoWithOverlays }
+{}
+
+/// Where mounts are taken away or tasks leave locations, and trees change in the same call, that goes of what both took uses
+/// from which nothing uses any more.
+pub fn what_one_call_leaves_goes_with_overlays()
+    ensures removed { TakenAndChangedLetsGo }
+    ensures left { LeftAndChangedLetsGo }
+    ensures opened { OpenedKeepsAll }
+{}
+
 /// Where a mount on which no other stands leaves its place, it goes with its last use, its filesystem with its last
 /// mount, and the inodes of its root and its place with theirs. Nothing else goes.
 pub fn what_a_mount_leaves_goes()
@@ -40,7 +75,12 @@ pub fn types_and_flags_keep_all()
     ensures flags { FlagsKeepAll }
 {}
 
-/// Where mounts are added, with the plain filesystems that they show, nothing goes.
+/// Where types of mounts change, at the most groups lose their masters: those that the mounts left, and new ones.
+pub fn what_a_change_of_types_leaves_goes()
+    ensures { SetTypesLetGo }
+{}
+
+/// Where mounts are added, with the filesystems that they show, nothing goes.
 pub fn new_mounts_keep_all()
     ensures { NewMountsKeepAll }
 {}

@@ -5,4 +5,5 @@
 pub mod ends;
 pub mod leaving;
 pub mod mounting;
+pub mod mounting_overlays;
 pub mod sweeps;

@@ -3,7 +3,7 @@ ghost use Rattle.vt_letting_go.specs.Counts.{LocatedWhileCounted, MountedWhileCo
 ghost use Rattle.vt_letting_go.specs.InUse.{NothingGoes, WhatIsLeftIsInUse, OneSweepIsEnough};
 ghost use Rattle.vt_letting_go.specs.OneByOne.{AllGoesOneByOne, FilesystemIsLookedUp, FilesystemsGoOneByOne, GroupsGoOneByOne, InodesGoOneByOne, MountIsLookedUp, MountsGoOneByOne};
 ghost use Rattle.vt_letting_go.specs.Overlays.{AllInodesGoOneByOne, FilesystemsTakeTheirUses, MergedGoOneByOne, OneUpperUseLess, WithOverlaysAllGoes};
-ghost use Rattle.vt_letting_go.specs.Worlds.{MountsOfWorldsStand, RealsOfWorldsAreThere, UppersOfWorldsArePlain, WorldsHaveTrees};
+ghost use Rattle.vt_letting_go.specs.Worlds.{LocationsOfWorldsStand, MountsOfWorldsStand, PlainWorldsAreSettled, RealsOfWorldsAreThere, UppersOfWorldsArePlain, WorldsAreSettled, WorldsHaveTrees};
 
 /// Where all is in use nothing goes, and what is left is in use: one sweep is enough.
 pub fn one_sweep_is_enough()
@@ -58,4 +58,7 @@ pub fn worlds_are_fit_to_be_swept()
     ensures mounts { MountsOfWorldsStand }
     ensures uppers { UppersOfWorldsArePlain }
     ensures reals { RealsOfWorldsAreThere }
+    ensures locations { LocationsOfWorldsStand }
+    ensures settled { WorldsAreSettled }
+    ensures plain { PlainWorldsAreSettled }
 {}
