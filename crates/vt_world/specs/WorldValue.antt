@@ -1,6 +1,5 @@
 -- What contracts see of the code's world, and what the definitions see of it.
-use Rattle.std.specs.Prelude.{Bool, List, None, Option, Some, find, map, nat_eq, option_map, unwrap_or, ℕ}
-use Rattle.vt_spec.specs.Machine.Mounts.{Location}
+use Rattle.std.specs.Prelude.{List, None, Option, find, map, nat_eq, ℕ}
 use Rattle.vt_spec.specs.Machine.World as meant
 use Rattle.vt_fs.specs.FilesystemsValue.{Filesystems, filesystems_seen}
 use Rattle.vt_location.specs.Numbers.{counted}

@@ -1,25 +1,34 @@
 //! The world, as walks and rules look at it.
-ghost use Rattle.std.specs.Prelude.{◌≡◌};
+ghost use Rattle.std.specs.Prelude.{◌≡◌, nat_eq};
+ghost use Rattle.vt_spec.specs.Machine.World.{mount_numbered};
 ghost use Rattle.vt_location.specs.Locations.{location_of, number_of};
+ghost use Rattle.vt_location.specs.Numbers.{counted};
 ghost use Rattle.vt_world.specs.Looking.{is_seen, looks_of_value};
+ghost use Rattle.vt_world.specs.WorldValue.{world_of};
 
 use crate::world::World;
-use vt_location::{Location, Mount, MountId, NamespaceId, NodeRef};
+use vt_location::{FilesystemId, Location, Mount, MountId, NamespaceId, NodeRef};
 use vt_looks::Look;
 use vt_node::Node;
 use vt_request::TaskName;
 
 impl World {
+    // The filesystem that a mount shows. A number that no mount has stands for a mount of the filesystem with that number.
+    fn shown(&self, mount: MountId) -> FilesystemId
+        ensures { counted result.count ≡ (mount_numbered nat_eq (world_of self.now) (counted mount.count)).filesystem }
+    {
+        match self.mounts.get(mount) {
+            Some(mount) => mount.root.filesystem,
+            None => FilesystemId::new(mount.count),
+        }
+    }
+
     // Whether an inode is in the filesystem that the mount of a location shows.
     fn is_seen(&self, at: Location) -> bool
         ensures { result ≡ is_seen self.now at }
     {
-        match self.mounts.get(at.mount) {
-            Some(mount) => mount.root.filesystem == at.node.filesystem,
-            None => false,
-        }
+        self.shown(at.mount) == at.node.filesystem
     }
-
 }
 
 impl Look for World {
