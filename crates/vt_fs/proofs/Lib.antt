@@ -1,0 +1,8 @@
+pub mod Exchanged
+pub mod Renamed
+pub mod Entries
+pub mod Standing
+pub mod Parents
+pub mod Numbers
+pub mod Fitting
+pub mod NewFilesystem

@@ -1,11 +1,11 @@
 -- What contracts see of the plain filesystems, and what the definitions see of them.
-use Rattle.std.specs.Prelude.{Bool, List, None, Option, Some, [], filter, find, if◌then◌else◌, map, nat_eq, not, option_map, unwrap_or, ℕ, ◌+◌, ◌≡◌, ◌∷◌}
+use Rattle.std.specs.Prelude.{List, None, Option, Some, [], filter, find, if◌then◌else◌, map, nat_eq, not, unwrap_or, ℕ, ◌+◌, ◌≡◌, ◌∷◌}
 use Rattle.vt_spec.specs.declared.attributes.Attr.{Attr}
 use Rattle.vt_spec.specs.FileTree.{FileTree}
 use Rattle.vt_spec.specs.Machine.Renaming.{renamed_node}
 use Rattle.vt_spec.specs.Machine.World.{Filesystem}
 use Rattle.vt_spec.specs.OneTree.Inodes.{Inode, Inodes, one_directory, tree_of}
-use Rattle.vt_spec.specs.Tree.{Node}
+use Rattle.vt_spec.specs.Tree.{Node, tree_of_root}
 use Rattle.vt_one_text.specs.OneTreeNumbers.{renamed_inodes}
 use Rattle.vt_tree.specs.TreeValue.{TreeValue, inodes_of, next_number}
 use Rattle.vt_location.specs.declared.numbers.FilesystemId.{FilesystemId}
@@ -118,9 +118,19 @@ pub record ChangesInodes (count : ℕ) (change : Inodes ℕ → Inodes ℕ) (old
   pub changed : shown new ≡ shown_with count change (shown old)
   pub others : without count new ≡ without count old
 
--- a new filesystem: one empty directory in the first slot, and no mounts yet
+-- a new filesystem as the definitions see it: one empty directory, in the first slot
+abbrev pub new_filesystem : ℕ → Attr → Filesystem ℕ
+new_filesystem count attr = record {
+  number = counted count;
+  files = record { tree = tree_of_root nat_eq (inode_number count 0) attr; numbers = inode_number count 0 ∷ [] };
+  overlay = None;
+  change = 0;
+}
+
+-- it is new, and no mount shows it yet
 pub record IsNew (count : ℕ) (attr : Attr) (entry : FilesystemEntry) : Type 0 where
   pub counts : entry.count ≡ count
+  pub seen : filesystem_seen entry ≡ new_filesystem count attr
   pub inodes : inodes_seen entry ≡ one_directory nat_eq (inode_number count 0) attr
   pub unmounted : entry.mounts ≡ 0
 

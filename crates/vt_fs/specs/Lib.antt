@@ -1,2 +1,3 @@
 pub mod FilesystemsValue
 pub mod Laws
+pub mod Lends

@@ -1,10 +1,538 @@
-//! A filesystem as it is kept.
+//! `Filesystems`, and the calls that look at them and change them.
+ghost use Rattle.std.specs.Prelude.{◌≡◌, ◌≢◌, [], ◌+◌, ◌-◌, ◌++◌, ◌∷◌, ◌↔◌, ◌⊎◌, nat_eq, length, map, drop, take, false, is_some, slice_get, None, Ok, Some, IfOk, IfErr, IfSome, IsErrOf, IsOk, IsOkUnless, IsTrue, OnOk, OnErr, ◌<◌, option_copied, option_map};
+ghost use Rattle.std.specs.Option.{option_copied_mut};
+ghost use Rattle.std.specs.Borrow.{sem};
+ghost use Rattle.vt_spec.specs.Errors.{denial};
+ghost use Rattle.vt_spec.specs.declared.attributes.Kind.TheVariants.{File};
+ghost use Rattle.vt_spec.specs.declared.errors.Rule.TheVariants.{S5, E2};
+ghost use Rattle.vt_spec.specs.FileTree.{is_directory_under, is_removed};
+ghost use Rattle.vt_spec.specs.Language.Changes.Change.{AddName, Make, Move, Remove, SetAttr, SetBytes};
+ghost use Rattle.vt_spec.specs.Laws.Trees.{IsNewIn};
+ghost use Rattle.vt_spec.specs.Lists.{any_pair};
+ghost use Rattle.vt_spec.specs.Machine.Outcome.Descriptors.{overwritten};
+ghost use Rattle.vt_spec.specs.OneTree.Fits.{Fits};
+ghost use Rattle.vt_spec.specs.OneTree.Inodes.{changed, pinned, unpinned, uses_in};
+ghost use Rattle.vt_spec.specs.OneTree.Rules.{is_kind_at};
+ghost use Rattle.vt_spec.specs.Tree.{bytes_in, entries_in, is_directory_node, names_in};
+ghost use Rattle.vt_spec.specs.TreeLaws.{entry_at as number_at};
+ghost use Rattle.vt_tree.specs.TreeRules.{AnswersBy, hard_link_rules, make_rules, rename_rules, ruling, unlink_rules, write_rules};
+ghost use Rattle.vt_slots.specs.Slots.{most_uses};
+ghost use Rattle.vt_location.specs.Locations.{number_of};
+ghost use Rattle.vt_location.specs.Numbers.{exchanged};
 
+use indexmap::IndexMap;
+use std::alloc::Global;
+use std::marker::Model;
+use vt_location::{FilesystemId, NodeRef};
+use vt_node::{Attr, Node, NodeId};
+use vt_spec::errors::{Deny, Rule};
 use vt_tree::Tree;
 
 // A filesystem, and how many mounts show it.
 #[derive(Debug, Drop)]
-pub struct Filesystem {
-    pub tree: Tree,
-    pub mounts: u64,
+struct Filesystem {
+    tree: Tree,
+    mounts: u64,
+}
+
+impl Filesystem {
+    ghost use Rattle.std.specs.Borrow.{Lends};
+    ghost use Rattle.vt_tree.specs.contracts.trees.Tree.{the_row as tree_row};
+    ghost use Rattle.vt_fs.specs.FilesystemsValue.{held_with_tree};
+    ghost use Rattle.vt_fs.specs.contracts.filesystems.Filesystem.{the_row};
+
+    // Its tree, for a change.
+    fn tree_mut(&mut self) -> &mut Tree
+        ensures* lends { sem 𝓛 (Lends the_row tree_row self.entry result (held_with_tree self.old)) }
+        ensures value { result.now ≡ self.old.tree }
+    {
+        &mut self.tree
+    }
+}
+
+/// The plain filesystems, in the order in which they were made. Each is a tree of inodes in slots of its own.
+///
+/// What is done in a filesystem that does not exist does nothing.
+#[derive(Debug, Drop)]
+pub struct Filesystems {
+    by_number: IndexMap<FilesystemId, Filesystem>,
+}
+
+impl Model for Filesystems {
+    ghost use Rattle.vt_fs.specs.FilesystemsValue.{Filesystems as Entries, held};
+
+    ghost Value = { Entries };
+
+    ghost view = { λ f. held f.by_number.entries };
+}
+
+impl Filesystems {
+    ghost use Rattle.vt_fs.specs.FilesystemsValue.{FilesystemEntry, ChangesInodes, IsNew, entry_at, entry_of, files_at, filesystems_seen, inodes_at, inodes_seen, next_seen, node_seen, with_changed, without};
+    ghost use Rattle.vt_fs.specs.Laws.{ParentsAreNamed};
+    ghost use Rattle.vt_fs.specs.Lends.{lends_tree, lends_tree_at};
+
+    /// No filesystems. It takes no memory.
+    pub fn new(alloc: Global) -> Self
+        ensures { result ≡ [] }
+    {
+        Filesystems {
+            by_number: IndexMap::new(alloc),
+        }
+    }
+
+    /// How many filesystems there are.
+    pub fn len(&self) -> usize
+        ensures { result ≡ length self.now }
+    {
+        self.by_number.len()
+    }
+
+    /// No two filesystems have one number.
+    pub fn have_numbers_apart(&self)
+        ensures { any_pair (λ a b. nat_eq a.number b.number) (filesystems_seen self.now) ≡ false }
+    {
+        let _len = self.by_number.len();
+    }
+
+    /// Whether there is such a filesystem.
+    pub fn contains(&self, filesystem: FilesystemId) -> bool
+        ensures { result ≡ is_some (entry_of self.now filesystem.count) }
+    {
+        self.by_number.contains_key(&filesystem)
+    }
+
+    /// The tree of a filesystem, with its inodes in their slots.
+    pub fn get(&self, filesystem: FilesystemId) -> Option<&Tree>
+        ensures { option_copied result ≡ option_map (λ entry. entry.tree) (entry_of self.now filesystem.count) }
+    {
+        let found = self.by_number.get(&filesystem)?;
+        Some(&found.tree)
+    }
+
+    // The tree of a filesystem, for a change.
+    fn get_mut(&mut self, filesystem: FilesystemId) -> Option<&mut Tree>
+        ensures* writes_back { sem 𝓛 (lends_tree self.entry filesystem.count result) }
+        ensures value { option_copied_mut result ≡ option_map (λ entry. entry.tree) (entry_of self.old filesystem.count) }
+        ensures apart { any_pair (λ a b. nat_eq a.count b.count) self.old ≡ false }
+    {
+        match self.by_number.get_index_of(&filesystem) {
+            Some(place) => Some(self.tree_at(place)),
+            None => None,
+        }
+    }
+
+    // The tree of the filesystem at this place.
+    fn tree_at(&mut self, place: usize) -> &mut Tree
+        requires { place < length self.old }
+        ensures* writes_back { sem 𝓛 (lends_tree_at self.entry place result) }
+        ensures value { option_map (λ entry. entry.tree) (slice_get self.old place) ≡ Some result.now }
+    {
+        self.by_number[place].tree_mut()
+    }
+
+    /// The node of an inode, its entries and its parent by slots.
+    pub fn node(&self, inode: NodeRef) -> Option<&Node>
+        ensures { option_map (node_seen inode.filesystem.count) (option_copied result)
+            ≡ (files_at self.now inode.filesystem.count).tree.node (number_of inode) }
+    {
+        self.get(inode.filesystem)?.node(slot_of(inode))
+    }
+
+    /// The root directory of a filesystem.
+    pub fn root(&self, filesystem: FilesystemId) -> Option<NodeRef>
+        ensures number { option_map number_of result
+            ≡ option_map (λ entry. (inodes_seen entry).root) (entry_of self.now filesystem.count) }
+        ensures filesystem { IfSome result (λ root. root.filesystem ≡ filesystem) }
+    {
+        let tree = self.get(filesystem)?;
+        Some(in_slot(filesystem, tree.root()))
+    }
+
+    /// How many inodes a filesystem has.
+    pub fn count(&self, filesystem: FilesystemId) -> usize
+        ensures { result ≡ (inodes_at self.now filesystem.count).count }
+    {
+        match self.get(filesystem) {
+            Some(tree) => tree.len(),
+            None => 0,
+        }
+    }
+
+    /// How often an inode is in use: the names that lead to it, and what is pinned.
+    pub fn uses(&self, inode: NodeRef) -> u64
+        ensures { result ≡ uses_in ((inodes_at self.now inode.filesystem.count).inode (number_of inode)) }
+    {
+        match self.get(inode.filesystem) {
+            Some(tree) => tree.uses(slot_of(inode)),
+            None => 0,
+        }
+    }
+
+    /// Whether a directory is at or under another of its filesystem: going up by parents meets it.
+    pub fn is_under(&self, top: NodeRef, directory: NodeRef) -> bool
+        requires named { ParentsAreNamed (files_at self.now top.filesystem.count).tree }
+        requires one_filesystem { directory.filesystem ≡ top.filesystem }
+        ensures { result
+            ≡ is_directory_under nat_eq (files_at self.now top.filesystem.count) (number_of top) (number_of directory) }
+    {
+        match self.get(top.filesystem) {
+            Some(tree) => tree.is_under(slot_of(top), slot_of(directory)),
+            None => top.slot == directory.slot,
+        }
+    }
+
+    /// Whether a directory other than the root has no name: rmdir(2) on a directory in use leaves such a one. What is no
+    /// directory counts as one.
+    pub fn is_removed(&self, directory: NodeRef) -> bool
+        requires named { ParentsAreNamed (files_at self.now directory.filesystem.count).tree }
+        ensures { result ≡ is_removed nat_eq (files_at self.now directory.filesystem.count).tree (number_of directory) }
+    {
+        let Some(tree) = self.get(directory.filesystem) else {
+            return true;
+        };
+        let slot = slot_of(directory);
+        slot != tree.root() && slot == tree.parent(slot)
+    }
+
+    /// The number that the next inode of a filesystem gets, which no inode has.
+    pub fn next_number(&self, filesystem: FilesystemId) -> Option<NodeRef>
+        ensures number { option_map number_of result ≡ option_map next_seen (entry_of self.now filesystem.count) }
+        ensures filesystem { IfSome result (λ next. next.filesystem ≡ filesystem) }
+        ensures vacant { IfSome result (λ next. (inodes_at self.now filesystem.count).inode (number_of next) ≡ None) }
+    {
+        let tree = self.get(filesystem)?;
+        Some(in_slot(filesystem, tree.next_number()))
+    }
+
+    /// Makes a filesystem of one empty directory, which no mount shows yet.
+    ///
+    /// S5 (ENOMEM): memory was refused.
+    pub fn add(&mut self, filesystem: FilesystemId, attr: Attr) -> Result<(), Deny>
+        requires { entry_of self.old filesystem.count ≡ None }
+        ensures ok { OnOk result
+            ((entry : FilesystemEntry) × (self.new ≡ self.old ++ entry ∷ []) × IsNew filesystem.count attr entry) }
+        ensures memory { IfErr result (λ deny. deny ≡ denial S5) }
+        ensures err { OnErr result (self.new ≡ self.old) }
+    {
+        let alloc = *self.by_number.allocator();
+        let tree = Tree::new(alloc, attr)?;
+        let Ok(_) = self
+            .by_number
+            .insert(filesystem, Filesystem { tree, mounts: 0 })
+        else {
+            return Err(Rule::S5.denial());
+        };
+        Ok(())
+    }
+
+    /// Ends a filesystem, and all its inodes with it. It takes no memory.
+    pub fn remove(&mut self, filesystem: FilesystemId)
+        ensures { self.new ≡ without filesystem.count self.old }
+    {
+        self.by_number.shift_remove(&filesystem);
+    }
+
+    /// How many mounts show a filesystem.
+    pub fn mounts(&self, filesystem: FilesystemId) -> u64
+        ensures { result ≡ (entry_at self.now filesystem.count).mounts }
+    {
+        match self.by_number.get(&filesystem) {
+            Some(found) => found.mounts,
+            None => 0,
+        }
+    }
+
+    /// Counts one mount more of a filesystem. It takes no memory.
+    ///
+    /// S5 (ENOMEM): it has 2^64 - 1 mounts.
+    pub fn hold_mount(&mut self, filesystem: FilesystemId) -> Result<(), Deny>
+        ensures ok { OnOk result
+            (self.new ≡ with_changed filesystem.count (λ entry. record entry { mounts = entry.mounts + 1 }) self.old) }
+        ensures limit { IsErrOf result (denial S5) ↔ ((entry_at self.old filesystem.count).mounts ≡ most_uses) }
+        ensures memory { IfErr result (λ deny. deny ≡ denial S5) }
+        ensures err { OnErr result (self.new ≡ self.old) }
+    {
+        if self.mounts(filesystem) == u64::MAX {
+            return Err(Rule::S5.denial());
+        }
+        if let Some(found) = self.by_number.get_mut(&filesystem) {
+            found.mounts += 1;
+        }
+        Ok(())
+    }
+
+    /// Counts one mount less of a filesystem. It takes no memory.
+    pub fn release_mount(&mut self, filesystem: FilesystemId)
+        ensures { self.new ≡ with_changed filesystem.count (λ entry. record entry { mounts = entry.mounts - 1 }) self.old }
+    {
+        if let Some(found) = self.by_number.get_mut(&filesystem) {
+            found.mounts = found.mounts.saturating_sub(1);
+        }
+    }
+
+    /// The names of a directory, in the order of their bytes: readdir(3). What is no directory has none.
+    ///
+    /// S5 (ENOMEM): memory was refused. No names need none.
+    pub fn list(&self, directory: NodeRef) -> Result<Vec<Vec<u8>>, Deny>
+        ensures ok { IfOk result (λ names. map (λ name. name.items) names.items
+            ≡ names_in ((files_at self.now directory.filesystem.count).tree.node (number_of directory))) }
+        ensures empty { entries_in ((files_at self.now directory.filesystem.count).tree.node (number_of directory)) ≡ []
+            → IsOk result }
+        ensures memory { IfErr result (λ deny. deny ≡ denial S5) }
+    {
+        match self.get(directory.filesystem) {
+            Some(tree) => tree.list(slot_of(directory)),
+            None => Ok(Vec::new(*self.by_number.allocator())),
+        }
+    }
+
+    /// The bytes of a file, or the text of a symlink: read(2).
+    ///
+    /// E2 (EISDIR): a directory. S5 (ENOMEM): memory was refused. No bytes need none.
+    pub fn read(&self, file: NodeRef) -> Result<Vec<u8>, Deny>
+        ensures ok { IfOk result (λ bytes.
+            bytes.items ≡ bytes_in ((files_at self.now file.filesystem.count).tree.node (number_of file))) }
+        ensures directory { IsErrOf result (denial E2)
+            ↔ IsTrue (is_directory_node ((files_at self.now file.filesystem.count).tree.node (number_of file))) }
+        ensures empty { IsErrOf result (denial S5)
+            → bytes_in ((files_at self.now file.filesystem.count).tree.node (number_of file)) ≢ [] }
+        ensures errors { IfErr result (λ deny. (deny ≡ denial E2) ⊎ (deny ≡ denial S5)) }
+    {
+        match self.get(file.filesystem) {
+            Some(tree) => tree.read(slot_of(file)),
+            None => Ok(Vec::new(*self.by_number.allocator())),
+        }
+    }
+
+    /// At most `size` bytes of a file from an offset on: pread(2). Past the end there are none.
+    ///
+    /// S5 (ENOMEM): memory was refused. No bytes need none.
+    pub fn read_part(&self, file: NodeRef, offset: usize, size: usize) -> Result<Vec<u8>, Deny>
+        ensures ok { IfOk result (λ bytes. bytes.items
+            ≡ take size (drop offset (bytes_in ((files_at self.now file.filesystem.count).tree.node (number_of file))))) }
+        ensures empty { take size (drop offset (bytes_in ((files_at self.now file.filesystem.count).tree.node (number_of file)))) ≡ []
+            → IsOk result }
+        ensures memory { IfErr result (λ deny. deny ≡ denial S5) }
+    {
+        match self.get(file.filesystem) {
+            Some(tree) => tree.read_part(slot_of(file), offset, size),
+            None => Ok(Vec::new(*self.by_number.allocator())),
+        }
+    }
+
+    /// Makes an inode under a name of a directory: mkdir(2), open(2) with O_CREAT, symlink(2), mknod(2).
+    ///
+    /// E3 (ENOTDIR): no directory. E1 (EEXIST): the name exists. S5 (ENOMEM): memory was refused.
+    pub fn create(&mut self, directory: NodeRef, name: Vec<u8>, node: Node) -> Result<NodeRef, Deny>
+        requires { IsNewIn directory.slot node }
+        ensures ok { IfOk result (λ made. ChangesInodes directory.filesystem.count
+            (λ inodes. changed nat_eq inodes
+            (Make (number_of directory) name.items (number_of made) (node_seen directory.filesystem.count node)))
+            self.old self.new) }
+        ensures number { IfOk result (λ made. number_of made ≡ next_seen (entry_at self.old directory.filesystem.count)) }
+        ensures filesystem { IfOk result (λ made. made.filesystem ≡ directory.filesystem) }
+        ensures answer { AnswersBy
+            (make_rules (inodes_at self.old directory.filesystem.count) (number_of directory) name.items) result }
+        ensures fits { Fits (inodes_at self.old directory.filesystem.count)
+            (Make (number_of directory) name.items (next_seen (entry_at self.old directory.filesystem.count))
+            (node_seen directory.filesystem.count node))
+            → IsOkUnless result (denial S5) }
+        ensures err { OnErr result (self.new ≡ self.old) }
+    {
+        match self.get_mut(directory.filesystem) {
+            Some(tree) => match tree.create(slot_of(directory), name, node) {
+                Ok(slot) => Ok(in_slot(directory.filesystem, slot)),
+                Err(deny) => Err(deny),
+            },
+            None => Err(Rule::E3.denial()),
+        }
+    }
+
+    /// Makes a further hard link to an inode of the same filesystem: link(2). That the inode exists is not checked: it is
+    /// the caller's.
+    ///
+    /// E3 (ENOTDIR): no directory. E1 (EEXIST): the name exists. E7 (EPERM): the inode is a directory. S5 (ENOMEM): memory
+    /// was refused, or the inode has 2^64 - 1 uses.
+    pub fn link(&mut self, directory: NodeRef, name: Vec<u8>, object: NodeRef) -> Result<(), Deny>
+        requires { object.filesystem ≡ directory.filesystem }
+        ensures ok { OnOk result (ChangesInodes directory.filesystem.count
+            (λ inodes. changed nat_eq inodes (AddName (number_of directory) name.items (number_of object)))
+            self.old self.new) }
+        ensures answer { AnswersBy
+            (hard_link_rules (inodes_at self.old directory.filesystem.count) (number_of directory) name.items (number_of object))
+            result }
+        ensures fits { Fits (inodes_at self.old directory.filesystem.count)
+            (AddName (number_of directory) name.items (number_of object)) → IsOkUnless result (denial S5) }
+        ensures err { OnErr result (self.new ≡ self.old) }
+    {
+        match self.get_mut(directory.filesystem) {
+            Some(tree) => tree.link(slot_of(directory), name, slot_of(object)),
+            None => Err(Rule::E3.denial()),
+        }
+    }
+
+    /// Takes a name from an inode: unlink(2), rmdir(2). With its last use the inode goes. It takes no memory.
+    ///
+    /// W6 (ENOENT): the name is not the inode's. E4 (ENOTEMPTY): the inode is a directory with entries.
+    pub fn unlink(&mut self, directory: NodeRef, name: &[u8], object: NodeRef) -> Result<(), Deny>
+        requires { object.filesystem ≡ directory.filesystem }
+        ensures ok { OnOk result (ChangesInodes directory.filesystem.count
+            (λ inodes. changed nat_eq inodes (Remove (number_of directory) name.now (number_of object)))
+            self.old self.new) }
+        ensures answer { result ≡ ruling
+            (unlink_rules (inodes_at self.old directory.filesystem.count) (number_of directory) name.now (number_of object)) }
+        ensures fits { Fits (inodes_at self.old directory.filesystem.count)
+            (Remove (number_of directory) name.now (number_of object)) → result ≡ Ok tt }
+        ensures err { OnErr result (self.new ≡ self.old) }
+    {
+        match self.get_mut(directory.filesystem) {
+            Some(tree) => tree.unlink(slot_of(directory), name, slot_of(object)),
+            None => Err(Rule::W6.denial()),
+        }
+    }
+
+    /// Gives an inode another name in its filesystem, and takes the place of what had that: rename(2). Two names of one
+    /// inode stay.
+    ///
+    /// W6 (ENOENT): the old name is not the inode's. E3 (ENOTDIR): no directory, or a directory over what is none. E2
+    /// (EISDIR): no directory over a directory. E4 (ENOTEMPTY): a directory over one with entries. E5 (EINVAL): a directory
+    /// under itself. S5 (ENOMEM): memory was refused, which only a new name needs.
+    pub fn rename(
+        &mut self,
+        from: NodeRef,
+        old: &[u8],
+        to: NodeRef,
+        new: Vec<u8>,
+        object: NodeRef,
+    ) -> Result<(), Deny>
+        requires to { to.filesystem ≡ from.filesystem }
+        requires object { object.filesystem ≡ from.filesystem }
+        ensures ok { number_at (files_at self.old from.filesystem.count).tree (number_of to) new.items ≢ Some (number_of object)
+            → OnOk result (ChangesInodes from.filesystem.count
+            (λ inodes. changed nat_eq inodes (Move (number_of from) old.now (number_of to) new.items (number_of object)))
+            self.old self.new) }
+        ensures one_object { number_at (files_at self.old from.filesystem.count).tree (number_of to) new.items ≡ Some (number_of object)
+            → OnOk result (self.new ≡ self.old) }
+        ensures answer { AnswersBy
+            (rename_rules (inodes_at self.old from.filesystem.count)
+            (number_of from) old.now (number_of to) new.items (number_of object))
+            result }
+        ensures new_name { IsErrOf result (denial S5)
+            → number_at (files_at self.old from.filesystem.count).tree (number_of to) new.items ≡ None }
+        ensures fits { Fits (inodes_at self.old from.filesystem.count)
+            (Move (number_of from) old.now (number_of to) new.items (number_of object)) → IsOkUnless result (denial S5) }
+        ensures fits_ok { Fits (inodes_at self.old from.filesystem.count)
+            (Move (number_of from) old.now (number_of to) new.items (number_of object))
+            → OnOk result (ChangesInodes from.filesystem.count
+            (λ inodes. changed nat_eq inodes (Move (number_of from) old.now (number_of to) new.items (number_of object)))
+            self.old self.new) }
+        ensures err { OnErr result (self.new ≡ self.old) }
+    {
+        match self.get_mut(from.filesystem) {
+            Some(tree) => tree.rename(slot_of(from), old, slot_of(to), new, slot_of(object)),
+            None => Err(Rule::W6.denial()),
+        }
+    }
+
+    /// Sets the whole content of a file: write(2) after open(2) with O_TRUNC. It takes no memory.
+    ///
+    /// E2 (EISDIR): a directory. E6 (EFBIG): more than 1,048,576 bytes. A symlink, a whiteout and a number without an inode
+    /// stay as they are.
+    pub fn write(&mut self, file: NodeRef, bytes: Vec<u8>) -> Result<(), Deny>
+        ensures ok { OnOk result (ChangesInodes file.filesystem.count
+            (λ inodes. changed nat_eq inodes (SetBytes (number_of file) bytes.items)) self.old self.new) }
+        ensures answer { IsTrue (is_some (entry_of self.old file.filesystem.count)) → result ≡ ruling
+            (write_rules (inodes_at self.old file.filesystem.count) (number_of file) (length bytes.items)) }
+        ensures nowhere { entry_of self.old file.filesystem.count ≡ None → result ≡ Ok tt }
+        ensures fits { Fits (inodes_at self.old file.filesystem.count) (SetBytes (number_of file) bytes.items)
+            → result ≡ Ok tt }
+        ensures err { OnErr result (self.new ≡ self.old) }
+    {
+        match self.get_mut(file.filesystem) {
+            Some(tree) => tree.write(slot_of(file), bytes),
+            None => Ok(()),
+        }
+    }
+
+    /// Writes bytes into a file from an offset on, and zeros into a gap before them: pwrite(2). Only a file that gets
+    /// longer takes memory.
+    ///
+    /// E2 (EISDIR): a directory. E6 (EFBIG): the bytes would end behind 1,048,576. S5 (ENOMEM): memory was refused. A
+    /// symlink, a whiteout and a number without an inode stay as they are.
+    pub fn write_at(&mut self, file: NodeRef, offset: usize, bytes: &[u8]) -> Result<(), Deny>
+        ensures ok { OnOk result (ChangesInodes file.filesystem.count
+            (λ inodes. changed nat_eq inodes (SetBytes (number_of file)
+            (overwritten offset bytes.now (bytes_in ((files_at self.old file.filesystem.count).tree.node (number_of file))))))
+            self.old self.new) }
+        ensures answer { IsTrue (is_some (entry_of self.old file.filesystem.count)) → AnswersBy
+            (write_rules (inodes_at self.old file.filesystem.count) (number_of file) (offset + length bytes.now)) result }
+        ensures nowhere { entry_of self.old file.filesystem.count ≡ None → result ≡ Ok tt }
+        ensures file { IsErrOf result (denial S5)
+            → IsTrue (is_kind_at (files_at self.old file.filesystem.count).tree (number_of file) File) }
+        ensures longer { IsErrOf result (denial S5)
+            → length (bytes_in ((files_at self.old file.filesystem.count).tree.node (number_of file)))
+            < offset + length bytes.now }
+        ensures fits { Fits (inodes_at self.old file.filesystem.count) (SetBytes (number_of file)
+            (overwritten offset bytes.now (bytes_in ((files_at self.old file.filesystem.count).tree.node (number_of file)))))
+            → IsOkUnless result (denial S5) }
+        ensures err { OnErr result (self.new ≡ self.old) }
+    {
+        match self.get_mut(file.filesystem) {
+            Some(tree) => tree.write_at(slot_of(file), offset, bytes),
+            None => Ok(()),
+        }
+    }
+
+    /// Sets the owner, group and mode of an inode: chmod(2), chown(2). It takes no memory.
+    pub fn set_attr(&mut self, object: NodeRef, attr: Attr)
+        ensures { ChangesInodes object.filesystem.count
+            (λ inodes. changed nat_eq inodes (SetAttr (number_of object) attr)) self.old self.new }
+    {
+        if let Some(tree) = self.get_mut(object.filesystem) {
+            tree.set_attr(slot_of(object), attr);
+        }
+    }
+
+    /// Counts one use more of an inode, as open(2) does: it stays while it is in use. It takes no memory.
+    ///
+    /// S5 (ENOMEM): the inode has 2^64 - 1 uses.
+    pub fn pin(&mut self, object: NodeRef) -> Result<(), Deny>
+        ensures ok { OnOk result
+            (ChangesInodes object.filesystem.count (λ inodes. pinned nat_eq inodes (number_of object)) self.old self.new) }
+        ensures limit { IsErrOf result (denial S5)
+            ↔ (uses_in ((inodes_at self.old object.filesystem.count).inode (number_of object)) ≡ most_uses) }
+        ensures memory { IfErr result (λ deny. deny ≡ denial S5) }
+        ensures err { OnErr result (self.new ≡ self.old) }
+    {
+        match self.get_mut(object.filesystem) {
+            Some(tree) => tree.pin(slot_of(object)),
+            None => Ok(()),
+        }
+    }
+
+    /// Counts one use less of an inode, as close(2) does: with its last use it goes. It takes no memory.
+    pub fn unpin(&mut self, object: NodeRef)
+        ensures { ChangesInodes object.filesystem.count
+            (λ inodes. unpinned nat_eq inodes (number_of object)) self.old self.new }
+    {
+        if let Some(tree) = self.get_mut(object.filesystem) {
+            tree.unpin(slot_of(object));
+        }
+    }
+}
+
+// The number of an inode in the tree of its filesystem.
+fn slot_of(inode: NodeRef) -> NodeId
+    ensures value { result ≡ inode.slot }
+    ensures number { exchanged inode.filesystem.count result ≡ number_of inode }
+{
+    inode.node()
+}
+
+// The inode of this number in the tree of a filesystem.
+fn in_slot(filesystem: FilesystemId, slot: NodeId) -> NodeRef
+    ensures value { result ≡ record { filesystem = filesystem; slot = slot } }
+    ensures number { number_of result ≡ exchanged filesystem.count slot }
+{
+    NodeRef::new(filesystem, NodeId::new(slot.index()))
 }

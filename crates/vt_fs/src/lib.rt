@@ -1,7 +1,11 @@
-//! Stub.
+//! The plain filesystems: each is a tree of inodes in slots of its own, and the layers above see the numbers of inodes.
 #![tactic(auto)]
 
 mod filesystems;
-mod stub;
+mod laws;
 
-pub use stub::Filesystems;
+pub use filesystems::Filesystems;
+pub use laws::{filesystems_are_found, numbers_are_those_of_inodes, trees_name_parents};
+
+#[cfg(test)]
+mod tests;

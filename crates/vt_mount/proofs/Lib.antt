@@ -1,0 +1,10 @@
+pub mod ListLemmas
+pub mod OrderLemmas
+pub mod EntryLemmas
+pub mod IndexLemmas
+pub mod WriteLemmas
+pub mod PlaceLemmas
+pub mod KeptLemmas
+pub mod PointLemmas
+pub mod TreeLemmas
+pub mod MoveLemmas

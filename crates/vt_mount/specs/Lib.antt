@@ -1,1 +1,5 @@
 pub mod MountsValue
+pub mod Listed
+pub mod Indexes
+pub mod Indexed
+pub mod Waiting

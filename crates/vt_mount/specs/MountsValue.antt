@@ -1,5 +1,6 @@
 -- What the definitions see of the mounts that are kept.
-use Rattle.std.specs.Prelude.{Bool, List, Option, [], filter, find, if◌then◌else◌, map, nat_eq, not, option_map, unwrap_or, ℕ, ◌+◌, ◌-◌, ◌∷◌}
+use Rattle.std.specs.Prelude.{Bool, List, Option, [], filter, find, if◌then◌else◌, map, nat_eq, nat_lt, not, option_map, true, unwrap_or, ℕ, ◌&&◌, ◌+◌, ◌-◌, ◌∷◌}
+use Rattle.std.specs.List.{list_all}
 use Rattle.std.specs.FinMap.Entries.{put}
 use Rattle.std.specs.Ordering.{nat_cmp}
 use Rattle.std.specs.declared.cmp.Ordering.{Ordering}
@@ -18,6 +19,11 @@ pub record MountEntry : Type 0 where
 
 abbrev pub mounts_in : List MountEntry → List (meant.Mount ℕ)
 mounts_in entries = map (λ entry. entry.mount) entries
+
+-- each number is less than those after it
+abbrev pub are_ascending : List (meant.Mount ℕ) → Bool
+are_ascending [] = true
+are_ascending (mount ∷ mounts) = list_all (λ later. nat_lt mount.number later.number) mounts && are_ascending mounts
 
 -- the entry of the mount with this number
 abbrev pub entry_numbered : List MountEntry → ℕ → Option MountEntry
@@ -60,6 +66,13 @@ mount_kept number kept = record {
   flags = kept.flags;
   propagation = kept.propagation;
 }
+
+-- one with one use more or less, which is open for writing or not
+abbrev pub held_kept : Bool → Mounted → Mounted
+held_kept writes kept = record kept { uses = kept.uses + 1; writers = kept.writers + (if writes then 1 else 0) }
+
+abbrev pub released_kept : Bool → Mounted → Mounted
+released_kept writes kept = record kept { uses = kept.uses - 1; writers = kept.writers - (if writes then 1 else 0) }
 
 abbrev pub entry_of : MountId × Mounted → MountEntry
 entry_of kept = record { mount = mount_of (mount_kept kept.0 kept.1); uses = kept.1.uses; writers = kept.1.writers }

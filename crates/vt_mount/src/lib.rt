@@ -1,7 +1,15 @@
-//! Stub.
+//! The mounts of all namespaces: mount_namespaces(7).
 #![tactic(auto)]
 
+mod changes;
+mod indexes;
+mod lists;
 mod mounted;
-mod stub;
+mod mounts;
+mod places;
+mod trees;
 
-pub use stub::Mounts;
+pub use mounts::Mounts;
+
+#[cfg(test)]
+mod tests;

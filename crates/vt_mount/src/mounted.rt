@@ -1,6 +1,6 @@
 //! What is kept of a mount under its number.
-ghost use Rattle.std.specs.Prelude.{◌≡◌};
-ghost use Rattle.vt_mount.specs.MountsValue.{mount_kept};
+ghost use Rattle.std.specs.Prelude.{◌≡◌, ◌&&◌, nat_lt, true};
+ghost use Rattle.vt_mount.specs.MountsValue.{held_kept, mount_kept, released_kept};
 
 use vt_location::{Location, Mount, MountFlags, MountId, NamespaceId, NodeRef, Propagation};
 
@@ -48,5 +48,29 @@ impl Mounted {
             flags: self.flags,
             propagation: self.propagation,
         }
+    }
+
+    /// Whether one more use may be counted.
+    pub(crate) fn has_room(&self) -> bool
+        ensures { result ≡ (nat_lt self.now.uses u64.MAX && nat_lt self.now.writers u64.MAX) }
+    {
+        self.uses < u64::MAX && self.writers < u64::MAX
+    }
+
+    /// Counts a use, which is open for writing or not.
+    pub(crate) fn hold(&mut self, writes: bool)
+        requires { (nat_lt self.old.uses u64.MAX && nat_lt self.old.writers u64.MAX) ≡ true }
+        ensures { self.new ≡ held_kept writes self.old }
+    {
+        self.uses += 1;
+        self.writers += u64::from(writes);
+    }
+
+    /// Counts a use no more.
+    pub(crate) fn release(&mut self, writes: bool)
+        ensures { self.new ≡ released_kept writes self.old }
+    {
+        self.uses = self.uses.saturating_sub(1);
+        self.writers = self.writers.saturating_sub(u64::from(writes));
     }
 }

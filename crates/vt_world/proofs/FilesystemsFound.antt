@@ -6,9 +6,8 @@ use Rattle.vt_spec.specs.Machine.World.{Filesystem, no_filesystem}
 use Rattle.vt_spec.specs.OneTree.Inodes.{node_in}
 use Rattle.vt_spec.specs.Tree.{Node}
 use Rattle.vt_location.specs.Numbers.{counted, inode_number, is_inode_of}
-use Rattle.vt_location.proofs.NumberLemmas.{counted_inode, counted_test, exchanged_back, inode_same, slot_of}
+use Rattle.vt_location.proofs.NumberLemmas.{counted_inode, inode_same, slot_of}
 use Rattle.vt_fs.specs.FilesystemsValue.{FilesystemEntry, Filesystems, entry_at, entry_of, filesystem_seen, filesystems_seen, no_entry}
-use Rattle.vt_fs.specs.Laws.{FilesystemsAreFound}
 use Rattle.vt_world.specs.Held.{HasOwnInodes}
 
 -- the filesystem with a number, as the definitions find it
@@ -22,28 +21,6 @@ found_if b x fs number =
     unwrap_or
     (cond b (Some (filesystem_seen x)) (find (λ (filesystem : Filesystem ℕ). nat_eq number filesystem.number) (filesystems_seen fs)))
     (no_filesystem number)
-
-pub found_by_count : FilesystemsAreFound
-found_by_count fs count = by_list fs
-  where
-    nowhere : no_filesystem (counted count) ≡ filesystem_seen (no_entry count)
-    nowhere =
-        λ i. record {
-          number = counted count;
-          files = record { tree = record { root = sym (exchanged_back count (counted count)) i; node = λ n. None }; numbers = [] };
-          overlay = None;
-          change = 0;
-        }
-
-    by_list : (fs : Filesystems) → found fs (counted count) ≡ filesystem_seen (unwrap_or (entry_of fs count) (no_entry count))
-    by_list [] = nowhere
-    by_list (x ∷ fs) =
-        ap (λ b. found_if b x fs (counted count)) (counted_test count x.count) ∙ by (nat_eq count x.count) (by_list fs)
-      where
-        by : (b : Bool) → found fs (counted count) ≡ filesystem_seen (unwrap_or (entry_of fs count) (no_entry count))
-            → found_if b x fs (counted count) ≡ filesystem_seen (unwrap_or (cond b (Some x) (entry_of fs count)) (no_entry count))
-        by true rest = refl
-        by false rest = rest
 
 -- what holds of each filesystem, and of what stands for one that is not there, holds of the one that is found
 pub holds_at : (P : Filesystem ℕ → Type 0) (fs : Filesystems) → All P (filesystems_seen fs) → (count : ℕ)

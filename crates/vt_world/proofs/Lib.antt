@@ -1,5 +1,5 @@
 pub mod FilesystemsFound
-pub mod TreeParents
 pub mod TreesLookedAt
 pub mod LookLemmas
 pub mod LooksKept
+pub mod OpeningLemmas

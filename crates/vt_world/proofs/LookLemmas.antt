@@ -23,12 +23,13 @@ use Rattle.vt_location.specs.Numbers.{counted, inode_number, is_inode_of}
 use Rattle.vt_location.proofs.NumberLemmas.{counted_inode, counted_test, exchanged_back}
 use Rattle.vt_fs.specs.FilesystemsValue.{entry_at, files_at, filesystem_seen, filesystems_seen}
 use Rattle.vt_fs.specs.Laws.{ParentsAreNamed}
+use Rattle.vt_fs.proofs.Numbers.{found_by_number}
 use Rattle.vt_mount.specs.MountsValue.{mounts_in, stands_over}
 use Rattle.vt_world.specs.Held.{IsHeld}
 use Rattle.vt_world.specs.Looking.{is_seen}
 use Rattle.vt_world.specs.WorldValue.{WorldValue, world_of}
-use Rattle.vt_world.proofs.FilesystemsFound.{found, found_by_count, found_number, found_plain, holds_at, in_no_other, inode_of_one, no_counted_inode, own_filesystem}
-use Rattle.vt_world.proofs.TreeParents.{parents_named}
+use Rattle.vt_world.proofs.FilesystemsFound.{found, found_number, found_plain, holds_at, in_no_other, inode_of_one, no_counted_inode, own_filesystem}
+use Rattle.vt_fs.proofs.Parents.{parents_named}
 use Rattle.vt_world.proofs.TreesLookedAt.{nowhere_removed, nowhere_under, or_nothing, under_nowhere}
 
 and_false : (b : Bool) → (b && false) ≡ false
@@ -118,7 +119,7 @@ module _ (value : WorldValue) (held : IsHeld value) where
     seen_filesystem seen =
         ap (filesystem_numbered nat_eq (world_of value))
         (eqb-true (mount_at nat_eq (world_of value) (location_of at)).filesystem (counted at.node.filesystem.count) seen)
-        ∙ found_by_count value.filesystems at.node.filesystem.count
+        ∙ found_by_number value.filesystems at.node.filesystem.count
 
     pub unseen_node : is_seen value at ≡ false → node_at nat_eq (world_of value) (location_of at) ≡ None
     unseen_node unseen =
@@ -128,7 +129,7 @@ module _ (value : WorldValue) (held : IsHeld value) where
     pub unseen_removed : is_seen value at ≡ false → is_removed_at nat_eq (world_of value) (location_of at) ≡ true
     unseen_removed unseen =
         let shown = shown_counted at.mount.count in
-        let is = ap (filesystem_numbered nat_eq (world_of value)) shown.1 ∙ found_by_count value.filesystems shown.0 in
+        let is = ap (filesystem_numbered nat_eq (world_of value)) shown.1 ∙ found_by_number value.filesystems shown.0 in
         let none = ap (λ (filesystem : Filesystem ℕ). filesystem.files.tree.node (number_of at.node)) (sym is) ∙ unseen_node unseen in
         ap (λ (filesystem : Filesystem ℕ). is_removed nat_eq filesystem.files.tree (number_of at.node)) is
         ∙ nowhere_removed (files_at value.filesystems shown.0).tree (number_of at.node) none

@@ -19,11 +19,12 @@ use Rattle.vt_location.specs.Numbers.{counted}
 use Rattle.vt_location.proofs.NumberLemmas.{counted_test, nodes_test}
 use Rattle.vt_looks.specs.Looking.{HasNoOverlays}
 use Rattle.vt_fs.specs.FilesystemsValue.{Filesystems, files_at, filesystems_seen}
+use Rattle.vt_fs.proofs.Numbers.{found_by_number}
 use Rattle.vt_mount.specs.MountsValue.{mounts_in, stands_over}
 use Rattle.vt_world.specs.Held.{IsHeld}
 use Rattle.vt_world.specs.Looking.{is_seen, looks_of_value}
 use Rattle.vt_world.specs.WorldValue.{WorldValue, world_of}
-use Rattle.vt_world.proofs.FilesystemsFound.{found_by_count, found_plain}
+use Rattle.vt_world.proofs.FilesystemsFound.{found_plain}
 use Rattle.vt_world.proofs.LookLemmas.{any_point, missing_root, seen_filesystem, under_another, unseen_node, unseen_removed, unseen_root}
 
 -- the mount that is found, or what stands for one that is not there
@@ -112,7 +113,7 @@ module _ (kept value : WorldValue) (is : kept ≡ value) (held : IsHeld kept) (a
         (sym (ap (λ (m : meant.Mount ℕ). is_directory_under nat_eq (filesystem_numbered nat_eq (world_of kept) m.filesystem).files m.root (number_of at.node))
         (mount_found kept (counted at.mount.count) got is_found mount some)
         ∙ ap (λ (filesystem : Filesystem ℕ). is_directory_under nat_eq filesystem.files (number_of mount.root) (number_of at.node))
-        (found_by_count kept.filesystems mount.root.filesystem.count)))
+        (found_by_number kept.filesystems mount.root.filesystem.count)))
 
     pub under_root_apart : (mount : Mount) → got ≡ Some mount → nat_eq mount.root.filesystem.count at.node.filesystem.count ≡ false → UnderRoot false value
     under_root_apart mount some other =

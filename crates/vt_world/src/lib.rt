@@ -3,6 +3,7 @@
 
 mod looking;
 mod namespaces;
+mod opening;
 mod world;
 
 pub use world::World;

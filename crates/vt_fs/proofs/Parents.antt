@@ -1,19 +1,21 @@
 -- In a tree of a world, a directory has a name in its parent or is its own parent.
-use Rattle.std.proofs.Common.{◌≡◌, ◌≢◌, refl, sym, ap, subst, ◌∙◌, true≢false, ℕ, nat_eq, eq-eqb, eqb-true, ne_eqb, Bool, true, false, cond, not, ◌||◌, ◌&&◌, List, [], ◌∷◌, map, Option, Some, None, is_some}
+use Rattle.std.proofs.Common.{◌≡◌, ◌≢◌, refl, sym, ap, subst, ◌∙◌, true≢false, ℕ, zero, suc, nat_eq, eq-eqb, eqb-true, ne_eqb, Bool, true, false, cond, not, ◌||◌, ◌&&◌, List, [], ◌∷◌, map, length, Option, Some, None, is_some}
 use Rattle.std.specs.List.{find, list_any}
+use Rattle.std.specs.Prelude.{if◌then◌else◌}
 use Rattle.std.specs.Cmp.{tied_itself}
 use Rattle.std.specs.Cmp.Lexicographic.{nat_list_cmp_total}
 use Rattle.std.specs.declared.cmp.Ordering.TheVariants.{Less, Equal, Greater}
 use Rattle.std.specs.FinMap.Entries.{below_all, is_sorted}
 use Rattle.std.specs.Ordering.{eq_by_cmp, is_eq, is_lt}
-use Rattle.vt_spec.specs.FileTree.{has_entry_to, targets_in}
-use Rattle.vt_spec.specs.Lists.{is_among}
+use Rattle.vt_spec.specs.FileTree.{has_entry_to, is_directory_under, is_removed, named_parent, targets_in}
+use Rattle.vt_spec.specs.Lists.{chain, is_among, when}
+use Rattle.vt_spec.specs.OneTree.Inodes.{Inodes, is_directory_under as is_under_in, parent_above, tree_of}
 use Rattle.vt_spec.specs.Tree.{Content, Entries, Node, Tree, entries_in, entry_named, is_directory_node, name_cmp, parent_in}
 use Rattle.vt_spec.specs.Tree.Content.{Directory, Regular, Symlink, Whiteout}
 use Rattle.vt_spec.specs.TreeLaws.{HasOwnParents, IsDirectory, IsTree, entry_at, led}
 use Rattle.vt_spec.proofs.Nodes.{same_name}
 use Rattle.vt_spec.proofs.Trees.{found}
-use Rattle.vt_fs.specs.Laws.{TreesNameParents}
+use Rattle.vt_fs.specs.Laws.{ParentsAreNamed, TreesNameParents}
 
 one : (a b : List ℕ × ℕ) → Some a ≡ Some b → a ≡ b
 one a b e = cc
@@ -152,3 +154,92 @@ parents_named tree conditions own directory other = by (is_directory_node (tree.
         → has_entry_to nat_eq tree (parent_in directory (tree.node directory)) directory ≡ not (nat_eq directory (parent_in directory (tree.node directory)))
     by true is = of_directory tree conditions own directory other is
     by false isnt = of_another tree conditions own directory other (tree.node directory) refl isnt
+
+-- Where that is so, going up by parents and by names meets the same.
+module _ (inodes : Inodes ℕ) (named : ParentsAreNamed (tree_of inodes)) where
+  abbrev up : ℕ → Option ℕ
+  up = parent_above nat_eq inodes
+
+  abbrev up_named : ℕ → Option ℕ
+  up_named = named_parent nat_eq (tree_of inodes)
+
+  abbrev parent_of : ℕ → ℕ
+  parent_of directory = parent_in directory ((tree_of inodes).node directory)
+
+  either_way : (a b : Bool) → b ≡ a → (a || b) ≡ (a || false)
+  either_way true b e = refl
+  either_way false b e = e
+
+  -- a directory that is its own parent is met again and again
+  stays : (top directory n : ℕ) → up directory ≡ Some directory → is_among nat_eq top (chain n up directory) ≡ nat_eq top directory
+  stays top directory zero e = by (nat_eq top directory)
+    where
+      by : (b : Bool) → (b || false) ≡ b
+      by true = refl
+      by false = refl
+  stays top directory (suc n) e =
+      ap (λ o. is_among nat_eq top (elim o [ None ↦ directory ∷ [] | Some b ↦ directory ∷ chain n up b ])) e
+      ∙ by (nat_eq top directory) (is_among nat_eq top (chain n up directory)) (stays top directory n e)
+    where
+      by : (a b : Bool) → b ≡ a → (a || b) ≡ a
+      by true b e = refl
+      by false b e = e
+
+  -- the top is met on the way up from a directory, from which the next is this
+  abbrev meets : ℕ → (ℕ → Option ℕ) → ℕ → ℕ → Option ℕ → Bool
+  meets top next n directory o = is_among nat_eq top (elim o [ None ↦ directory ∷ [] | Some b ↦ directory ∷ chain n next b ])
+
+  climbs : (top n directory : ℕ) → is_among nat_eq top (chain n up directory) ≡ is_among nat_eq top (chain n up_named directory)
+  climbs top zero directory = refl
+  climbs top (suc n) directory = by (nat_eq directory inodes.root) refl (climbs top n (parent_of directory))
+    where
+      differs : nat_eq directory inodes.root ≡ false → directory ≢ inodes.root
+      differs e same = true≢false (sym (eq-eqb directory inodes.root same) ∙ e)
+
+      last : is_among nat_eq top (chain n up (parent_of directory)) ≡ is_among nat_eq top (chain n up_named (parent_of directory))
+          → (own : Bool) → nat_eq directory (parent_of directory) ≡ own → up directory ≡ Some (parent_of directory)
+          → meets top up n directory (Some (parent_of directory)) ≡ meets top up_named n directory (when (not own) (parent_of directory))
+      last rest true o above =
+          let same = eqb-true directory (parent_of directory) o in
+          either_way (nat_eq top directory) (is_among nat_eq top (chain n up (parent_of directory)))
+          (ap (λ d. is_among nat_eq top (chain n up d)) (sym same) ∙ stays top directory n (above ∙ ap Some (sym same)))
+      last rest false o above = ap (λ b. nat_eq top directory || b) rest
+
+      below : is_among nat_eq top (chain n up (parent_of directory)) ≡ is_among nat_eq top (chain n up_named (parent_of directory))
+          → (own : Bool) → nat_eq directory (parent_of directory) ≡ own → nat_eq directory inodes.root ≡ false
+          → meets top up n directory (up directory) ≡ meets top up_named n directory (up_named directory)
+      below rest own o e =
+          let above : up directory ≡ Some (parent_of directory) = ap (λ b. if b then None else Some (parent_of directory)) e in
+          let by_name : up_named directory ≡ when (not own) (parent_of directory) =
+          ap (λ b. if b then None else when (has_entry_to nat_eq (tree_of inodes) (parent_of directory) directory) (parent_of directory)) e
+          ∙ ap (λ b. when b (parent_of directory)) (named directory (differs e) ∙ ap not o) in
+          ap (meets top up n directory) above ∙ last rest own o above ∙ ap (meets top up_named n directory) (sym by_name)
+
+      by : (root : Bool) → nat_eq directory inodes.root ≡ root
+          → is_among nat_eq top (chain n up (parent_of directory)) ≡ is_among nat_eq top (chain n up_named (parent_of directory))
+          → meets top up n directory (up directory) ≡ meets top up_named n directory (up_named directory)
+      by true e rest =
+          ap (meets top up n directory) (ap (λ b. if b then None else Some (parent_of directory)) e)
+          ∙ ap (meets top up_named n directory) (sym (ap (λ b. if b then None else when (has_entry_to nat_eq (tree_of inodes) (parent_of directory) directory) (parent_of directory)) e))
+      by false e rest = below rest (nat_eq directory (parent_of directory)) refl e
+
+  pub under_by_names : (numbers : List ℕ) → length numbers ≡ inodes.count → (top directory : ℕ)
+      → is_under_in nat_eq inodes top directory ≡ is_directory_under nat_eq (record { tree = tree_of inodes; numbers = numbers }) top directory
+  under_by_names numbers counted top directory =
+      climbs top inodes.count directory ∙ ap (λ n. is_among nat_eq top (chain n up_named directory)) (sym counted)
+
+  -- a directory that is removed is its own parent
+  pub removed_by_parent : (directory : ℕ) → nat_eq directory inodes.root ≡ false → is_removed nat_eq (tree_of inodes) directory ≡ nat_eq directory (parent_of directory)
+  removed_by_parent directory e =
+      (λ i. not (e i || is_some (up_named directory)))
+      ∙ ap (λ b. not (is_some (if b then None else when (has_entry_to nat_eq (tree_of inodes) (parent_of directory) directory) (parent_of directory)))) e
+      ∙ ap (λ b. not (is_some (when b (parent_of directory)))) (named directory (λ same. true≢false (sym (eq-eqb directory inodes.root same) ∙ e)))
+      ∙ by (nat_eq directory (parent_of directory))
+    where
+      by : (own : Bool) → not (is_some (when (not own) (parent_of directory))) ≡ own
+      by true = refl
+      by false = refl
+
+-- the root is not removed
+pub root_stays : (tree : Tree ℕ) (directory : ℕ) → nat_eq directory tree.root ≡ true → is_removed nat_eq tree directory ≡ false
+root_stays tree directory e = ap (λ b. not (b || is_some (named_parent nat_eq tree directory))) e

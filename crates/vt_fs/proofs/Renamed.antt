@@ -1,0 +1,225 @@
+-- A tree by the numbers of its inodes: whatever is made of it is what is made of it by slots, renamed.
+use Rattle.std.proofs.Common.{◌≡◌, refl, ℕ, nat_eq, Bool, List, Option, Some, None, option_map, is_some, ◌∷◌, ◌++◌, [], not, ◌&&◌, nat_lt}
+use Rattle.vt_spec.specs.declared.attributes.Attr.{Attr}
+use Rattle.vt_spec.specs.declared.errors.Rule.TheVariants.{E1, E2, E3, E4, E5, E6, E7, W6}
+use Rattle.vt_spec.specs.Errors.{Rules}
+use Rattle.vt_spec.specs.Language.Changes.{Change}
+use Rattle.vt_spec.specs.Language.Changes.Change.{AddName, CopyUp, Make, Move, Remove, SetAttr, SetBytes, SetMark}
+use Rattle.vt_spec.specs.Language.Limits.{largest_file}
+use Rattle.vt_spec.specs.Lists.{holds_of}
+use Rattle.vt_spec.specs.Machine.Renaming.{renamed_node}
+use Rattle.vt_spec.specs.OneTree.Inodes.{Inode, Inodes, changed, is_directory_under, one_directory, pinned, tree_of, unpinned, uses_in}
+use Rattle.vt_spec.specs.OneTree.Rules.{is_filled}
+use Rattle.vt_spec.specs.OneTree.Walk.{is_directory_at}
+use Rattle.vt_spec.specs.Tree.{Node, Tree, parent_in}
+use Rattle.vt_spec.specs.TreeLaws.{entry_at}
+use Rattle.vt_one_text.specs.OneTreeNumbers.{renamed_inode, renamed_inodes}
+use Rattle.vt_one_text.specs.Renaming.{Renaming}
+use Rattle.vt_one_text.proofs.Commuting.{Named, commutes_nat, node_itself, option_itself}
+use Rattle.vt_tree.specs.TreeRules.{hard_link_rules, make_rules, rename_rules, unlink_rules, write_rules}
+use Rattle.vt_location.specs.Numbers.{exchanged}
+use Rattle.vt_fs.proofs.Exchanged.{exchanged_back}
+
+-- slots and numbers of a filesystem, exchanged
+abbrev pub exchange : ℕ → Renaming ℕ ℕ
+exchange f = record { there = exchanged f; back = exchanged f; there_back = exchanged_back f; back_there = exchanged_back f }
+
+-- a tree, a node and a change with other numbers
+abbrev pub by_numbers : ℕ → Inodes ℕ → Inodes ℕ
+by_numbers f inodes = renamed_inodes (exchanged f) (exchanged f) inodes
+
+module _ {N M : Type 0} (there : N → M) (back : M → N) where
+  abbrev pub renamed_change : Change N → Change M
+  renamed_change (Make directory name number node) = Make (there directory) name (there number) (renamed_node there back node)
+  renamed_change (AddName directory name object) = AddName (there directory) name (there object)
+  renamed_change (Remove directory name object) = Remove (there directory) name (there object)
+  renamed_change (Move from old to new object) = Move (there from) old (there to) new (there object)
+  renamed_change (SetBytes file bytes) = SetBytes (there file) bytes
+  renamed_change (SetAttr object attr) = SetAttr (there object) attr
+  renamed_change (SetMark directory opaque) = SetMark (there directory) opaque
+  renamed_change (CopyUp object) = CopyUp (there object)
+
+-- With each number for itself nothing is renamed.
+module _ {N : Type 0} where
+  inode_itself : (inode : Option (Inode N)) → option_map (renamed_inode (λ n. n) (λ n. n)) inode ≡ inode
+  inode_itself None = refl
+  inode_itself (Some inode) = λ i. Some (record { node = node_itself inode.node i; uses = inode.uses })
+
+  inodes_itself : (inodes : Inodes N) → renamed_inodes (λ n. n) (λ n. n) inodes ≡ inodes
+  inodes_itself inodes = λ i. record { root = inodes.root; inode = λ number. inode_itself (inodes.inode number) i; count = inodes.count }
+
+  change_itself : (change : Change N) → renamed_change (λ n. n) (λ n. n) change ≡ change
+  change_itself (Make directory name number node) = λ i. Make directory name number (node_itself node i)
+  change_itself (AddName directory name object) = refl
+  change_itself (Remove directory name object) = refl
+  change_itself (Move from old to new object) = refl
+  change_itself (SetBytes file bytes) = refl
+  change_itself (SetAttr object attr) = refl
+  change_itself (SetMark directory opaque) = refl
+  change_itself (CopyUp object) = refl
+
+-- What is handed in: a tree, with a change, or with a number, or with more
+abbrev WithChange : Type 0 → Type 0
+WithChange A = Inodes A × Change A
+
+abbrev WithOne : Type 0 → Type 0
+WithOne A = Inodes A × A
+
+abbrev WithTwo : Type 0 → Type 0
+WithTwo A = Inodes A × A × A
+
+abbrev WithThree : Type 0 → Type 0
+WithThree A = Inodes A × A × A × A
+
+abbrev named_change : Named WithChange
+named_change = record {
+  rename = λ A B there back s. (renamed_inodes there back s.0, renamed_change there back s.1);
+  itself = λ A s i. (inodes_itself s.0 i, change_itself s.1 i);
+}
+
+abbrev named_one : Named WithOne
+named_one = record {
+  rename = λ A B there back s. (renamed_inodes there back s.0, there s.1);
+  itself = λ A s i. (inodes_itself s.0 i, s.1);
+}
+
+abbrev named_two : Named WithTwo
+named_two = record {
+  rename = λ A B there back s. (renamed_inodes there back s.0, there s.1, there s.2);
+  itself = λ A s i. (inodes_itself s.0 i, s.1, s.2);
+}
+
+abbrev named_three : Named WithThree
+named_three = record {
+  rename = λ A B there back s. (renamed_inodes there back s.0, there s.1, there s.2, there s.3);
+  itself = λ A s i. (inodes_itself s.0 i, s.1, s.2, s.3);
+}
+
+-- What is made of it: a tree, a number, a node, or what has no numbers in it
+abbrev named_inodes : Named Inodes
+named_inodes = record { rename = λ A B there back inodes. renamed_inodes there back inodes; itself = λ A inodes. inodes_itself inodes }
+
+abbrev named_number : Named Option
+named_number = record {
+  rename = λ A B there back number. option_map there number;
+  itself = λ A number. option_itself (λ n. n) (λ n. refl) number;
+}
+
+abbrev Nodes : Type 0 → Type 0
+Nodes A = Option (Node A)
+
+abbrev named_node : Named Nodes
+named_node = record {
+  rename = λ A B there back node. option_map (renamed_node there back) node;
+  itself = λ A node. option_itself (renamed_node (λ n. n) (λ n. n)) node_itself node;
+}
+
+abbrev named_nothing : (X : Type 0) → Named (λ (A : Type 0). X)
+named_nothing X = record { rename = λ A B there back x. x; itself = λ A x. refl }
+
+-- Changes
+module _ (f : ℕ) (inodes : Inodes ℕ) where
+  pub changed_by_numbers : (change : Change ℕ) → changed nat_eq (by_numbers f inodes) (renamed_change (exchanged f) (exchanged f) change) ≡ by_numbers f (changed nat_eq inodes change)
+  changed_by_numbers change =
+      commutes_nat WithChange Inodes named_change named_inodes (λ A eq s. changed eq s.0 s.1) (exchange f) (inodes, change)
+
+  pub pinned_by_numbers : (object : ℕ) → pinned nat_eq (by_numbers f inodes) (exchanged f object) ≡ by_numbers f (pinned nat_eq inodes object)
+  pinned_by_numbers object = commutes_nat WithOne Inodes named_one named_inodes (λ A eq s. pinned eq s.0 s.1) (exchange f) (inodes, object)
+
+  pub unpinned_by_numbers : (object : ℕ) → unpinned nat_eq (by_numbers f inodes) (exchanged f object) ≡ by_numbers f (unpinned nat_eq inodes object)
+  unpinned_by_numbers object = commutes_nat WithOne Inodes named_one named_inodes (λ A eq s. unpinned eq s.0 s.1) (exchange f) (inodes, object)
+
+-- Looks
+module _ (f : ℕ) (inodes : Inodes ℕ) where
+  pub node_by_numbers : (number : ℕ) → (tree_of (by_numbers f inodes)).node (exchanged f number) ≡ option_map (renamed_node (exchanged f) (exchanged f)) ((tree_of inodes).node number)
+  node_by_numbers number = commutes_nat WithOne Nodes named_one named_node (λ A eq s. (tree_of s.0).node s.1) (exchange f) (inodes, number)
+
+  -- of a node what has no numbers in it
+  pub plain_by_numbers : (X : Type 0) (look : (A : Type 0) → Option (Node A) → X) (number : ℕ)
+      → look ℕ ((tree_of (by_numbers f inodes)).node (exchanged f number)) ≡ look ℕ ((tree_of inodes).node number)
+  plain_by_numbers X look number =
+      commutes_nat WithOne (λ (A : Type 0). X) named_one (named_nothing X) (λ A eq s. look A ((tree_of s.0).node s.1)) (exchange f) (inodes, number)
+
+  pub uses_by_numbers : (number : ℕ) → uses_in ((by_numbers f inodes).inode (exchanged f number)) ≡ uses_in (inodes.inode number)
+  uses_by_numbers number =
+      commutes_nat WithOne (λ (A : Type 0). ℕ) named_one (named_nothing ℕ) (λ A eq s. uses_in (s.0.inode s.1)) (exchange f) (inodes, number)
+
+  pub entry_by_numbers : (directory : ℕ) (name : List ℕ) → entry_at (tree_of (by_numbers f inodes)) (exchanged f directory) name ≡ option_map (exchanged f) (entry_at (tree_of inodes) directory name)
+  entry_by_numbers directory name =
+      commutes_nat WithOne Option named_one named_number (λ A eq s. entry_at (tree_of s.0) s.1 name) (exchange f) (inodes, directory)
+
+  pub under_by_numbers : (top directory : ℕ) → is_directory_under nat_eq (by_numbers f inodes) (exchanged f top) (exchanged f directory) ≡ is_directory_under nat_eq inodes top directory
+  under_by_numbers top directory =
+      commutes_nat WithTwo (λ (A : Type 0). Bool) named_two (named_nothing Bool) (λ A eq s. is_directory_under eq s.0 s.1 s.2) (exchange f) (inodes, top, directory)
+
+-- The rules of a tree's calls, for numbers of any type
+module _ {N : Type 0} (eq : N → N → Bool) where
+  abbrev make_rules_of : Inodes N → N → List ℕ → Rules
+  make_rules_of inodes directory name =
+      (not (is_directory_at (tree_of inodes) directory), E3) ∷ (is_some (entry_at (tree_of inodes) directory name), E1) ∷ []
+
+  abbrev leads_to_of : Tree N → N → List ℕ → N → Bool
+  leads_to_of tree directory name object = holds_of (eq object) (entry_at tree directory name)
+
+  abbrev replace_rules_of : Tree N → N → Option N → Rules
+  replace_rules_of tree object replaced =
+      (holds_of (is_directory_at tree) replaced && not (is_directory_at tree object), E2)
+      ∷ (holds_of (λ other. not (is_directory_at tree other)) replaced && is_directory_at tree object, E3)
+      ∷ (holds_of (is_filled tree) replaced && is_directory_at tree object, E4)
+      ∷ []
+
+  abbrev rename_rules_of : Inodes N → N → List ℕ → N → List ℕ → N → Rules
+  rename_rules_of inodes from old to new object =
+      (not (leads_to_of (tree_of inodes) from old object), W6)
+      ∷ (not (is_directory_at (tree_of inodes) to), E3)
+      ∷ replace_rules_of (tree_of inodes) object (entry_at (tree_of inodes) to new)
+      ++ (is_directory_at (tree_of inodes) object && is_directory_under eq inodes object to, E5)
+      ∷ []
+
+module _ (f : ℕ) (inodes : Inodes ℕ) where
+  pub make_rules_by_numbers : (directory : ℕ) (name : List ℕ) → make_rules (by_numbers f inodes) (exchanged f directory) name ≡ make_rules inodes directory name
+  make_rules_by_numbers directory name =
+      commutes_nat WithOne (λ (A : Type 0). Rules) named_one (named_nothing Rules) (λ A eq s. make_rules_of eq s.0 s.1 name) (exchange f) (inodes, directory)
+
+  pub hard_link_rules_by_numbers : (directory : ℕ) (name : List ℕ) (object : ℕ)
+      → hard_link_rules (by_numbers f inodes) (exchanged f directory) name (exchanged f object) ≡ hard_link_rules inodes directory name object
+  hard_link_rules_by_numbers directory name object =
+      commutes_nat WithTwo (λ (A : Type 0). Rules) named_two (named_nothing Rules)
+      (λ A eq s. make_rules_of eq s.0 s.1 name ++ (is_directory_at (tree_of s.0) s.2, E7) ∷ []) (exchange f) (inodes, directory, object)
+
+  pub unlink_rules_by_numbers : (directory : ℕ) (name : List ℕ) (object : ℕ)
+      → unlink_rules (by_numbers f inodes) (exchanged f directory) name (exchanged f object) ≡ unlink_rules inodes directory name object
+  unlink_rules_by_numbers directory name object =
+      commutes_nat WithTwo (λ (A : Type 0). Rules) named_two (named_nothing Rules)
+      (λ A eq s. (not (leads_to_of eq (tree_of s.0) s.1 name s.2), W6) ∷ (is_filled (tree_of s.0) s.2, E4) ∷ []) (exchange f) (inodes, directory, object)
+
+  pub rename_rules_by_numbers : (from : ℕ) (old : List ℕ) (to : ℕ) (new : List ℕ) (object : ℕ)
+      → rename_rules (by_numbers f inodes) (exchanged f from) old (exchanged f to) new (exchanged f object) ≡ rename_rules inodes from old to new object
+  rename_rules_by_numbers from old to new object =
+      commutes_nat WithThree (λ (A : Type 0). Rules) named_three (named_nothing Rules)
+      (λ A eq s. rename_rules_of eq s.0 s.1 old s.2 new s.3) (exchange f) (inodes, from, to, object)
+
+  pub write_rules_by_numbers : (file end : ℕ) → write_rules (by_numbers f inodes) (exchanged f file) end ≡ write_rules inodes file end
+  write_rules_by_numbers file end =
+      commutes_nat WithOne (λ (A : Type 0). Rules) named_one (named_nothing Rules)
+      (λ A eq s. (is_directory_at (tree_of s.0) s.1, E2) ∷ (nat_lt largest_file end, E6) ∷ []) (exchange f) (inodes, file)
+
+-- one directory, whose number is renamed
+abbrev Number : Type 0 → Type 0
+Number A = A
+
+abbrev named_itself : Named Number
+named_itself = record { rename = λ A B there back n. there n; itself = λ A n. refl }
+
+pub one_by_numbers : (f slot : ℕ) (attr : Attr) → one_directory nat_eq (exchanged f slot) attr ≡ by_numbers f (one_directory nat_eq slot attr)
+one_by_numbers f slot attr = commutes_nat Number Inodes named_itself named_inodes (λ A eq n. one_directory eq n attr) (exchange f) slot
+
+-- what is told of a directory by its place
+module _ (f : ℕ) (inodes : Inodes ℕ) (slot : ℕ) where
+  pub root_by_numbers : nat_eq (exchanged f slot) (by_numbers f inodes).root ≡ nat_eq slot inodes.root
+  root_by_numbers =
+      commutes_nat WithOne (λ (A : Type 0). Bool) named_one (named_nothing Bool) (λ A eq s. eq s.1 s.0.root) (exchange f) (inodes, slot)
+
+  pub own_by_numbers : nat_eq (exchanged f slot) (parent_in (exchanged f slot) ((tree_of (by_numbers f inodes)).node (exchanged f slot))) ≡ nat_eq slot (parent_in slot ((tree_of inodes).node slot))
+  own_by_numbers =
+      commutes_nat WithOne (λ (A : Type 0). Bool) named_one (named_nothing Bool) (λ A eq s. eq s.1 (parent_in s.1 ((tree_of s.0).node s.1))) (exchange f) (inodes, slot)

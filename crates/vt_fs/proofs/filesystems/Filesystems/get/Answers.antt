@@ -1,0 +1,15 @@
+use Rattle.std.proofs.Common.{ap, sym, ◌∙◌, option_map}
+use Rattle.std.specs.Prelude.{option_copied}
+use Rattle.vt_fs.specs.FilesystemsValue.{entry_of}
+use Rattle.vt_fs.proofs.Entries.{tree_of-held}
+use Rattle.vt_fs.proofs.filesystems.Filesystems.get.Goals as goal
+
+pub returns : goal.returns
+returns c =
+    tree_of-held c.args.filesystem.count c.self.inside.by_number.entries _ (sym (ap option_copied c.in_ok-found.was) ∙ c.get.ensures.value)
+    ∙ ap (λ fs. option_map (λ entry. entry.tree) (entry_of fs c.args.filesystem.count)) c.self.view_is
+
+pub returns-in_err-found : goal.returns-in_err-found
+returns-in_err-found c =
+    ap option_copied c.from_residual.ensures ∙ tree_of-held c.args.filesystem.count c.self.inside.by_number.entries _ (sym (ap option_copied c.in_err-found.was) ∙ c.get.ensures.value)
+    ∙ ap (λ fs. option_map (λ entry. entry.tree) (entry_of fs c.args.filesystem.count)) c.self.view_is

@@ -1,0 +1,25 @@
+use Rattle.std.proofs.Common.{ap, refl, sym, ◌∙◌, arith}
+use Rattle.std.specs.Option.{option_copied_mut}
+use Rattle.vt_fs.specs.FilesystemsValue.{held}
+use Rattle.vt_fs.proofs.Entries.{mounts_of-held, writes, writes_none}
+use Rattle.vt_fs.proofs.filesystems.Filesystems.hold_mount.Goals.{in-Some, in_default}
+use Rattle.vt_fs.proofs.filesystems.Filesystems.hold_mount.Goals as goal
+
+pub overflow_add-found : goal.overflow_add-found
+overflow_add-found c =
+    let mounts = mounts_of-held c.args.filesystem.count c.self.inside.by_number.entries c.args.self.now c.in-Some.found.now c.self.view_is
+    (sym c.get_mut.ensures.value ∙ ap option_copied_mut c.in-Some.is) in
+    omega (arith, mounts, c.mounts.ensures, c.if-mounts.false, c.mounts.type_inv)
+
+pub returns-clause-ok : goal.returns-clause-ok
+returns-clause-ok c =
+    elim c.match-get_mut.branch [
+      | in-Some w ↦
+          ap (λ inside. held inside.by_number.entries) w.self-inside-is
+          ∙ writes c.args.filesystem.count _ c.self.inside.by_number.entries _ c.args.self.now w.in-Some.found.now _ c.self.view_is c.get_mut.ensures.unique
+          (sym c.get_mut.ensures.value ∙ ap option_copied_mut w.in-Some.is) (c.get_mut.follows.holds _).0 (λ k. refl)
+      | in_default w ↦
+          ap (λ inside. held inside.by_number.entries) w.self-inside-is
+          ∙ writes_none c.args.filesystem.count _ c.self.inside.by_number.entries _ c.args.self.now c.self.view_is
+          (sym c.get_mut.ensures.value ∙ ap option_copied_mut w.in_default.is) (ap (λ map. map.entries) c.get_mut.follows.holds-at-none)
+    ]

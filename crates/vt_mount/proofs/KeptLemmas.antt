@@ -1,0 +1,142 @@
+-- The lists stay right where a mount is attached, detached or taken out.
+use Rattle.std.proofs.Common.{◌≡◌, ℕ, Bool, true, false, cond, ◌&&◌, T, List, [], ◌∷◌, ◌++◌, map, not, nat_lt, None, Some, Result, Ok, Err, OnErr, OnOk, refl, sym, ap, ◌∙◌, true≢false, arith, eq-eqb, ne_eqb}
+use Rattle.std.specs.Prelude.{IsOk, is_err}
+use Rattle.std.specs.List.{list_all}
+use Rattle.std.proofs.lemmas.Bool.{ltb-true}
+use Rattle.vt_location.specs.declared.locations.Location.{Location}
+use Rattle.vt_location.specs.declared.locations.NodeRef.{NodeRef}
+use Rattle.vt_location.specs.declared.mounts.Mount.{Mount}
+use Rattle.vt_location.specs.declared.mounts.Propagation.TheVariants.{Private}
+use Rattle.vt_location.specs.declared.numbers.MountId.{MountId}
+use Rattle.vt_location.specs.declared.numbers.NamespaceId.{NamespaceId}
+use Rattle.vt_mount.specs.declared.indexes.Indexes.{Indexes}
+use Rattle.vt_mount.specs.declared.mounted.Mounted.{Mounted}
+use Rattle.vt_mount.specs.Indexed.{IsIndexed, is_in_slot, numbers_where}
+use Rattle.vt_mount.specs.Indexes.{is_at, is_in, is_on, is_over, listed_at, listed_in, listed_on, listed_over, pushed, taken}
+use Rattle.vt_mount.specs.Listed.{same_id}
+use Rattle.vt_mount.specs.MountsValue.{MountEntry, mount_kept, without}
+use Rattle.vt_mount.proofs.ListLemmas.{others}
+use Rattle.vt_mount.proofs.IndexLemmas.{numbers-last, numbers-left, numbers-without, others-taken}
+use Rattle.vt_mount.proofs.OrderLemmas.{both-first, both-second, change_kept, found, rises, without_kept}
+
+-- what is kept of a mount that is detached
+abbrev pub detached_kept : Mounted → Mounted
+detached_kept one = record one { namespace = None; mount_point = None; propagation = Private }
+
+-- a test that no detached mount passes
+abbrev pub IsOfPlaces : (Mount → Bool) → Type 0
+IsOfPlaces test = (n : MountId) (one : Mounted) → test (mount_kept n (detached_kept one)) ≡ false
+
+-- each list of mounts that are somewhere loses one mount
+abbrev pub LosesOne : MountId → List (MountId × Mounted) → List (MountId × Mounted) → Type 0
+LosesOne id kept left = (test : Mount → Bool) → IsOfPlaces test → numbers_where test left ≡ others id (numbers_where test kept)
+
+pub loses-without : (id : MountId) (kept : List (MountId × Mounted)) → LosesOne id kept (without_kept id kept)
+loses-without id kept = λ test fails. numbers-without test id kept
+
+pub loses-detached : (id : MountId) (kept : List (MountId × Mounted)) → LosesOne id kept (map (change_kept id detached_kept) kept)
+loses-detached id kept = λ test fails. numbers-left test id detached_kept fails kept
+
+pub slots-detached : (id : MountId) (kept : List (MountId × Mounted)) → list_all is_in_slot kept ≡ true
+    → list_all is_in_slot (map (change_kept id detached_kept) kept) ≡ true
+slots-detached id [] slots = refl
+slots-detached id (one ∷ kept) slots =
+    ap (λ b. b && list_all is_in_slot (map (change_kept id detached_kept) kept)) (by (same_id id one.0)) ∙ slots-detached id kept (both-second _ _ slots)
+  where
+    by : (b : Bool) → is_in_slot (one.0, cond b (detached_kept one.1) one.1) ≡ true
+    by true = refl
+    by false = both-first _ _ slots
+
+pub slots-without : (id : MountId) (kept : List (MountId × Mounted)) → list_all is_in_slot kept ≡ true → list_all is_in_slot (without_kept id kept) ≡ true
+slots-without id [] slots = refl
+slots-without id (one ∷ kept) slots = by (same_id id one.0) (slots-without id kept (both-second _ _ slots))
+  where
+    by : (b : Bool) → list_all is_in_slot (without_kept id kept) ≡ true → list_all is_in_slot (cond (not b) (one ∷ without_kept id kept) (without_kept id kept)) ≡ true
+    by true rest = rest
+    by false rest = ap (λ b. b && list_all is_in_slot (without_kept id kept)) (both-first _ _ slots) ∙ rest
+
+slots-last : (one : MountId × Mounted) (kept : List (MountId × Mounted)) → is_in_slot one ≡ true → list_all is_in_slot kept ≡ true
+    → list_all is_in_slot (kept ++ one ∷ []) ≡ true
+slots-last one [] slot slots = ap (λ b. b && true) slot
+slots-last one (other ∷ kept) slot slots =
+    ap (λ b. b && list_all is_in_slot (kept ++ one ∷ [])) (both-first _ _ slots) ∙ slots-last one kept slot (both-second _ _ slots)
+
+-- Lists that one mount left
+
+module _ (id : MountId) (x : Mounted) (mount : Mount) (kept left : List (MountId × Mounted)) (rising : T (rises kept)) (there : found id kept ≡ Some x)
+    (is : mount ≡ mount_kept id x) (loses : LosesOne id kept left) where
+  left_one : (test : Mount → Bool) (old new : List MountId) → IsOfPlaces test → old ≡ numbers_where test kept → new ≡ taken (test mount) mount.number old
+      → new ≡ numbers_where test left
+  left_one test old new fails was taken_out =
+      taken_out
+      ∙ (λ i. taken (test (is i)) (is i).number (was i))
+      ∙ others-taken test id x kept rising there
+      ∙ sym (loses test fails)
+
+  pub indexed-left : (old new : Indexes) → list_all is_in_slot left ≡ true
+      → ((q : NamespaceId) → listed_in new q ≡ taken (is_in q mount) mount.number (listed_in old q))
+      → ((q : MountId) → listed_on new q ≡ taken (is_on q mount) mount.number (listed_on old q))
+      → ((q : Location) → listed_at new q ≡ taken (is_at q mount) mount.number (listed_at old q))
+      → ((q : NodeRef) → listed_over new q ≡ taken (is_over q mount) mount.number (listed_over old q))
+      → IsIndexed old kept → IsIndexed new left
+  indexed-left old new slots namespace parent place inode indexed = record {
+    namespace = λ q. left_one (is_in q) _ _ (λ n one. refl) (indexed.namespace q) (namespace q);
+    parent = λ q. left_one (is_on q) _ _ (λ n one. refl) (indexed.parent q) (parent q);
+    place = λ q. left_one (is_at q) _ _ (λ n one. refl) (indexed.place q) (place q);
+    inode = λ q. left_one (is_over q) _ _ (λ n one. refl) (indexed.inode q) (inode q);
+    slots = slots;
+  }
+
+-- Lists that one mount was put in
+
+module _ (mount : Mount) (one : Mounted) (kept : List (MountId × Mounted)) (is : mount_kept mount.number one ≡ mount) where
+  put_one : (test : Mount → Bool) (old new : List MountId) → old ≡ numbers_where test kept → new ≡ pushed (test mount) mount.number old
+      → new ≡ numbers_where test (kept ++ (mount.number, one) ∷ [])
+  put_one test old new was put_in =
+      put_in
+      ∙ (λ i. pushed (test (sym is i)) mount.number (was i))
+      ∙ sym (numbers-last test (mount.number, one) kept)
+
+  pub indexed-entered : (old new : Indexes) → is_in_slot (mount.number, one) ≡ true
+      → ((q : NamespaceId) → listed_in new q ≡ pushed (is_in q mount) mount.number (listed_in old q))
+      → ((q : MountId) → listed_on new q ≡ pushed (is_on q mount) mount.number (listed_on old q))
+      → ((q : Location) → listed_at new q ≡ pushed (is_at q mount) mount.number (listed_at old q))
+      → ((q : NodeRef) → listed_over new q ≡ pushed (is_over q mount) mount.number (listed_over old q))
+      → IsIndexed old kept → IsIndexed new (kept ++ (mount.number, one) ∷ [])
+  indexed-entered old new slot namespace parent place inode indexed = record {
+    namespace = λ q. put_one (is_in q) _ _ (indexed.namespace q) (namespace q);
+    parent = λ q. put_one (is_on q) _ _ (indexed.parent q) (parent q);
+    place = λ q. put_one (is_at q) _ _ (indexed.place q) (place q);
+    inode = λ q. put_one (is_over q) _ _ (indexed.inode q) (inode q);
+    slots = slots-last (mount.number, one) kept slot indexed.slots;
+  }
+
+-- What is attached and taken out again
+
+without-above : (number : ℕ) (entries : List MountEntry) → list_all (λ entry. nat_lt entry.mount.number number) entries ≡ true
+    → without number entries ≡ entries
+without-above number [] above = refl
+without-above number (entry ∷ entries) above =
+    ap (λ b. cond (not b) (entry ∷ without number entries) (without number entries))
+    (ne_eqb number entry.mount.number (λ is. omega (arith, is, ltb-true entry.mount.number number (both-first _ _ above))))
+    ∙ ap (λ rest. entry ∷ rest) (without-above number entries (both-second _ _ above))
+
+pub without-last : (number : ℕ) (last : MountEntry) (entries : List MountEntry) → list_all (λ entry. nat_lt entry.mount.number number) entries ≡ true
+    → last.mount.number ≡ number → without number (entries ++ last ∷ []) ≡ entries
+without-last number last [] above is = ap (λ b. cond (not b) (last ∷ []) []) (eq-eqb number last.mount.number (sym is))
+without-last number last (entry ∷ entries) above is =
+    ap (λ b. cond (not b) (entry ∷ without number (entries ++ last ∷ [])) (without number (entries ++ last ∷ [])))
+    (ne_eqb number entry.mount.number (λ is. omega (arith, is, ltb-true entry.mount.number number (both-first _ _ above))))
+    ∙ ap (λ rest. entry ∷ rest) (without-last number last entries (both-second _ _ above) is)
+
+pub of-ok : {A E P : Type 0} (r : Result A E) → IsOk r → OnOk r P → P
+of-ok (Ok a) ok p = p
+of-ok (Err e) ok p = absurd (true≢false (sym ok))
+
+pub not-err : {A E P : Type 0} (r : Result A E) → false ≡ is_err r → OnOk r P → P
+not-err (Ok a) fine p = p
+not-err (Err e) fine p = absurd (true≢false (sym fine))
+
+pub is-refused : {A E P : Type 0} (r : Result A E) → true ≡ is_err r → OnErr r P → P
+is-refused (Ok a) refused p = absurd (true≢false refused)
+is-refused (Err e) refused p = p

@@ -1,0 +1,22 @@
+use Rattle.std.proofs.Common.{◌<◌, ap, arith, nat_eq, option_map, sym, ◌∙◌}
+use Rattle.std.specs.Prelude.{slice_get}
+use Rattle.vt_spec.specs.Machine.Mounts.{child_at, stands_at}
+use Rattle.vt_location.specs.Locations.{location_of}
+use Rattle.vt_location.specs.Numbers.{counted}
+use Rattle.vt_mount.specs.Indexes.{is_at}
+use Rattle.vt_mount.specs.MountsValue.{in_order, mounts_in}
+use Rattle.vt_mount.proofs.EntryLemmas.{entries}
+use Rattle.vt_mount.proofs.PlaceLemmas.{at-agrees, first-count, found-first, numbers-seen, slot_limit}
+use Rattle.vt_mount.proofs.mounts.Mounts.child_at.Goals as goal
+
+pub returns : goal.returns
+returns c =
+    let place = c.args.place in
+    let less : place.node.slot < slot_limit = omega arith in
+    let kept = in_order c.self.inside.by_number.entries in
+    let here = stands_at nat_eq (location_of place) in
+    ap (option_map (λ id. counted id.count)) (c.copied.ensures ∙ c.first.ensures.value ∙ ap (λ ids. slice_get ids 0) (c.get.ensures ∙ c.self.invariant.place place))
+    ∙ sym (first-count _)
+    ∙ ap (λ ids. slice_get ids 0) (numbers-seen (is_at place) here (at-agrees place less) kept c.self.invariant.slots)
+    ∙ sym (found-first here (λ child. child.number) (mounts_in (entries kept)))
+    ∙ ap (λ now. option_map (λ child. child.number) (child_at nat_eq (mounts_in now) (location_of place))) c.self.view_is

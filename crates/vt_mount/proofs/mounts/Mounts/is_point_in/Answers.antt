@@ -1,0 +1,26 @@
+use Rattle.std.proofs.Common.{◌<◌, ap, arith, nat_eq, rules, ◌∙◌, ℕ}
+use Rattle.std.specs.Prelude.{find}
+use Rattle.std.proofs.lemmas.Iterator.{YieldsList-from_slice}
+use Rattle.std.proofs.lemmas.Iterator.Search.{any_from_yields_List}
+use Rattle.vt_spec.specs.Lists.{holds_of}
+use Rattle.vt_spec.specs.Machine.Mounts.{Mount}
+use Rattle.vt_location.specs.declared.numbers.MountId.{MountId}
+use Rattle.vt_location.specs.Locations.{number_of}
+use Rattle.vt_location.specs.Numbers.{counted}
+use Rattle.vt_mount.specs.Indexes.{is_over}
+use Rattle.vt_mount.specs.MountsValue.{in_order, mounts_in, stands_over}
+use Rattle.vt_mount.proofs.PlaceLemmas.{counts, numbers-seen, over-agrees, slot_limit}
+use Rattle.vt_mount.proofs.PointLemmas.{any-over}
+use Rattle.vt_mount.proofs.mounts.Mounts.is_point_in.Goals as goal
+
+pub returns : goal.returns
+returns c =
+    let inode = c.args.inode in
+    let less : inode.slot < slot_limit = omega arith in
+    let ids = c.get.result.now in
+    let p = (λ (mount : Mount ℕ). holds_of (nat_eq (counted c.args.namespace.count)) mount.namespace) in
+    any_from_yields_List (λ (id : MountId). holds_of p (find (λ mount. nat_eq (counted id.count) mount.number) (mounts_in c.args.self.now))) _ _ _
+    c.any.ensures.ran (YieldsList-from_slice ids cc) (λ x b q k. search rules)
+    ∙ any-over (stands_over (number_of inode)) p c.self.inside.by_number.entries c.args.self.now ids c.self.view_is
+    (ap counts (c.get.ensures ∙ c.self.invariant.inode inode)
+    ∙ numbers-seen (is_over inode) (stands_over (number_of inode)) (over-agrees inode less) (in_order c.self.inside.by_number.entries) c.self.invariant.slots)

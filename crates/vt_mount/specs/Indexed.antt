@@ -1,0 +1,27 @@
+-- Mounts, and what lists them.
+use Rattle.std.specs.Prelude.{Bool, List, filter, map, true, ◌≡◌}
+use Rattle.std.specs.List.{list_all}
+use Rattle.vt_location.specs.declared.locations.Location.{Location}
+use Rattle.vt_location.specs.declared.locations.NodeRef.{NodeRef}
+use Rattle.vt_location.specs.declared.mounts.Mount.{Mount}
+use Rattle.vt_location.specs.declared.numbers.MountId.{MountId}
+use Rattle.vt_location.specs.declared.numbers.NamespaceId.{NamespaceId}
+use Rattle.vt_mount.specs.declared.indexes.Indexes.{Indexes}
+use Rattle.vt_mount.specs.declared.mounted.Mounted.{Mounted}
+use Rattle.vt_mount.specs.Indexes.{has_slot, is_at, is_in, is_on, is_over, listed_at, listed_in, listed_on, listed_over}
+use Rattle.vt_mount.specs.MountsValue.{mount_kept}
+
+-- the numbers of the mounts that pass a test
+abbrev pub numbers_where : (Mount → Bool) → List (MountId × Mounted) → List MountId
+numbers_where test kept = map (λ one. one.0) (filter (λ one. test (mount_kept one.0 one.1)) kept)
+
+abbrev pub is_in_slot : MountId × Mounted → Bool
+is_in_slot one = has_slot (mount_kept one.0 one.1)
+
+-- each list has the mounts that it is for, in the order of their numbers
+pub record IsIndexed (indexes : Indexes) (kept : List (MountId × Mounted)) : Type 0 where
+  pub namespace : (q : NamespaceId) → listed_in indexes q ≡ numbers_where (is_in q) kept
+  pub parent : (q : MountId) → listed_on indexes q ≡ numbers_where (is_on q) kept
+  pub place : (q : Location) → listed_at indexes q ≡ numbers_where (is_at q) kept
+  pub inode : (q : NodeRef) → listed_over indexes q ≡ numbers_where (is_over q) kept
+  pub slots : list_all is_in_slot kept ≡ true

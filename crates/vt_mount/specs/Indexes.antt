@@ -1,0 +1,77 @@
+-- What mounts are listed under.
+use Rattle.std.specs.Prelude.{Bool, List, Option, filter, if◌then◌else◌, nat_eq, nat_lt, not, option_map, true, unwrap_or, [], ◌&&◌, ◌++◌, ◌∷◌, ◌≡◌}
+use Rattle.vt_spec.specs.Lists.{holds_of}
+use Rattle.vt_location.specs.declared.locations.Location.{Location}
+use Rattle.vt_location.specs.declared.locations.NodeRef.{NodeRef}
+use Rattle.vt_location.specs.declared.mounts.Mount.{Mount}
+use Rattle.vt_location.specs.declared.numbers.MountId.{MountId}
+use Rattle.vt_location.specs.declared.numbers.NamespaceId.{NamespaceId}
+use Rattle.vt_mount.specs.declared.indexes.Indexes.{Indexes}
+use Rattle.vt_mount.specs.Listed.{inserted, listed, same_id}
+
+abbrev pub same_namespace : NamespaceId → NamespaceId → Bool
+same_namespace a b = nat_eq a.count b.count
+
+abbrev pub same_inode : NodeRef → NodeRef → Bool
+same_inode a b = nat_eq a.filesystem.count b.filesystem.count && nat_eq a.slot b.slot
+
+abbrev pub same_place : Location → Location → Bool
+same_place a b = same_id a.mount b.mount && same_inode a.node b.node
+
+-- the mounts of a namespace, on a mount, at a location and on an inode
+abbrev pub listed_in : Indexes → NamespaceId → List MountId
+listed_in indexes namespace = listed same_namespace namespace indexes.by_namespace
+
+abbrev pub listed_on : Indexes → MountId → List MountId
+listed_on indexes parent = listed same_id parent indexes.by_parent
+
+abbrev pub listed_at : Indexes → Location → List MountId
+listed_at indexes place = listed same_place place indexes.by_location
+
+abbrev pub listed_over : Indexes → NodeRef → List MountId
+listed_over indexes inode = listed same_inode inode indexes.by_inode
+
+-- the mount is in this namespace, on this mount, at this location, on this inode
+abbrev pub is_in : NamespaceId → Mount → Bool
+is_in namespace mount = holds_of (same_namespace namespace) mount.namespace
+
+abbrev pub is_on : MountId → Mount → Bool
+is_on parent mount = holds_of (λ place. same_id parent place.mount) mount.mount_point
+
+abbrev pub is_at : Location → Mount → Bool
+is_at location mount = holds_of (same_place location) mount.mount_point
+
+abbrev pub is_over : NodeRef → Mount → Bool
+is_over inode mount = holds_of (λ place. same_inode inode place.node) mount.mount_point
+
+-- a list, with a mount behind the others or without it
+abbrev pub pushed : Bool → MountId → List MountId → List MountId
+pushed here id list = if here then list ++ id ∷ [] else list
+
+abbrev pub taken : Bool → MountId → List MountId → List MountId
+taken here id list = if here then filter (λ other. not (same_id other id)) list else list
+
+-- the mount is not in the list
+abbrev pub lacks : MountId → List MountId → Type 0
+lacks id list = filter (λ other. not (same_id other id)) list ≡ list
+
+-- a mount point's inode is in a slot that there can be
+abbrev pub has_slot : Mount → Bool
+has_slot mount = unwrap_or (option_map (λ place. nat_lt place.node.slot 18446744073709551616) mount.mount_point) true
+
+-- where a mount stood is on this mount, at this location, on this inode
+abbrev pub stood_on : MountId → Option Location → Bool
+stood_on parent was = holds_of (λ place. same_id parent place.mount) was
+
+abbrev pub stood_at : Location → Option Location → Bool
+stood_at location was = holds_of (same_place location) was
+
+abbrev pub stood_over : NodeRef → Option Location → Bool
+stood_over inode was = holds_of (λ place. same_inode inode place.node) was
+
+-- a list that a mount leaves or not, and that it is put in or not
+abbrev pub put_in_place : Bool → MountId → List MountId → List MountId
+put_in_place here id list = if here then inserted id list else list
+
+abbrev pub relisted : Bool → Bool → MountId → List MountId → List MountId
+relisted there here id list = put_in_place here id (taken there id list)

@@ -1,0 +1,17 @@
+-- The tree of a mount, while it is walked with a stack.
+use Rattle.std.specs.Prelude.{List, [], map, nat_eq, suc, zero, ℕ, ◌++◌, ◌∷◌}
+use Rattle.std.specs.List.{flat_map}
+use Rattle.vt_spec.specs.Machine.Mounts.{Mount, children}
+use Rattle.vt_location.specs.Numbers.{counted}
+use Rattle.vt_mount.specs.declared.trees.Branch.{Branch}
+
+-- the numbers of the mounts of a tree that is so deep at most
+abbrev pub tree_numbers : List (Mount ℕ) → ℕ → ℕ → List ℕ
+tree_numbers mounts zero number = number ∷ []
+tree_numbers mounts (suc depth) number =
+    number ∷ flat_map (tree_numbers mounts depth) (map (λ child. child.number) (children nat_eq mounts number))
+
+-- the trees of those that wait, the last first
+abbrev pub to_come : List (Mount ℕ) → List Branch → List ℕ
+to_come mounts [] = []
+to_come mounts (branch ∷ waiting) = to_come mounts waiting ++ tree_numbers mounts branch.depth (counted branch.mount.count)

@@ -1,0 +1,81 @@
+//! Mounts are attached, moved and detached: mount(2), umount(2).
+ghost use Rattle.std.specs.Prelude.{Some, ◌≡◌, ◌++◌, ◌∷◌, [], filter, find, nat_eq, nat_lt, not, option_map, true, IfErr, OnErr, OnOk};
+ghost use Rattle.std.specs.List.{list_all};
+ghost use Rattle.vt_spec.specs.declared.errors.Rule.TheVariants.{S5};
+ghost use Rattle.vt_spec.specs.Errors.{denial};
+ghost use Rattle.vt_spec.specs.Machine.Mounts.{detached};
+ghost use Rattle.vt_location.specs.Locations.{location_of};
+ghost use Rattle.vt_location.specs.MountValue.{mount_of};
+ghost use Rattle.vt_location.specs.Numbers.{counted};
+ghost use Rattle.vt_mount.specs.MountsValue.{changed, mounts_in, without};
+
+use crate::mounted::Mounted;
+use crate::mounts::Mounts;
+use vt_location::{Location, Mount, MountId, Propagation};
+use vt_spec::errors::{Deny, Rule};
+
+impl Mounts {
+    /// Attaches a mount, behind all others: mount(2). Nothing uses it yet.
+    ///
+    /// S5 (ENOMEM): memory was refused.
+    pub fn attach(&mut self, mount: Mount) -> Result<(), Deny>
+        requires { list_all (λ entry. nat_lt entry.mount.number (counted mount.number.count)) self.old ≡ true }
+        ensures ok { OnOk result (self.new ≡ self.old ++ record { mount = mount_of mount; uses = 0; writers = 0 } ∷ []) }
+        // taken out again, the mounts are as they were
+        ensures undone { OnOk result (without (counted mount.number.count) self.new ≡ self.old) }
+        ensures memory { IfErr result (λ deny. deny ≡ denial S5) }
+        ensures err { OnErr result (self.new ≡ self.old) }
+    {
+        if self.by_number.reserve(1).is_err() || self.indexes.enter(&mount).is_err() {
+            return Err(Rule::S5.denial());
+        }
+        let _ = self.by_number.insert(mount.number, Mounted::unused(mount));
+        Ok(())
+    }
+
+    /// Takes a mount out, and tells what it was. It takes no memory.
+    pub fn remove(&mut self, id: MountId) -> Option<Mount>
+        ensures value { option_map mount_of result ≡ find (λ mount. nat_eq (counted id.count) mount.number) (mounts_in self.old) }
+        ensures rest { self.new ≡ without (counted id.count) self.old }
+    {
+        let kept = self.by_number.swap_remove(&id)?;
+        let mount = kept.mount(id);
+        self.indexes.leave(&mount);
+        Some(mount)
+    }
+
+    /// Moves a mount to another mount point: mount(2) with `MS_MOVE`.
+    ///
+    /// S5 (ENOMEM): memory was refused.
+    pub fn move_to(&mut self, id: MountId, place: Location) -> Result<(), Deny>
+        ensures ok { OnOk result (self.new
+            ≡ changed (counted id.count)
+            (λ entry. record entry { mount = record entry.mount { mount_point = Some (location_of place) } }) self.old) }
+        ensures memory { IfErr result (λ deny. deny ≡ denial S5) }
+        ensures err { OnErr result (self.new ≡ self.old) }
+    {
+        let Some(kept) = self.by_number.get_mut(&id) else {
+            return Ok(());
+        };
+        if self.indexes.relist(kept.mount_point, place, id).is_err() {
+            return Err(Rule::S5.denial());
+        }
+        kept.mount_point = Some(place);
+        Ok(())
+    }
+
+    /// Detaches a mount: it has no mount point, namespace or peer group any more, and keeps its users: umount(2) with
+    /// `MNT_DETACH`. It takes no memory.
+    pub fn detach(&mut self, id: MountId)
+        ensures { self.new ≡ changed (counted id.count) (λ entry. record entry { mount = detached entry.mount }) self.old }
+    {
+        let Some(kept) = self.by_number.get_mut(&id) else {
+            return;
+        };
+        let mount = kept.mount(id);
+        kept.namespace = None;
+        kept.mount_point = None;
+        kept.propagation = Propagation::Private;
+        self.indexes.leave(&mount);
+    }
+}

@@ -1,0 +1,208 @@
+//! What mounts are listed under.
+ghost use Rattle.std.specs.Prelude.{◌≡◌, [], nat_lt, true, OnErr, OnOk};
+ghost use Rattle.vt_location.specs.declared.numbers.MountId.{MountId};
+ghost use Rattle.vt_location.specs.declared.numbers.NamespaceId.{NamespaceId};
+ghost use Rattle.vt_mount.specs.Listed.{has_room, same_id};
+ghost use Rattle.vt_location.specs.declared.locations.Location.{Location};
+ghost use Rattle.vt_location.specs.declared.locations.NodeRef.{NodeRef};
+ghost use Rattle.vt_mount.specs.Indexes.{has_slot, is_at, is_in, is_on, is_over, lacks, listed_at, listed_in, listed_on};
+ghost use Rattle.vt_mount.specs.Indexes.{listed_over, pushed, put_in_place, relisted, same_inode, same_place};
+ghost use Rattle.vt_mount.specs.Indexes.{stood_at, stood_on, stood_over, taken};
+
+use crate::lists::MountsBy;
+use std::alloc::{AllocError, Global};
+use vt_location::{Location, Mount, MountId, NamespaceId, NodeRef};
+
+/// The mounts by their namespace, and by the mount, the location and the inode that they stand on.
+#[derive(Debug, Drop)]
+pub(crate) struct Indexes {
+    pub(crate) by_namespace: MountsBy<NamespaceId>,
+    pub(crate) by_parent: MountsBy<MountId>,
+    pub(crate) by_location: MountsBy<Location>,
+    pub(crate) by_inode: MountsBy<NodeRef>,
+}
+
+impl Indexes {
+    /// No mounts. It takes no memory.
+    pub(crate) fn new(alloc: Global) -> Self
+        ensures namespace { (q : NamespaceId) → listed_in result q ≡ [] }
+        ensures parent { (q : MountId) → listed_on result q ≡ [] }
+        ensures place { (q : Location) → listed_at result q ≡ [] }
+        ensures inode { (q : NodeRef) → listed_over result q ≡ [] }
+    {
+        Indexes {
+            by_namespace: MountsBy::new(alloc),
+            by_parent: MountsBy::new(alloc),
+            by_location: MountsBy::new(alloc),
+            by_inode: MountsBy::new(alloc),
+        }
+    }
+
+    /// Lists a mount behind all others.
+    pub(crate) fn enter(&mut self, mount: &Mount) -> Result<(), AllocError>
+        requires namespace { (q : NamespaceId) → lacks mount.now.number (listed_in self.old q) }
+        requires parent { (q : MountId) → lacks mount.now.number (listed_on self.old q) }
+        requires place { (q : Location) → lacks mount.now.number (listed_at self.old q) }
+        ensures slot { OnOk result (has_slot mount.now ≡ true) }
+        ensures namespace_ok { OnOk result ((q : NamespaceId) → listed_in self.new q
+            ≡ pushed (is_in q mount.now) mount.now.number (listed_in self.old q)) }
+        ensures parent_ok { OnOk result ((q : MountId) → listed_on self.new q
+            ≡ pushed (is_on q mount.now) mount.now.number (listed_on self.old q)) }
+        ensures place_ok { OnOk result ((q : Location) → listed_at self.new q
+            ≡ pushed (is_at q mount.now) mount.now.number (listed_at self.old q)) }
+        ensures inode_ok { OnOk result ((q : NodeRef) → listed_over self.new q
+            ≡ pushed (is_over q mount.now) mount.now.number (listed_over self.old q)) }
+        ensures namespace_err { OnErr result ((q : NamespaceId) → listed_in self.new q ≡ listed_in self.old q) }
+        ensures parent_err { OnErr result ((q : MountId) → listed_on self.new q ≡ listed_on self.old q) }
+        ensures place_err { OnErr result ((q : Location) → listed_at self.new q ≡ listed_at self.old q) }
+        ensures inode_err { OnErr result ((q : NodeRef) → listed_over self.new q ≡ listed_over self.old q) }
+    {
+        if let Some(namespace) = mount.namespace {
+            self.by_namespace.push(namespace, mount.number)?;
+        }
+        if let Some(place) = mount.mount_point {
+            if let Err(refused) = self.enter_place(place, mount.number) {
+                if let Some(namespace) = mount.namespace {
+                    self.by_namespace.remove(&namespace, mount.number);
+                }
+                return Err(refused);
+            }
+        }
+        Ok(())
+    }
+
+    /// Takes a mount out of the lists. It takes no memory.
+    pub(crate) fn leave(&mut self, mount: &Mount)
+        ensures namespace { (q : NamespaceId) → listed_in self.new q ≡ taken (is_in q mount.now) mount.now.number (listed_in self.old q) }
+        ensures parent { (q : MountId) → listed_on self.new q ≡ taken (is_on q mount.now) mount.now.number (listed_on self.old q) }
+        ensures place { (q : Location) → listed_at self.new q ≡ taken (is_at q mount.now) mount.now.number (listed_at self.old q) }
+        ensures inode { (q : NodeRef) → listed_over self.new q ≡ taken (is_over q mount.now) mount.now.number (listed_over self.old q) }
+    {
+        if let Some(namespace) = mount.namespace {
+            self.by_namespace.remove(&namespace, mount.number);
+        }
+        if let Some(place) = mount.mount_point {
+            self.by_parent.remove(&place.mount, mount.number);
+            self.by_location.remove(&place, mount.number);
+            self.by_inode.remove(&place.node, mount.number);
+        }
+    }
+
+    /// Lists a mount where it stands from now on, among the others there, and not where it stood.
+    pub(crate) fn relist(
+        &mut self,
+        was: Option<Location>,
+        place: Location,
+        mount: MountId,
+    ) -> Result<(), AllocError>
+        ensures slot { nat_lt place.node.slot 18446744073709551616 ≡ true }
+        ensures namespace { (q : NamespaceId) → listed_in self.new q ≡ listed_in self.old q }
+        ensures parent_ok { OnOk result ((q : MountId) → listed_on self.new q
+            ≡ relisted (stood_on q was) (same_id q place.mount) mount (listed_on self.old q)) }
+        ensures place_ok { OnOk result ((q : Location) → listed_at self.new q
+            ≡ relisted (stood_at q was) (same_place q place) mount (listed_at self.old q)) }
+        ensures inode_ok { OnOk result ((q : NodeRef) → listed_over self.new q
+            ≡ relisted (stood_over q was) (same_inode q place.node) mount (listed_over self.old q)) }
+        ensures parent_err { OnErr result ((q : MountId) → listed_on self.new q ≡ listed_on self.old q) }
+        ensures place_err { OnErr result ((q : Location) → listed_at self.new q ≡ listed_at self.old q) }
+        ensures inode_err { OnErr result ((q : NodeRef) → listed_over self.new q ≡ listed_over self.old q) }
+    {
+        self.prepare(place)?;
+        self.take_out(was, mount);
+        self.put_in(place, mount);
+        self.drop_empty(was);
+        Ok(())
+    }
+
+    // Makes room for one more mount at a location.
+    fn prepare(&mut self, place: Location) -> Result<(), AllocError>
+        ensures namespace { self.new.by_namespace ≡ self.old.by_namespace }
+        ensures parent { (q : MountId) → listed_on self.new q ≡ listed_on self.old q }
+        ensures place { (q : Location) → listed_at self.new q ≡ listed_at self.old q }
+        ensures inode { (q : NodeRef) → listed_over self.new q ≡ listed_over self.old q }
+        ensures parent_room { OnOk result (has_room same_id place.mount self.new.by_parent ≡ true) }
+        ensures place_room { OnOk result (has_room same_place place self.new.by_location ≡ true) }
+        ensures inode_room { OnOk result (has_room same_inode place.node self.new.by_inode ≡ true) }
+    {
+        self.by_parent.prepare(place.mount)?;
+        self.by_location.prepare(place)?;
+        self.by_inode.prepare(place.node)
+    }
+
+    // Takes a mount from where it stood; the lists stay there even if they are empty.
+    fn take_out(&mut self, was: Option<Location>, mount: MountId)
+        ensures namespace { self.new.by_namespace ≡ self.old.by_namespace }
+        ensures parent { (q : MountId) → listed_on self.new q ≡ taken (stood_on q was) mount (listed_on self.old q) }
+        ensures place { (q : Location) → listed_at self.new q ≡ taken (stood_at q was) mount (listed_at self.old q) }
+        ensures inode { (q : NodeRef) → listed_over self.new q ≡ taken (stood_over q was) mount (listed_over self.old q) }
+        ensures parent_room { (q : MountId) → has_room same_id q self.old.by_parent ≡ true → has_room same_id q self.new.by_parent ≡ true }
+        ensures place_room { (q : Location) → has_room same_place q self.old.by_location
+            ≡ true → has_room same_place q self.new.by_location ≡ true }
+        ensures inode_room { (q : NodeRef) → has_room same_inode q self.old.by_inode
+            ≡ true → has_room same_inode q self.new.by_inode ≡ true }
+    {
+        if let Some(was) = was {
+            self.by_parent.take_out(&was.mount, mount);
+            self.by_location.take_out(&was, mount);
+            self.by_inode.take_out(&was.node, mount);
+        }
+    }
+
+    // Puts a mount in its place among those at a location.
+    fn put_in(&mut self, place: Location, mount: MountId)
+        requires parent { has_room same_id place.mount self.old.by_parent ≡ true }
+        requires place { has_room same_place place self.old.by_location ≡ true }
+        requires inode { has_room same_inode place.node self.old.by_inode ≡ true }
+        ensures slot { nat_lt place.node.slot 18446744073709551616 ≡ true }
+        ensures namespace { self.new.by_namespace ≡ self.old.by_namespace }
+        ensures parent { (q : MountId) → listed_on self.new q ≡ put_in_place (same_id q place.mount) mount (listed_on self.old q) }
+        ensures place { (q : Location) → listed_at self.new q ≡ put_in_place (same_place q place) mount (listed_at self.old q) }
+        ensures inode { (q : NodeRef) → listed_over self.new q ≡ put_in_place (same_inode q place.node) mount (listed_over self.old q) }
+    {
+        self.by_parent.put_in(&place.mount, mount);
+        self.by_location.put_in(&place, mount);
+        self.by_inode.put_in(&place.node, mount);
+    }
+
+    // Drops the lists at a location that are empty.
+    fn drop_empty(&mut self, was: Option<Location>)
+        ensures namespace { self.new.by_namespace ≡ self.old.by_namespace }
+        ensures parent { (q : MountId) → listed_on self.new q ≡ listed_on self.old q }
+        ensures place { (q : Location) → listed_at self.new q ≡ listed_at self.old q }
+        ensures inode { (q : NodeRef) → listed_over self.new q ≡ listed_over self.old q }
+    {
+        if let Some(was) = was {
+            self.by_parent.drop_empty(&was.mount);
+            self.by_location.drop_empty(&was);
+            self.by_inode.drop_empty(&was.node);
+        }
+    }
+
+    // Lists a mount behind the others that stand there.
+    fn enter_place(&mut self, place: Location, mount: MountId) -> Result<(), AllocError>
+        requires parent { (q : MountId) → lacks mount (listed_on self.old q) }
+        requires place { (q : Location) → lacks mount (listed_at self.old q) }
+        ensures slot { nat_lt place.node.slot 18446744073709551616 ≡ true }
+        ensures same { self.new.by_namespace ≡ self.old.by_namespace }
+        ensures parent_ok { OnOk result ((q : MountId) → listed_on self.new q
+            ≡ pushed (same_id q place.mount) mount (listed_on self.old q)) }
+        ensures place_ok { OnOk result ((q : Location) → listed_at self.new q ≡ pushed (same_place q place) mount (listed_at self.old q)) }
+        ensures inode_ok { OnOk result ((q : NodeRef) → listed_over self.new q
+            ≡ pushed (same_inode q place.node) mount (listed_over self.old q)) }
+        ensures parent_err { OnErr result ((q : MountId) → listed_on self.new q ≡ listed_on self.old q) }
+        ensures place_err { OnErr result ((q : Location) → listed_at self.new q ≡ listed_at self.old q) }
+        ensures inode_err { OnErr result ((q : NodeRef) → listed_over self.new q ≡ listed_over self.old q) }
+    {
+        self.by_parent.push(place.mount, mount)?;
+        if let Err(refused) = self.by_location.push(place, mount) {
+            self.by_parent.remove(&place.mount, mount);
+            return Err(refused);
+        }
+        if let Err(refused) = self.by_inode.push(place.node, mount) {
+            self.by_parent.remove(&place.mount, mount);
+            self.by_location.remove(&place, mount);
+            return Err(refused);
+        }
+        Ok(())
+    }
+}

@@ -1,0 +1,131 @@
+//! Mounts, listed under what they stand on.
+ghost use Rattle.std.specs.Prelude.{◌≡◌, ◌++◌, ◌∷◌, [], filter, if◌then◌else◌, not, true, vec_capacity, vec_len, ◌<◌, ◌≤◌, OnErr, OnOk};
+ghost use Rattle.vt_mount.specs.Listed.{has_room, inserted, listed, same_id};
+
+use indexmap::IndexMap;
+use std::alloc::{AllocError, Global};
+use std::hash::Hash;
+use vt_location::MountId;
+
+/// Lists of mounts, each under a key: a namespace, a mount, a location or an inode.
+#[derive(Debug, Drop)]
+pub(crate) struct MountsBy<K: Eq + Hash> {
+    lists: IndexMap<K, Vec<MountId>>,
+}
+
+impl<K: Eq + Hash + Copy + Drop> MountsBy<K> {
+    /// No lists. It takes no memory.
+    pub(crate) fn new(alloc: Global) -> Self
+        ensures { (q : K) → listed K.eq q result ≡ [] }
+    {
+        MountsBy {
+            lists: IndexMap::new(alloc),
+        }
+    }
+
+    /// The mounts under a key.
+    pub(crate) fn get(&self, key: &K) -> &[MountId]
+        ensures { result.now ≡ listed K.eq key.now self.now }
+    {
+        match self.lists.get(key) {
+            Some(list) => list.as_slice(),
+            None => &[],
+        }
+    }
+
+    /// Puts a mount behind those under a key.
+    pub(crate) fn push(&mut self, key: K, mount: MountId) -> Result<(), AllocError>
+        ensures ok { OnOk result ((q : K) → listed K.eq q self.new
+            ≡ (if K.eq q key then listed K.eq q self.old ++ mount ∷ [] else listed K.eq q self.old)) }
+        ensures err { OnErr result ((q : K) → listed K.eq q self.new ≡ listed K.eq q self.old) }
+    {
+        if let Some(list) = self.lists.get_mut(&key) {
+            list.push(mount)?;
+            return Ok(());
+        }
+        let mut list = Vec::new(*self.lists.allocator());
+        list.push(mount)?;
+        self.lists.insert(key, list)?;
+        Ok(())
+    }
+
+    /// Makes room for one more under a key.
+    pub(crate) fn prepare(&mut self, key: K) -> Result<(), AllocError>
+        ensures same { (q : K) → listed K.eq q self.new ≡ listed K.eq q self.old }
+        ensures ok { OnOk result (has_room K.eq key self.new ≡ true) }
+    {
+        if let Some(list) = self.lists.get_mut(&key) {
+            return list.reserve(1);
+        }
+        let mut list = Vec::new(*self.lists.allocator());
+        list.reserve(1)?;
+        self.lists.insert(key, list)?;
+        Ok(())
+    }
+
+    /// Takes a mount from the list under a key, which stays even if it is empty. It takes no memory.
+    pub(crate) fn take_out(&mut self, key: &K, mount: MountId)
+        ensures taken { (q : K) → listed K.eq q self.new
+            ≡ (if K.eq q key.now then filter (λ other. not (same_id other mount)) (listed K.eq q self.old) else listed K.eq q self.old) }
+        ensures room { (q : K) → has_room K.eq q self.old ≡ true → has_room K.eq q self.new ≡ true }
+    {
+        if let Some(list) = self.lists.get_mut(key) {
+            take(list, mount);
+        }
+    }
+
+    /// Puts a mount in its place among those under a key, by its number. It takes no memory.
+    pub(crate) fn put_in(&mut self, key: &K, mount: MountId)
+        requires { has_room K.eq key.now self.old ≡ true }
+        ensures { (q : K) → listed K.eq q self.new
+            ≡ (if K.eq q key.now then inserted mount (listed K.eq q self.old) else listed K.eq q self.old) }
+    {
+        if let Some(list) = self.lists.get_mut(key) {
+            insert_in_order(list, mount);
+        }
+    }
+
+    /// Drops the list under a key, if it is empty. It takes no memory.
+    pub(crate) fn drop_empty(&mut self, key: &K)
+        ensures { (q : K) → listed K.eq q self.new ≡ listed K.eq q self.old }
+    {
+        if self.get(key).is_empty() {
+            self.lists.swap_remove(key);
+        }
+    }
+
+    /// Takes a mount from the list under a key. It takes no memory.
+    pub(crate) fn remove(&mut self, key: &K, mount: MountId)
+        ensures { (q : K) → listed K.eq q self.new
+            ≡ (if K.eq q key.now then filter (λ other. not (same_id other mount)) (listed K.eq q self.old) else listed K.eq q self.old) }
+    {
+        let Some(list) = self.lists.get_mut(key) else {
+            return;
+        };
+        take(list, mount);
+        if list.is_empty() {
+            self.lists.swap_remove(key);
+        }
+    }
+}
+
+// Takes a mount from a list.
+fn take(list: &mut Vec<MountId>, mount: MountId)
+    ensures capacity { vec_capacity list.new ≡ vec_capacity list.old }
+    ensures length { vec_len list.new ≤ vec_len list.old }
+    ensures items { list.new.items ≡ filter (λ other. not (same_id other mount)) list.old.items }
+{
+    list.retain(|other| *other != mount);
+}
+
+// Puts a mount before the first of a list that has a greater number.
+fn insert_in_order(list: &mut Vec<MountId>, mount: MountId)
+    requires { vec_len list.old < vec_capacity list.old }
+    ensures { list.new.items ≡ inserted mount list.old.items }
+{
+    let place = list
+        .iter()
+        .position(|other| other.count > mount.count)
+        .unwrap_or(list.len());
+    let _ = list.insert(place, mount);
+}

@@ -1,0 +1,155 @@
+//! The mounts that there are, by their numbers.
+ghost use Rattle.std.specs.Prelude.{◌≡◌, ◌++◌, ◌∷◌, [], None, Some, filter, find, length, map};
+ghost use Rattle.std.specs.Prelude.{nat_eq, nat_lt, not, option_map, true, ◌<◌, IfErr, IsOk, OnErr, OnOk, IfSome};
+ghost use Rattle.std.specs.List.{list_all};
+ghost use Rattle.vt_spec.specs.declared.errors.Rule.TheVariants.{S5};
+ghost use Rattle.vt_spec.specs.Errors.{denial};
+ghost use Rattle.vt_spec.specs.Machine.Mounts.{detached};
+ghost use Rattle.vt_location.specs.Flags.{flags_of};
+ghost use Rattle.vt_location.specs.Locations.{location_of};
+ghost use Rattle.vt_location.specs.MountValue.{mount_of, propagation_of};
+ghost use Rattle.vt_location.specs.Numbers.{counted};
+ghost use Rattle.vt_mount.specs.MountsValue.{are_ascending, changed, held, mounts_in, released, uses_of, writers_of};
+
+use crate::indexes::Indexes;
+use crate::mounted::Mounted;
+use indexmap::IndexMap;
+use std::alloc::Global;
+use std::marker::Model;
+use vt_location::{Location, Mount, MountFlags, MountId, Propagation};
+use vt_spec::errors::{Deny, Rule};
+
+/// The mounts of all namespaces, and those that were detached and are still in use.
+///
+/// They are kept by hash and in no order, so that a mount is attached and taken out at once however many there are; what
+/// they are listed under keeps the order of their numbers, which is that of attachment.
+#[derive(Debug, Drop)]
+pub struct Mounts {
+    pub(crate) by_number: IndexMap<MountId, Mounted>,
+    pub(crate) indexes: Indexes,
+}
+
+impl Model for Mounts {
+    ghost use Rattle.std.specs.Prelude.{List};
+    ghost use Rattle.vt_mount.specs.MountsValue.{MountEntry, entries_of};
+
+    ghost Value = { List MountEntry };
+
+    ghost view = { λ m. entries_of m.by_number.entries };
+
+    ghost use Rattle.vt_mount.specs.MountsValue.{in_order};
+    ghost use Rattle.vt_mount.specs.Indexed.{IsIndexed};
+
+    ghost invariant = { λ m. IsIndexed m.indexes (in_order m.by_number.entries) };
+}
+
+impl Mounts {
+    /// No mounts. It takes no memory.
+    pub fn new(alloc: Global) -> Self
+        ensures { result ≡ [] }
+    {
+        Mounts {
+            by_number: IndexMap::new(alloc),
+            indexes: Indexes::new(alloc),
+        }
+    }
+
+    /// How many mounts there are.
+    pub fn len(&self) -> usize
+        ensures { result ≡ length self.now }
+    {
+        self.by_number.len()
+    }
+
+    /// Mounts have numbers that are apart, and stand in the order of these.
+    pub fn are_ascending(&self)
+        ensures { are_ascending (mounts_in self.now) ≡ true }
+    {
+        let _ = &self.by_number;
+    }
+
+    /// The mount of this number.
+    pub fn get(&self, id: MountId) -> Option<Mount>
+        ensures { option_map mount_of result ≡ find (λ mount. nat_eq (counted id.count) mount.number) (mounts_in self.now) }
+    {
+        let kept = self.by_number.get(&id)?;
+        Some(kept.mount(id))
+    }
+
+    /// How many roots, working directories and descriptors are on a mount.
+    pub fn uses(&self, id: MountId) -> u64
+        ensures { result ≡ uses_of self.now (counted id.count) }
+    {
+        match self.by_number.get(&id) {
+            Some(kept) => kept.uses,
+            None => 0,
+        }
+    }
+
+    /// How many descriptors that are open for writing are on a mount.
+    pub fn writers(&self, id: MountId) -> u64
+        ensures { result ≡ writers_of self.now (counted id.count) }
+    {
+        match self.by_number.get(&id) {
+            Some(kept) => kept.writers,
+            None => 0,
+        }
+    }
+
+    /// Whether a file is open for writing through a mount: EBUSY of mount(2) with `MS_REMOUNT`.
+    pub fn is_written_through(&self, id: MountId) -> bool
+        ensures { result ≡ nat_lt 0 (writers_of self.now (counted id.count)) }
+    {
+        self.writers(id) > 0
+    }
+
+    /// Sets the flags of one mount: mount(2) with `MS_REMOUNT` and `MS_BIND`. It takes no memory.
+    pub fn set_flags(&mut self, id: MountId, flags: MountFlags)
+        ensures { self.new
+            ≡ changed (counted id.count) (λ entry. record entry { mount = record entry.mount { flags = flags_of flags } }) self.old }
+    {
+        if let Some(kept) = self.by_number.get_mut(&id) {
+            kept.flags = flags;
+        }
+    }
+
+    /// Sets the propagation type of one mount: mount(2) with `MS_PRIVATE` and so on. It takes no memory.
+    pub fn set_propagation(&mut self, id: MountId, propagation: Propagation)
+        ensures { self.new
+            ≡ changed (counted id.count)
+            (λ entry. record entry { mount = record entry.mount { propagation = propagation_of propagation } }) self.old }
+    {
+        if let Some(kept) = self.by_number.get_mut(&id) {
+            kept.propagation = propagation;
+        }
+    }
+
+    /// Counts a root, a working directory or a descriptor on a mount; a descriptor may be open for writing.
+    ///
+    /// S5 (ENOMEM): 2^64 - 1 are counted.
+    pub fn hold(&mut self, id: MountId, writes: bool) -> Result<(), Deny>
+        ensures ok { OnOk result (self.new ≡ changed (counted id.count) (held writes) self.old) }
+        ensures few { uses_of self.old (counted id.count) < u64.MAX → writers_of self.old (counted id.count) < u64.MAX → IsOk result }
+        // released again, the mounts are as they were
+        ensures undone { OnOk result (changed (counted id.count) (released writes) self.new ≡ self.old) }
+        ensures memory { IfErr result (λ deny. deny ≡ denial S5) }
+        ensures err { OnErr result (self.new ≡ self.old) }
+    {
+        if let Some(kept) = self.by_number.get_mut(&id) {
+            if !kept.has_room() {
+                return Err(Rule::S5.denial());
+            }
+            kept.hold(writes);
+        }
+        Ok(())
+    }
+
+    /// Counts a root, a working directory or a descriptor on a mount no more. It takes no memory.
+    pub fn release(&mut self, id: MountId, writes: bool)
+        ensures { self.new ≡ changed (counted id.count) (released writes) self.old }
+    {
+        if let Some(kept) = self.by_number.get_mut(&id) {
+            kept.release(writes);
+        }
+    }
+}

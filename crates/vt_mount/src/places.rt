@@ -1,0 +1,125 @@
+//! What stands where.
+ghost use Rattle.std.specs.Prelude.{◌≡◌, ◌&&◌, filter, find, is_some, map, nat_eq, option_map};
+ghost use Rattle.std.specs.List.{list_any};
+ghost use Rattle.vt_spec.specs.Lists.{holds_of};
+ghost use Rattle.vt_spec.specs.Machine.Mounts.{child_at, children, root_of, stands_on, topmost};
+ghost use Rattle.vt_location.specs.Locations.{location_of, number_of};
+ghost use Rattle.vt_location.specs.Numbers.{counted};
+ghost use Rattle.vt_mount.specs.MountsValue.{mounts_in, stands_over};
+
+use crate::mounts::Mounts;
+use vt_location::{Location, MountId, NamespaceId, NodeRef};
+
+impl Mounts {
+    /// The mount that stands at a location: the first that was attached there.
+    pub fn child_at(&self, place: Location) -> Option<MountId>
+        ensures { option_map (λ id. counted id.count) result
+            ≡ option_map (λ child. child.number) (child_at nat_eq (mounts_in self.now) (location_of place)) }
+    {
+        self.indexes.by_location.get(&place).first().copied()
+    }
+
+    /// The children of a mount, in the order in which they were attached.
+    pub fn children(&self, id: MountId) -> &[MountId]
+        ensures { map (λ id. counted id.count) result.now
+            ≡ map (λ child. child.number) (children nat_eq (mounts_in self.now) (counted id.count)) }
+    {
+        self.indexes.by_parent.get(&id)
+    }
+
+    /// Whether a mount has a child: EBUSY of umount(2).
+    pub fn has_child(&self, id: MountId) -> bool
+        ensures { result ≡ list_any (stands_on nat_eq (counted id.count)) (mounts_in self.now) }
+    {
+        !self.children(id).is_empty()
+    }
+
+    /// The root of the topmost mount over a location, or the location itself.
+    pub fn topmost(&self, place: Location) -> Location
+        ensures { location_of result ≡ topmost nat_eq (mounts_in self.now) (location_of place) }
+    {
+        let mut here = place;
+        for _ in 0..self.len() {
+            let Some(root) = self.root_over(here) else {
+                return here;
+            };
+            here = root;
+        }
+        here
+    }
+
+    // The root of the mount that stands at a location.
+    fn root_over(&self, place: Location) -> Option<Location>
+        ensures { option_map location_of result ≡ option_map root_of (child_at nat_eq (mounts_in self.now) (location_of place)) }
+    {
+        let child = self.child_at(place)?;
+        let kept = self.by_number.get(&child)?;
+        Some(Location {
+            mount: child,
+            node: kept.root,
+        })
+    }
+
+    /// The mounts that stand on an inode, through whatever mount it is seen, in the order in which they were attached.
+    pub fn mounts_on(&self, inode: NodeRef) -> &[MountId]
+        ensures { map (λ id. counted id.count) result.now
+            ≡ map (λ mount. mount.number) (filter (stands_over (number_of inode)) (mounts_in self.now)) }
+    {
+        self.indexes.by_inode.get(&inode)
+    }
+
+    /// Whether a mount of this namespace stands on an inode: EBUSY of rmdir(2).
+    pub fn is_point_in(&self, namespace: NamespaceId, inode: NodeRef) -> bool
+        ensures { result
+            ≡ list_any (λ mount. stands_over (number_of inode) mount && holds_of (nat_eq (counted namespace.count)) mount.namespace)
+            (mounts_in self.now) }
+    {
+        self.indexes
+            .by_inode
+            .get(&inode)
+            .iter()
+            .any(|id| self.is_in(*id, namespace))
+    }
+
+    /// Whether a mount of any namespace stands on an inode: EBUSY of rename(2).
+    pub fn is_point_anywhere(&self, inode: NodeRef) -> bool
+        ensures { result ≡ list_any (λ mount. stands_over (number_of inode) mount && is_some mount.namespace) (mounts_in self.now) }
+    {
+        self.indexes
+            .by_inode
+            .get(&inode)
+            .iter()
+            .any(|id| self.is_attached(*id))
+    }
+
+    // Whether a mount is attached in a namespace.
+    fn is_in(&self, id: MountId, namespace: NamespaceId) -> bool
+        ensures { result ≡ holds_of (λ mount. holds_of (nat_eq (counted namespace.count)) mount.namespace)
+            (find (λ mount. nat_eq (counted id.count) mount.number) (mounts_in self.now)) }
+    {
+        match self.get(id) {
+            Some(mount) => mount.namespace == Some(namespace),
+            None => false,
+        }
+    }
+
+    // Whether a mount is attached in any namespace.
+    fn is_attached(&self, id: MountId) -> bool
+        ensures { result
+            ≡ holds_of (λ mount. is_some mount.namespace) (find (λ mount. nat_eq (counted id.count) mount.number) (mounts_in self.now)) }
+    {
+        match self.get(id) {
+            Some(mount) => mount.namespace.is_some(),
+            None => false,
+        }
+    }
+
+    /// The mounts that are attached in a namespace, in the order in which they were attached.
+    pub fn attached_in(&self, namespace: NamespaceId) -> &[MountId]
+        ensures { map (λ id. counted id.count) result.now
+            ≡ map (λ mount. mount.number)
+            (filter (λ mount. holds_of (nat_eq (counted namespace.count)) mount.namespace) (mounts_in self.now)) }
+    {
+        self.indexes.by_namespace.get(&namespace)
+    }
+}

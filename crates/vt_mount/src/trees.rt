@@ -1,0 +1,85 @@
+//! Trees of mounts.
+ghost use Rattle.std.specs.Prelude.{◌≡◌, ◌++◌, ◌∷◌, [], map, reverse, OnOk, nat_eq, IfErr, IfOk};
+ghost use Rattle.vt_spec.specs.declared.errors.Rule.TheVariants.{S5};
+ghost use Rattle.vt_spec.specs.Errors.{denial};
+ghost use Rattle.vt_spec.specs.Machine.Mounts.{mount_in, mount_tree};
+ghost use Rattle.vt_location.specs.Numbers.{counted};
+ghost use Rattle.vt_mount.specs.MountsValue.{mounts_in};
+ghost use Rattle.vt_mount.specs.Waiting.{to_come};
+
+use crate::mounts::Mounts;
+use std::alloc::AllocError;
+use vt_location::MountId;
+use vt_spec::errors::{Deny, Rule};
+
+// A mount whose tree is still to come, and how deep that tree may be.
+#[derive(Clone, Copy, Debug)]
+struct Branch {
+    mount: MountId,
+    depth: usize,
+}
+
+impl Mounts {
+    /// A mount and all its descendants: each mount before its children, those in the order in which they were attached.
+    ///
+    /// S5 (ENOMEM): memory was refused.
+    pub fn tree(&self, id: MountId) -> Result<Vec<MountId>, Deny>
+        ensures ok { IfOk result (λ tree. map (λ id. counted id.count) tree.items
+            ≡ map (λ mount. mount.number) (mount_tree nat_eq (mounts_in self.now)
+            (mount_in nat_eq (mounts_in self.now) (counted id.count)))) }
+        ensures memory { IfErr result (λ deny. deny ≡ denial S5) }
+    {
+        let Ok(tree) = self.tree_of(id) else {
+            return Err(Rule::S5.denial());
+        };
+        Ok(tree)
+    }
+
+    // The tree of a mount. No tree is deeper than there are mounts.
+    fn tree_of(&self, id: MountId) -> Result<Vec<MountId>, AllocError>
+        ensures { IfOk result (λ tree. map (λ id. counted id.count) tree.items
+            ≡ map (λ mount. mount.number) (mount_tree nat_eq (mounts_in self.now)
+            (mount_in nat_eq (mounts_in self.now) (counted id.count)))) }
+    {
+        let alloc = *self.by_number.allocator();
+        let mut tree = Vec::new(alloc);
+        let mut waiting = Vec::new(alloc);
+        waiting.push(Branch {
+            mount: id,
+            depth: self.len(),
+        })?;
+        while let Some(next) = waiting.pop() {
+            tree.push(next.mount)?;
+            self.push_children(&mut waiting, next)?;
+        }
+        Ok(tree)
+    }
+
+    // Puts the children of a mount on a stack, unless its tree ends with it.
+    fn push_children(&self, waiting: &mut Vec<Branch>, branch: Branch) -> Result<(), AllocError>
+        ensures { OnOk result (to_come (mounts_in self.now) (waiting.old.items ++ branch ∷ [])
+            ≡ counted branch.mount.count ∷ to_come (mounts_in self.now) waiting.new.items) }
+    {
+        if branch.depth == 0 {
+            return Ok(());
+        }
+        push_reversed(waiting, self.children(branch.mount), branch.depth - 1)
+    }
+}
+
+// Puts mounts on a stack, the last one first.
+fn push_reversed(
+    waiting: &mut Vec<Branch>,
+    children: &[MountId],
+    depth: usize,
+) -> Result<(), AllocError>
+    ensures { OnOk result (waiting.new.items
+        ≡ waiting.old.items ++ map (λ id. record { mount = id; depth = depth }) (reverse children.now)) }
+{
+    waiting.extend(
+        children.iter().rev().map(|mount| Branch {
+            mount: *mount,
+            depth,
+        }),
+    )
+}
