@@ -3,3 +3,4 @@ pub mod TreesLookedAt
 pub mod LookLemmas
 pub mod LooksKept
 pub mod OpeningLemmas
+pub mod OwnInodesKept
