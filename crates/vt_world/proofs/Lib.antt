@@ -4,3 +4,4 @@ pub mod LookLemmas
 pub mod LooksKept
 pub mod OpeningLemmas
 pub mod OwnInodesKept
+pub mod MountLooks

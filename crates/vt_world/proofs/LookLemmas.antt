@@ -44,7 +44,7 @@ either_false : (a b : Bool) → (a && b) ≡ false → (P : Type 0) → (a ≡ f
 either_false true b e P first second = second refl e
 either_false false b e P first second = first refl
 
-turned : (a b : ℕ) → nat_eq a b ≡ nat_eq b a
+pub turned : (a b : ℕ) → nat_eq a b ≡ nat_eq b a
 turned a b = by (nat_eq a b) (nat_eq b a) refl refl
   where
     by : (x y : Bool) → nat_eq a b ≡ x → nat_eq b a ≡ y → x ≡ y

@@ -1,5 +1,5 @@
 -- Each inode keeps a number of its own filesystem, whatever changes in the filesystems.
-use Rattle.std.proofs.Common.{◌≡◌, refl, sym, ap, subst, ◌∙◌, true≢false, ℕ, ◌+◌, nat_eq, eqb-true, Bool, true, false, cond, not, List, [], ◌∷◌, ◌++◌, filter, map, Option, Some, None, is_some}
+use Rattle.std.proofs.Common.{◌≡◌, refl, sym, ap, subst, ◌∙◌, true≢false, ℕ, nat_eq, eqb-true, Bool, true, false, cond, not, List, [], ◌∷◌, ◌++◌, Option, Some, None}
 use Rattle.std.specs.Prelude.{All, if◌then◌else◌, ⊤}
 use Rattle.std.proofs.lemmas.List.Elements.{All-cons, All-head, All-nil, All-tail}
 use Rattle.vt_spec.specs.Language.Changes.{Change, node_with_attr, node_with_mark, node_with_parent, node_without_entry}

@@ -2,6 +2,7 @@
 #![tactic(auto)]
 
 mod looking;
+mod mount_looks;
 mod namespaces;
 mod opening;
 mod world;
