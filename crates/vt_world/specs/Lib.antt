@@ -1,0 +1,5 @@
+pub mod WorldValue
+pub mod Held
+pub mod Events
+pub mod Looking
+pub mod Opening

@@ -1,0 +1,10 @@
+//! `World`: filesystems, mounts, namespaces and tasks, and the events that change them.
+#![tactic(auto)]
+
+mod looking;
+mod mount_looks;
+mod namespaces;
+mod opening;
+mod world;
+
+pub use world::World;
