@@ -5,3 +5,7 @@ pub mod PermitsLeave
 pub mod SameInUse
 pub mod SameInvariants
 pub mod SameNumbers
+pub mod SeesFit
+pub mod SeesGiven
+pub mod SeesNames
+pub mod SeesTasks

@@ -1,3 +1,4 @@
 pub mod Left
 pub mod Named
 pub mod Same
+pub mod Sees

@@ -7,3 +7,4 @@
 pub mod left;
 pub mod named;
 pub mod same;
+pub mod sees;
