@@ -1,0 +1,5 @@
+pub mod NumbersBeside
+pub mod ChangedNumbers
+pub mod FilesSeen
+pub mod ChangedFiles
+pub mod FileEvents

@@ -1,6 +1,6 @@
 -- What holds of each world of the code: the invariants of a world, and that what is counted beside it is what the
 -- definitions count.
-use Rattle.std.specs.Prelude.{All, Bool, List, Some, [], false, length, nat_eq, option_map, true, ℕ, ◌&&◌, ◌+◌, ◌∷◌, ◌≡◌}
+use Rattle.std.specs.Prelude.{All, Bool, List, None, Some, [], false, length, nat_eq, option_map, true, ℕ, ◌&&◌, ◌+◌, ◌∷◌, ◌≡◌}
 use Rattle.std.specs.List.{list_all}
 use Rattle.vt_spec.specs.Machine.Mounts.{Mount, Propagation}
 use Rattle.vt_spec.specs.Machine.Mounts.Propagation.{Private, Shared, Slave, Unbindable}
@@ -10,7 +10,7 @@ use Rattle.vt_count_laws.specs.Counted.{IsCounted}
 use Rattle.vt_fs.specs.FilesystemsValue.{FilesystemEntry, filesystem_seen, inodes_seen}
 use Rattle.vt_laws.specs.Numbers.{KeepsTo}
 use Rattle.vt_letting_go.specs.Counts.{mount_uses, mounts_showing, times}
-use Rattle.vt_location.specs.Numbers.{counted}
+use Rattle.vt_location.specs.Numbers.{counted, is_inode_of}
 use Rattle.vt_mount.specs.MountsValue.{MountEntry}
 use Rattle.vt_run_laws.specs.Handed.{is_counted_before}
 use Rattle.vt_world.specs.WorldValue.{NamespaceEntry, WorldValue, world_of}
@@ -43,6 +43,10 @@ pub record CountsItsMounts (world : World ℕ) (entry : FilesystemEntry) : Type 
   pub mounts : entry.mounts ≡ mounts_showing world (counted entry.count)
   pub inodes : IsCounted world (filesystem_seen entry) (inodes_seen entry)
 
+-- the number of each inode is one that its filesystem gives to a slot
+abbrev pub HasOwnInodes : FilesystemEntry → Type 0
+HasOwnInodes entry = (number : ℕ) → is_inode_of entry.count number ≡ false → (inodes_seen entry).inode number ≡ None
+
 -- a namespace counts its tasks and its mounts
 pub record CountsWhatIsInIt (world : World ℕ) (entry : NamespaceEntry) : Type 0 where
   pub tasks : entry.tasks ≡ times (λ task. nat_eq (counted entry.count) task.namespace) world.tasks
@@ -55,4 +59,5 @@ pub record IsHeld (value : WorldValue) : Type 0 where
   pub given : KeepsTo (is_counted_before value.next) (world_of value)
   pub mounts : All (CountsItsUses (world_of value)) value.mounts
   pub filesystems : All (CountsItsMounts (world_of value)) value.filesystems
+  pub own_inodes : All HasOwnInodes value.filesystems
   pub namespaces : All (CountsWhatIsInIt (world_of value)) value.namespaces
