@@ -10,12 +10,14 @@ use Rattle.vt_spec.specs.Machine.Run.{numbers_in_use, used_by_filesystem, used_b
 use Rattle.vt_spec.specs.Machine.World.{Filesystem, Namespace, filesystem_at, filesystem_numbered, is_overlay, mount_at, no_filesystem}
 use Rattle.vt_spec.specs.Machine.WorldLaws.{is_located_well}
 use Rattle.vt_spec.specs.OneTree.Inodes.{node_in}
-use Rattle.vt_fs.specs.FilesystemsValue.{FilesystemEntry, Filesystems, entry_of, filesystem_seen, filesystems_seen, inodes_seen, no_entry}
+use Rattle.vt_spec.specs.TreeLaws.{IsTree}
+use Rattle.vt_fs.specs.FilesystemsValue.{FilesystemEntry, Filesystems, entry_of, filesystem_seen, filesystems_seen, inodes_at, inodes_seen, no_entry}
 use Rattle.vt_laws.specs.Numbers.{LeavesOutTwo, location_named}
 use Rattle.vt_laws.proofs.Supports.{used_numbers_are_named}
-use Rattle.vt_letting_go.proofs.Lists.{Among, all_from_among, among-from_map, among-map, fails}
+use Rattle.vt_letting_go.proofs.Lists.{Among, all_from_among, among_from_all, among-from_map, among-map, fails}
 use Rattle.vt_location.specs.declared.locations.Location.{Location}
-use Rattle.vt_location.specs.Locations.{location_of}
+use Rattle.vt_location.specs.declared.locations.NodeRef.{NodeRef}
+use Rattle.vt_location.specs.Locations.{location_of, number_of}
 use Rattle.vt_location.specs.Numbers.{counted, inode_number, is_inode_of}
 use Rattle.vt_location.proofs.NumberLemmas.{counted_same, counted_test, inode_same, slot_of}
 use Rattle.vt_run_laws.specs.Handed.{is_counted_before}
@@ -188,3 +190,30 @@ located_filesystem value at seen =
     ap (filesystem_numbered nat_eq (world_of value)) seen.shows
     ∙ found_by_number value.filesystems seen.entry.count
     ∙ ap (λ found. filesystem_seen (unwrap_or found (no_entry seen.entry.count))) seen.found
+
+-- and so does code
+pub located_inodes : (value : WorldValue) (at : Location) (seen : IsLocated value at)
+    → inodes_at value.filesystems at.node.filesystem.count ≡ inodes_seen seen.entry
+located_inodes value at seen =
+    ap (inodes_at value.filesystems) (sym seen.count_is) ∙ ap (λ found. inodes_seen (unwrap_or found (no_entry seen.entry.count))) seen.found
+
+-- another inode of that filesystem
+pub also_there : (value : WorldValue) → IsHeld value → (at : Location) (seen : IsLocated value at) (object : NodeRef)
+    → object.slot < 18446744073709551616
+    → is_some ((filesystem_at nat_eq (world_of value) (location_of at)).files.tree.node (number_of object)) ≡ true
+    → object.filesystem ≡ at.node.filesystem
+also_there value held at seen object small there =
+    let own = seen_in value.filesystems held.own_inodes (mount_at nat_eq (world_of value) (location_of at)).filesystem (number_of object) there in
+    let slot = slot_of own.entry.count (number_of object) own.own in
+    let same : object.filesystem.count ≡ at.node.filesystem.count =
+      (inode_same object.filesystem.count own.entry.count object.slot slot.0 small slot.1 slot.2).0
+      ∙ counted_same own.entry.count seen.entry.count (sym own.number_is ∙ seen.shows)
+      ∙ seen.count_is in
+    λ i. record { count = same i }
+
+-- its tree is one
+pub tree_of_entry : (value : WorldValue) → IsHeld value → (entry : FilesystemEntry) → Among entry value.filesystems
+    → IsTree (filesystem_seen entry).files.tree
+tree_of_entry value held entry m =
+    among_from_all (λ (filesystem : Filesystem ℕ). IsTree filesystem.files.tree) (world_of value).filesystems held.in_world.files.trees
+    (filesystem_seen entry) (among-map filesystem_seen value.filesystems entry m)

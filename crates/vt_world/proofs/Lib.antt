@@ -3,3 +3,5 @@ pub mod ChangedNumbers
 pub mod FilesSeen
 pub mod ChangedFiles
 pub mod FileEvents
+pub mod FileAnswers
+pub mod FileMaking
