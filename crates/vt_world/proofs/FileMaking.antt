@@ -1,6 +1,9 @@
 -- The event that makes an inode: mkdir(2), symlink(2), mknod(2).
 use Rattle.std.proofs.Common.{◌≡◌, refl, sym, ap, subst, ◌∙◌, ⊎_elim, inl, inr, true≢false, ℕ, ◌<◌, ◌/◌, ◌&&◌, Bool, true, false, nat_eq, List, [], ◌∷◌, map, Some, None, unwrap_or, arith}
-use Rattle.std.specs.Prelude.{Ok}
+use Rattle.std.specs.Prelude.{Err, Ok, is_ok, ◌⊎◌}
+use Rattle.vt_spec.specs.declared.errors.Deny.{Deny}
+use Rattle.vt_spec.specs.declared.errors.Rule.TheVariants.{S5}
+use Rattle.vt_spec.specs.Errors.{Rules, denial}
 use Rattle.vt_spec.specs.Language.Calls.{TaskName}
 use Rattle.vt_spec.specs.Language.Changes.{Change}
 use Rattle.vt_spec.specs.Language.Changes.Change.{Make}
@@ -69,6 +72,11 @@ new_is_named named directory node there new =
     by (Regular bytes) e = refl
     by (Symlink text) e = refl
     by Whiteout e = refl
+
+pub only_memory : (rules : Rules) (deny : Deny) → ruling rules ≡ Ok tt
+    → (ruling rules ≡ Err deny) ⊎ ((ruling rules ≡ Ok tt) × (deny ≡ denial S5)) → deny ≡ denial S5
+only_memory rules deny clear by =
+    ⊎_elim (λ refused. absurd (true≢false (sym (ap is_ok clear) ∙ ap is_ok refused))) (λ memory. memory.1) by
 
 module _ (value : WorldValue) (held : IsHeld value) (name : TaskName) (directory : Location) (entry : List ℕ) (node : Node ℕ)
     (small : IsSmall directory)

@@ -5,3 +5,4 @@ pub mod ChangedFiles
 pub mod FileEvents
 pub mod FileAnswers
 pub mod FileMaking
+pub mod FileParts
