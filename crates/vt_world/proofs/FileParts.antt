@@ -1,6 +1,6 @@
 -- The event that writes a part of a file: pwrite(2).
-use Rattle.std.proofs.Common.{◌≡◌, refl, sym, ap, subst, ◌∙◌, inl, inr, ℕ, ◌<◌, ◌≤◌, ◌+◌, ◌&&◌, not, Bool, true, false, nat_eq, nat_lt, List, [], ◌∷◌, map, length, Option, Some, None, is_some, OnErr, OnOk}
-use Rattle.std.specs.Prelude.{Ok, Result}
+use Rattle.std.proofs.Common.{◌≡◌, refl, sym, ap, subst, ◌∙◌, inl, inr, true≢false, ℕ, ◌<◌, ◌≤◌, ◌+◌, ◌&&◌, not, Bool, true, false, nat_eq, nat_lt, List, [], ◌∷◌, map, length, Option, Some, None, is_some, OnErr, OnOk, eqb-true, eq-eqb, arith}
+use Rattle.std.specs.Prelude.{Ok, Result, ◌==◌}
 use Rattle.std.proofs.lemmas.Option.{same_Some}
 use Rattle.vt_spec.specs.declared.errors.Deny.{Deny}
 use Rattle.vt_spec.specs.declared.errors.Rule.TheVariants.{E2, E6}
@@ -49,6 +49,17 @@ open_there value held name permit permits file fits held_open =
     (inr (inr (subst (λ location. Among location (map (λ (descriptor : Descriptor ℕ). descriptor.location) permits.task.descriptors)) held_open.4
     (among-map (λ (descriptor : Descriptor ℕ). descriptor.location) permits.task.descriptors held_open.1
     (found_among (λ (descriptor : Descriptor ℕ). nat_eq held_open.0 descriptor.number) permits.task.descriptors held_open.1 held_open.2))))))
+
+-- whether there are bytes, as code asks it
+
+pub no_bytes : (bytes : List ℕ) (b : Bool) → b ≡ (length bytes == 0) → b ≡ true → bytes ≡ []
+no_bytes [] b is e = refl
+no_bytes (byte ∷ bytes) b is e =
+    let none = eqb-true (length (byte ∷ bytes)) 0 (sym is ∙ e) in absurd (omega (arith, none))
+
+pub some_bytes : (bytes : List ℕ) (b : Bool) → b ≡ (length bytes == 0) → b ≡ false → length bytes ≡ 0 → ⊥
+some_bytes [] b is e none = true≢false (sym (is ∙ eq-eqb 0 0 refl) ∙ e)
+some_bytes (byte ∷ bytes) b is e none = omega (arith, none)
 
 -- no bytes change nothing
 pub nothing_is_written : (value : WorldValue) → IsHeld value → (name : TaskName) (file : meant.Location ℕ) (offset : ℕ) (bytes : List ℕ)
