@@ -7,11 +7,11 @@ use Rattle.std.specs.List.{list_any}
 use Rattle.vt_spec.specs.Lists.{any_pair, is_among}
 use Rattle.vt_spec.specs.Machine.Mounts.{Mount, source_of}
 use Rattle.vt_spec.specs.Machine.Run.{numbers_in_use, used_by_filesystem, used_by_mount}
-use Rattle.vt_spec.specs.Machine.World.{Filesystem, Namespace, filesystem_at, filesystem_numbered, is_overlay, mount_at, no_filesystem}
+use Rattle.vt_spec.specs.Machine.World.{Filesystem, Namespace, filesystem_at, filesystem_numbered, is_overlay, mount_at, no_filesystem, node_at}
 use Rattle.vt_spec.specs.Machine.WorldLaws.{is_located_well}
 use Rattle.vt_spec.specs.OneTree.Inodes.{node_in}
 use Rattle.vt_spec.specs.TreeLaws.{IsTree}
-use Rattle.vt_fs.specs.FilesystemsValue.{FilesystemEntry, Filesystems, entry_of, filesystem_seen, filesystems_seen, inodes_at, inodes_seen, no_entry}
+use Rattle.vt_fs.specs.FilesystemsValue.{FilesystemEntry, Filesystems, entry_of, files_at, filesystem_seen, filesystems_seen, inodes_at, inodes_seen, no_entry}
 use Rattle.vt_laws.specs.Numbers.{LeavesOutTwo, location_named}
 use Rattle.vt_laws.proofs.Supports.{used_numbers_are_named}
 use Rattle.vt_letting_go.proofs.Lists.{Among, all_from_among, among_from_all, among-from_map, among-map, fails}
@@ -217,3 +217,16 @@ pub tree_of_entry : (value : WorldValue) → IsHeld value → (entry : Filesyste
 tree_of_entry value held entry m =
     among_from_all (λ (filesystem : Filesystem ℕ). IsTree filesystem.files.tree) (world_of value).filesystems held.in_world.files.trees
     (filesystem_seen entry) (among-map filesystem_seen value.filesystems entry m)
+
+-- what is at a location, as the definitions look and as code does
+pub looked_node : (value : WorldValue) → IsHeld value → (at : Location) → at.node.slot < 18446744073709551616
+    → is_some (node_at nat_eq (world_of value) (location_of at)) ≡ true
+    → (files_at value.filesystems at.node.filesystem.count).tree.node (number_of at.node) ≡ node_at nat_eq (world_of value) (location_of at)
+looked_node value held at small there =
+    let seen = seen_in value.filesystems held.own_inodes (mount_at nat_eq (world_of value) (location_of at)).filesystem (number_of at.node) there in
+    let slot = slot_of seen.entry.count (number_of at.node) seen.own in
+    let count_is : seen.entry.count ≡ at.node.filesystem.count =
+      sym (inode_same at.node.filesystem.count seen.entry.count at.node.slot slot.0 small slot.1 slot.2).0 in
+    ap (λ count. (files_at value.filesystems count).tree.node (number_of at.node)) (sym count_is)
+    ∙ ap (λ (filesystem : Filesystem ℕ). filesystem.files.tree.node (number_of at.node)) (sym (found_by_number value.filesystems seen.entry.count))
+    ∙ ap (λ number. (filesystem_numbered nat_eq (world_of value) number).files.tree.node (number_of at.node)) (sym seen.number_is)

@@ -6,3 +6,4 @@ pub mod FileEvents
 pub mod FileAnswers
 pub mod FileMaking
 pub mod FileParts
+pub mod FilesRead

@@ -4,6 +4,7 @@
 mod files;
 mod looking;
 mod namespaces;
+mod reading;
 mod world;
 
 pub use world::World;
