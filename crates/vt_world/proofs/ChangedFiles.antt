@@ -1,7 +1,7 @@
 -- Where the counted inodes of one filesystem have changed, the code's world is the one that the sweep after the change leaves,
 -- and counts what is in it.
-use Rattle.std.proofs.Common.{◌≡◌, ◌≢◌, refl, sym, ap, subst, ◌∙◌, ⊎_elim, inl, inr, true≢false, ℕ, nat_eq, eq-eqb, eqb-true, Bool, true, false, cond, List, [], ◌∷◌, map, Option, Some, None, is_some, unwrap_or}
-use Rattle.std.specs.Prelude.{All, ⊤}
+use Rattle.std.proofs.Common.{◌≡◌, refl, sym, ap, subst, ◌∙◌, ⊎_elim, inl, inr, true≢false, ℕ, nat_eq, eq-eqb, eqb-true, Bool, true, false, cond, [], ◌∷◌, map, Some, None, is_some, unwrap_or}
+use Rattle.std.specs.Prelude.{⊤}
 use Rattle.std.proofs.lemmas.Option.{same_Some}
 use Rattle.vt_spec.specs.Language.Calls.{TaskName}
 use Rattle.vt_spec.specs.Language.Changes.{Change}
@@ -12,7 +12,7 @@ use Rattle.vt_spec.specs.Machine.Mounts.{Location}
 use Rattle.vt_spec.specs.Machine.Permits.{Permit}
 use Rattle.vt_spec.specs.Machine.SameWorlds.{SameFiles, SameFilesystem, SameFilesystems, SameWorlds}
 use Rattle.vt_spec.specs.Machine.Settled.{settled}
-use Rattle.vt_spec.specs.Machine.World.{Filesystem, Task, World, filesystem_at, filesystem_numbered, replaced_if_numbered, task_called, with_filesystem}
+use Rattle.vt_spec.specs.Machine.World.{Filesystem, Task, World, filesystem_at, filesystem_numbered, replaced_if_numbered, with_filesystem}
 use Rattle.vt_spec.specs.Machine.WorldLaws.{IsWorld}
 use Rattle.vt_spec.specs.OneTree.Fits.{Fits}
 use Rattle.vt_spec.specs.OneTree.Inodes.{Inodes, changed, node_in, tree_of}
@@ -29,7 +29,6 @@ use Rattle.vt_letting_go.specs.TreeChanges.{with_tree}
 use Rattle.vt_letting_go.proofs.Lists.{Among, all_from_among, among_from_all}
 use Rattle.vt_location.specs.Numbers.{counted, is_inode_of}
 use Rattle.vt_location.proofs.NumberLemmas.{counted_same, counted_test}
-use Rattle.vt_mount.specs.MountsValue.{MountEntry}
 use Rattle.vt_permit_laws.specs.Named.{permit_named}
 use Rattle.vt_permit_laws.proofs.PermitsKeepTo.{same_keeps_to_numbers_too}
 use Rattle.vt_permit_laws.proofs.PermitsLeave.{same_is_a_world_too}
@@ -37,7 +36,7 @@ use Rattle.vt_run_laws.specs.Handed.{is_counted_before}
 use Rattle.vt_run_laws.proofs.AlikeWorlds.{same_worlds_are_plain_alike, sameness_is_an_equivalence}
 use Rattle.vt_world.specs.Events.{Becomes, Permits, left_by, supply_of}
 use Rattle.vt_world.specs.Held.{CountsItsMounts, CountsItsUses, CountsWhatIsInIt, HasOwnInodes, IsHeld}
-use Rattle.vt_world.specs.WorldValue.{NamespaceEntry, WorldValue, world_of}
+use Rattle.vt_world.specs.WorldValue.{WorldValue, world_of}
 use Rattle.vt_world.proofs.ChangedNumbers.{MakesOther, none_stays}
 use Rattle.vt_world.proofs.FilesSeen.{files_are_plain, one_entry}
 use Rattle.vt_world.proofs.NumbersBeside.{found_by_number, numbers_apart_each, numbers_listed}

@@ -1,5 +1,5 @@
 -- A change of counted inodes gives no number an inode, but the one that it makes.
-use Rattle.std.proofs.Common.{◌≡◌, refl, sym, ap, ◌∙◌, true≢false, ℕ, nat_eq, eqb-true, Bool, true, false, cond, Option, Some, None}
+use Rattle.std.proofs.Common.{◌≡◌, refl, sym, ap, ◌∙◌, ℕ, nat_eq, eqb-true, Bool, true, false, cond, Option, Some, None}
 use Rattle.std.specs.Prelude.{⊤}
 use Rattle.vt_spec.specs.Language.Changes.{Change, node_with_attr, node_with_mark, node_with_parent, node_without_entry}
 use Rattle.vt_spec.specs.Language.Changes.Change.{AddName, CopyUp, Make, Move, Remove, SetAttr, SetBytes, SetMark}

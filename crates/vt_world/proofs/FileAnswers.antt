@@ -1,5 +1,5 @@
 -- What the events that change files and names answer.
-use Rattle.std.proofs.Common.{◌≡◌, refl, sym, ap, subst, ◌∙◌, ⊎_elim, inl, inr, true≢false, ℕ, ◌<◌, ◌≤◌, ◌+◌, ◌%◌, ◌&&◌, not, Bool, true, false, nat_eq, nat_lt, eq-eqb, le-ltb, List, [], ◌∷◌, ◌++◌, length, Option, Some, None, is_some, IfErr, OnErr, OnOk, arith}
+use Rattle.std.proofs.Common.{◌≡◌, refl, sym, ap, subst, ◌∙◌, ⊎_elim, inl, true≢false, ℕ, ◌<◌, ◌≤◌, ◌&&◌, not, Bool, true, false, nat_eq, nat_lt, eq-eqb, le-ltb, List, [], ◌∷◌, ◌++◌, length, Option, Some, None, is_some, IfErr, OnErr, OnOk}
 use Rattle.std.specs.Prelude.{Err, Ok, Result, is_ok}
 use Rattle.vt_spec.specs.declared.errors.Deny.{Deny}
 use Rattle.vt_spec.specs.declared.errors.Rule.{Rule}
@@ -25,7 +25,7 @@ use Rattle.vt_tree.specs.TreeRules.{AnswersBy, hard_link_rules, leads_to, make_r
 use Rattle.vt_world.specs.Events.{Becomes, Permits}
 use Rattle.vt_world.specs.Held.{IsHeld}
 use Rattle.vt_world.specs.WorldValue.{WorldValue, world_of}
-use Rattle.vt_world.proofs.ChangedFiles.{IsFilesEvent, changed_by, with_filesystems}
+use Rattle.vt_world.proofs.ChangedFiles.{IsFilesEvent, with_filesystems}
 use Rattle.vt_world.proofs.FileEvents.{IsSmall, change_at, change_fits, change_is_done, change_sees}
 use Rattle.vt_world.proofs.FilesSeen.{also_there, inodes_named, located_filesystem, tree_of_entry}
 

@@ -1,7 +1,6 @@
 -- The event that writes a part of a file: pwrite(2).
-use Rattle.std.proofs.Common.{◌≡◌, refl, sym, ap, subst, ◌∙◌, inl, inr, true≢false, ℕ, ◌<◌, ◌≤◌, ◌+◌, ◌&&◌, not, Bool, true, false, nat_eq, nat_lt, List, [], ◌∷◌, map, length, Option, Some, None, is_some, OnErr, OnOk, eqb-true, eq-eqb, arith}
+use Rattle.std.proofs.Common.{◌≡◌, refl, sym, ap, subst, ◌∙◌, inr, true≢false, ℕ, ◌+◌, Bool, true, false, nat_eq, nat_lt, List, [], ◌∷◌, map, length, is_some, OnErr, OnOk, eqb-true, eq-eqb, arith}
 use Rattle.std.specs.Prelude.{Ok, Result, ◌==◌}
-use Rattle.std.proofs.lemmas.Option.{same_Some}
 use Rattle.vt_spec.specs.declared.errors.Deny.{Deny}
 use Rattle.vt_spec.specs.declared.errors.Rule.TheVariants.{E2, E6}
 use Rattle.vt_spec.specs.Language.Calls.{TaskName, same_name}
@@ -36,7 +35,7 @@ use Rattle.vt_world.specs.WorldValue.{WorldValue, world_of}
 use Rattle.vt_world.proofs.ChangedFiles.{files_are_changed, with_filesystems}
 use Rattle.vt_world.proofs.FileAnswers.{IsAnswered, answered, if_ok, passed}
 use Rattle.vt_world.proofs.FileEvents.{IsSmall}
-use Rattle.vt_world.proofs.FilesSeen.{IsLocated, files_are_plain, inodes_named, located, located_filesystem, located_inodes}
+use Rattle.vt_world.proofs.FilesSeen.{IsLocated, files_are_plain, located, located_filesystem, located_inodes}
 
 -- what a task has open is there
 pub open_there : (value : WorldValue) → IsHeld value → (name : TaskName) (permit : Permit ℕ) (permits : Permits value name permit)

@@ -1,12 +1,12 @@
 -- The filesystem that a location of the code's world is in, by what is kept of it.
-use Rattle.std.proofs.Common.{◌≡◌, refl, sym, ap, subst, ◌∙◌, ⊎_elim, inl, inr, true≢false, ℕ, ◌<◌, ◌%◌, nat_eq, eq-eqb, eqb-true, Bool, true, false, cond, ◌||◌, ◌&&◌, List, [], ◌∷◌, ◌++◌, map, flat_map, Option, Some, None, is_some, unwrap_or, arith}
+use Rattle.std.proofs.Common.{◌≡◌, refl, sym, ap, ◌∙◌, ⊎_elim, inl, inr, true≢false, ℕ, ◌<◌, ◌%◌, nat_eq, eq-eqb, eqb-true, Bool, true, false, cond, ◌||◌, ◌&&◌, List, [], ◌∷◌, ◌++◌, map, flat_map, Some, is_some, unwrap_or, arith}
 use Rattle.std.specs.Prelude.{All, find, nat_lt, option_to_list, ◌/◌}
 use Rattle.std.proofs.lemmas.Bool.{and_parts, or_parts}
 use Rattle.std.proofs.lemmas.List.Elements.{All-head, All-tail}
 use Rattle.std.specs.List.{list_any}
 use Rattle.vt_spec.specs.Lists.{any_pair, is_among}
 use Rattle.vt_spec.specs.Machine.Mounts.{Mount, source_of}
-use Rattle.vt_spec.specs.Machine.Run.{numbers_in_use, used_by_filesystem, used_by_mount}
+use Rattle.vt_spec.specs.Machine.Run.{used_by_filesystem, used_by_mount}
 use Rattle.vt_spec.specs.Machine.World.{Filesystem, Namespace, filesystem_at, filesystem_numbered, is_overlay, mount_at, no_filesystem, node_at}
 use Rattle.vt_spec.specs.Machine.WorldLaws.{is_located_well}
 use Rattle.vt_spec.specs.OneTree.Inodes.{node_in}

@@ -1,5 +1,5 @@
 -- The numbers beside the tree of a filesystem.
-use Rattle.std.proofs.Common.{◌≡◌, refl, sym, ap, ◌∙◌, true≢false, ℕ, zero, suc, ◌+◌, ◌<◌, nat_eq, eq-eqb, ne_eqb, eqb-true, Bool, true, false, cond, ◌||◌, List, [], ◌∷◌, map, length, slice_index_or, count_by, Option, Some, None, is_some, option_map, unwrap_or, arith}
+use Rattle.std.proofs.Common.{◌≡◌, refl, sym, ap, ◌∙◌, true≢false, ℕ, zero, suc, ◌+◌, ◌<◌, nat_eq, eq-eqb, ne_eqb, eqb-true, Bool, true, false, cond, ◌||◌, List, [], ◌∷◌, map, slice_index_or, Option, Some, None, is_some, option_map, unwrap_or, arith}
 use Rattle.std.specs.Prelude.{find}
 use Rattle.vt_spec.specs.Lists.{any_pair, is_among}
 use Rattle.vt_spec.specs.Machine.World.{Filesystem, no_filesystem}
