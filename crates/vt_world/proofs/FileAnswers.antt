@@ -75,7 +75,7 @@ make_passes inodes directory name rest is free clear =
     passed (not (is_directory_at (tree_of inodes) directory)) E3 ((is_some (entry_at (tree_of inodes) directory name), E1) ∷ rest) (ap not is)
     (passed (is_some (entry_at (tree_of inodes) directory name)) E1 rest (ap is_some free) clear)
 
-unlink_passes : (inodes : Inodes ℕ) (directory : ℕ) (name : List ℕ) (object : ℕ) → Fits inodes (Remove directory name object)
+pub unlink_passes : (inodes : Inodes ℕ) (directory : ℕ) (name : List ℕ) (object : ℕ) → Fits inodes (Remove directory name object)
     → ruling (unlink_rules inodes directory name object) ≡ Ok tt
 unlink_passes inodes directory name object fits =
     passed (not (leads_to (tree_of inodes) directory name object)) W6 ((is_filled (tree_of inodes) object, E4) ∷ [])

@@ -7,3 +7,4 @@ pub mod FileAnswers
 pub mod FileMaking
 pub mod FileParts
 pub mod FilesRead
+pub mod FileRemoving
