@@ -1,6 +1,6 @@
 -- The event that removes a directory on which no mount stands: rmdir(2).
-use Rattle.std.proofs.Common.{◌≡◌, refl, sym, ap, subst, ◌∙◌, true≢false, ℕ, ◌<◌, ◌&&◌, ◌||◌, Bool, true, false, nat_eq, List, [], ◌∷◌, is_some, OnErr, OnOk}
-use Rattle.std.specs.Prelude.{Ok, Result}
+use Rattle.std.proofs.Common.{◌≡◌, refl, sym, ap, subst, ◌∙◌, true≢false, ℕ, ◌&&◌, ◌||◌, true, false, nat_eq, List, [], ◌∷◌, is_some, OnErr, OnOk}
+use Rattle.std.specs.Prelude.{Result}
 use Rattle.std.proofs.lemmas.Bool.{and_parts}
 use Rattle.std.specs.List.{list_all, list_any}
 use Rattle.vt_spec.specs.declared.errors.Deny.{Deny}
@@ -27,7 +27,6 @@ use Rattle.vt_mount.specs.MountsValue.{MountEntry, mounts_in}
 use Rattle.vt_permit_laws.specs.Sees.{SeesTo}
 use Rattle.vt_permit_laws.proofs.SeesFit.{given_changes_fit}
 use Rattle.vt_permit_laws.proofs.SeesTasks.{given_permits_are_seen_to}
-use Rattle.vt_run_laws.specs.Handed.{is_counted_before}
 use Rattle.vt_tree.specs.TreeRules.{ruling, unlink_rules}
 use Rattle.vt_world.specs.Events.{Permits, supply_of}
 use Rattle.vt_world.specs.Held.{IsHeld, is_ungrouped}
@@ -35,7 +34,7 @@ use Rattle.vt_world.specs.WorldValue.{WorldValue, world_of}
 use Rattle.vt_world.proofs.ChangedFiles.{files_are_changed, with_filesystems}
 use Rattle.vt_world.proofs.FileAnswers.{IsAnswered, answered, by_ruling, if_ok, unlink_passes}
 use Rattle.vt_world.proofs.FileEvents.{IsSmall, permit_fits}
-use Rattle.vt_world.proofs.FilesSeen.{IsLocated, also_there, files_are_plain, inodes_named, located, located_filesystem, located_inodes, mount_named, tree_of_entry}
+use Rattle.vt_world.proofs.FilesSeen.{IsLocated, also_there, files_are_plain, located, located_filesystem, located_inodes, tree_of_entry}
 
 -- Where no mount stands nothing is detached
 

@@ -1,4 +1,4 @@
-//! Events that change files and names: chmod(2), write(2), mkdir(2), link(2), unlink(2).
+//! Events that change files and names: chmod(2), write(2), pwrite(2), mkdir(2), link(2), unlink(2), rmdir(2).
 ghost use Rattle.std.specs.Prelude.{◌≡◌, IfErr, OnErr, OnOk, [], nat_eq};
 ghost use Rattle.vt_fs.specs.FilesystemsValue.{node_seen};
 ghost use Rattle.vt_location.specs.Locations.{location_of, number_of};

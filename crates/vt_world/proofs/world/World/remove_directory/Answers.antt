@@ -1,4 +1,4 @@
-use Rattle.std.proofs.Common.{sym, ap, ◌∙◌, subst, arith, nat_eq, ◌≡◌, OnErr, OnOk}
+use Rattle.std.proofs.Common.{sym, ap, ◌∙◌, subst, arith, nat_eq, OnOk}
 use Rattle.vt_location.specs.Locations.{location_of}
 use Rattle.vt_spec.specs.Machine.Detach.{mounts_on}
 use Rattle.vt_spec.specs.Machine.Permits.Permit.{ToRemoveDirectory}
