@@ -5,3 +5,13 @@ pub mod LooksKept
 pub mod OpeningLemmas
 pub mod OwnInodesKept
 pub mod MountLooks
+pub mod NumbersBeside
+pub mod ChangedNumbers
+pub mod FilesSeen
+pub mod ChangedFiles
+pub mod FileEvents
+pub mod FileAnswers
+pub mod FileMaking
+pub mod FileParts
+pub mod FilesRead
+pub mod FileRemoving
