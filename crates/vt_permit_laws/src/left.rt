@@ -1,0 +1,12 @@
+//! What a permit leaves is a world.
+ghost use Rattle.vt_permit_laws.specs.Left.{GivenPermitsAreUnderWay, GivenPermitsLeaveWorlds, SameIsAWorldToo};
+
+/// The permit that a call but the mount of an overlay is given, applied in a world of plain filesystems that has all
+/// invariants, leaves such a world when what nothing uses is gone; and so does whoever leaves a world that is the same.
+///
+/// The task exists, and the numbers handed in are unused. A fork is given at most 32 supplementary groups.
+pub fn given_permits_leave_worlds()
+    ensures worlds { GivenPermitsLeaveWorlds }
+    ensures under_way { GivenPermitsAreUnderWay }
+    ensures same { SameIsAWorldToo }
+{}
