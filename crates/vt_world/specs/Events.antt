@@ -1,6 +1,6 @@
 -- How an event changes the code's world: as the policy applies its permit, with what nothing uses gone, change numbers and
 -- the order of numbers beside trees aside.
-use Rattle.std.specs.Prelude.{Some, nat_eq, ℕ, ◌/◌, ◌≡◌}
+use Rattle.std.specs.Prelude.{Some, nat_eq, option_map, unwrap_or, ℕ, ◌/◌, ◌≡◌}
 use Rattle.vt_spec.specs.Language.Calls.{TaskName}
 use Rattle.vt_spec.specs.Lists.{Fresh}
 use Rattle.vt_spec.specs.Machine.Apply.{apply}
@@ -9,9 +9,11 @@ use Rattle.vt_spec.specs.Machine.Permits.{Permit}
 use Rattle.vt_spec.specs.Machine.Permits.Permit.{ToMake, ToMountPlain, ToOpenNew}
 use Rattle.vt_spec.specs.Machine.SameWorlds.{SameWorlds}
 use Rattle.vt_spec.specs.Machine.Settled.{settled}
-use Rattle.vt_spec.specs.Machine.World.{Task, World, mount_at, task_called}
+use Rattle.vt_spec.specs.Machine.World.{Task, World, first_credentials, mount_at, task_called}
+use Rattle.vt_spec.specs.Rights.{Credentials}
 use Rattle.vt_fs.specs.FilesystemsValue.{entry_at, next_seen}
 use Rattle.vt_location.specs.Numbers.{inode_number}
+use Rattle.vt_permit_laws.specs.Left.{IsGiven}
 use Rattle.vt_run_laws.specs.Handed.{counts_from, handed_from}
 use Rattle.vt_world.specs.WorldValue.{WorldValue, world_of}
 use Rattle.vt_world_laws.specs.Worlds.Permits.{IsFitPermit}
@@ -32,11 +34,17 @@ supply_of value (ToOpenNew directory name node access) = handed_from value.next 
 supply_of value (ToMountPlain place flags) = handed_from value.next 2 (inode_number value.next 0)
 supply_of value permit = counts_from value.next
 
--- the task is there, and its permit names what is there
+-- the task is there, its permit is given for some call of it, and names what is there
 pub record Permits (value : WorldValue) (name : TaskName) (permit : Permit ℕ) : Type 0 where
   pub task : Task ℕ
   pub called : task_called (world_of value) name ≡ Some task
+  pub given : IsGiven (supply_of value permit) (world_of value) task permit
   pub fits : IsFitPermit (supply_of value permit) (world_of value) task permit
+
+-- the credentials of the task with this name
+abbrev pub credentials_called : WorldValue → TaskName → Credentials
+credentials_called value name =
+    unwrap_or (option_map (λ task. task.credentials) (task_called (world_of value) name)) first_credentials
 
 -- the world that the policy leaves when the permit is applied, with what nothing uses gone
 abbrev pub left_by : WorldValue → Task ℕ → Permit ℕ → World ℕ

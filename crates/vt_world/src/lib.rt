@@ -3,6 +3,7 @@
 
 mod looking;
 mod namespaces;
+mod tasks;
 mod world;
 
 pub use world::World;
