@@ -1,2 +1,4 @@
+pub mod Assumed
+pub mod Bridging
 pub mod Splits
 pub mod Staying
