@@ -1,4 +1,5 @@
 pub mod Assumed
 pub mod Bridging
+pub mod Shown
 pub mod Splits
 pub mod Staying

@@ -2,3 +2,4 @@ pub mod WorldValue
 pub mod Held
 pub mod Events
 pub mod Looking
+pub mod Uses

@@ -4,6 +4,7 @@
 mod looking;
 mod namespaces;
 mod tasks;
+mod uses;
 mod world;
 
 pub use world::World;
