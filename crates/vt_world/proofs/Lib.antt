@@ -1,6 +1,7 @@
 pub mod Assumed
 pub mod Bridging
 pub mod Finishing
+pub mod Going
 pub mod Moving
 pub mod Remaining
 pub mod Shown
