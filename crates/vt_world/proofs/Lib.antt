@@ -2,6 +2,7 @@ pub mod Assumed
 pub mod Bridging
 pub mod Finishing
 pub mod Going
+pub mod Leaving
 pub mod Moving
 pub mod Remaining
 pub mod Shown

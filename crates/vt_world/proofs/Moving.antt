@@ -19,7 +19,7 @@ use Rattle.vt_letting_go.specs.Counts.{mount_uses, times}
 use Rattle.vt_letting_go.specs.Leaving.{is_location_among, only_these_are_left}
 use Rattle.vt_letting_go.specs.Mounting.{inode_at}
 use Rattle.vt_letting_go.specs.OneByOne.{Inode}
-use Rattle.vt_letting_go.proofs.Lists.{Among, all_from_among, all_pass, among-append, among-append_left, among-append_right, among-from_map, among-map, among_from_all, any_passes, filter_all, map_twice, or_first, or_second, passes}
+use Rattle.vt_letting_go.proofs.Lists.{Among, all_from_among, all_pass, among-append, among-append_left, among-append_right, among-from_map, among-map, among_from_all, any_passes, filter_all, map_alike, map_twice, or_first, or_second, passes}
 use Rattle.vt_location.specs.Numbers.{counted}
 use Rattle.vt_mount.specs.MountsValue.{MountEntry, changed, held, mounts_in, released}
 use Rattle.vt_task.specs.TasksValue.{Tasks}
@@ -278,3 +278,13 @@ module _ (value : WorldValue) (whole : IsHeld value) (tasks : Tasks) (more less 
       subst (λ inodes. Exchanges inodes (inodes_of_uses world less) filesystem world next) (map_twice (inode_at world) (λ (held_use : Use). held_use.location) more)
       (subst (λ inodes. Exchanges (map (inode_at world) (locations more)) inodes filesystem world next) (map_twice (inode_at world) (λ (held_use : Use). held_use.location) less)
       (locations_are_uses world next (locations more) (locations less) moves.front moves.back refl refl moves.was moves.is filesystem))
+
+-- an entry after the uses that come and go
+abbrev pub folded_entry : List Use → List Use → MountEntry → MountEntry
+folded_entry more less entry = folded release_if (folded hold_if entry more) less
+
+pub same_moved_mounts : (world : World ℕ) (more less : List Use) (k : Kept) → mounts_in (moved_kept world more less k).mounts ≡ mounts_in k.mounts
+same_moved_mounts world more less k =
+    ap mounts_in (mounts_moved world more less k) ∙ map_twice (λ (entry : MountEntry). entry.mount) (folded_entry more less) k.mounts
+    ∙ map_alike (λ entry. (folded_entry more less entry).mount) (λ entry. entry.mount) k.mounts
+    (λ entry m. (released_counts less (folded hold_if entry more)).mount ∙ (held_counts more entry).mount)

@@ -1,3 +1,4 @@
+use Rattle.vt_world.proofs.Leaving.{left_done}
 use Rattle.vt_world.proofs.Going
 use Rattle.vt_world.proofs.Remaining.{remains_done}
 use Rattle.vt_world.proofs.Moving.{entry_counts, gained_there, only_left, uses_moved}
