@@ -4,6 +4,7 @@ pub mod Finishing
 pub mod Going
 pub mod Leaving
 pub mod Moving
+pub mod Places
 pub mod Remaining
 pub mod Shown
 pub mod Splits

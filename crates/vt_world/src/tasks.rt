@@ -1,12 +1,19 @@
-//! Events of tasks: umask(2), capset(2).
+//! Events of tasks: umask(2), capset(2), chdir(2), chroot(2).
+ghost use Rattle.std.specs.Prelude.{◌≡◌, IfErr, OnErr, OnOk};
+ghost use Rattle.vt_location.specs.Locations.{location_of};
+ghost use Rattle.vt_spec.specs.declared.errors.Rule.TheVariants.{S5};
+ghost use Rattle.vt_spec.specs.Errors.{denial};
 ghost use Rattle.vt_cred.specs.Caps.{capability_bits};
 ghost use Rattle.vt_spec.specs.Machine.Outcome.Tasks.{with_dropped};
-ghost use Rattle.vt_spec.specs.Machine.Permits.Permit.{ToSetCredentials, ToSetUmask};
+ghost use Rattle.vt_spec.specs.Machine.Permits.Permit.{ToSetCredentials, ToSetDirectory, ToSetRoot, ToSetUmask};
 ghost use Rattle.vt_world.specs.Events.{Becomes, Permits, credentials_called};
 
+use crate::uses::{hold, leave};
 use crate::world::World;
 use vt_cred::{Caps, Mode};
+use vt_location::Location;
 use vt_request::TaskName;
+use vt_spec::errors::Deny;
 
 impl World {
     /// Sets the umask of a task: umask(2). It takes no memory.
@@ -25,5 +32,37 @@ impl World {
             (ToSetCredentials (with_dropped (credentials_called self.old name.now) (capability_bits dropped))) self.new }
     {
         self.tasks.drop_caps(name, dropped);
+    }
+
+    /// Sets the working directory of a task: chdir(2). It takes no memory.
+    ///
+    /// S5 (ENOMEM): the mount or the inode has 2^64 - 1 uses.
+    pub fn set_directory(&mut self, name: &TaskName, directory: Location) -> Result<(), Deny>
+        requires { Permits self.old name.now (ToSetDirectory (location_of directory)) }
+        ensures ok { OnOk result (Becomes self.old name.now (ToSetDirectory (location_of directory)) self.new) }
+        ensures memory { IfErr result (λ deny. deny ≡ denial S5) }
+        ensures err { OnErr result (self.new ≡ self.old) }
+    {
+        hold(&mut self.mounts, &mut self.filesystems, directory, false)?;
+        if let Some(left) = self.tasks.set_directory(name, directory) {
+            leave(&mut self.mounts, &mut self.filesystems, left, false);
+        }
+        Ok(())
+    }
+
+    /// Sets the root of a task: chroot(2). It takes no memory.
+    ///
+    /// S5 (ENOMEM): the mount or the inode has 2^64 - 1 uses.
+    pub fn set_root(&mut self, name: &TaskName, root: Location) -> Result<(), Deny>
+        requires { Permits self.old name.now (ToSetRoot (location_of root)) }
+        ensures ok { OnOk result (Becomes self.old name.now (ToSetRoot (location_of root)) self.new) }
+        ensures memory { IfErr result (λ deny. deny ≡ denial S5) }
+        ensures err { OnErr result (self.new ≡ self.old) }
+    {
+        hold(&mut self.mounts, &mut self.filesystems, root, false)?;
+        if let Some(left) = self.tasks.set_root(name, root) {
+            leave(&mut self.mounts, &mut self.filesystems, left, false);
+        }
+        Ok(())
     }
 }

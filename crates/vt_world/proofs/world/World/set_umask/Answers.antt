@@ -1,3 +1,4 @@
+use Rattle.vt_world.proofs.Places.{directory_is_set, root_is_set}
 use Rattle.vt_world.proofs.Leaving.{left_done}
 use Rattle.vt_world.proofs.Going
 use Rattle.vt_world.proofs.Remaining.{remains_done}
