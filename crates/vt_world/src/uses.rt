@@ -1,5 +1,5 @@
 //! Uses of locations: a root, a working directory or an open file is a use of its mount and of its inode.
-ghost use Rattle.std.specs.Prelude.{◌≡◌, IfErr, OnErr, OnOk};
+ghost use Rattle.std.specs.Prelude.{◌<◌, ◌≡◌, IfErr, OnErr, OnOk};
 ghost use Rattle.vt_fs.specs.FilesystemsValue.{shown};
 ghost use Rattle.vt_location.specs.Numbers.{counted};
 ghost use Rattle.vt_spec.specs.declared.errors.Rule.TheVariants.{S5};
@@ -23,6 +23,7 @@ pub(crate) fn hold(
 ) -> Result<(), Deny>
     ensures ok { OnOk result
         (kept mounts.new filesystems.new ≡ with_location at writes (kept mounts.old filesystems.old)) }
+    ensures slot { at.node.slot < 18446744073709551616 }
     ensures memory { IfErr result (λ deny. deny ≡ denial S5) }
     ensures err_mounts { OnErr result (mounts.new ≡ mounts.old) }
     ensures err_filesystems { OnErr result (filesystems.new ≡ filesystems.old) }
@@ -37,7 +38,8 @@ pub(crate) fn hold(
 
 /// One use less of a location: what nothing uses any more goes. It takes no memory.
 pub(crate) fn leave(mounts: &mut Mounts, filesystems: &mut Filesystems, at: Location, writes: bool)
-    ensures { kept mounts.new filesystems.new ≡ without_location at writes (kept mounts.old filesystems.old) }
+    ensures left { kept mounts.new filesystems.new ≡ without_location at writes (kept mounts.old filesystems.old) }
+    ensures slot { at.node.slot < 18446744073709551616 }
 {
     mounts.release(at.mount, writes);
     filesystems.unpin(at.node);

@@ -5,8 +5,8 @@ use Rattle.vt_world.specs.Uses.{let_go_mount}
 use Rattle.vt_world.proofs.Shown.{unpins}
 use Rattle.vt_world.proofs.uses.leave.Goals as goal
 
-pub returns : goal.returns
-returns c =
+pub returns-clause-left : goal.returns-clause-left
+returns-clause-left c =
     c.let_go_mount.ensures
     ∙ ap (let_go_mount (counted c.args.at.mount.count)) (λ i. record {
       mounts = c.release.ensures i;

@@ -1,10 +1,3 @@
-use Rattle.vt_world.proofs.Places.{directory_is_set, root_is_set}
-use Rattle.vt_world.proofs.Leaving.{left_done}
-use Rattle.vt_world.proofs.Going
-use Rattle.vt_world.proofs.Remaining.{remains_done}
-use Rattle.vt_world.proofs.Moving.{entry_counts, gained_there, only_left, uses_moved}
-use Rattle.vt_world.proofs.Shown.{pins, releases, removes}
-use Rattle.vt_world.proofs.Bridging.{swept_is_counted, swept_is_same}
 use Rattle.vt_spec.specs.Machine.Permits.Permit.{ToSetUmask}
 use Rattle.std.proofs.Common.{sym, subst}
 use Rattle.vt_world.proofs.Staying.{IsDone, after, umask_is_set}
