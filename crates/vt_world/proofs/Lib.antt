@@ -1,5 +1,6 @@
 pub mod Assumed
 pub mod Bridging
+pub mod Closing
 pub mod Finishing
 pub mod Going
 pub mod Leaving

@@ -1,11 +1,11 @@
-//! Events of tasks: umask(2), capset(2), chdir(2), chroot(2).
+//! Events of tasks: umask(2), capset(2), chdir(2), chroot(2), close(2).
 ghost use Rattle.std.specs.Prelude.{◌≡◌, IfErr, OnErr, OnOk};
 ghost use Rattle.vt_location.specs.Locations.{location_of};
 ghost use Rattle.vt_spec.specs.declared.errors.Rule.TheVariants.{S5};
 ghost use Rattle.vt_spec.specs.Errors.{denial};
 ghost use Rattle.vt_cred.specs.Caps.{capability_bits};
 ghost use Rattle.vt_spec.specs.Machine.Outcome.Tasks.{with_dropped};
-ghost use Rattle.vt_spec.specs.Machine.Permits.Permit.{ToSetCredentials, ToSetDirectory, ToSetRoot, ToSetUmask};
+ghost use Rattle.vt_spec.specs.Machine.Permits.Permit.{ToClose, ToSetCredentials, ToSetDirectory, ToSetRoot, ToSetUmask};
 ghost use Rattle.vt_world.specs.Events.{Becomes, Permits, credentials_called};
 
 use crate::uses::{hold, leave};
@@ -64,5 +64,16 @@ impl World {
             leave(&mut self.mounts, &mut self.filesystems, left, false);
         }
         Ok(())
+    }
+
+    /// Closes a file of a task: close(2). It takes no memory.
+    pub fn close(&mut self, name: &TaskName, descriptor: u8)
+        requires { Permits self.old name.now (ToClose descriptor) }
+        ensures { Becomes self.old name.now (ToClose descriptor) self.new }
+    {
+        self.tasks.files_are_in_order();
+        if let Some(closed) = self.tasks.close(name, descriptor) {
+            leave(&mut self.mounts, &mut self.filesystems, closed.location, closed.access.writes());
+        }
     }
 }
