@@ -35,18 +35,18 @@ use Rattle.vt_world.proofs.Staying.{IsDone, after, staying_is_done}
 
 -- Descriptors
 
-abbrev Descriptors : Type 0
+abbrev pub Descriptors : Type 0
 Descriptors = List (Descriptor ℕ)
 
-abbrev others : ℕ → Descriptors → Descriptors
+abbrev pub others : ℕ → Descriptors → Descriptors
 others number all = filter (λ descriptor. not (number == descriptor.number)) all
 
 -- one descriptor goes
-record Goes (descriptor : Descriptor ℕ) (all rest : Descriptors) : Type 0 where
-  front : Descriptors
-  back : Descriptors
-  was : all ≡ front ++ (descriptor ∷ back)
-  is : rest ≡ front ++ back
+pub record Goes (descriptor : Descriptor ℕ) (all rest : Descriptors) : Type 0 where
+  pub front : Descriptors
+  pub back : Descriptors
+  pub was : all ≡ front ++ (descriptor ∷ back)
+  pub is : rest ≡ front ++ back
 
 none_goes : (number least : ℕ) (all : Descriptors) → are_ascending_from least all ≡ true → number < least → others number all ≡ all
 none_goes number least [] rising below = refl
@@ -80,17 +80,17 @@ one_goes number least (first ∷ rest) descriptor rising found =
       is = ap (λ all. first ∷ all) goes.is;
     }
 
-times_around : {A : Type 0} (test : A → Bool) (front back : List A) (one : A) → times test (front ++ (one ∷ back)) ≡ times test (front ++ back) + cond (test one) 1 0
+pub times_around : {A : Type 0} (test : A → Bool) (front back : List A) (one : A) → times test (front ++ (one ∷ back)) ≡ times test (front ++ back) + cond (test one) 1 0
 times_around test [] back one = omega arith
 times_around test (first ∷ front) back one = let later = times_around test front back one in omega (arith, later)
 
-around : {A : Type 0} (front p q back : List A) → front ++ ((p ++ q) ++ back) ≡ (front ++ p) ++ (q ++ back)
+pub around : {A : Type 0} (front p q back : List A) → front ++ ((p ++ q) ++ back) ≡ (front ++ p) ++ (q ++ back)
 around front p q back = ap (λ list. front ++ list) (append_assoc p q back) ∙ sym (append_assoc front p (q ++ back))
 
-abbrev place : Descriptor ℕ → meant.Location ℕ
+abbrev pub place : Descriptor ℕ → meant.Location ℕ
 place descriptor = descriptor.location
 
-abbrev used_by : Descriptor ℕ → Use
+abbrev pub used_by : Descriptor ℕ → Use
 used_by descriptor = record { location = descriptor.location; writes = descriptor.writes }
 
 module _ (value : WorldValue) (whole : IsHeld value) (name : TaskName) (task : Task ℕ) (found : task_called (world_of value) name ≡ Some task)

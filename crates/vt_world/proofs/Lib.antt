@@ -5,6 +5,7 @@ pub mod Finishing
 pub mod Going
 pub mod Leaving
 pub mod Moving
+pub mod Opening
 pub mod Places
 pub mod Remaining
 pub mod Shown

@@ -1,0 +1,95 @@
+-- A task opens a file: open(2).
+use Rattle.std.proofs.Common.{◌≡◌, ◌<◌, refl, sym, ap, subst, ◌∙◌, inl, ℕ, ◌+◌, nat_eq, Bool, true, false, cond, ◌&&◌, List, [], ◌∷◌, ◌++◌, map, Some, arith}
+use Rattle.std.specs.Prelude.{nat_lt}
+use Rattle.std.proofs.lemmas.List.{map-append}
+use Rattle.vt_spec.specs.Language.Calls.{TaskName}
+use Rattle.vt_spec.specs.Language.Calls as spoken
+use Rattle.vt_spec.specs.Machine.Mounts as meant
+use Rattle.vt_spec.specs.Machine.Outcome.Descriptors.{inserted, is_copied_up, with_copy, with_descriptor}
+use Rattle.vt_spec.specs.Machine.Permits.Permit.{ToOpen}
+use Rattle.vt_spec.specs.Machine.Settled.{without_dead_mounts}
+use Rattle.vt_spec.specs.Machine.World.{Descriptor, Task, World, task_called, with_task}
+use Rattle.vt_spec.specs.Machine.WorldLaws.{is_located_well}
+use Rattle.vt_fs.specs.FilesystemsValue.{Filesystems}
+use Rattle.vt_letting_go.specs.Counts.{times}
+use Rattle.vt_letting_go.proofs.OneByOne.{mounts_go_one_by_one}
+use Rattle.vt_letting_go.proofs.OfWorlds.{mounts_of_worlds_stand}
+use Rattle.vt_letting_go.proofs.PlacesLeft.{mounts_but}
+use Rattle.vt_location.specs.Locations.{location_of, number_of}
+use Rattle.vt_location.specs.Numbers.{counted}
+use Rattle.vt_mount.specs.MountsValue.{MountEntry}
+use Rattle.vt_request.specs.Requests.{access_of}
+use Rattle.vt_task.specs.Counts.{locations_in}
+use Rattle.vt_task.specs.declared.descriptors.OpenFile.{OpenFile}
+use Rattle.vt_task.specs.TasksValue.{Tasks, called, changed_by, changed_called, replaced, with_open}
+use Rattle.vt_world_laws.proofs.RaisedInUse.{worlds_are_in_use}
+use Rattle.vt_world.specs.Events.{Permits}
+use Rattle.vt_world.specs.Held.{IsHeld, writes_of, writes_of_task, writes_on}
+use Rattle.vt_world.specs.Uses.{Kept, kept, with_location, with_use}
+use Rattle.vt_world.specs.WorldValue.{WorldValue, world_of}
+use Rattle.vt_world.proofs.Assumed.{seen_where_located}
+use Rattle.vt_world.proofs.Closing.{Goes, around, place, times_around, used_by}
+use Rattle.vt_world.proofs.Finishing.{IsApplied}
+use Rattle.vt_world.proofs.Moving.{Moves, Use, only_left}
+use Rattle.vt_world.proofs.Places.{located_is_named}
+use Rattle.vt_world.proofs.Remaining.{remade, remains_done}
+use Rattle.vt_world.proofs.Splits.{IsSplit, locations_around, replaced_split, times_replaced, writes_replaced}
+use Rattle.vt_world.proofs.Staying.{IsDone, after, world_is_plain}
+
+pub inserted_goes : (new : Descriptor ℕ) (all : List (Descriptor ℕ)) → Goes new (inserted new all) all
+inserted_goes new [] = record { front = []; back = []; was = refl; is = refl }
+inserted_goes new (first ∷ rest) = by (nat_lt new.number first.number) (inserted_goes new rest)
+  where
+    by : (b : Bool) → Goes new (inserted new rest) rest → Goes new (cond b (new ∷ first ∷ rest) (first ∷ inserted new rest)) (first ∷ rest)
+    by true later = record { front = []; back = first ∷ rest; was = refl; is = refl }
+    by false later = record {
+      front = first ∷ later.front;
+      back = later.back;
+      was = ap (λ all. first ∷ all) later.was;
+      is = ap (λ all. first ∷ all) later.is;
+    }
+
+module _ (value : WorldValue) (whole : IsHeld value) (name : TaskName) (task : Task ℕ) (found : task_called (world_of value) name ≡ Some task)
+    (descriptor : Descriptor ℕ)
+    (well : is_located_well nat_eq (world_of value) descriptor.location ≡ true) where
+  abbrev opens : Task ℕ
+  opens = record task { descriptors = inserted descriptor task.descriptors }
+
+  abbrev goes : Goes descriptor opens.descriptors task.descriptors
+  goes = inserted_goes descriptor task.descriptors
+
+  abbrev split : IsSplit task opens value.tasks (replaced opens value.tasks)
+  split = replaced_split name value.tasks task opens whole.in_world.tasks.one_task found refl
+
+  pub opened_moves : Moves value (replaced opens value.tasks) (used_by descriptor ∷ []) []
+  opened_moves = record {
+    front = locations_in split.front ++ (task.root ∷ task.directory ∷ map place goes.front);
+    back = map place goes.back ++ locations_in split.back;
+    was = ap locations_in split.was ∙ locations_around split.front task split.back
+        ∙ ap (λ places. locations_in split.front ++ ((task.root ∷ task.directory ∷ places) ++ locations_in split.back))
+        (ap (map place) goes.is ∙ map-append place goes.front goes.back)
+        ∙ around (locations_in split.front) (task.root ∷ task.directory ∷ map place goes.front) (map place goes.back) (locations_in split.back);
+    is = ap locations_in split.is ∙ locations_around split.front opens split.back
+        ∙ ap (λ places. locations_in split.front ++ ((task.root ∷ task.directory ∷ places) ++ locations_in split.back))
+        (ap (map place) goes.was ∙ map-append place goes.front (descriptor ∷ goes.back))
+        ∙ around (locations_in split.front) (task.root ∷ task.directory ∷ map place goes.front) (descriptor.location ∷ map place goes.back) (locations_in split.back);
+    there = ap (λ b. b && true) well;
+    writes = λ mount.
+        let moved = writes_replaced name value.tasks task opens whole.in_world.tasks.one_task found refl mount in
+        let is : writes_of_task mount opens ≡ times (writes_on mount) (goes.front ++ goes.back) + cond (writes_on mount descriptor) 1 0 =
+          ap (times (writes_on mount)) goes.was ∙ times_around (writes_on mount) goes.front goes.back descriptor in
+        let was : writes_of_task mount task ≡ times (writes_on mount) (goes.front ++ goes.back) = ap (times (writes_on mount)) goes.is in
+        omega (arith, moved, was, is);
+  }
+
+  pub opened_stays : without_dead_mounts nat_eq (world_of (after value (replaced opens value.tasks))) ≡ world_of (after value (replaced opens value.tasks))
+  opened_stays =
+      mounts_go_one_by_one (world_of (after value (replaced opens value.tasks))) []
+      (mounts_but (world_of value) (replaced opens value.tasks) [] (worlds_are_in_use (world_of value) whole.in_world)
+      (mounts_of_worlds_stand (world_of value) whole.in_world)
+      (only_left value whole (replaced opens value.tasks) (used_by descriptor ∷ []) [] opened_moves))
+
+  pub opened_tasks : (namespace : ℕ) → times (λ one. nat_eq namespace one.namespace) (replaced opens value.tasks) ≡ times (λ one. nat_eq namespace one.namespace) value.tasks
+  opened_tasks namespace =
+      let moved = times_replaced name value.tasks task opens whole.in_world.tasks.one_task found refl (λ one. nat_eq namespace one.namespace) in
+      omega (arith, moved)
