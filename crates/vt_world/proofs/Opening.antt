@@ -5,7 +5,7 @@ use Rattle.std.proofs.lemmas.List.{map-append}
 use Rattle.vt_spec.specs.Language.Calls.{TaskName}
 use Rattle.vt_spec.specs.Language.Calls as spoken
 use Rattle.vt_spec.specs.Machine.Mounts as meant
-use Rattle.vt_spec.specs.Machine.Outcome.Descriptors.{inserted, is_copied_up, with_copy, with_descriptor}
+use Rattle.vt_spec.specs.Machine.Outcome.Descriptors.{free_number, inserted, is_copied_up, with_copy, with_descriptor}
 use Rattle.vt_spec.specs.Machine.Permits.Permit.{ToOpen}
 use Rattle.vt_spec.specs.Machine.Settled.{without_dead_mounts}
 use Rattle.vt_spec.specs.Machine.World.{Descriptor, Task, World, task_called, with_task}
@@ -93,3 +93,33 @@ module _ (value : WorldValue) (whole : IsHeld value) (name : TaskName) (task : T
   opened_tasks namespace =
       let moved = times_replaced name value.tasks task opens whole.in_world.tasks.one_task found refl (λ one. nat_eq namespace one.namespace) in
       omega (arith, moved)
+
+-- a file is opened that needs no copy
+pub file_is_opened : (value : WorldValue) (name : TaskName) (opened : OpenFile) (mounts : List MountEntry) (filesystems : Filesystems) (tasks : Tasks)
+    → IsHeld value → Permits value name (ToOpen (location_of opened.location) (access_of opened.access))
+    → is_copied_up nat_eq (world_of value) (location_of opened.location) (access_of opened.access) ≡ false
+    → opened.location.node.slot < 18446744073709551616
+    → tasks ≡ changed_called name (with_open opened) value.tasks
+    → kept mounts filesystems ≡ with_location opened.location (access_of opened.access).writes (kept value.mounts value.filesystems)
+    → IsDone value name (ToOpen (location_of opened.location) (access_of opened.access)) (remade value mounts filesystems tasks)
+file_is_opened value name opened mounts filesystems tasks whole permits uncopied few is is_kept =
+    let task = permits.task in
+    let file = location_of opened.location in
+    let access = access_of opened.access in
+    let well : is_located_well nat_eq (world_of value) file ≡ true = permits.fits.names.reached.there in
+    let descriptor : Descriptor ℕ = record { number = free_number task; location = file; reads = access.reads; writes = access.writes } in
+    let opens = with_descriptor task file access in
+    subst (λ all. IsDone value name (ToOpen file access) (remade value mounts filesystems all))
+    (sym (is ∙ ap (changed_by (with_open opened) value.tasks) permits.called))
+    (remains_done value whole (replaced opens value.tasks) (used_by descriptor ∷ []) []
+    (opened_moves value whole name task permits.called descriptor well) mounts filesystems
+    (is_kept ∙ (λ i. with_use (counted opened.location.mount.count) (sym (seen_where_located value whole opened.location few well) i, number_of opened.location.node)
+    access.writes (kept value.mounts value.filesystems)))
+    (opened_stays value whole name task permits.called descriptor well) name (ToOpen file access) task
+    (record {
+      called = permits.called;
+      given = permits.given;
+      named = located_is_named value whole file well;
+      applied = λ fresh. ap (λ b. with_task (with_copy nat_eq b fresh (world_of value) file) opens) uncopied;
+    })
+    (opened_tasks value whole name task permits.called descriptor well))
