@@ -1,16 +1,26 @@
 -- A task opens a file: open(2).
-use Rattle.std.proofs.Common.{◌≡◌, ◌<◌, refl, sym, ap, subst, ◌∙◌, inl, ℕ, ◌+◌, nat_eq, Bool, true, false, cond, ◌&&◌, List, [], ◌∷◌, ◌++◌, map, Some, arith}
-use Rattle.std.specs.Prelude.{nat_lt}
+use Rattle.std.proofs.Common.{◌≡◌, ◌<◌, ◌≤◌, refl, sym, ap, subst, ◌∙◌, inl, ℕ, ◌+◌, nat_eq, Bool, true, false, cond, ◌&&◌, List, [], ◌∷◌, ◌++◌, map, find, Option, None, Some, unwrap_or, arith}
+use Rattle.std.specs.Prelude.{length, nat_le, nat_lt}
+use Rattle.std.proofs.lemmas.Bool.{leb-true}
+use Rattle.vt_spec.specs.declared.errors.Rule.TheVariants.{S3, S5}
+use Rattle.vt_spec.specs.Errors.{denial}
+use Rattle.vt_spec.specs.Language.Limits.{most_descriptors}
+use Rattle.vt_spec.specs.Machine.Settled.{settled}
+use Rattle.vt_count_laws.specs.Counted.{IsPlain}
+use Rattle.vt_letting_go.proofs.Lists.{Among, among-append_right, passes}
+use Rattle.vt_tree_laws.proofs.TreesTasks.{within}
 use Rattle.std.proofs.lemmas.List.{map-append}
 use Rattle.vt_spec.specs.Language.Calls.{TaskName}
 use Rattle.vt_spec.specs.Language.Calls as spoken
 use Rattle.vt_spec.specs.Machine.Mounts as meant
 use Rattle.vt_spec.specs.Machine.Outcome.Descriptors.{free_number, inserted, is_copied_up, with_copy, with_descriptor}
 use Rattle.vt_spec.specs.Machine.Permits.Permit.{ToOpen}
+use Rattle.vt_spec.specs.Machine.Filesystems.{lies_below}
+use Rattle.vt_spec.specs.Machine.Locked.{overlay_or}
 use Rattle.vt_spec.specs.Machine.Settled.{without_dead_mounts}
-use Rattle.vt_spec.specs.Machine.World.{Descriptor, Task, World, task_called, with_task}
-use Rattle.vt_spec.specs.Machine.WorldLaws.{is_located_well}
-use Rattle.vt_fs.specs.FilesystemsValue.{Filesystems}
+use Rattle.vt_spec.specs.Machine.World.{Descriptor, Overlay, Task, World, mount_at, no_filesystem, task_called, with_task}
+use Rattle.vt_spec.specs.Machine.WorldLaws.{IsWorld, is_located_well, is_within_limits}
+use Rattle.vt_fs.specs.FilesystemsValue.{Filesystems, filesystem_seen, filesystems_seen}
 use Rattle.vt_letting_go.specs.Counts.{times}
 use Rattle.vt_letting_go.proofs.OneByOne.{mounts_go_one_by_one}
 use Rattle.vt_letting_go.proofs.OfWorlds.{mounts_of_worlds_stand}
@@ -21,7 +31,7 @@ use Rattle.vt_mount.specs.MountsValue.{MountEntry}
 use Rattle.vt_request.specs.Requests.{access_of}
 use Rattle.vt_task.specs.Counts.{locations_in}
 use Rattle.vt_task.specs.declared.descriptors.OpenFile.{OpenFile}
-use Rattle.vt_task.specs.TasksValue.{Tasks, called, changed_by, changed_called, replaced, with_open}
+use Rattle.vt_task.specs.TasksValue.{Tasks, called, changed_by, changed_called, open_refusal, replaced, with_open}
 use Rattle.vt_world_laws.proofs.RaisedInUse.{worlds_are_in_use}
 use Rattle.vt_world.specs.Events.{Permits}
 use Rattle.vt_world.specs.Held.{IsHeld, writes_of, writes_of_task, writes_on}
@@ -29,7 +39,7 @@ use Rattle.vt_world.specs.Uses.{Kept, kept, with_location, with_use}
 use Rattle.vt_world.specs.WorldValue.{WorldValue, world_of}
 use Rattle.vt_world.proofs.Assumed.{seen_where_located}
 use Rattle.vt_world.proofs.Closing.{Goes, around, place, times_around, used_by}
-use Rattle.vt_world.proofs.Finishing.{IsApplied}
+use Rattle.vt_world.proofs.Finishing.{IsApplied, is_left}
 use Rattle.vt_world.proofs.Moving.{Moves, Use, only_left}
 use Rattle.vt_world.proofs.Places.{located_is_named}
 use Rattle.vt_world.proofs.Remaining.{remade, remains_done}
@@ -123,3 +133,68 @@ file_is_opened value name opened mounts filesystems tasks whole permits uncopied
       applied = λ fresh. ap (λ b. with_task (with_copy nat_eq b fresh (world_of value) file) opens) uncopied;
     })
     (opened_tasks value whole name task permits.called descriptor well))
+
+-- in a world of plain filesystems nothing is copied
+pub nothing_copied : (value : WorldValue) (file : meant.Location ℕ) (access : spoken.Access) → is_copied_up nat_eq (world_of value) file access ≡ false
+nothing_copied value file access =
+    ap (λ (o : Option (Overlay ℕ)). access.writes && overlay_or false (λ overlay. lies_below overlay file.node) o)
+    (no_overlay value.filesystems (mount_at nat_eq (world_of value) file).filesystem)
+    ∙ never access.writes
+  where
+    never : (b : Bool) → (b && false) ≡ false
+    never true = refl
+    never false = refl
+
+    no_overlay : (entries : Filesystems) (number : ℕ)
+        → (unwrap_or (find (λ f. nat_eq number f.number) (filesystems_seen entries)) (no_filesystem number)).overlay ≡ None
+    no_overlay [] number = refl
+    no_overlay (entry ∷ rest) number = by (nat_eq number (counted entry.count)) (no_overlay rest number)
+      where
+        by : (b : Bool) → (unwrap_or (find (λ f. nat_eq number f.number) (filesystems_seen rest)) (no_filesystem number)).overlay ≡ None
+            → (unwrap_or (cond b (Some (filesystem_seen entry)) (find (λ f. nat_eq number f.number) (filesystems_seen rest))) (no_filesystem number)).overlay ≡ None
+        by true later = refl
+        by false later = later
+
+-- the task may open another file, so only memory was missing
+pub refused_for_memory : (value : WorldValue) → IsHeld value → (name : TaskName) (file : meant.Location ℕ) (access : spoken.Access)
+    → Permits value name (ToOpen file access) → open_refusal (called name value.tasks) ≡ denial S5
+refused_for_memory value whole name file access permits =
+    ap open_refusal permits.called
+    ∙ ap (λ b. denial (cond b S3 S5)) (by (nat_le most_descriptors (length task.descriptors)) refl)
+  where
+    task : Task ℕ
+    task = permits.task
+
+    opens : Task ℕ
+    opens = with_descriptor task file access
+
+    split : IsSplit task opens value.tasks (replaced opens value.tasks)
+    split = replaced_split name value.tasks task opens whole.in_world.tasks.one_task permits.called refl
+
+    left : IsWorld nat_eq (settled nat_eq (world_of (after value (replaced opens value.tasks)))) × IsPlain (settled nat_eq (world_of (after value (replaced opens value.tasks))))
+    left = is_left value whole name (ToOpen file access) task (world_of (after value (replaced opens value.tasks))) (record {
+      called = permits.called;
+      given = permits.given;
+      named = located_is_named value whole file permits.fits.names.reached.there;
+      applied = λ fresh. ap (λ b. with_task (with_copy nat_eq b fresh (world_of value) file) opens) (nothing_copied value file access);
+    })
+
+    few : nat_le (length opens.descriptors) most_descriptors ≡ true
+    few = (within opens (passes is_within_limits (replaced opens value.tasks) left.0.tasks.small_tasks opens
+        (subst (λ all. Among opens all) (sym split.is) (among-append_right split.front (opens ∷ split.back) opens (inl refl))))).few
+
+    longer : (new : Descriptor ℕ) (all : List (Descriptor ℕ)) → length (inserted new all) ≡ length all + 1
+    longer new [] = refl
+    longer new (first ∷ rest) = here (nat_lt new.number first.number) (longer new rest)
+      where
+        here : (b : Bool) → length (inserted new rest) ≡ length rest + 1 → length (cond b (new ∷ first ∷ rest) (first ∷ inserted new rest)) ≡ length (first ∷ rest) + 1
+        here true e = omega arith
+        here false e = omega (arith, e)
+
+    by : (b : Bool) → nat_le most_descriptors (length task.descriptors) ≡ b → nat_le most_descriptors (length task.descriptors) ≡ false
+    by true e =
+        let full : most_descriptors ≤ length task.descriptors = leb-true most_descriptors (length task.descriptors) e in
+        let room : length opens.descriptors ≤ most_descriptors = leb-true (length opens.descriptors) most_descriptors few in
+        let one : length opens.descriptors ≡ length task.descriptors + 1 = longer _ task.descriptors in
+        absurd (omega (arith, full, room, one))
+    by false e = e

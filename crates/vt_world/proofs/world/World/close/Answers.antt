@@ -1,4 +1,3 @@
-use Rattle.vt_world.proofs.Opening.{file_is_opened}
 use Rattle.std.proofs.Common.{sym, subst, ap, ◌∙◌, option_map}
 use Rattle.vt_letting_go.proofs.Lists.{passes}
 use Rattle.vt_spec.specs.Machine.Permits.Permit.{ToClose}
