@@ -1,4 +1,3 @@
-use Rattle.std.proofs.Common.{ap, ◌∙◌, sym}
 use Rattle.vt_location.specs.Locations.{number_of}
 use Rattle.vt_world.proofs.Shown.{pins}
 use Rattle.vt_world.proofs.uses.hold.Goals as goal

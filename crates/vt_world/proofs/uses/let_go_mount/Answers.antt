@@ -1,5 +1,4 @@
-use Rattle.std.proofs.Common.{arith, ap, ◌∙◌, sym, inl, inr, option_map, ◌≡◌, Some, nat_eq}
-use Rattle.std.specs.Prelude.{find}
+use Rattle.std.proofs.Common.{arith, ap, ◌∙◌, sym, inl, inr, option_map}
 use Rattle.vt_location.specs.Locations.{number_of}
 use Rattle.vt_location.specs.MountValue.{mount_of}
 use Rattle.vt_location.specs.Numbers.{counted}

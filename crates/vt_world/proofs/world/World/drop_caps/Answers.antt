@@ -3,7 +3,7 @@ use Rattle.vt_spec.specs.Machine.Outcome.Tasks.{with_dropped}
 use Rattle.vt_cred.specs.Caps.{capability_bits}
 use Rattle.vt_world.specs.Events.{credentials_called}
 use Rattle.std.proofs.Common.{sym, subst}
-use Rattle.vt_world.proofs.Staying.{IsDone, after, caps_are_dropped}
+use Rattle.vt_world.proofs.Staying.{after, caps_are_dropped}
 use Rattle.vt_world.specs.contracts.world.World.{the_view}
 use Rattle.vt_world.specs.Events.{Becomes, Permits}
 use Rattle.vt_world.proofs.world.World.drop_caps.Goals as goal

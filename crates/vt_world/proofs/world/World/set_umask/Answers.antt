@@ -1,6 +1,6 @@
 use Rattle.vt_spec.specs.Machine.Permits.Permit.{ToSetUmask}
 use Rattle.std.proofs.Common.{sym, subst}
-use Rattle.vt_world.proofs.Staying.{IsDone, after, umask_is_set}
+use Rattle.vt_world.proofs.Staying.{after, umask_is_set}
 use Rattle.vt_world.specs.contracts.world.World.{the_view}
 use Rattle.vt_world.specs.Events.{Becomes, Permits}
 use Rattle.vt_world.proofs.world.World.set_umask.Goals as goal
