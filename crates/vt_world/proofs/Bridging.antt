@@ -121,9 +121,9 @@ module _ (old : WorldValue) (held : IsHeld old) (after : World ℕ) (gained lost
       → SameFilesystem f (filesystem_seen entry)
   same_one f m entry n same =
       let is : IsCounted left f (inodes_seen entry) =
-        subst (λ g. IsCounted left g (inodes_seen entry))
-        (ap (filesystem_numbered nat_eq left) (sym same) ∙ found_filesystem left.filesystems is_world.files.one_filesystem f m)
-        (counted_left entry n) in
+      subst (λ g. IsCounted left g (inodes_seen entry))
+      (ap (filesystem_numbered nat_eq left) (sym same) ∙ found_filesystem left.filesystems is_world.files.one_filesystem f m)
+      (counted_left entry n) in
       let tree_is : f.files.tree ≡ (filesystem_seen entry).files.tree = λ i. record { root = sym is.root i; node = λ number. sym (is.node number) i } in
       record {
         number = same;

@@ -193,10 +193,11 @@ module _ (value : WorldValue) (held : IsHeld value) (location : Location ℕ) (c
   same_put [] [] all two = tt
   same_put [] (entry ∷ news) all two = absurd two
   same_put (was ∷ olds) [] all two = absurd two
-  same_put (was ∷ olds) (entry ∷ news) all two =
-      (subst (λ b. SameFilesystem (cond b put (filesystem_seen was)) (filesystem_seen entry)) (sym (counted_test count was.count))
-      (by (nat_eq count was.count) refl two.0.inodes_are),
-      same_put olds news (λ other m. all other (inr m)) two.1)
+  same_put (was ∷ olds) (entry ∷ news) all two = (
+    subst (λ b. SameFilesystem (cond b put (filesystem_seen was)) (filesystem_seen entry)) (sym (counted_test count was.count))
+        (by (nat_eq count was.count) refl two.0.inodes_are),
+    same_put olds news (λ other m. all other (inr m)) two.1,
+  )
     where
       by : (b : Bool) → nat_eq count was.count ≡ b
           → inodes_seen entry ≡ cond b (changed nat_eq (inodes_seen was) change) (inodes_seen was)

@@ -116,7 +116,7 @@ module _ (value : WorldValue) (whole : IsHeld value) (name : TaskName) (task : T
     writes = λ mount.
         let moved = writes_replaced name value.tasks task new whole.in_world.tasks.one_task found refl mount in
         let was : writes_of_task mount task ≡ times (writes_on mount) (goes.front ++ goes.back) + cond (writes_on mount descriptor) 1 0 =
-          ap (times (writes_on mount)) goes.was ∙ times_around (writes_on mount) goes.front goes.back descriptor in
+        ap (times (writes_on mount)) goes.was ∙ times_around (writes_on mount) goes.front goes.back descriptor in
         let is : writes_of_task mount new ≡ times (writes_on mount) (goes.front ++ goes.back) = ap (times (writes_on mount)) goes.is in
         omega (arith, moved, was, is);
   }
@@ -138,11 +138,11 @@ file_is_closed value name number closed mounts filesystems tasks whole permits f
     let one = replaced_split name value.tasks task task whole.in_world.tasks.one_task permits.called refl in
     let among : Among task value.tasks = subst (λ all. Among task all) (sym one.was) (among-append_right one.front (task ∷ one.back) task (inl refl)) in
     let numbered_so : descriptor_numbered task number ≡ Some (numbered number closed) =
-      sym (was ∙ ap (option_and_then (λ (other : Task ℕ). descriptor_numbered other number)) permits.called) in
+    sym (was ∙ ap (option_and_then (λ (other : Task ℕ). descriptor_numbered other number)) permits.called) in
     let goes = one_goes number 0 task.descriptors (numbered number closed) (rising task among) numbered_so in
     let moves = closed_moves value whole name task permits.called number (numbered number closed) goes in
     let well = passes (is_located_well nat_eq (world_of value)) (all_locations (world_of value)) whole.in_world.tasks.locations_live (location_of closed.location)
-      (subst (λ all. Among (location_of closed.location) all) (sym moves.was) (among-append_right moves.front ((location_of closed.location ∷ []) ++ moves.back) (location_of closed.location) (inl refl))) in
+    (subst (λ all. Among (location_of closed.location) all) (sym moves.was) (among-append_right moves.front ((location_of closed.location ∷ []) ++ moves.back) (location_of closed.location) (inl refl))) in
     subst (λ all. IsDone value name (ToClose number) (remade value mounts filesystems all))
     (sym (is ∙ ap (changed_by (λ other. without_descriptor other number) value.tasks) permits.called))
     (left_done value whole (replaced (without_descriptor task number) value.tasks) [] (used_by (numbered number closed)) moves mounts filesystems

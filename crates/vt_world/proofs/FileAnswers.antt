@@ -132,9 +132,9 @@ module _ (value : WorldValue) (held : IsHeld value) (name : TaskName) (directory
       let seen = change_at value held name directory small (AddName (number_of directory.node) entry (number_of object)) permits in
       let fits = change_fits value held name directory small (AddName (number_of directory.node) entry (number_of object)) permits in
       let clear = make_passes (inodes_at value.filesystems directory.node.filesystem.count) (number_of directory.node) entry
-        ((is_directory_at (tree_of (inodes_at value.filesystems directory.node.filesystem.count)) (number_of object), E7) ∷ [])
-        fits.0 fits.1
-        (passed (is_directory_at (tree_of (inodes_at value.filesystems directory.node.filesystem.count)) (number_of object)) E7 [] fits.2 refl) in
+      ((is_directory_at (tree_of (inodes_at value.filesystems directory.node.filesystem.count)) (number_of object), E7) ∷ [])
+      fits.0 fits.1
+      (passed (is_directory_at (tree_of (inodes_at value.filesystems directory.node.filesystem.count)) (number_of object)) E7 [] fits.2 refl) in
       answered value held name (ToChange (location_of directory) (AddName (number_of directory.node) entry (number_of object))) filesystems
       (hard_link_rules (inodes_at value.filesystems directory.node.filesystem.count) (number_of directory.node) entry (number_of object)) result clear answer
       (if_ok result

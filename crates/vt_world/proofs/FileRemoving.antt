@@ -104,7 +104,7 @@ module _ (value : WorldValue) (held : IsHeld value) (name : TaskName) (parent : 
       → IsAnswered value name permit (with_filesystems value filesystems) result
   removal_is_answered none filesystems result ok answer err =
       let clear = unlink_passes (inodes_at value.filesystems parent.node.filesystem.count) (number_of parent.node) entry (number_of directory.node)
-        (fits (inodes_at value.filesystems parent.node.filesystem.count) (located_inodes value parent seen)) in
+      (fits (inodes_at value.filesystems parent.node.filesystem.count) (located_inodes value parent seen)) in
       answered value held name permit filesystems
       (unlink_rules (inodes_at value.filesystems parent.node.filesystem.count) (number_of parent.node) entry (number_of directory.node)) result clear
       (by_ruling (unlink_rules (inodes_at value.filesystems parent.node.filesystem.count) (number_of parent.node) entry (number_of directory.node)) result answer clear)

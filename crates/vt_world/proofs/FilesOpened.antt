@@ -83,7 +83,7 @@ module _ (value : WorldValue) (whole : IsHeld value) (name : TaskName) (task : T
     writes = λ mount.
         let moved = writes_replaced name value.tasks task opens whole.in_world.tasks.one_task found refl mount in
         let is : writes_of_task mount opens ≡ times (writes_on mount) (goes.front ++ goes.back) + cond (writes_on mount descriptor) 1 0 =
-          ap (times (writes_on mount)) goes.was ∙ times_around (writes_on mount) goes.front goes.back descriptor in
+        ap (times (writes_on mount)) goes.was ∙ times_around (writes_on mount) goes.front goes.back descriptor in
         let was : writes_of_task mount task ≡ times (writes_on mount) (goes.front ++ goes.back) = ap (times (writes_on mount)) goes.is in
         omega (arith, moved, was, is);
   }

@@ -40,7 +40,7 @@ pub one_entry : (fs : Filesystems) → any_pair (λ (a b : Filesystem ℕ). nat_
 one_entry [] one entry m = absurd m
 one_entry (first ∷ rest) one entry m =
     let parts = or_parts (list_any (λ (b : Filesystem ℕ). nat_eq (counted first.count) b.number) (filesystems_seen rest))
-      (any_pair (λ (a b : Filesystem ℕ). nat_eq a.number b.number) (filesystems_seen rest)) one in
+    (any_pair (λ (a b : Filesystem ℕ). nat_eq a.number b.number) (filesystems_seen rest)) one in
     by parts.0 (nat_eq entry.count first.count) refl m (λ n. one_entry rest parts.1 entry n)
   where
     by : list_any (λ (b : Filesystem ℕ). nat_eq (counted first.count) b.number) (filesystems_seen rest) ≡ false
@@ -171,7 +171,7 @@ pub located : (value : WorldValue) → IsHeld value → (at : Location) → at.n
 located value held at small there =
     let parts = and_parts (is_among nat_eq (counted at.mount.count) (map (λ (mount : Mount ℕ). mount.number) (world_of value).mounts)) _ there in
     let seen = seen_in value.filesystems held.own_inodes (mount_at nat_eq (world_of value) (location_of at)).filesystem
-      (inode_number at.node.filesystem.count at.node.slot) parts.1 in
+    (inode_number at.node.filesystem.count at.node.slot) parts.1 in
     let slot = slot_of seen.entry.count (inode_number at.node.filesystem.count at.node.slot) seen.own in
     record {
       entry = seen.entry;
@@ -206,9 +206,9 @@ also_there value held at seen object small there =
     let own = seen_in value.filesystems held.own_inodes (mount_at nat_eq (world_of value) (location_of at)).filesystem (number_of object) there in
     let slot = slot_of own.entry.count (number_of object) own.own in
     let same : object.filesystem.count ≡ at.node.filesystem.count =
-      (inode_same object.filesystem.count own.entry.count object.slot slot.0 small slot.1 slot.2).0
-      ∙ counted_same own.entry.count seen.entry.count (sym own.number_is ∙ seen.shows)
-      ∙ seen.count_is in
+    (inode_same object.filesystem.count own.entry.count object.slot slot.0 small slot.1 slot.2).0
+    ∙ counted_same own.entry.count seen.entry.count (sym own.number_is ∙ seen.shows)
+    ∙ seen.count_is in
     λ i. record { count = same i }
 
 -- its tree is one
@@ -226,7 +226,7 @@ looked_node value held at small there =
     let seen = seen_in value.filesystems held.own_inodes (mount_at nat_eq (world_of value) (location_of at)).filesystem (number_of at.node) there in
     let slot = slot_of seen.entry.count (number_of at.node) seen.own in
     let count_is : seen.entry.count ≡ at.node.filesystem.count =
-      sym (inode_same at.node.filesystem.count seen.entry.count at.node.slot slot.0 small slot.1 slot.2).0 in
+    sym (inode_same at.node.filesystem.count seen.entry.count at.node.slot slot.0 small slot.1 slot.2).0 in
     ap (λ count. (files_at value.filesystems count).tree.node (number_of at.node)) (sym count_is)
     ∙ ap (λ (filesystem : Filesystem ℕ). filesystem.files.tree.node (number_of at.node)) (sym (found_by_number value.filesystems seen.entry.count))
     ∙ ap (λ number. (filesystem_numbered nat_eq (world_of value) number).files.tree.node (number_of at.node)) (sym seen.number_is)

@@ -217,7 +217,7 @@ module _ (value : WorldValue) (whole : IsHeld value) (tasks : Tasks) (more : Lis
       → (was : FilesystemEntry) × Among was value.filesystems × (shown_entry entry ≡ step (shown_entry was)) × (stays_numbered (counted entry.count) ≡ true)
   shown_was entry m =
       let kept_one = among-from_filter (λ (one : Shown). stays_numbered (counted one.count)) stepped (shown_entry entry)
-        (subst (λ all. Among (shown_entry entry) all) shown_are (among-map shown_entry filesystems entry m)) in
+      (subst (λ all. Among (shown_entry entry) all) shown_are (among-map shown_entry filesystems entry m)) in
       let from = among-from_map step (shown value.filesystems) (shown_entry entry) kept_one.0 in
       let first = among-from_map shown_entry value.filesystems from.0 from.1 in
       (first.0, first.1, from.2 ∙ ap step first.2, kept_one.1)
@@ -247,20 +247,20 @@ module _ (value : WorldValue) (whole : IsHeld value) (tasks : Tasks) (more : Lis
       by was n true e =
           let same : mount.filesystem ≡ counted was.count = eqb-true mount.filesystem (counted was.count) e in
           let counts = shown_counts mount.filesystem (mounts_showing mounted) stepped
-            (λ one o. let from = among-from_map step (shown value.filesystems) one o in
-            let first = among-from_map shown_entry value.filesystems from.0 from.1 in
-            let is = step_is first.0 first.1 in
-            ap (λ (x : Shown). x.mounts) (from.2 ∙ ap step first.2) ∙ is.2
-            ∙ ap (λ count. mounts_showing mounted (counted count)) (sym is.0) ∙ ap (λ (x : Shown). mounts_showing mounted (counted x.count)) (sym (from.2 ∙ ap step first.2)))
-            (step (shown_entry was)) (among-map step (shown value.filesystems) (shown_entry was) (among-map shown_entry value.filesystems was n))
-            (same ∙ ap counted (sym (step_is was n).0)) in
+          (λ one o. let from = among-from_map step (shown value.filesystems) one o in
+          let first = among-from_map shown_entry value.filesystems from.0 from.1 in
+          let is = step_is first.0 first.1 in
+          ap (λ (x : Shown). x.mounts) (from.2 ∙ ap step first.2) ∙ is.2
+          ∙ ap (λ count. mounts_showing mounted (counted count)) (sym is.0) ∙ ap (λ (x : Shown). mounts_showing mounted (counted x.count)) (sym (from.2 ∙ ap step first.2)))
+          (step (shown_entry was)) (among-map step (shown value.filesystems) (shown_entry was) (among-map shown_entry value.filesystems was n))
+          (same ∙ ap counted (sym (step_is was n).0)) in
           ap (λ k. not (nat_eq (mounts_showing mounted k) 0)) (sym same)
           ∙ ap (λ k. not (nat_eq k 0)) (sym counts)
           ∙ sym (or_nothing (not none_left))
           ∙ ap (λ b. not none_left || not b) (sym e)
       by was n false e =
           let took : mounts_showing world (counted was.count) ≡ mounts_showing mounted (counted was.count) + 0 =
-            takes (counted was.count) ∙ ap (λ b. mounts_showing mounted (counted was.count) + cond b 1 0) e in
+          takes (counted was.count) ∙ ap (λ b. mounts_showing mounted (counted was.count) + cond b 1 0) e in
           let same : mounts_showing mounted (counted was.count) ≡ mounts_showing world (counted was.count) = omega (arith, took) in
           ap (λ k. not (nat_eq k 0)) same ∙ was_mounted was n
           ∙ sym (or_all (not none_left)) ∙ ap (λ b. not none_left || not b) (sym e)
@@ -316,11 +316,11 @@ module _ (value : WorldValue) (whole : IsHeld value) (tasks : Tasks) (more : Lis
   exchanges_are k stays =
       let first = uses_moved value whole tasks more less moves k in
       let second = subst (λ (x : Mount ℕ). Exchanges [] ((x.filesystem, x.root) ∷ []) k next mounted) found_so
-        (Roots.mounts_leave_their_roots next number stand located there unused_so k) in
+      (Roots.mounts_leave_their_roots next number stand located there unused_so k) in
       let third = others_use_nothing mounted remaining k plain_mounted plain_remaining refl refl
-        (found_kept (λ (f : Filesystem ℕ). stays_numbered f.number) world.filesystems k (λ x m e. ap stays_numbered e ∙ stays)) in
+      (found_kept (λ (f : Filesystem ℕ). stays_numbered f.number) world.filesystems k (λ x m e. ap stays_numbered e ∙ stays)) in
       let all = exchanges_follow world mounted remaining (gained ++ []) lost [] [] k
-        (exchanges_follow world next mounted gained (inode_at world left_use.location ∷ []) [] ((mount.filesystem, mount.root) ∷ []) k first second) third in
+      (exchanges_follow world next mounted gained (inode_at world left_use.location ∷ []) [] ((mount.filesystem, mount.root) ∷ []) k first second) third in
       subst (Exchanges gained lost k world) (sym living_is)
       (subst (λ all_gained. Exchanges all_gained lost k world remaining) (nothing_behind (gained ++ []) ∙ nothing_behind gained) all)
     where

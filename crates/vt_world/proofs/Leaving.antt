@@ -106,7 +106,7 @@ module _ (value : WorldValue) (whole : IsHeld value) (tasks : Tasks) (more : Lis
           uses_are : entry.uses ≡ mount_uses next number
           uses_are =
               let from = among-from_map (folded_entry more (left_use ∷ [])) value.mounts entry
-                (subst (λ all. Among entry all) (mounts_moved world more (left_use ∷ []) (kept value.mounts value.filesystems)) found.0) in
+              (subst (λ all. Among entry all) (mounts_moved world more (left_use ∷ []) (kept value.mounts value.filesystems)) found.0) in
               let counts = subst (CountsItsUses next) (sym from.2) (entry_counts value whole tasks more (left_use ∷ []) moves from.0 from.1) in
               counts.uses ∙ ap (mount_uses next) (sym numbered)
 

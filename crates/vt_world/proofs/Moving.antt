@@ -112,9 +112,9 @@ held_counts (held_use ∷ uses) entry =
     let one : (hold_if entry held_use).uses ≡ entry.uses + cond (is_use_on entry.mount.number held_use) 1 0 = first.1 ∙ ap (λ b. entry.uses + cond b 1 0) turned in
     let two : (hold_if entry held_use).writers ≡ entry.writers + cond (writes_on_mount entry.mount.number held_use) 1 0 = first.2 ∙ ap (λ b. entry.writers + cond (held_use.writes && b) 1 0) turned in
     let later : (folded hold_if (hold_if entry held_use) uses).uses ≡ (hold_if entry held_use).uses + times (is_use_on entry.mount.number) uses =
-      rest.uses ∙ ap (λ (m : Mount ℕ). (hold_if entry held_use).uses + times (is_use_on m.number) uses) first.0 in
+    rest.uses ∙ ap (λ (m : Mount ℕ). (hold_if entry held_use).uses + times (is_use_on m.number) uses) first.0 in
     let last : (folded hold_if (hold_if entry held_use) uses).writers ≡ (hold_if entry held_use).writers + times (writes_on_mount entry.mount.number) uses =
-      rest.writers ∙ ap (λ (m : Mount ℕ). (hold_if entry held_use).writers + times (writes_on_mount m.number) uses) first.0 in
+    rest.writers ∙ ap (λ (m : Mount ℕ). (hold_if entry held_use).writers + times (writes_on_mount m.number) uses) first.0 in
     record { mount = rest.mount ∙ first.0; uses = omega (arith, one, later); writers = omega (arith, two, last) }
 
 pub released_counts : (uses : List Use) (entry : MountEntry) → HasLess uses entry (folded release_if entry uses)
@@ -126,9 +126,9 @@ released_counts (held_use ∷ uses) entry =
     let one : (release_if entry held_use).uses ≡ entry.uses - cond (is_use_on entry.mount.number held_use) 1 0 = first.1 ∙ ap (λ b. entry.uses - cond b 1 0) turned in
     let two : (release_if entry held_use).writers ≡ entry.writers - cond (writes_on_mount entry.mount.number held_use) 1 0 = first.2 ∙ ap (λ b. entry.writers - cond (held_use.writes && b) 1 0) turned in
     let later : (folded release_if (release_if entry held_use) uses).uses ≡ (release_if entry held_use).uses - times (is_use_on entry.mount.number) uses =
-      rest.uses ∙ ap (λ (m : Mount ℕ). (release_if entry held_use).uses - times (is_use_on m.number) uses) first.0 in
+    rest.uses ∙ ap (λ (m : Mount ℕ). (release_if entry held_use).uses - times (is_use_on m.number) uses) first.0 in
     let last : (folded release_if (release_if entry held_use) uses).writers ≡ (release_if entry held_use).writers - times (writes_on_mount entry.mount.number) uses =
-      rest.writers ∙ ap (λ (m : Mount ℕ). (release_if entry held_use).writers - times (writes_on_mount m.number) uses) first.0 in
+    rest.writers ∙ ap (λ (m : Mount ℕ). (release_if entry held_use).writers - times (writes_on_mount m.number) uses) first.0 in
     record { mount = rest.mount ∙ first.0; uses = omega (arith, one, later); writers = omega (arith, two, last) }
 
 -- Filesystems
@@ -230,13 +230,13 @@ module _ (value : WorldValue) (whole : IsHeld value) (tasks : Tasks) (more less 
       let more_on = times_mapped n more in
       let less_on = times_mapped n less in
       let lost_uses : (folded release_if (folded hold_if entry more) less).uses ≡ (folded hold_if entry more).uses - times (is_use_on n) less =
-        lost.uses ∙ ap (λ (x : Mount ℕ). (folded hold_if entry more).uses - times (is_use_on x.number) less) gained.mount in
+      lost.uses ∙ ap (λ (x : Mount ℕ). (folded hold_if entry more).uses - times (is_use_on x.number) less) gained.mount in
       let lost_writers : (folded release_if (folded hold_if entry more) less).writers ≡ (folded hold_if entry more).writers - times (writes_on_mount n) less =
-        lost.writers ∙ ap (λ (x : Mount ℕ). (folded hold_if entry more).writers - times (writes_on_mount x.number) less) gained.mount in
+      lost.writers ∙ ap (λ (x : Mount ℕ). (folded hold_if entry more).writers - times (writes_on_mount x.number) less) gained.mount in
       let u : (folded release_if (folded hold_if entry more) less).uses ≡ mount_uses next n =
-        omega (arith, lost_uses, gained.uses, was.uses, uses_moved, more_on, less_on) in
+      omega (arith, lost_uses, gained.uses, was.uses, uses_moved, more_on, less_on) in
       let w : (folded release_if (folded hold_if entry more) less).writers ≡ writes_of n tasks =
-        omega (arith, lost_writers, gained.writers, was.writers, moves.writes n) in
+      omega (arith, lost_writers, gained.writers, was.writers, moves.writes n) in
       record {
         uses = u ∙ ap (λ (x : Mount ℕ). mount_uses next x.number) (sym same);
         writers = w ∙ ap (λ (x : Mount ℕ). writes_of x.number tasks) (sym same);

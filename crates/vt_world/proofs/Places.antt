@@ -150,9 +150,10 @@ located_task value whole name task found =
     let split = replaced_split name value.tasks task task whole.in_world.tasks.one_task found refl in
     let locations = ap locations_in split.was ∙ locations_around split.front task split.back in
     let rest = task.root ∷ task.directory ∷ (map (λ descriptor. descriptor.location) task.descriptors ++ locations_in split.back) in
-    let well = passes (is_located_well nat_eq (world_of value)) (all_locations (world_of value)) whole.in_world.tasks.locations_live in
-    (well task.root (subst (λ all. Among task.root all) (sym locations) (among-append_right (locations_in split.front) rest task.root (inl refl))),
-    well task.directory (subst (λ all. Among task.directory all) (sym locations) (among-append_right (locations_in split.front) rest task.directory (inr (inl refl)))))
+    let well = passes (is_located_well nat_eq (world_of value)) (all_locations (world_of value)) whole.in_world.tasks.locations_live in (
+      well task.root (subst (λ all. Among task.root all) (sym locations) (among-append_right (locations_in split.front) rest task.root (inl refl))),
+      well task.directory (subst (λ all. Among task.directory all) (sym locations) (among-append_right (locations_in split.front) rest task.directory (inr (inl refl)))),
+    )
 
 pub directory_is_set : (value : WorldValue) (name : TaskName) (directory left : Location) (mounts : List MountEntry) (filesystems : Filesystems) (tasks : Tasks)
     → IsHeld value → Permits value name (ToSetDirectory (location_of directory))

@@ -104,7 +104,7 @@ pub filesystem_goes : (count : ℕ) (old held new : Filesystems) (n : ℕ)
 filesystem_goes count old held new n is_held is zero gone =
     let seen : shown held ≡ released_in (counted count) (shown old) = ap shown is_held ∙ releases count old in
     let none : mounts_shown (counted count) (released_in (counted count) (shown old)) ≡ 0 =
-      sym (ap (mounts_shown (counted count)) seen) ∙ sym (mounts_are_shown count held) ∙ sym is ∙ zero in
+    sym (ap (mounts_shown (counted count)) seen) ∙ sym (mounts_are_shown count held) ∙ sym is ∙ zero in
     ap shown gone ∙ removes count held ∙ ap (without_filesystem (counted count)) seen
     ∙ sym (ap (λ b. cond b (without_filesystem (counted count) (released_in (counted count) (shown old))) (released_in (counted count) (shown old)))
     (eq-eqb _ 0 none))
@@ -115,7 +115,7 @@ pub filesystem_stays : (count : ℕ) (old held : Filesystems) (n : ℕ)
 filesystem_stays count old held n is_held is some =
     let seen : shown held ≡ released_in (counted count) (shown old) = ap shown is_held ∙ releases count old in
     let same : n ≡ mounts_shown (counted count) (released_in (counted count) (shown old)) =
-      is ∙ mounts_are_shown count held ∙ ap (mounts_shown (counted count)) seen in
+    is ∙ mounts_are_shown count held ∙ ap (mounts_shown (counted count)) seen in
     seen
     ∙ sym (ap (λ b. cond b (without_filesystem (counted count) (released_in (counted count) (shown old))) (released_in (counted count) (shown old)))
     (ne_eqb _ 0 (λ none. some (same ∙ none))))

@@ -41,7 +41,13 @@ impl World {
     /// Makes a further hard link to an inode: link(2).
     ///
     /// S5 (ENOMEM): memory was refused, or the inode has 2^64 - 1 uses.
-    pub fn link(&mut self, name: &TaskName, directory: Location, entry: Vec<u8>, object: NodeRef) -> Result<(), Deny>
+    pub fn link(
+        &mut self,
+        name: &TaskName,
+        directory: Location,
+        entry: Vec<u8>,
+        object: NodeRef,
+    ) -> Result<(), Deny>
         requires { Permits self.old name.now
             (ToChange (location_of directory) (AddName (number_of directory.node) entry.items (number_of object))) }
         ensures ok { OnOk result (Becomes self.old name.now
@@ -55,7 +61,13 @@ impl World {
     /// Takes a name from an inode that is no directory: unlink(2). With its last use the inode goes.
     ///
     /// S5 (ENOMEM): memory was refused.
-    pub fn unlink(&mut self, name: &TaskName, directory: Location, entry: &[u8], object: NodeRef) -> Result<(), Deny>
+    pub fn unlink(
+        &mut self,
+        name: &TaskName,
+        directory: Location,
+        entry: &[u8],
+        object: NodeRef,
+    ) -> Result<(), Deny>
         requires { Permits self.old name.now
             (ToChange (location_of directory) (Remove (number_of directory.node) entry.now (number_of object))) }
         ensures ok { OnOk result (Becomes self.old name.now
@@ -69,7 +81,13 @@ impl World {
     /// Removes an empty directory on which no mount stands: rmdir(2). With its last use it goes.
     ///
     /// S5 (ENOMEM): memory was refused.
-    pub fn remove_directory(&mut self, name: &TaskName, parent: Location, entry: &[u8], directory: Location) -> Result<(), Deny>
+    pub fn remove_directory(
+        &mut self,
+        name: &TaskName,
+        parent: Location,
+        entry: &[u8],
+        directory: Location,
+    ) -> Result<(), Deny>
         requires permitted { Permits self.old name.now (ToRemoveDirectory (location_of parent) entry.now (location_of directory)) }
         requires unmounted { mounts_on nat_eq (world_of self.old) (location_of directory) ≡ [] }
         ensures ok { OnOk result
@@ -83,7 +101,13 @@ impl World {
     /// Writes bytes into a file from an offset on, and zeros into a gap before them: pwrite(2). No bytes change nothing.
     ///
     /// S5 (ENOMEM): memory was refused.
-    pub fn write_part(&mut self, name: &TaskName, file: Location, offset: usize, bytes: &[u8]) -> Result<(), Deny>
+    pub fn write_part(
+        &mut self,
+        name: &TaskName,
+        file: Location,
+        offset: usize,
+        bytes: &[u8],
+    ) -> Result<(), Deny>
         requires { Permits self.old name.now (ToWritePart (location_of file) offset bytes.now) }
         ensures ok { OnOk result (Becomes self.old name.now (ToWritePart (location_of file) offset bytes.now) self.new) }
         ensures memory { IfErr result (λ deny. deny ≡ denial S5) }
@@ -99,7 +123,13 @@ impl World {
     /// Makes an inode under a name of a directory: mkdir(2), symlink(2), mknod(2).
     ///
     /// S5 (ENOMEM): memory was refused.
-    pub fn make(&mut self, name: &TaskName, directory: Location, entry: Vec<u8>, node: Node) -> Result<(), Deny>
+    pub fn make(
+        &mut self,
+        name: &TaskName,
+        directory: Location,
+        entry: Vec<u8>,
+        node: Node,
+    ) -> Result<(), Deny>
         requires { Permits self.old name.now
             (ToMake (location_of directory) entry.items (node_seen directory.node.filesystem.count node)) }
         ensures ok { OnOk result (Becomes self.old name.now

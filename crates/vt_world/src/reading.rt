@@ -30,7 +30,13 @@ impl World {
     /// At most `size` bytes of an open file from an offset on: pread(2). Past the end there are none.
     ///
     /// S5 (ENOMEM): memory was refused.
-    pub fn read_part(&self, name: &TaskName, file: Location, offset: usize, size: usize) -> Result<Vec<u8>, Deny>
+    pub fn read_part(
+        &self,
+        name: &TaskName,
+        file: Location,
+        offset: usize,
+        size: usize,
+    ) -> Result<Vec<u8>, Deny>
         requires { Permits self.now name.now (ToReadPart (location_of file) offset size) }
         ensures ok { IfOk result (λ bytes. bytes.items
             ≡ take size (drop offset (bytes_in (node_at nat_eq (world_of self.now) (location_of file))))) }

@@ -78,7 +78,12 @@ impl World {
     {
         self.tasks.files_are_in_order();
         if let Some(closed) = self.tasks.close(name, descriptor) {
-            leave(&mut self.mounts, &mut self.filesystems, closed.location, closed.access.writes());
+            leave(
+                &mut self.mounts,
+                &mut self.filesystems,
+                closed.location,
+                closed.access.writes(),
+            );
         }
     }
 
@@ -98,7 +103,12 @@ impl World {
             access,
         };
         let number = self.tasks.open(name, opened)?;
-        if let Err(deny) = hold(&mut self.mounts, &mut self.filesystems, file, access.writes()) {
+        if let Err(deny) = hold(
+            &mut self.mounts,
+            &mut self.filesystems,
+            file,
+            access.writes(),
+        ) {
             self.tasks.close(name, number);
             return Err(deny);
         }

@@ -12,7 +12,7 @@ use Rattle.vt_world.proofs.world.World.open.Goals as goal
 pub returns-in_err-number-clause-memory : goal.returns-in_err-number-clause-memory
 returns-in_err-number-clause-memory c =
     let few = refused_for_memory (the_view c.self.inside) c.self.invariant c.args.name.now (location_of c.args.file) (access_of c.args.access)
-      (subst (λ value. Permits value c.args.name.now (ToOpen (location_of c.args.file) (access_of c.args.access))) (sym c.self.view_is) c.requires) in
+    (subst (λ value. Permits value c.args.name.now (ToOpen (location_of c.args.file) (access_of c.args.access))) (sym c.self.view_is) c.requires) in
     let refused = c.in_err-number.ensures.refused ∙ few in
     let ends = c.from_residual.ensures in search rules
 
