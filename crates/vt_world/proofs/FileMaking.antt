@@ -1,5 +1,5 @@
 -- The event that makes an inode: mkdir(2), symlink(2), mknod(2).
-use Rattle.std.proofs.Common.{◌≡◌, refl, sym, ap, subst, ◌∙◌, ⊎_elim, inl, inr, true≢false, ℕ, ◌<◌, ◌/◌, ◌&&◌, Bool, true, false, nat_eq, List, [], ◌∷◌, map, Some, None, unwrap_or, arith}
+use Rattle.std.proofs.Common.{◌≡◌, refl, sym, ap, subst, ◌∙◌, ⊎_elim, inl, inr, true≢false, ℕ, ◌<◌, ◌/◌, ◌&&◌, Bool, true, false, nat_eq, List, [], ◌∷◌, map, arith}
 use Rattle.std.specs.Prelude.{Err, Ok, is_ok, ◌⊎◌}
 use Rattle.vt_spec.specs.declared.errors.Deny.{Deny}
 use Rattle.vt_spec.specs.declared.errors.Rule.TheVariants.{S5}
@@ -16,7 +16,7 @@ use Rattle.vt_spec.specs.Machine.Renaming.{renamed_entry}
 use Rattle.vt_spec.specs.OneTree.Fits.{Fits}
 use Rattle.vt_spec.specs.OneTree.Inodes.{Inodes, changed, tree_of}
 use Rattle.vt_spec.specs.Rights.{is_directory}
-use Rattle.vt_spec.specs.Tree.{Content, Entries, Node, kind_of, new_directory}
+use Rattle.vt_spec.specs.Tree.{Content, Entries, Node, kind_of}
 use Rattle.vt_spec.specs.Tree.Content.{Directory, Regular, Symlink, Whiteout}
 use Rattle.vt_fs.specs.FilesystemsValue.{ChangesInodes, Filesystems, entry_at, inodes_at, inodes_seen, next_seen, node_seen}
 use Rattle.vt_laws.specs.Numbers.{content_named}

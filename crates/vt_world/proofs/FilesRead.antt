@@ -1,11 +1,9 @@
 -- The events that only look: readdir(3), pread(2).
-use Rattle.std.proofs.Common.{◌≡◌, refl, sym, ap, ◌∙◌, true≢false, ℕ, ◌&&◌, Bool, true, false, nat_eq, Option, Some, None, is_some}
+use Rattle.std.proofs.Common.{◌≡◌, refl, ℕ, true, nat_eq, Option, Some, None, is_some}
 use Rattle.std.proofs.lemmas.Bool.{and_parts}
 use Rattle.vt_spec.specs.Language.Calls.{TaskName}
-use Rattle.vt_spec.specs.Lists.{is_among}
-use Rattle.vt_spec.specs.Machine.Permits.{Permit}
 use Rattle.vt_spec.specs.Machine.Permits.Permit.{ToList, ToReadPart}
-use Rattle.vt_spec.specs.Machine.World.{mount_at, node_at}
+use Rattle.vt_spec.specs.Machine.World.{node_at}
 use Rattle.vt_spec.specs.Tree.{Node, is_directory_node}
 use Rattle.vt_fs.specs.FilesystemsValue.{files_at}
 use Rattle.vt_location.specs.declared.locations.Location.{Location}

@@ -15,3 +15,16 @@ pub mod FileMaking
 pub mod FileParts
 pub mod FilesRead
 pub mod FileRemoving
+pub mod LocationsSeen
+pub mod Bridging
+pub mod Closing
+pub mod Finishing
+pub mod Going
+pub mod Leaving
+pub mod Moving
+pub mod FilesOpened
+pub mod Places
+pub mod Remaining
+pub mod Shown
+pub mod Splits
+pub mod Staying

@@ -1,13 +1,14 @@
 -- How an event changes the code's world: as the policy applies its permit, with what nothing uses gone, change numbers and
 -- the order of numbers beside trees aside.
-use Rattle.std.specs.Prelude.{Some, nat_eq, ℕ, ◌/◌, ◌≡◌}
+use Rattle.std.specs.Prelude.{Some, nat_eq, option_map, unwrap_or, ℕ, ◌/◌, ◌≡◌}
 use Rattle.vt_spec.specs.Language.Calls.{TaskName}
 use Rattle.vt_spec.specs.Lists.{Fresh}
 use Rattle.vt_spec.specs.Machine.Mounts.{Location}
 use Rattle.vt_spec.specs.Machine.Permits.{Permit}
 use Rattle.vt_spec.specs.Machine.Permits.Permit.{ToMake, ToMountPlain, ToOpenNew}
 use Rattle.vt_spec.specs.Machine.SameWorlds.{SameWorlds}
-use Rattle.vt_spec.specs.Machine.World.{Task, World, mount_at, task_called}
+use Rattle.vt_spec.specs.Machine.World.{Task, World, first_credentials, mount_at, task_called}
+use Rattle.vt_spec.specs.Rights.{Credentials}
 use Rattle.vt_fs.specs.FilesystemsValue.{entry_at, next_seen}
 use Rattle.vt_location.specs.Numbers.{inode_number}
 use Rattle.vt_permit_laws.specs.Left.{IsGiven, left_by as left}
@@ -35,6 +36,11 @@ pub record Permits (value : WorldValue) (name : TaskName) (permit : Permit ℕ) 
   pub task : Task ℕ
   pub called : task_called (world_of value) name ≡ Some task
   pub given : IsGiven (supply_of value permit) (world_of value) task permit
+
+-- the credentials of the task with this name
+abbrev pub credentials_called : WorldValue → TaskName → Credentials
+credentials_called value name =
+    unwrap_or (option_map (λ task. task.credentials) (task_called (world_of value) name)) first_credentials
 
 -- the world that the policy leaves when the permit is applied, with what nothing uses gone
 abbrev pub left_by : WorldValue → Task ℕ → Permit ℕ → World ℕ

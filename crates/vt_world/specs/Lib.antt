@@ -3,3 +3,4 @@ pub mod Held
 pub mod Events
 pub mod Looking
 pub mod Opening
+pub mod Uses

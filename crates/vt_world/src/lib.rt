@@ -7,6 +7,8 @@ mod mount_looks;
 mod namespaces;
 mod opening;
 mod reading;
+mod tasks;
+mod uses;
 mod world;
 
 pub use world::World;

@@ -1,4 +1,4 @@
-use Rattle.std.proofs.Common.{sym, ap, ◌∙◌, subst, arith, ◌≡◌, nat_eq, IfOk, map, take, drop}
+use Rattle.std.proofs.Common.{sym, ap, ◌∙◌, subst, arith, ◌≡◌, nat_eq, IfOk, map}
 use Rattle.vt_location.specs.Locations.{location_of}
 use Rattle.vt_spec.specs.Machine.Permits.Permit.{ToList}
 use Rattle.vt_spec.specs.Machine.World.{node_at}

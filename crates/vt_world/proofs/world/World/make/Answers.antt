@@ -1,4 +1,4 @@
-use Rattle.std.proofs.Common.{sym, ap, ◌∙◌, subst, arith, rules, ◌≡◌, IfErr}
+use Rattle.std.proofs.Common.{sym, subst, arith, rules, ◌≡◌, IfErr}
 use Rattle.std.specs.Prelude.{Err}
 use Rattle.vt_spec.specs.declared.errors.Rule.TheVariants.{S5}
 use Rattle.vt_spec.specs.Errors.{denial}

@@ -4,7 +4,7 @@ use Rattle.vt_spec.specs.Language.Changes.Change.{SetAttr}
 use Rattle.vt_spec.specs.Machine.Permits.Permit.{ToChange}
 use Rattle.vt_world.specs.contracts.world.World.{the_view}
 use Rattle.vt_world.specs.Events.{Becomes, Permits}
-use Rattle.vt_world.proofs.ChangedFiles.{IsFilesEvent, with_filesystems}
+use Rattle.vt_world.proofs.ChangedFiles.{with_filesystems}
 use Rattle.vt_world.proofs.FileEvents.{attr_is_set}
 use Rattle.vt_world.proofs.world.World.set_attr.Goals as goal
 

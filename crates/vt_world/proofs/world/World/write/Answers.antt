@@ -1,4 +1,4 @@
-use Rattle.std.proofs.Common.{sym, subst, arith, ◌≡◌, OnErr, OnOk}
+use Rattle.std.proofs.Common.{sym, subst, arith, OnOk}
 use Rattle.vt_location.specs.Locations.{location_of, number_of}
 use Rattle.vt_spec.specs.Language.Changes.Change.{SetBytes}
 use Rattle.vt_spec.specs.Machine.Permits.Permit.{ToChange}

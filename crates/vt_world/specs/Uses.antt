@@ -1,0 +1,86 @@
+-- Mounts and filesystems with their counts, where a use of a location comes or goes: chdir(2), open(2), close(2).
+use Rattle.std.specs.Prelude.{Bool, List, None, Option, Some, filter, find, if◌then◌else◌, is_some, map, nat_eq, not, option_map, unwrap_or, ℕ, ◌&&◌, ◌-◌}
+use Rattle.vt_count_laws.specs.Using.{pinned_if, unpinned_if}
+use Rattle.vt_fs.specs.FilesystemsValue.{Filesystems, Shown, shown}
+use Rattle.vt_letting_go.specs.OneByOne.{Inode}
+use Rattle.vt_location.specs.declared.locations.Location.{Location}
+use Rattle.vt_location.specs.declared.locations.NodeRef.{NodeRef}
+use Rattle.vt_location.specs.Locations.{number_of}
+use Rattle.vt_location.specs.Numbers.{counted}
+use Rattle.vt_spec.specs.Machine.Mounts.{Mount}
+use Rattle.vt_mount.specs.MountsValue.{MountEntry, changed, entry_numbered, held, released, without}
+
+-- mounts and filesystems as they are counted
+pub record Kept : Type 0 where
+  pub mounts : List MountEntry
+  pub filesystems : List Shown
+
+abbrev pub kept : List MountEntry → Filesystems → Kept
+kept mounts filesystems = record { mounts = mounts; filesystems = shown filesystems }
+
+-- an inode by the number of its filesystem and its own
+abbrev pub inode_of : NodeRef → Inode
+inode_of node = (counted node.filesystem.count, number_of node)
+
+-- one use more or less of an inode
+abbrev pub pinned_in : Inode → List Shown → List Shown
+pinned_in inode all = map (λ (one : Shown). record one { inodes = pinned_if (counted one.count) one.inodes inode }) all
+
+abbrev pub unpinned_in : Inode → List Shown → List Shown
+unpinned_in inode all = map (λ (one : Shown). record one { inodes = unpinned_if (counted one.count) one.inodes inode }) all
+
+-- one mount less of a filesystem
+abbrev pub released_if : ℕ → Shown → Shown
+released_if filesystem one = if nat_eq filesystem (counted one.count) then record one { mounts = one.mounts - 1 } else one
+
+abbrev pub released_in : ℕ → List Shown → List Shown
+released_in filesystem all = map (released_if filesystem) all
+
+-- how many mounts show a filesystem
+abbrev pub mounts_shown : ℕ → List Shown → ℕ
+mounts_shown filesystem all =
+    unwrap_or (option_map (λ one. one.mounts) (find (λ one. nat_eq filesystem (counted one.count)) all)) 0
+
+abbrev pub without_filesystem : ℕ → List Shown → List Shown
+without_filesystem filesystem all = filter (λ one. not (nat_eq filesystem (counted one.count))) all
+
+-- the filesystem goes if no mount shows it
+abbrev pub let_go_filesystem : ℕ → List Shown → List Shown
+let_go_filesystem filesystem all = if nat_eq (mounts_shown filesystem all) 0 then without_filesystem filesystem all else all
+
+-- a mount goes with a use of its root, and one mount of its filesystem
+abbrev pub without_mount : ℕ → Mount ℕ → Kept → Kept
+without_mount number mount k = record {
+  mounts = without number k.mounts;
+  filesystems = let_go_filesystem mount.filesystem
+      (released_in mount.filesystem (unpinned_in (mount.filesystem, mount.root) k.filesystems));
+}
+
+abbrev pub is_unused : MountEntry → Bool
+is_unused entry = not (is_some entry.mount.namespace) && nat_eq entry.uses 0
+
+abbrev pub let_go_entry : ℕ → Kept → Option MountEntry → Kept
+let_go_entry number k None = k
+let_go_entry number k (Some entry) = if is_unused entry then without_mount number entry.mount k else k
+
+-- the mount goes if it is in no namespace and nothing is on it
+abbrev pub let_go_mount : ℕ → Kept → Kept
+let_go_mount number k = let_go_entry number k (entry_numbered k.mounts number)
+
+-- one use more of a location, and one less
+abbrev pub with_use : ℕ → Inode → Bool → Kept → Kept
+with_use mount inode writes k =
+    record { mounts = changed mount (held writes) k.mounts; filesystems = pinned_in inode k.filesystems }
+
+abbrev pub released_use : ℕ → Inode → Bool → Kept → Kept
+released_use mount inode writes k =
+    record { mounts = changed mount (released writes) k.mounts; filesystems = unpinned_in inode k.filesystems }
+
+abbrev pub without_use : ℕ → Inode → Bool → Kept → Kept
+without_use mount inode writes k = let_go_mount mount (released_use mount inode writes k)
+
+abbrev pub with_location : Location → Bool → Kept → Kept
+with_location at writes k = with_use (counted at.mount.count) (inode_of at.node) writes k
+
+abbrev pub without_location : Location → Bool → Kept → Kept
+without_location at writes k = without_use (counted at.mount.count) (inode_of at.node) writes k
