@@ -10,6 +10,3 @@ mod places;
 mod trees;
 
 pub use mounts::Mounts;
-
-#[cfg(test)]
-mod tests;
