@@ -10,6 +10,8 @@ one     names in one directory that grows with the script
 users   files of eight users, made, linked, renamed, written and read by descriptor, and removed, in directories that
         have one user as owner and another one in their group; some of the calls are refused
 links   files that are made, linked, renamed, read by descriptor and removed through chains of up to 40 links
+mounts  binds, moves and unmounts in a namespace of some 4,000 mounts, and files written and read through them
+spaces  200 namespaces of 20 mounts each: unshared, entered and left, with mounts of their own in between
 
 The number of directories is 1,000, or fewer for a short script. The same words give the same script.
 """
@@ -130,7 +132,72 @@ def links_round(i, count):
     yield f't unlink {short}/s'
 
 
-KINDS = {'files': files, 'listed': listed, 'deep': deep, 'one': one, 'users': users, 'links': links}
+MOUNTS = 4000
+
+
+def mounts(lines):
+    count = min(MOUNTS, max(1, lines // 20))
+    yield 't mkdir /w'
+    for i in range(count):
+        if i % 100 == 0:
+            yield f't mkdir /m{i // 100}'
+        yield f't mkdir /m{i // 100}/{i % 100}'
+        yield f't mount plain /m{i // 100}/{i % 100}'
+    yield from rounds(lines - 2 * count - (count + 99) // 100 - 1, count, mounts_round)
+
+
+def mounts_round(i, count):
+    """A file on one mount is read through a bind of it, which moves, and is taken away again."""
+    place = f'/m{i * 37 % count // 100}/{i * 37 % count % 100}'
+    yield f't write {place}/f value-{i}'
+    yield f't bind {place} /w'
+    yield 't read /w/f'
+    yield 't mkdir /w/d'
+    yield f't bind / {place}/d'
+    yield f't stat {place}/d/w'
+    yield f't move {place}/d /w/d'
+    yield 't remount /w/d ro'
+    yield 't write /w/d/no x'
+    yield 't umount /w/d'
+    yield 't rmdir /w/d'
+    yield 't umount /w'
+
+
+SPACES = 200
+
+
+def spaces(lines):
+    for i in range(19):
+        yield f't mkdir /m{i}'
+        yield f't mount plain /m{i}'
+    names = []
+    for i in range(10):
+        yield 't fork'
+        for k in range(SPACES // 10):
+            yield f't.{i + 1} fork'
+            names.append(f't.{i + 1}.{k + 1}')
+    for name in names:
+        yield f'{name} unshare'
+    yield from rounds(lines - 38 - 10 - 2 * SPACES, SPACES, lambda i, count: spaces_round(i, names))
+
+
+def spaces_round(i, names):
+    """A task makes a mount that another one sees once it has entered, and leaves again for a copy of its own."""
+    one, other = names[i % SPACES], names[(i * 7 + 1) % SPACES]
+    yield f'{one} mount plain /m{i % 19}'
+    yield f'{one} write /m{i % 19}/f value-{i}'
+    yield f'{other} setns {one}'
+    yield f'{other} read /m{i % 19}/f'
+    yield f'{other} unshare'
+    yield f'{one} umount /m{i % 19}'
+    yield f'{other} read /m{i % 19}/f'
+    yield f'{other} umount /m{i % 19}'
+
+
+KINDS = {
+    'files': files, 'listed': listed, 'deep': deep, 'one': one, 'users': users, 'links': links, 'mounts': mounts,
+    'spaces': spaces,
+}
 
 
 def main():

@@ -1,3 +1,7 @@
-pub mod FileLemmas
-pub mod MemoryLemmas
-pub mod Permitted
+pub mod Forms
+pub mod Finishing
+pub mod Supplies
+pub mod Tied
+pub mod Endings
+pub mod Judging
+pub mod Told

@@ -1,2 +1,4 @@
 pub mod Meets
-pub mod Suits
+pub mod Permitted
+pub mod Kinds
+pub mod Answered

@@ -1,20 +1,19 @@
-//! The calls of tasks: judged, and then done.
-ghost use Rattle.std.specs.Prelude.{◌≡◌, List, Result, nat_eq, ℕ};
+//! The calls of tasks.
+ghost use Rattle.std.specs.Prelude.{◌≡◌, Err, IfErr, IfOk, List, Result, true, ℕ};
 ghost use Rattle.vt_spec.specs.Language.Calls as spec;
-ghost use Rattle.vt_spec.specs.OneTree.Policy.{policy};
-ghost use Rattle.vt_calls.specs.Meets.{Ends, Meets};
-ghost use Rattle.vt_ns.specs.WorldValue.{fresh_number, world_of};
-ghost use Rattle.vt_permit.specs.Memory.{TakesMemory};
-ghost use Rattle.vt_request.specs.Answers.{result_of};
-ghost use Rattle.vt_request.specs.declared.answer.Answer.{Answer};
+ghost use Rattle.vt_spec.specs.Language.Script.{namespaces};
 ghost use Rattle.vt_spec.specs.declared.errors.Deny.{Deny};
+ghost use Rattle.vt_request.specs.declared.answer.Answer.{Answer};
 ghost use Rattle.vt_request.specs.Requests.{call_of};
+ghost use Rattle.vt_calls.specs.Meets.{Ends};
+ghost use Rattle.vt_calls.specs.Permitted.{IsPermitted};
 
 use crate::spending::spend;
-use vt_ns::World;
-use vt_policy::judge;
+use vt_judge::judge;
+use vt_permits::Permit;
 use vt_request::{Answer, Call, TaskName};
-use vt_spec::errors::Deny;
+use vt_spec::errors::{Deny, Rule};
+use vt_world::World;
 
 /// The calls of tasks.
 pub trait Calls {
@@ -23,8 +22,10 @@ pub trait Calls {
 
     /// Does a call of a task, or refuses it by the first rule that fails and changes nothing.
     ///
-    /// S2 (ESRCH): there is no such task. S5 (ENOMEM): memory was refused. The other rules are those of the call, in its order.
+    /// S2 (ESRCH): there is no such task. S5 (ENOMEM): an allocation failed, or a count of uses is full. The other rules are
+    /// those of the call, in its order.
     fn call(&mut self, name: &TaskName, call: Call) -> Result<Answer, Deny>
+        requires { namespaces.has (call_of call) ≡ true }
         ensures { ends self.old name.now (call_of call) result self.new };
 }
 
@@ -36,12 +37,24 @@ impl Calls for World {
     }
 }
 
-// Judges a call, and spends its permit.
+// Judges a call, and applies its permit.
 fn judged_call(world: &mut World, name: &TaskName, call: Call) -> Result<Answer, Deny>
-    ensures outcome { Meets (policy nat_eq (world_of world.old) name.now (call_of call) (fresh_number world.old)) result world.old world.new }
-    // a call that takes no memory is answered as the policy says
-    ensures memory { ¬ TakesMemory (call_of call) → result_of result ≡ (policy nat_eq (world_of world.old) name.now (call_of call) (fresh_number world.old)).answer }
+    requires { namespaces.has (call_of call) ≡ true }
+    ensures { Ends world.old name.now (call_of call) result world.new }
 {
-    let permit = judge(world, name, call)?;
+    let permit = permit_of(world, name, call)?;
     spend(world, name, permit)
+}
+
+// What a call is permitted in the world. S2 (ESRCH): there is no such task. The other rules are those of the call.
+fn permit_of(world: &World, name: &TaskName, call: Call) -> Result<Permit, Deny>
+    requires { namespaces.has (call_of call) ≡ true }
+    ensures ok { IfOk result (λ permit. IsPermitted world.now name.now (call_of call) permit) }
+    ensures err { IfErr result (λ deny. Ends world.now name.now (call_of call) (Err deny) world.now) }
+{
+    world.is_held();
+    let Some(task) = world.task(name) else {
+        return Err(Rule::S2.denial());
+    };
+    judge(world.alloc(), world, task, call)
 }

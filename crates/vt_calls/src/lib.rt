@@ -1,10 +1,16 @@
-//! The calls of tasks: judged, and then done.
+//! The calls of tasks: checked against the policy, then applied.
 #![tactic(auto)]
 
+mod answers;
 mod calls;
-mod changes;
 mod descriptors;
+mod files;
+mod looking;
+mod making;
+mod mounting;
+mod removing;
 mod spending;
+mod tasks;
 
 pub use calls::Calls;
 

@@ -1,67 +1,47 @@
 //! What is done with a permit. All memory that a change takes is taken before the change.
-ghost use Rattle.std.specs.Prelude.{nat_eq, IsErrOf, IsSome};
-ghost use Rattle.vt_spec.specs.Errors.{denial};
-ghost use Rattle.vt_spec.specs.declared.errors.Rule.TheVariants.{S5};
-ghost use Rattle.vt_spec.specs.OneTree.Policy.{spent};
-ghost use Rattle.vt_spec.specs.OneTree.World.{task_called};
-ghost use Rattle.vt_calls.specs.Meets.{Meets};
-ghost use Rattle.vt_calls.specs.Suits.{SuitsTask};
-ghost use Rattle.vt_ns.specs.WorldValue.{ForTask, world_of};
-ghost use Rattle.vt_permit.specs.Memory.{PermitTakesMemory};
-ghost use Rattle.vt_permit.specs.PermitValue.{FitsTree, permit_of};
+ghost use Rattle.vt_calls.specs.Permitted.{EndsGiven, IsGiven};
 
-use crate::changes::{make, told};
-use crate::descriptors::{close, open, open_new};
-use vt_ns::World;
-use vt_permit::Permit;
+use crate::descriptors::change_descriptors;
+use crate::files::change_file;
+use crate::looking::look;
+use crate::making::make;
+use crate::mounting::change_mounts;
+use crate::removing::remove;
+use crate::tasks::change_tasks;
+use vt_permits::Permit;
 use vt_request::{Answer, TaskName};
 use vt_spec::errors::Deny;
+use vt_world::World;
 
-// Does what a permit allows. S5 (ENOMEM): memory was refused, and nothing has changed.
+// Does what a permit allows. S5 (ENOMEM): an allocation failed, or a count of uses is full; nothing has changed.
 pub(crate) fn spend(world: &mut World, name: &TaskName, permit: Permit) -> Result<Answer, Deny>
-    requires task { IsSome (task_called (world_of world.old) name.now) }
-    // the permit is one for this tree and for the task of this name
-    requires fits { ForTask world.old name.now (λ task. FitsTree world.old.tree task permit) }
-    requires suits { ForTask world.old name.now (λ task. SuitsTask name.now task (permit_of world.old.tree task permit)) }
-    ensures outcome { ForTask world.old name.now (λ task.
-        Meets (spent nat_eq (world_of world.old) name.now task (permit_of world.old.tree task permit)) result world.old world.new) }
-    ensures memory { IsErrOf result (denial S5) → ForTask world.old name.now (λ task. PermitTakesMemory (permit_of world.old.tree task permit)) }
+    requires { IsGiven world.old name.now permit }
+    ensures { EndsGiven world.old name.now permit result world.new }
 {
     match permit {
-        Permit::Allowed => Ok(Answer::Done),
-        Permit::ToList { directory } => Ok(Answer::Names(world.tree.list(directory)?)),
-        Permit::ToTell { object } => Ok(Answer::Told(told(&world.tree, object))),
-        Permit::ToRead { file } => Ok(Answer::Bytes(world.tree.read(file)?)),
-        Permit::ToReadPart { file, offset, size } => {
-            Ok(Answer::Bytes(world.tree.read_part(file, offset, size)?))
+        Permit::Allowed
+        | Permit::ToList { .. }
+        | Permit::ToStat { .. }
+        | Permit::ToRead { .. }
+        | Permit::ToReadPart { .. }
+        | Permit::ToListMounts => look(world, name, permit),
+        Permit::ToMake { .. } | Permit::ToLink { .. } => make(world, name, permit),
+        Permit::ToUnlink { .. } | Permit::ToRemoveDirectory { .. } | Permit::ToRename { .. } => {
+            remove(world, name, permit)
         }
-        Permit::ToChange(change) => {
-            make(&mut world.tree, change)?;
-            Ok(Answer::Done)
+        Permit::ToWrite { .. } | Permit::ToSetAttr { .. } | Permit::ToWritePart { .. } => {
+            change_file(world, name, permit)
         }
-        Permit::ToOpen { file, access } => open(world, name, file, access),
-        Permit::ToOpenNew {
-            directory,
-            name: entry,
-            node,
-            access,
-        } => open_new(world, name, directory, entry, node, access),
-        Permit::ToClose { descriptor } => {
-            close(world, name, descriptor);
-            Ok(Answer::Done)
+        Permit::ToOpen { .. } | Permit::ToOpenNew { .. } | Permit::ToClose { .. } => {
+            change_descriptors(world, name, permit)
         }
-        Permit::ToSetUmask { umask } => {
-            world.tasks.set_umask(name, umask);
-            Ok(Answer::Done)
-        }
-        Permit::ToDrop { caps } => {
-            world.tasks.drop_caps(name, caps);
-            Ok(Answer::Done)
-        }
-        Permit::ToFork { cred } => Ok(Answer::Child(world.fork(name, cred)?)),
-        Permit::ToExit => {
-            world.exit(name);
-            Ok(Answer::Done)
-        }
+        Permit::ToMountPlain { .. }
+        | Permit::ToBind { .. }
+        | Permit::ToMove { .. }
+        | Permit::ToUnmount { .. }
+        | Permit::ToUnmountLazily { .. }
+        | Permit::ToSetFlags { .. }
+        | Permit::ToSetType { .. } => change_mounts(world, name, permit),
+        _ => change_tasks(world, name, permit),
     }
 }

@@ -1,8 +1,8 @@
 //! What no clause says: that a call succeeds with ample memory.
 use super::*;
 use std::test::Fail;
-use vt_ns::World;
 use vt_request::{Answer, Call, TaskName};
+use vt_world::World;
 
 #[test]
 fn calls_use_the_memory_that_is_there(rt: HostRuntime) -> Result<(), Fail> {

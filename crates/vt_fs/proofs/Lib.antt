@@ -6,3 +6,4 @@ pub mod Parents
 pub mod Numbers
 pub mod Fitting
 pub mod NewFilesystem
+pub mod PathsFound

@@ -16,6 +16,7 @@ use Rattle.vt_spec.specs.TreeLaws.{entry_at}
 use Rattle.vt_one_text.specs.OneTreeNumbers.{renamed_inode, renamed_inodes}
 use Rattle.vt_one_text.specs.Renaming.{Renaming}
 use Rattle.vt_one_text.proofs.Commuting.{Named, commutes_nat, node_itself, option_itself}
+use Rattle.vt_tree.specs.Paths.{path_in}
 use Rattle.vt_tree.specs.TreeRules.{hard_link_rules, make_rules, rename_rules, unlink_rules, write_rules}
 use Rattle.vt_location.specs.Numbers.{exchanged}
 use Rattle.vt_fs.proofs.Exchanged.{exchanged_back}
@@ -151,6 +152,11 @@ module _ (f : ℕ) (inodes : Inodes ℕ) where
   pub under_by_numbers : (top directory : ℕ) → is_directory_under nat_eq (by_numbers f inodes) (exchanged f top) (exchanged f directory) ≡ is_directory_under nat_eq inodes top directory
   under_by_numbers top directory =
       commutes_nat WithTwo (λ (A : Type 0). Bool) named_two (named_nothing Bool) (λ A eq s. is_directory_under eq s.0 s.1 s.2) (exchange f) (inodes, top, directory)
+
+  pub path_by_numbers : (top directory : ℕ) → path_in nat_eq (by_numbers f inodes) (exchanged f top) (exchanged f directory) ≡ path_in nat_eq inodes top directory
+  path_by_numbers top directory =
+      commutes_nat WithTwo (λ (A : Type 0). Option (List (List ℕ))) named_two (named_nothing (Option (List (List ℕ))))
+      (λ A eq s. path_in eq s.0 s.1 s.2) (exchange f) (inodes, top, directory)
 
 -- The rules of a tree's calls, for numbers of any type
 module _ {N : Type 0} (eq : N → N → Bool) where

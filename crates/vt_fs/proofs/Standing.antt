@@ -11,12 +11,13 @@ use Rattle.vt_spec.specs.Tree.{Entries, Node, entries_in, parent_in}
 use Rattle.vt_spec.specs.TreeLaws.{entry_at as number_at}
 use Rattle.vt_one_text.specs.OneTreeNumbers.{renamed_inode}
 use Rattle.vt_location.specs.Numbers.{exchanged}
+use Rattle.vt_tree.specs.Paths.{path_in}
 use Rattle.vt_tree.specs.TreeRules.{hard_link_rules, make_rules, rename_rules, unlink_rules, write_rules}
 use Rattle.vt_tree.specs.TreeValue.{TreeValue, inodes_of, tree_of}
 use Rattle.vt_fs.specs.FilesystemsValue.{ChangesInodes, FilesystemEntry, Filesystems, entry_at, entry_of, files_at, inodes_at, inodes_seen, no_entry, node_seen, seen_in, shown, shown_entry, shown_with, with_tree, without}
 use Rattle.vt_fs.proofs.Exchanged.{exchanged_back}
 use Rattle.vt_fs.proofs.Entries.{or_first, or_second}
-use Rattle.vt_fs.proofs.Renamed.{by_numbers, changed_by_numbers, entry_by_numbers, hard_link_rules_by_numbers, make_rules_by_numbers, node_by_numbers, own_by_numbers, pinned_by_numbers, plain_by_numbers, rename_rules_by_numbers, renamed_change, root_by_numbers, under_by_numbers, unlink_rules_by_numbers, unpinned_by_numbers, uses_by_numbers, write_rules_by_numbers}
+use Rattle.vt_fs.proofs.Renamed.{by_numbers, changed_by_numbers, entry_by_numbers, hard_link_rules_by_numbers, make_rules_by_numbers, node_by_numbers, own_by_numbers, path_by_numbers, pinned_by_numbers, plain_by_numbers, rename_rules_by_numbers, renamed_change, root_by_numbers, under_by_numbers, unlink_rules_by_numbers, unpinned_by_numbers, uses_by_numbers, write_rules_by_numbers}
 
 -- the filesystem of this count is there, with this tree, and no two have one count
 pub record Standing (fs : Filesystems) (f : ℕ) (tree : TreeValue) : Type 0 where
@@ -209,6 +210,11 @@ module _ (fs : Filesystems) (f : ℕ) (tree : TreeValue) (found : option_map (λ
       → is_directory_under nat_eq (inodes_at fs f) top number ≡ is_directory_under nat_eq (inodes_of tree) top_slot slot
   under_there top_slot top slot number same_top same =
       (λ i. is_directory_under nat_eq (is_seen i) (sym same_top i) (sym same i)) ∙ under_by_numbers f (inodes_of tree) top_slot slot
+
+  pub path_there : (top_slot top slot number : ℕ) → exchanged f top_slot ≡ top → exchanged f slot ≡ number
+      → path_in nat_eq (inodes_at fs f) top number ≡ path_in nat_eq (inodes_of tree) top_slot slot
+  path_there top_slot top slot number same_top same =
+      (λ i. path_in nat_eq (is_seen i) (sym same_top i) (sym same i)) ∙ path_by_numbers f (inodes_of tree) top_slot slot
 
   -- a slot without a node has no inode
   pub vacant_there : (slot number : ℕ) → exchanged f slot ≡ number → (tree_of tree).node slot ≡ None → (inodes_at fs f).inode number ≡ None

@@ -535,7 +535,7 @@ impl Filesystems {
 }
 
 // The number of an inode in the tree of its filesystem.
-fn slot_of(inode: NodeRef) -> NodeId
+pub(crate) fn slot_of(inode: NodeRef) -> NodeId
     ensures value { result ≡ inode.slot }
     ensures number { exchanged inode.filesystem.count result ≡ number_of inode }
 {

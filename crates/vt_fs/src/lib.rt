@@ -3,6 +3,7 @@
 
 mod filesystems;
 mod laws;
+mod paths;
 
 pub use filesystems::Filesystems;
 pub use laws::{filesystems_are_found, numbers_are_those_of_inodes, trees_name_parents};

@@ -3,6 +3,7 @@
 
 mod attributes;
 mod descriptors;
+mod judging;
 mod looking;
 mod making;
 mod mounting;
@@ -13,6 +14,7 @@ mod tasks;
 
 pub use attributes::{chmod, chown};
 pub use descriptors::{close, open, pread, pwrite};
+pub use judging::judge;
 pub use looking::{exec, list, lstat, read, readlink, stat};
 pub use making::{link, mkdir, symlink, write};
 pub use mounting::{bind, lazy, mount_plain, move_mount, remount, set_type, umount};

@@ -7,7 +7,7 @@ ghost use Rattle.vt_location.specs.Flags.{flags_of};
 ghost use Rattle.vt_location.specs.Locations.{location_of};
 ghost use Rattle.vt_location.specs.Numbers.{counted};
 ghost use Rattle.vt_permits.specs.Memory.{JudgesAlike, JudgesByReceivers};
-ghost use Rattle.vt_permits.specs.PermitValue.{type_word_of};
+ghost use Rattle.vt_request.specs.Requests.{type_word_of};
 ghost use Rattle.vt_task.specs.TaskValue.{task_of};
 ghost use Rattle.vt_judge.specs.Tables.{IsRootAt, move_table, root_walk};
 
@@ -16,7 +16,8 @@ use crate::rights::{is_elsewhere, is_no_root, is_shared, is_unbindable, lacks};
 use vt_cred::Caps;
 use vt_location::{Location, Mount, MountFlags, MountId};
 use vt_looks::{Attachment, Look, LookAtMounts};
-use vt_permits::{Permit, TypeWord};
+use vt_permits::Permit;
+use vt_request::TypeWord;
 use vt_spec::errors::{Deny, Rule};
 use vt_task::Task;
 

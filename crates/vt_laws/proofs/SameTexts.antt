@@ -65,7 +65,6 @@ unfolding Tree.script_text
 tree_text-fitted script refused = tree-fitted (Script.lines_of script) refused 1 (opening nat_eq 0)
 
 pub files_text_is_the_text : FilesTextIsTheText
-unfolding Machine.script_text
 files_text_is_the_text script refused =
     sym (machine-fitted Script.files (Script.lines_of script) refused 1 Machine.first_world)
     ∙ one_tree_has_one_text script (fitted (Script.lines_of script) refused) 3 _

@@ -1,14 +1,21 @@
 -- Calls by their names and words.
 use Rattle.std.specs.Global.{Vec}
-use Rattle.std.proofs.Common.{List, None, Option, Some, Result, Err, option_map, refl, subst, sym, ap, ◌≡◌, ◌∙◌, ◌∷◌, [], ℕ, IsSome, IsSomeAnd}
+use Rattle.std.proofs.Common.{List, None, Option, Some, Result, Err, option_map, refl, false, true, subst, sym, ap, ◌≡◌, ◌∙◌, ◌∷◌, [], ℕ, IsSome, IsSomeAnd}
 use Rattle.vt_spec.specs.Language.Calls.{Call}
-use Rattle.vt_spec.specs.Lists.{then_some}
-use Rattle.vt_spec.specs.Language.Script.{no_more, path_alone, path_word, two_paths, word_then}
+use Rattle.vt_spec.specs.Language.Calls as spec
+use Rattle.vt_spec.specs.Lists.{then_some, when}
+use Rattle.vt_spec.specs.Language.Script.{namespaces, no_more, path_alone, path_word, two_paths, word_then}
 use Rattle.vt_request.specs.declared.request.Call.{Call as KeptCall}
 use Rattle.vt_line.specs.declared.names.CallName.{CallName}
+use Rattle.vt_line.specs.declared.names.CallName.TheVariants.{Pair, Path}
+use Rattle.vt_line.specs.declared.names.PairCall.{PairCall}
+use Rattle.vt_line.specs.declared.names.PairCall.TheVariants as pair
+use Rattle.vt_line.specs.declared.names.PathCall.{PathCall}
+use Rattle.vt_line.specs.declared.names.PathCall.TheVariants as path
 use Rattle.vt_line.specs.declared.calls.ReadError.{ReadError}
 use Rattle.vt_line.specs.declared.calls.ReadError.TheVariants.{Grammar, Memory}
 use Rattle.vt_line.specs.Calls.{ArePathsRead, IsCallRead, KeepsWords, call_named, lone_path, path_pair, with_pair}
+use Rattle.vt_line.specs.Names.{pair_call, path_call}
 
 -- Words that are read alone, and then made a call
 then_some-map : {A B C : Type 0} (f : B → C) (a : Option A) (next : A → Option B) (next' : A → Option C)
@@ -46,45 +53,104 @@ some_keeps : {A : Type 0} (call : A → Call) (paths : Option A) → ((x : A) �
 some_keeps call None keeps some = cc
 some_keeps call (Some x) keeps some = keeps x
 
--- a path alone, or two, that were kept or not
-path_read : (call : List ℕ → Call) (words : List (List ℕ)) (e : ReadError) → ((path : List ℕ) → KeepsWords (call path))
-    → ArePathsRead {B = Vec ℕ} (λ path. path.items) (lone_path words) (Err e) → IsCallRead (path_alone call words) (Err e)
-path_read call words Grammar keeps none = path_alone-lone call words ∙ ap (option_map call) none
-path_read call words Memory keeps some =
-    subst (λ asked. IsSomeAnd asked KeepsWords) (sym (path_alone-lone call words)) (some_keeps call (lone_path words) keeps some)
+-- what the grammar has of calls that it all has
+had : {A : Type 0} (call : A → Call) (words : Option A) → ((x : A) → namespaces.has (call x) ≡ true) →
+    then_some (option_map call words) (λ call. when (namespaces.has call) call) ≡ option_map call words
+had call None has = refl
+had call (Some x) has = ap (λ there. when there (call x)) (has x)
 
-path_kept : (call : List ℕ → Call) (words : List (List ℕ)) (path : List ℕ) → lone_path words ≡ Some path → path_alone call words ≡ Some (call path)
-path_kept call words path e = path_alone-lone call words ∙ ap (option_map call) e
+path_had : (call : List ℕ → Call) (words : List (List ℕ)) → ((path : List ℕ) → namespaces.has (call path) ≡ true) →
+    then_some (path_alone call words) (λ call. when (namespaces.has call) call) ≡ option_map call (lone_path words)
+path_had call words has =
+    ap (λ asked. then_some asked (λ call. when (namespaces.has call) call)) (path_alone-lone call words) ∙ had call (lone_path words) has
 
-pair_read : (call : List ℕ → List ℕ → Call) (words : List (List ℕ)) (e : ReadError) → ((a b : List ℕ) → KeepsWords (call a b))
-    → ArePathsRead {B = Vec ℕ × Vec ℕ} (λ paths. (paths.0.items, paths.1.items)) (path_pair words) (Err e) → IsCallRead (two_paths call words) (Err e)
-pair_read call words Grammar keeps none = two_paths-pair call words ∙ ap (option_map (with_pair call)) none
-pair_read call words Memory keeps some =
-    subst (λ asked. IsSomeAnd asked KeepsWords) (sym (two_paths-pair call words))
-    (some_keeps (with_pair call) (path_pair words) (λ pair. keeps pair.0 pair.1) some)
+pair_had : (call : List ℕ → List ℕ → Call) (words : List (List ℕ)) → ((a b : List ℕ) → namespaces.has (call a b) ≡ true) →
+    then_some (two_paths call words) (λ call. when (namespaces.has call) call) ≡ option_map (with_pair call) (path_pair words)
+pair_had call words has =
+    ap (λ asked. then_some asked (λ call. when (namespaces.has call) call)) (two_paths-pair call words)
+    ∙ had (with_pair call) (path_pair words) (λ pair. has pair.0 pair.1)
 
-pair_kept : (call : List ℕ → List ℕ → Call) (words : List (List ℕ)) (a b : List ℕ) → path_pair words ≡ Some (a, b) → two_paths call words ≡ Some (call a b)
-pair_kept call words a b e = two_paths-pair call words ∙ ap (option_map (with_pair call)) e
+path_named : (name : PathCall) (words : List (List ℕ)) → call_named (Path name) words ≡ option_map (path_call name) (lone_path words)
+path_named path.Ls words = path_had spec.Call.Ls words (λ path. refl)
+path_named path.Stat words = path_had spec.Call.Stat words (λ path. refl)
+path_named path.Lstat words = path_had spec.Call.Lstat words (λ path. refl)
+path_named path.Readlink words = path_had spec.Call.Readlink words (λ path. refl)
+path_named path.Read words = path_had spec.Call.Read words (λ path. refl)
+path_named path.Exec words = path_had spec.Call.Exec words (λ path. refl)
+path_named path.Unlink words = path_had spec.Call.Unlink words (λ path. refl)
+path_named path.Rmdir words = path_had spec.Call.Rmdir words (λ path. refl)
+path_named path.Chdir words = path_had spec.Call.Chdir words (λ path. refl)
+path_named path.Chroot words = path_had spec.Call.Chroot words (λ path. refl)
+path_named path.Umount words = path_had spec.Call.Umount words (λ path. refl)
+path_named path.Lazy words = path_had spec.Call.Lazy words (λ path. refl)
 
--- the same, of a call by its name
-pub path_refused : (named : CallName) (call : List ℕ → Call) (name : CallName) (words : List (List ℕ)) {read : Result KeptCall ReadError} (e : ReadError) →
-    name ≡ named → read ≡ Err e → call_named named words ≡ path_alone call words → ((path : List ℕ) → KeepsWords (call path)) →
-    ArePathsRead {B = Vec ℕ} (λ path. path.items) (lone_path words) (Err e) → IsCallRead (call_named name words) read
-path_refused named call name words {read} e is error same keeps paths =
+pair_named : (name : PairCall) (words : List (List ℕ)) → call_named (Pair name) words ≡ option_map (with_pair (pair_call name)) (path_pair words)
+pair_named pair.Symlink words = pair_had spec.Call.SymlinkAt words (λ first second. refl)
+pair_named pair.Link words = pair_had spec.Call.LinkTo words (λ first second. refl)
+pair_named pair.Rename words = pair_had spec.Call.Rename words (λ first second. refl)
+pair_named pair.Bind words = pair_had (λ source path. spec.Call.Bind source path false) words (λ first second. refl)
+pair_named pair.Rbind words = pair_had (λ source path. spec.Call.Bind source path true) words (λ first second. refl)
+pair_named pair.Move words = pair_had spec.Call.MoveMount words (λ first second. refl)
+
+-- all of them keep their words
+path_keeps : (name : PathCall) (path : List ℕ) → KeepsWords (path_call name path)
+path_keeps path.Ls path = tt
+path_keeps path.Stat path = tt
+path_keeps path.Lstat path = tt
+path_keeps path.Readlink path = tt
+path_keeps path.Read path = tt
+path_keeps path.Exec path = tt
+path_keeps path.Unlink path = tt
+path_keeps path.Rmdir path = tt
+path_keeps path.Chdir path = tt
+path_keeps path.Chroot path = tt
+path_keeps path.Umount path = tt
+path_keeps path.Lazy path = tt
+
+pair_keeps : (name : PairCall) (first second : List ℕ) → KeepsWords (pair_call name first second)
+pair_keeps pair.Symlink first second = tt
+pair_keeps pair.Link first second = tt
+pair_keeps pair.Rename first second = tt
+pair_keeps pair.Bind first second = tt
+pair_keeps pair.Rbind first second = tt
+pair_keeps pair.Move first second = tt
+
+-- a path alone, or two, that were not read or not kept
+path_unread : (name : PathCall) (words : List (List ℕ)) (e : ReadError) →
+    ArePathsRead {B = Vec ℕ} (λ path. path.items) (lone_path words) (Err e) → IsCallRead (call_named (Path name) words) (Err e)
+path_unread name words Grammar none = path_named name words ∙ ap (option_map (path_call name)) none
+path_unread name words Memory some =
+    subst (λ asked. IsSomeAnd asked KeepsWords) (sym (path_named name words))
+    (some_keeps (path_call name) (lone_path words) (path_keeps name) some)
+
+pair_unread : (name : PairCall) (words : List (List ℕ)) (e : ReadError) →
+    ArePathsRead {B = Vec ℕ × Vec ℕ} (λ paths. (paths.0.items, paths.1.items)) (path_pair words) (Err e) →
+    IsCallRead (call_named (Pair name) words) (Err e)
+pair_unread name words Grammar none = pair_named name words ∙ ap (option_map (with_pair (pair_call name))) none
+pair_unread name words Memory some =
+    subst (λ asked. IsSomeAnd asked KeepsWords) (sym (pair_named name words))
+    (some_keeps (with_pair (pair_call name)) (path_pair words) (λ pair. pair_keeps name pair.0 pair.1) some)
+
+pub path_refused : (name : CallName) (of : PathCall) (words : List (List ℕ)) {read : Result KeptCall ReadError} (e : ReadError) →
+    name ≡ Path of → read ≡ Err e → ArePathsRead {B = Vec ℕ} (λ path. path.items) (lone_path words) (Err e) → IsCallRead (call_named name words) read
+path_refused name of words {read} e is error paths =
     subst (λ read. IsCallRead (call_named name words) read) (sym error)
-    (subst (λ asked. IsCallRead asked (Err e)) (sym (ap (λ name. call_named name words) is ∙ same)) (path_read call words e keeps paths))
+    (subst (λ name. IsCallRead (call_named name words) (Err e)) (sym is) (path_unread of words e paths))
 
-pub path_asked : (named : CallName) (call : List ℕ → Call) (name : CallName) (words : List (List ℕ)) (path : List ℕ) → name ≡ named →
-    call_named named words ≡ path_alone call words → lone_path words ≡ Some path → call_named name words ≡ Some (call path)
-path_asked named call name words path is same e = ap (λ name. call_named name words) is ∙ same ∙ path_kept call words path e
-
-pub pair_refused : (named : CallName) (call : List ℕ → List ℕ → Call) (name : CallName) (words : List (List ℕ)) {read : Result KeptCall ReadError} (e : ReadError) →
-    name ≡ named → read ≡ Err e → call_named named words ≡ two_paths call words → ((a b : List ℕ) → KeepsWords (call a b)) →
-    ArePathsRead {B = Vec ℕ × Vec ℕ} (λ paths. (paths.0.items, paths.1.items)) (path_pair words) (Err e) → IsCallRead (call_named name words) read
-pair_refused named call name words {read} e is error same keeps paths =
+pub pair_refused : (name : CallName) (of : PairCall) (words : List (List ℕ)) {read : Result KeptCall ReadError} (e : ReadError) →
+    name ≡ Pair of → read ≡ Err e → ArePathsRead {B = Vec ℕ × Vec ℕ} (λ paths. (paths.0.items, paths.1.items)) (path_pair words) (Err e) →
+    IsCallRead (call_named name words) read
+pair_refused name of words {read} e is error paths =
     subst (λ read. IsCallRead (call_named name words) read) (sym error)
-    (subst (λ asked. IsCallRead asked (Err e)) (sym (ap (λ name. call_named name words) is ∙ same)) (pair_read call words e keeps paths))
+    (subst (λ name. IsCallRead (call_named name words) (Err e)) (sym is) (pair_unread of words e paths))
 
-pub pair_asked : (named : CallName) (call : List ℕ → List ℕ → Call) (name : CallName) (words : List (List ℕ)) (a b : List ℕ) → name ≡ named →
-    call_named named words ≡ two_paths call words → path_pair words ≡ Some (a, b) → call_named name words ≡ Some (call a b)
-pair_asked named call name words a b is same e = ap (λ name. call_named name words) is ∙ same ∙ pair_kept call words a b e
+-- and those that were
+pub path_asked : (name : CallName) (of : PathCall) (words : List (List ℕ)) (path : List ℕ) → name ≡ Path of → lone_path words ≡ Some path →
+    call_named name words ≡ Some (path_call of path)
+path_asked name of words path is e =
+    ap (λ name. call_named name words) is ∙ path_named of words ∙ ap (option_map (path_call of)) e
+
+pub pair_asked : (name : CallName) (of : PairCall) (words : List (List ℕ)) (a b : List ℕ) → name ≡ Pair of → path_pair words ≡ Some (a, b) →
+    call_named name words ≡ Some (pair_call of a b)
+pair_asked name of words a b is e =
+    ap (λ name. call_named name words) is ∙ pair_named of words ∙ ap (option_map (with_pair (pair_call of))) e

@@ -1,4 +1,5 @@
 pub mod CallLemmas
+pub mod ListingLemmas
 pub mod NumberLemmas
 pub mod PrintLemmas
 pub mod RequestLemmas

@@ -1,5 +1,5 @@
 -- Texts printed in runs of plain bytes, with an escape after each.
-use Rattle.std.proofs.Common.{◌≡◌, ℕ, Result, Ok, Err, codes, decimal, suc, ◌<◌, ◌/◌, ◌%◌, cond, false, List, [], ◌∷◌, ◌++◌, length, map, All, IsTrue, slice_index, refl, sym, ap, ◌∙◌, arith, append_assoc}
+use Rattle.std.proofs.Common.{◌≡◌, ℕ, Result, Ok, Err, codes, suc, ◌<◌, ◌/◌, ◌%◌, cond, false, List, [], ◌∷◌, ◌++◌, length, map, All, IsTrue, slice_index, refl, sym, ap, ◌∙◌, arith, append_assoc}
 use Rattle.std.proofs.lemmas.List.{append-nil}
 use Rattle.std.proofs.lemmas.List.Concat.{flat_map-append}
 use Rattle.std.specs.List.{flat_map}
@@ -10,12 +10,12 @@ use Rattle.vt_spec.specs.Language.Answers.{StatLine}
 use Rattle.vt_spec.specs.declared.attributes.Kind.{Kind}
 use Rattle.vt_spec.specs.declared.attributes.Kind.TheVariants.{Dir, File, Link, White}
 use Rattle.vt_spec.specs.declared.errors.Deny.{Deny}
-use Rattle.vt_spec.specs.Language.Printed.{hex_digit, owner_words, printed_byte, printed_line, printed_rows, printed_text, printed_value, reply_line, spaced, stat_words}
-use Rattle.vt_request.specs.Answers.{answer_of, result_of}
+use Rattle.vt_spec.specs.Language.Printed.{hex_digit, owner_words, printed_byte, printed_line, printed_text, printed_value, reply_line, spaced, stat_words}
+use Rattle.vt_request.specs.Answers.{result_of}
 use Rattle.vt_request.specs.declared.answer.Answer.{Answer}
-use Rattle.vt_request.specs.declared.answer.Answer.TheVariants.{Done, Bytes, Told, Opened, Child}
+use Rattle.vt_request.specs.declared.answer.Answer.TheVariants.{Done, Bytes, Told, Opened, Child, MountList}
 use Rattle.vt_request.specs.declared.answer.Answer.TheVariants as answers
-use Rattle.vt_line.specs.Printing.{further_words, kind_text, printed_names, reply_words}
+use Rattle.vt_line.specs.Printing.{further_words, kind_text, printed_mounts, printed_names, reply_words}
 
 abbrev pub escape : ℕ → List ℕ
 escape byte = 92 ∷ 120 ∷ hex_digit (byte / 16) ∷ hex_digit (byte % 16) ∷ []
@@ -44,28 +44,28 @@ printed-run plain others rest whole all =
 
 -- what is printed so far, a run, and what comes after it
 pub printed-front : (done plain others rest text : List ℕ) → done ++ flat_map printed_byte rest ≡ flat_map printed_byte text → plain ++ others ≡ rest
-    → All (λ byte. IsTrue (is_plain byte)) plain → 0 < length text → done ++ (plain ++ flat_map printed_byte others) ≡ printed_text text
-printed-front done plain others rest text so_far whole all some =
-    ap (λ now. done ++ now) (sym (printed-run plain others rest whole all)) ∙ so_far ∙ sym (printed_text-some text some)
+    → All (λ byte. IsTrue (is_plain byte)) plain → done ++ (plain ++ flat_map printed_byte others) ≡ flat_map printed_byte text
+printed-front done plain others rest text so_far whole all =
+    ap (λ now. done ++ now) (sym (printed-run plain others rest whole all)) ∙ so_far
 
 -- the same where nothing comes after it
 pub printed-last : (done plain others rest text : List ℕ) → done ++ flat_map printed_byte rest ≡ flat_map printed_byte text → plain ++ others ≡ rest
-    → All (λ byte. IsTrue (is_plain byte)) plain → 0 < length text → length others ≡ 0 → done ++ plain ≡ printed_text text
-printed-last done plain [] rest text so_far whole all some none =
-    ap (λ now. done ++ now) (sym (append-nil plain)) ∙ printed-front done plain [] rest text so_far whole all some
-printed-last done plain (byte ∷ bytes) rest text so_far whole all some none = absurd (omega arith)
+    → All (λ byte. IsTrue (is_plain byte)) plain → length others ≡ 0 → done ++ plain ≡ flat_map printed_byte text
+printed-last done plain [] rest text so_far whole all none =
+    ap (λ now. done ++ now) (sym (append-nil plain)) ∙ printed-front done plain [] rest text so_far whole all
+printed-last done plain (byte ∷ bytes) rest text so_far whole all none = absurd (omega arith)
 
 -- the same where an escape comes after it
 pub printed-escape : (done plain others rest text after : List ℕ) (byte : ℕ) → done ++ flat_map printed_byte rest ≡ flat_map printed_byte text → plain ++ others ≡ rest
-    → All (λ byte. IsTrue (is_plain byte)) plain → 0 < length text → others ≡ byte ∷ after → is_plain (slice_index others 0) ≡ false
-    → (done ++ plain) ++ (escape byte ++ flat_map printed_byte after) ≡ printed_text text
-printed-escape done plain others rest text after byte so_far whole all some first other =
+    → All (λ byte. IsTrue (is_plain byte)) plain → others ≡ byte ∷ after → is_plain (slice_index others 0) ≡ false
+    → (done ++ plain) ++ (escape byte ++ flat_map printed_byte after) ≡ flat_map printed_byte text
+printed-escape done plain others rest text after byte so_far whole all first other =
     let stop : is_plain byte ≡ false = ap (λ now. is_plain (slice_index now 0)) (sym first) ∙ other in
     let next : flat_map printed_byte others ≡ escape byte ++ flat_map printed_byte after =
     ap (flat_map printed_byte) first ∙ ap (λ now. now ++ flat_map printed_byte after) (printed_byte-other byte stop) in
     append_assoc done plain (escape byte ++ flat_map printed_byte after)
     ∙ ap (λ now. done ++ (plain ++ now)) (sym next)
-    ∙ printed-front done plain others rest text so_far whole all some
+    ∙ printed-front done plain others rest text so_far whole all
 
 -- the names of an answer
 pub printed_names-value : (names : List (Vec ℕ)) → printed_names names ≡ spaced (printed_value (Names (map (λ name. name.items) names)))
@@ -80,18 +80,19 @@ stat_words-further File line = flat_map-append (λ word. 32 ∷ word) (owner_wor
 stat_words-further Link line = flat_map-append (λ word. 32 ∷ word) (owner_words (codes "link") line.attr) (further_words Link line)
 stat_words-further White line = sym (append-nil (spaced (owner_words (codes "white") line.attr)))
 
--- an answer of these calls has no rows
-no_rows : (answer : Answer) → printed_rows (answer_of answer) ≡ []
-no_rows Done = refl
-no_rows (Bytes bytes) = refl
-no_rows (answers.Names names) = refl
-no_rows (Told line) = refl
-no_rows (Opened descriptor) = refl
-no_rows (Child name) = refl
+-- the lines of an answer behind its first
+abbrev pub printed_others : ℕ → Result Answer Deny → List ℕ
+printed_others number (Ok (MountList lines)) = printed_mounts number lines.items
+printed_others number (Ok answer) = []
+printed_others number (Err deny) = []
 
-pub reply_line-words : (number : ℕ) (outcome : Result Answer Deny) →
-    reply_line number (result_of outcome) ≡ decimal number ++ spaced (reply_words (result_of outcome)) ++ codes "\n"
-reply_line-words number (Ok answer) =
-    ap (λ rows. printed_line number (codes "ok" ∷ printed_value (answer_of answer)) ++ flat_map (printed_line number) rows) (no_rows answer)
-    ∙ append-nil (printed_line number (codes "ok" ∷ printed_value (answer_of answer)))
-reply_line-words number (Err deny) = refl
+pub reply_line-others : (number : ℕ) (outcome : Result Answer Deny) →
+    reply_line number (result_of outcome) ≡ printed_line number (reply_words (result_of outcome)) ++ printed_others number outcome
+reply_line-others number (Ok Done) = refl
+reply_line-others number (Ok (Bytes bytes)) = refl
+reply_line-others number (Ok (answers.Names names)) = refl
+reply_line-others number (Ok (Told line)) = refl
+reply_line-others number (Ok (Opened descriptor)) = refl
+reply_line-others number (Ok (Child name)) = refl
+reply_line-others number (Ok (MountList lines)) = refl
+reply_line-others number (Err deny) = sym (append-nil (printed_line number (reply_words (Err deny))))

@@ -1,5 +1,5 @@
 -- What a line asks for, by its texts.
-use Rattle.std.proofs.Common.{inl, inr, IfSome, is_some, Bool, List, None, Option, Some, Err, [], ap, arith, codes, cond, false, length, lit≤, option_map, refl, subst, suc, sym, true, unwrap_or, ℕ, ◌<◌, ◌≡◌, ◌≤◌, ◌∙◌, ◌∷◌, leb, IsSomeAnd}
+use Rattle.std.proofs.Common.{inl, inr, IfSome, is_some, Bool, List, None, Option, Some, Err, [], ap, arith, codes, cond, false, length, lit≤, option_map, refl, subst, suc, sym, true, unwrap_or, ℕ, ◌<◌, ◌≡◌, ◌≤◌, ◌∙◌, ◌∷◌, ◌++◌, leb, IsSomeAnd}
 use Rattle.std.specs.List.{list_any}
 use Rattle.std.specs.Str.{bytes_eq}
 use Rattle.std.proofs.lemmas.Bool.Decides.{nat_tests}
@@ -7,17 +7,21 @@ use Rattle.std.proofs.lemmas.Slice.Eq.{bytes_eq-Decides}
 use Rattle.vt_spec.specs.Language.Calls.{Call, plain_flags}
 use Rattle.vt_spec.specs.Language.Calls as asked
 use Rattle.vt_spec.specs.Language.Calls.Call.{MountOverlay, MountPlain}
-use Rattle.vt_spec.specs.Lists.{then_some}
-use Rattle.vt_spec.specs.Language.Script.{Request, access_word, asked_by, attribute_words, bytes_word, call_asked, call_words, capabilities_word, chown_call, creation_words, descriptor_word, descriptor_words, directive_asked, each_of, file_call_names, files, flags_or_plain, flags_word, fork_words, groups_word, identity_word, kept_or_identity, may_have, mode_word, mount_words, mounting_words, naming_words, no_more, offset_word, options_of, path_alone, path_word, raw_tokens, request_of, request_of_texts, task_word, task_words, token_text, two_paths, type_word, word_then, yes_or_no_word}
+use Rattle.vt_spec.specs.Lists.{then_some, when}
+use Rattle.vt_spec.specs.Language.Script.{Request, access_word, asked_by, attribute_words, bytes_word, call_asked, call_words, capabilities_word, chown_call, creation_words, descriptor_word, descriptor_words, directive_asked, each_of, file_call_names, flags_or_plain, flags_word, fork_words, groups_word, identity_word, kept_or_identity, may_have, mode_word, mount_words, mounting_call_names, mounting_words, namespaces, naming_words, no_more, offset_word, options_of, path_alone, path_word, raw_tokens, request_of, request_of_texts, task_word, task_words, token_text, two_paths, type_word, word_then, yes_or_no_word}
 use Rattle.vt_spec.specs.Language.Script.Request.{Calling}
 use Rattle.vt_spec.specs.Language.Script.Version.{One}
 use Rattle.vt_spec.specs.Language.Script.Who.{Nobody, Someone}
 use Rattle.vt_line.specs.declared.calls.ReadError.{ReadError}
 use Rattle.vt_line.specs.declared.calls.ReadError.TheVariants.{Grammar, Memory}
 use Rattle.vt_line.specs.declared.names.CallName.{CallName}
-use Rattle.vt_line.specs.declared.names.CallName.TheVariants.{Chmod, Chown, Close, Drop, Exec, Exit, Fork, Link, Ls, Lstat, Mkdir, Open, Pread, Pwrite, Read, Readlink, Rename, Rmdir, Stat, Symlink, Umask, Unlink, Write}
+use Rattle.vt_line.specs.declared.names.CallName.TheVariants.{Chmod, Chown, Close, Drop, Exit, Fork, Mkdir, Mount, Mounts, Open, Pair, Path, Pread, Pwrite, Remount, SetType, Setns, Umask, Unshare, Write}
+use Rattle.vt_line.specs.declared.names.PairCall.{PairCall}
+use Rattle.vt_line.specs.declared.names.PairCall.TheVariants as pair
+use Rattle.vt_line.specs.declared.names.PathCall.{PathCall}
+use Rattle.vt_line.specs.declared.names.PathCall.TheVariants as path
 use Rattle.vt_line.specs.Calls.{IsCallRead, IsRequestRead, KeepsWords, TakesMemory, call_named}
-use Rattle.vt_line.specs.Names.{name_text}
+use Rattle.vt_line.specs.Names.{name_text, pair_text, path_text}
 use Rattle.vt_line.specs.Tokens.{few_texts}
 use Rattle.vt_line.proofs.Splits.{each_of-length}
 
@@ -164,12 +168,12 @@ module _ (words : List (List ℕ)) (many : 4 < length words) where
       (neither (bytes_eq name (codes "exec")) _ _ (one_path asked.Call.Exec) (naming-none name)))))))
 
 -- A line that is a task's
-directive-none : (words : List (List ℕ)) → directive_asked files words ≡ None
+directive-none : (words : List (List ℕ)) → directive_asked namespaces words ≡ None
 directive-none [] = refl
 directive-none (name ∷ words) = refl
 
 someone-asked : (task : Option (List ℕ)) (words : List (List ℕ)) →
-    asked_by files (option_map Someone task) words ≡ then_some task (λ task. call_asked files task words)
+    asked_by namespaces (option_map Someone task) words ≡ then_some task (λ task. call_asked namespaces task words)
 someone-asked None words = refl
 someone-asked (Some task) words = refl
 
@@ -177,29 +181,42 @@ no_task : (text : List ℕ) → bytes_eq text (codes "!") ≡ true → task_word
 no_task text same = subst (λ text. task_word text ≡ None) (sym ((bytes_eq-Decides text (codes "!")).0 same)) refl
 
 pub texts-asked : (text : List ℕ) (words : List (List ℕ)) →
-    request_of_texts files (text ∷ words) ≡ then_some (task_word text) (λ task. call_asked files task words)
+    request_of_texts namespaces (text ∷ words) ≡ then_some (task_word text) (λ task. call_asked namespaces task words)
 texts-asked text words = by_test (bytes_eq text (codes "!")) refl where
   by_test : (test : Bool) → bytes_eq text (codes "!") ≡ test →
-      asked_by files (cond test (Some Nobody) (option_map Someone (task_word text))) words
-      ≡ then_some (task_word text) (λ task. call_asked files task words)
-  by_test true e = directive-none words ∙ sym (ap (λ task. then_some task (λ task. call_asked files task words)) (no_task text e))
+      asked_by namespaces (cond test (Some Nobody) (option_map Someone (task_word text))) words
+      ≡ then_some (task_word text) (λ task. call_asked namespaces task words)
+  by_test true e = directive-none words ∙ sym (ap (λ task. then_some task (λ task. call_asked namespaces task words)) (no_task text e))
   by_test false e = someone-asked (task_word text) words
 
 -- the names of the product's calls are known
-name-known : (name : CallName) → list_any (bytes_eq (name_text name)) file_call_names ≡ true
-name-known Ls = refl
-name-known Stat = refl
-name-known Lstat = refl
-name-known Readlink = refl
-name-known Read = refl
+path-known : (name : PathCall) → list_any (bytes_eq (path_text name)) (file_call_names ++ mounting_call_names) ≡ true
+path-known path.Ls = refl
+path-known path.Stat = refl
+path-known path.Lstat = refl
+path-known path.Readlink = refl
+path-known path.Read = refl
+path-known path.Exec = refl
+path-known path.Unlink = refl
+path-known path.Rmdir = refl
+path-known path.Chdir = refl
+path-known path.Chroot = refl
+path-known path.Umount = refl
+path-known path.Lazy = refl
+
+pair-known : (name : PairCall) → list_any (bytes_eq (pair_text name)) (file_call_names ++ mounting_call_names) ≡ true
+pair-known pair.Symlink = refl
+pair-known pair.Link = refl
+pair-known pair.Rename = refl
+pair-known pair.Bind = refl
+pair-known pair.Rbind = refl
+pair-known pair.Move = refl
+
+name-known : (name : CallName) → list_any (bytes_eq (name_text name)) (file_call_names ++ mounting_call_names) ≡ true
+name-known (Path name) = path-known name
+name-known (Pair name) = pair-known name
 name-known Write = refl
-name-known Exec = refl
 name-known Mkdir = refl
-name-known Symlink = refl
-name-known Link = refl
-name-known Unlink = refl
-name-known Rmdir = refl
-name-known Rename = refl
 name-known Chmod = refl
 name-known Chown = refl
 name-known Open = refl
@@ -210,48 +227,48 @@ name-known Umask = refl
 name-known Drop = refl
 name-known Fork = refl
 name-known Exit = refl
-
-then_some-some : {A : Type 0} (a : Option A) → then_some a (λ x. Some x) ≡ a
-then_some-some None = refl
-then_some-some (Some a) = refl
+name-known Unshare = refl
+name-known Setns = refl
+name-known Mount = refl
+name-known Remount = refl
+name-known SetType = refl
+name-known Mounts = refl
 
 call-asked : (task : List ℕ) (name : CallName) (words : List (List ℕ)) →
-    call_asked files task (name_text name ∷ words) ≡ option_map (Calling task) (call_named name words)
-call-asked task name words =
-    ap (λ known. cond known (option_map (Calling task) (then_some (call_named name words) (λ call. Some call))) None) (name-known name)
-    ∙ ap (option_map (Calling task)) (then_some-some (call_named name words))
+    call_asked namespaces task (name_text name ∷ words) ≡ option_map (Calling task) (call_named name words)
+call-asked task name words = ap (λ known. cond known (option_map (Calling task) (call_named name words)) None) (name-known name)
 
 -- what a line's texts ask for, once its task and its call are known
 pub request-named : (first second : List ℕ) (words : List (List ℕ)) (task : List ℕ) (name : CallName) → task_word first ≡ Some task → second ≡ name_text name
-    → request_of_texts files (first ∷ second ∷ words) ≡ option_map (Calling task) (call_named name words)
+    → request_of_texts namespaces (first ∷ second ∷ words) ≡ option_map (Calling task) (call_named name words)
 request-named first second words task name e f =
-    texts-asked first (second ∷ words) ∙ ap (λ task. then_some task (λ task. call_asked files task (second ∷ words))) e
-    ∙ ap (λ second. call_asked files task (second ∷ words)) f ∙ call-asked task name words
+    texts-asked first (second ∷ words) ∙ ap (λ task. then_some task (λ task. call_asked namespaces task (second ∷ words))) e
+    ∙ ap (λ second. call_asked namespaces task (second ∷ words)) f ∙ call-asked task name words
 
 asked-none : (test : Bool) (task : List ℕ) (call : Option Call) → call ≡ None
-    → cond test (option_map (Calling task) (then_some call (λ call. Some call))) None ≡ None
-asked-none true task call e = ap (λ call. option_map (Calling task) (then_some call (λ call. Some call))) e
+    → cond test (option_map (Calling task) (then_some call (λ call. when (namespaces.has call) call))) None ≡ None
+asked-none true task call e = ap (λ call. option_map (Calling task) (then_some call (λ call. when (namespaces.has call) call))) e
 asked-none false task call e = refl
 
-request-many : (texts : List (List ℕ)) → 6 < length texts → request_of_texts files texts ≡ None
+request-many : (texts : List (List ℕ)) → 6 < length texts → request_of_texts namespaces texts ≡ None
 request-many [] h = absurd (omega arith)
 request-many (first ∷ []) h = absurd (omega arith)
 request-many (first ∷ name ∷ words) h =
     texts-asked first (name ∷ words)
-    ∙ none_then (task_word first) (λ task. call_asked files task (name ∷ words))
-    (λ task. asked-none (list_any (bytes_eq name) file_call_names) task (call_words One name words) (call-none words (omega arith) name))
+    ∙ none_then (task_word first) (λ task. call_asked namespaces task (name ∷ words))
+    (λ task. asked-none (list_any (bytes_eq name) (file_call_names ++ mounting_call_names)) task (call_words One name words) (call-none words (omega arith) name))
 
 -- the texts are as many as the tokens
-many_texts : (texts : Option (List (List ℕ))) → ((all : List (List ℕ)) → texts ≡ Some all → 6 < length all) → then_some texts (request_of_texts files) ≡ None
+many_texts : (texts : Option (List (List ℕ))) → ((all : List (List ℕ)) → texts ≡ Some all → 6 < length all) → then_some texts (request_of_texts namespaces) ≡ None
 many_texts None many = refl
 many_texts (Some all) many = request-many all (many all refl)
 
-pub request-few : (line : List ℕ) → request_of files line ≡ then_some (few_texts line) (request_of_texts files)
+pub request-few : (line : List ℕ) → request_of namespaces line ≡ then_some (few_texts line) (request_of_texts namespaces)
 unfolding request_of
 request-few line = by_test (leb (length (raw_tokens line)) 6) refl where
   by_test : (test : Bool) → leb (length (raw_tokens line)) 6 ≡ test →
-      then_some (each_of token_text (raw_tokens line)) (request_of_texts files)
-      ≡ then_some (cond test (each_of token_text (raw_tokens line)) None) (request_of_texts files)
+      then_some (each_of token_text (raw_tokens line)) (request_of_texts namespaces)
+      ≡ then_some (cond test (each_of token_text (raw_tokens line)) None) (request_of_texts namespaces)
   by_test true e = refl
   by_test false e =
       let many : 6 < length (raw_tokens line) = grind (arith, nat_tests) in

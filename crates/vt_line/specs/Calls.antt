@@ -1,21 +1,23 @@
 -- Calls as their words are read, and what becomes of a line that asks for one.
 use Rattle.std.specs.Prelude.{List, None, Option, Some, length, ℕ, ◌<◌, ◌≡◌, ◌⊎◌, IsSome, IsSomeAnd, Result, Ok, Err}
 use Rattle.vt_spec.specs.Language.Calls as spec
-use Rattle.vt_spec.specs.Language.Calls.Call.{Chmod, Chown, Close, Drop, Exec, Exit, Fork, LinkTo, Ls, Lstat, Mkdir, OpenFile, Pread, Pwrite, Read, Readlink, Rename, Rmdir, Stat, SymlinkAt, Umask, Unlink, Write}
-use Rattle.vt_spec.specs.Language.Script.{Request, call_words, no_more, path_word, word_then}
+use Rattle.vt_spec.specs.Language.Calls.Call.{Close, Drop, Exit, Fork, ListMounts, Pread, Setns, Umask, Unshare}
+use Rattle.vt_spec.specs.Language.Script.{Request, call_words, namespaces, no_more, path_word, word_then}
 use Rattle.vt_spec.specs.Language.Script.Request.{Asking, Calling}
 use Rattle.vt_spec.specs.Language.Script.Version.{One}
+use Rattle.vt_spec.specs.Lists.{then_some, when}
 use Rattle.vt_request.specs.declared.request.Call.{Call}
 use Rattle.vt_request.specs.declared.task.TaskName.{TaskName}
 use Rattle.vt_request.specs.declared.task.TheConstants.{INLINE_NUMBERS}
 use Rattle.vt_request.specs.Requests.{call_of, capabilities_of}
 use Rattle.vt_line.specs.Names.{name_text}
 use Rattle.vt_line.specs.declared.names.CallName.{CallName}
-use Rattle.vt_line.specs.declared.calls.Child.{Child}
+use Rattle.vt_line.specs.declared.calls.tasks.Child.{Child}
 use Rattle.vt_line.specs.declared.calls.ReadError.{ReadError}
 use Rattle.vt_line.specs.declared.calls.ReadError.TheVariants.{Grammar, Memory}
 
--- A call that keeps a text of its line, or a list of groups, takes memory for it. The others take none.
+-- A call that keeps a text of its line, a list of groups, or a task's name of many numbers, takes memory for it. The others
+-- take none.
 abbrev pub KeepsWords : spec.Call → Type 0
 KeepsWords (Pread descriptor offset size) = ⊥
 KeepsWords (Close descriptor) = ⊥
@@ -23,6 +25,9 @@ KeepsWords (Umask mode) = ⊥
 KeepsWords (Drop which) = ⊥
 KeepsWords (Fork None) = ⊥
 KeepsWords Exit = ⊥
+KeepsWords Unshare = ⊥
+KeepsWords (Setns task) = INLINE_NUMBERS < length task
+KeepsWords ListMounts = ⊥
 KeepsWords call = Unit {0}
 
 -- A request takes memory for what its call keeps, and for a task's name of many numbers.
@@ -30,9 +35,12 @@ abbrev pub TakesMemory : Request → Type 0
 TakesMemory (Calling task call) = KeepsWords call ⊎ (INLINE_NUMBERS < length task)
 TakesMemory (Asking directive) = ⊥
 
--- the call that the grammar has for a name and words
+-- the call that the language has for a name and words, and the same if the grammar has it
+abbrev pub call_worded : CallName → List (List ℕ) → Option spec.Call
+call_worded name words = call_words One (name_text name) words
+
 abbrev pub call_named : CallName → List (List ℕ) → Option spec.Call
-call_named name words = call_words One (name_text name) words
+call_named name words = then_some (call_worded name words) (λ call. when (namespaces.has call) call)
 
 -- a call was read, or why none was
 abbrev pub IsCallRead : Option spec.Call → Result Call ReadError → Type 0

@@ -1,13 +1,18 @@
 -- What is printed, piece by piece.
-use Rattle.std.specs.Prelude.{if◌then◌else◌, ℕ, List, [], ◌∷◌, Result, Ok, Err, codes, decimal}
+use Rattle.std.specs.Prelude.{if◌then◌else◌, ℕ, List, [], ◌∷◌, ◌++◌, Result, Ok, Err, codes, decimal, map}
 use Rattle.std.specs.List.{flat_map}
 use Rattle.std.specs.Global.{Vec}
 use Rattle.vt_spec.specs.Errors.{errno_name, number_of, rule_name}
 use Rattle.vt_spec.specs.declared.attributes.Kind.{Kind}
 use Rattle.vt_spec.specs.declared.attributes.Kind.TheVariants.{Dir, File, Link, White}
 use Rattle.vt_spec.specs.declared.errors.Deny.{Deny}
+use Rattle.vt_spec.specs.Language.Answers as spec
 use Rattle.vt_spec.specs.Language.Answers.{Answer, StatLine}
-use Rattle.vt_spec.specs.Language.Printed.{printed_text, printed_value}
+use Rattle.vt_spec.specs.Language.Printed.{kind_word, mount_line_words, printed_byte, printed_flags, printed_line, printed_spot, printed_text, printed_type, printed_value}
+use Rattle.vt_spec.specs.Lists.{counted_from}
+use Rattle.vt_request.specs.Answers.{mount_line_of, spot_of}
+use Rattle.vt_request.specs.declared.answer.MountLine.{MountLine}
+use Rattle.vt_request.specs.declared.answer.Spot.{Spot}
 
 -- names, behind a space each
 abbrev pub printed_names : List (Vec ℕ) → List ℕ
@@ -35,3 +40,21 @@ printed_numbers numbers = flat_map (λ number. 46 ∷ decimal number) numbers
 abbrev pub reply_words : Result Answer Deny → List (List ℕ)
 reply_words (Ok answer) = codes "ok" ∷ printed_value answer
 reply_words (Err deny) = codes "deny" ∷ decimal (number_of deny.errno) ∷ errno_name deny.errno ∷ rule_name deny.rule ∷ []
+
+-- the names of a path, behind a slash each
+abbrev pub printed_steps : List (Vec ℕ) → List ℕ
+printed_steps names = flat_map (λ name. 47 ∷ flat_map printed_byte name.items) names
+
+-- where a mount stands, by the place of the mount that it stands on
+abbrev pub mount_point_of : ℕ × Spot → ℕ × spec.Spot
+mount_point_of point = (point.0, spot_of point.1)
+
+-- the words of a mount's line behind its mount point
+abbrev pub shown_words : spec.MountLine → List (List ℕ)
+shown_words line =
+    (kind_word line.overlay ++ decimal line.filesystem) ∷ printed_spot line.root ∷ printed_flags line.flags
+    ∷ printed_type line.kind ∷ []
+
+-- the lines of a list of mounts
+abbrev pub printed_mounts : ℕ → List MountLine → List ℕ
+printed_mounts number lines = flat_map (printed_line number) (map mount_line_words (counted_from 1 (map mount_line_of lines)))

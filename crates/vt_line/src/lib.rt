@@ -5,6 +5,7 @@ mod calls;
 pub mod fault;
 mod hex;
 pub mod line;
+mod listing;
 mod names;
 mod number;
 pub mod print;

@@ -1,7 +1,7 @@
 //! The lines of a script.
 ghost use Rattle.std.specs.Prelude.{◌≡◌, ◌<◌, ◌≤◌, ◌↔◌, ◌⊎◌, None, length, IfOk, IfErr, IsSomeAnd};
 ghost use Rattle.vt_spec.specs.Errors.{denial};
-ghost use Rattle.vt_spec.specs.Language.Script.{files, request_of, request_of_texts};
+ghost use Rattle.vt_spec.specs.Language.Script.{namespaces, request_of, request_of_texts};
 ghost use Rattle.vt_spec.specs.Language.Limits.{longest_line};
 ghost use Rattle.vt_spec.specs.declared.errors.Rule.TheVariants.{S1, S5};
 ghost use Rattle.vt_line.specs.Calls.{IsRequestRead, TakesMemory};
@@ -18,7 +18,7 @@ use vt_request::{Call, TaskName};
 use vt_spec::errors::{Deny, Rule};
 
 /// A line of a script.
-#[derive(Debug, Drop, PartialEq, Eq)]
+#[derive(Debug, Drop)]
 pub enum Line {
     /// Spaces alone, or a comment: it has no answer.
     Silent,
@@ -28,7 +28,7 @@ pub enum Line {
 
 /// Which task makes which call, by the texts of a line. What is kept of them is copied once all are of the grammar.
 fn texts_request(alloc: Global, texts: Texts<'_>) -> Result<(TaskName, Call), ReadError>
-    ensures { IsRequestRead (request_of_texts files (texts_of texts.entry.items)) result }
+    ensures { IsRequestRead (request_of_texts namespaces (texts_of texts.entry.items)) result }
 {
     let mut words = Words::new(texts);
     let (Some(task), Some(name)) = (words.next(), words.next()) else {
@@ -48,7 +48,7 @@ fn texts_request(alloc: Global, texts: Texts<'_>) -> Result<(TaskName, Call), Re
 /// Which task makes which call, by a line that has escapes, or bytes that no token has.
 fn escaped_request(alloc: Global, line: &[u8]) -> Result<(TaskName, Call), ReadError>
     requires { length line.now ≤ longest_line }
-    ensures { IsRequestRead (request_of files line.now) result }
+    ensures { IsRequestRead (request_of namespaces line.now) result }
 {
     let Some(unescaped) = Unescaped::from_line(line) else {
         return Err(ReadError::Grammar);
@@ -59,7 +59,7 @@ fn escaped_request(alloc: Global, line: &[u8]) -> Result<(TaskName, Call), ReadE
 /// Which task makes which call, if the line is of the grammar.
 fn request(alloc: Global, line: &[u8]) -> Result<(TaskName, Call), ReadError>
     requires { length line.now ≤ longest_line }
-    ensures { IsRequestRead (request_of files line.now) result }
+    ensures { IsRequestRead (request_of namespaces line.now) result }
 {
     if !is_unescaped(line) {
         return escaped_request(alloc, line);
@@ -82,9 +82,9 @@ impl Line {
         // The two refusals, and what each says of the line.
         ensures refused { IfErr result (λ deny. (deny ≡ denial S1) ⊎ (deny ≡ denial S5)) }
         ensures no_request { (result ≡ Err (denial S1))
-            ↔ ((longest_line < length line.now) ⊎ (IsSpoken line.now × (request_of files line.now ≡ None))) }
+            ↔ ((longest_line < length line.now) ⊎ (IsSpoken line.now × (request_of namespaces line.now ≡ None))) }
         ensures no_memory { result ≡ Err (denial S5)
-            → IsSpoken line.now × IsSomeAnd (request_of files line.now) TakesMemory }
+            → IsSpoken line.now × IsSomeAnd (request_of namespaces line.now) TakesMemory }
     {
         if line.len() > LONGEST_LINE {
             return Err(Rule::S1.denial());

@@ -1,23 +1,103 @@
-//! The names of the calls on files and tasks.
-ghost use Rattle.std.specs.Prelude.{◌≡◌, None, false, IfSome};
-ghost use Rattle.vt_spec.specs.Language.Script.{file_call_names};
+//! The names of the calls.
+ghost use Rattle.std.specs.Prelude.{◌≡◌, ◌++◌, None, false, IfSome};
+ghost use Rattle.vt_spec.specs.Language.Script.{file_call_names, mounting_call_names};
 
-/// A call, without its words.
+use vt_request::Call;
+
+/// A call that is given a path alone.
 #[derive(Clone, Copy, Debug, PartialEq, Eq)]
-pub enum CallName {
+pub enum PathCall {
     Ls,
     Stat,
     Lstat,
     Readlink,
     Read,
-    Write,
     Exec,
-    Mkdir,
-    Symlink,
-    Link,
     Unlink,
     Rmdir,
+    Chdir,
+    Chroot,
+    Umount,
+    Lazy,
+}
+
+impl PathCall {
+    ghost use Rattle.vt_request.specs.Requests.{call_of};
+    ghost use Rattle.vt_line.specs.Names.{path_call};
+
+    /// The call with its path.
+    pub fn call(self, path: Vec<u8>) -> Call
+        ensures { call_of result ≡ path_call self path.items }
+    {
+        match self {
+            PathCall::Ls => Call::Ls { path },
+            PathCall::Stat => Call::Stat { path },
+            PathCall::Lstat => Call::Lstat { path },
+            PathCall::Readlink => Call::Readlink { path },
+            PathCall::Read => Call::Read { path },
+            PathCall::Exec => Call::Exec { path },
+            PathCall::Unlink => Call::Unlink { path },
+            PathCall::Rmdir => Call::Rmdir { path },
+            PathCall::Chdir => Call::Chdir { path },
+            PathCall::Chroot => Call::Chroot { path },
+            PathCall::Umount => Call::Umount { path },
+            PathCall::Lazy => Call::Lazy { path },
+        }
+    }
+}
+
+/// A call that is given two paths, or a text and a path.
+#[derive(Clone, Copy, Debug, PartialEq, Eq)]
+pub enum PairCall {
+    Symlink,
+    Link,
     Rename,
+    Bind,
+    Rbind,
+    Move,
+}
+
+impl PairCall {
+    ghost use Rattle.vt_request.specs.Requests.{call_of};
+    ghost use Rattle.vt_line.specs.Names.{pair_call};
+
+    /// The call with its two words.
+    pub fn call(self, first: Vec<u8>, second: Vec<u8>) -> Call
+        ensures { call_of result ≡ pair_call self first.items second.items }
+    {
+        match self {
+            PairCall::Symlink => Call::Symlink {
+                text: first,
+                path: second,
+            },
+            PairCall::Link => Call::Link {
+                old: first,
+                new: second,
+            },
+            PairCall::Rename => Call::Rename {
+                old: first,
+                new: second,
+            },
+            PairCall::Bind | PairCall::Rbind => Call::Bind {
+                source: first,
+                path: second,
+                recursive: self == PairCall::Rbind,
+            },
+            PairCall::Move => Call::MoveMount {
+                source: first,
+                path: second,
+            },
+        }
+    }
+}
+
+/// A call, without its words.
+#[derive(Clone, Copy, Debug, PartialEq, Eq)]
+pub enum CallName {
+    Path(PathCall),
+    Pair(PairCall),
+    Write,
+    Mkdir,
     Chmod,
     Chown,
     Open,
@@ -28,6 +108,12 @@ pub enum CallName {
     Drop,
     Fork,
     Exit,
+    Unshare,
+    Setns,
+    Mount,
+    Remount,
+    SetType,
+    Mounts,
 }
 
 impl CallName {
@@ -38,22 +124,29 @@ impl CallName {
     /// The call that a text names.
     pub fn from_text(text: &[u8]) -> Option<Self>
         ensures named { IfSome result (λ name. text.now ≡ name_text name) }
-        ensures unknown { result ≡ None → list_any (bytes_eq text.now) file_call_names ≡ false }
+        ensures unknown { result ≡ None → list_any (bytes_eq text.now) (file_call_names ++ mounting_call_names) ≡ false }
     {
-        let name = match text {
-            b"ls" => CallName::Ls,
-            b"stat" => CallName::Stat,
-            b"lstat" => CallName::Lstat,
-            b"readlink" => CallName::Readlink,
-            b"read" => CallName::Read,
+        Some(match text {
+            b"ls" => CallName::Path(PathCall::Ls),
+            b"stat" => CallName::Path(PathCall::Stat),
+            b"lstat" => CallName::Path(PathCall::Lstat),
+            b"readlink" => CallName::Path(PathCall::Readlink),
+            b"read" => CallName::Path(PathCall::Read),
+            b"exec" => CallName::Path(PathCall::Exec),
+            b"unlink" => CallName::Path(PathCall::Unlink),
+            b"rmdir" => CallName::Path(PathCall::Rmdir),
+            b"chdir" => CallName::Path(PathCall::Chdir),
+            b"chroot" => CallName::Path(PathCall::Chroot),
+            b"umount" => CallName::Path(PathCall::Umount),
+            b"lazy" => CallName::Path(PathCall::Lazy),
+            b"symlink" => CallName::Pair(PairCall::Symlink),
+            b"link" => CallName::Pair(PairCall::Link),
+            b"rename" => CallName::Pair(PairCall::Rename),
+            b"bind" => CallName::Pair(PairCall::Bind),
+            b"rbind" => CallName::Pair(PairCall::Rbind),
+            b"move" => CallName::Pair(PairCall::Move),
             b"write" => CallName::Write,
-            b"exec" => CallName::Exec,
             b"mkdir" => CallName::Mkdir,
-            b"symlink" => CallName::Symlink,
-            b"link" => CallName::Link,
-            b"unlink" => CallName::Unlink,
-            b"rmdir" => CallName::Rmdir,
-            b"rename" => CallName::Rename,
             b"chmod" => CallName::Chmod,
             b"chown" => CallName::Chown,
             b"open" => CallName::Open,
@@ -64,8 +157,13 @@ impl CallName {
             b"drop" => CallName::Drop,
             b"fork" => CallName::Fork,
             b"exit" => CallName::Exit,
+            b"unshare" => CallName::Unshare,
+            b"setns" => CallName::Setns,
+            b"mount" => CallName::Mount,
+            b"remount" => CallName::Remount,
+            b"type" => CallName::SetType,
+            b"mounts" => CallName::Mounts,
             _ => return None,
-        };
-        Some(name)
+        })
     }
 }

@@ -1,6 +1,7 @@
 //! How answers are printed, without taking memory.
+ghost use Rattle.std.specs.List.{flat_map};
 ghost use Rattle.std.specs.Prelude.{◌≡◌, ◌+◌, ◌/◌, ◌%◌, ◌^◌, ◌<◌, [], ◌∷◌, ◌++◌, decimal, false, length, slice_index, All, IsTrue, IfErr};
-ghost use Rattle.vt_spec.specs.Language.Printed.{hex_digit, owner_words, printed_mode, printed_task, printed_text, printed_value, reply_line, spaced, stat_words};
+ghost use Rattle.vt_spec.specs.Language.Printed.{hex_digit, owner_words, printed_byte, printed_line, printed_mode, printed_task, printed_text, printed_value, reply_line, spaced, stat_words};
 ghost use Rattle.vt_spec.specs.Language.Script.{is_plain};
 ghost use Rattle.vt_io.specs.Sink.{Prints};
 ghost use Rattle.vt_request.specs.Answers.{answer_of, result_of, stat_line_of};
@@ -8,6 +9,7 @@ ghost use Rattle.vt_line.specs.Printing.{further_words, kind_text, printed_names
 
 use crate::fault::RunFault;
 use crate::hex::HexDigit;
+use crate::listing::write_mounts;
 use crate::token::is_plain;
 use itoa::Buffer;
 use vt_io::output::{Sink, SinkFailed};
@@ -36,14 +38,11 @@ fn write_escape<W: Sink>(sink: &mut W, byte: u8) -> Result<(), SinkFailed>
     write_all(sink, &[b'\\', b'x', high.to_byte(), low.to_byte()])
 }
 
-/// A text with its escapes; the empty one is `\e`.
-fn write_text<W: Sink>(sink: &mut W, text: &[u8]) -> Result<(), SinkFailed>
+/// Bytes with their escapes.
+pub fn write_bytes<W: Sink>(sink: &mut W, text: &[u8]) -> Result<(), SinkFailed>
     requires countable { W.failures sink.old + 1 < 2 ^ 64 }
-    ensures printed { Prints W.Sink (printed_text text.now) result sink.old sink.new }
+    ensures printed { Prints W.Sink (flat_map printed_byte text.now) result sink.old sink.new }
 {
-    if text.is_empty() {
-        return write_all(sink, b"\\e");
-    }
     let mut rest = text;
     loop {
         let (plain, others) = split_plain(rest);
@@ -54,6 +53,17 @@ fn write_text<W: Sink>(sink: &mut W, text: &[u8]) -> Result<(), SinkFailed>
         write_escape(sink, *byte)?;
         rest = after;
     }
+}
+
+/// A text with its escapes; the empty one is `\e`.
+fn write_text<W: Sink>(sink: &mut W, text: &[u8]) -> Result<(), SinkFailed>
+    requires countable { W.failures sink.old + 1 < 2 ^ 64 }
+    ensures printed { Prints W.Sink (printed_text text.now) result sink.old sink.new }
+{
+    if text.is_empty() {
+        return write_all(sink, b"\\e");
+    }
+    write_bytes(sink, text)
 }
 
 /// Names, behind a space each.
@@ -69,7 +79,7 @@ fn write_names<W: Sink>(sink: &mut W, names: &[Vec<u8>]) -> Result<(), SinkFaile
 }
 
 /// A word, behind a space.
-fn write_word<W: Sink>(sink: &mut W, word: &[u8]) -> Result<(), SinkFailed>
+pub fn write_word<W: Sink>(sink: &mut W, word: &[u8]) -> Result<(), SinkFailed>
     requires countable { W.failures sink.old + 1 < 2 ^ 64 }
     ensures printed { Prints W.Sink (32 ∷ word.now) result sink.old sink.new }
 {
@@ -77,7 +87,7 @@ fn write_word<W: Sink>(sink: &mut W, word: &[u8]) -> Result<(), SinkFailed>
 }
 
 /// A number in decimal digits, behind a space.
-fn write_number<W: Sink>(sink: &mut W, number: u64) -> Result<(), SinkFailed>
+pub fn write_number<W: Sink>(sink: &mut W, number: u64) -> Result<(), SinkFailed>
     requires countable { W.failures sink.old + 1 < 2 ^ 64 }
     ensures printed { Prints W.Sink (32 ∷ decimal number) result sink.old sink.new }
 {
@@ -183,6 +193,7 @@ fn write_value<W: Sink>(sink: &mut W, answer: &Answer) -> Result<(), SinkFailed>
         Answer::Told(line) => write_stat(sink, line),
         Answer::Opened(descriptor) => write_number(sink, u64::from(*descriptor)),
         Answer::Child(name) => write_task(sink, name),
+        Answer::MountList(lines) => write_number(sink, lines.len() as u64),
     }
 }
 
@@ -213,15 +224,15 @@ fn write_result<W: Sink>(sink: &mut W, outcome: &Result<Answer, Deny>) -> Result
     }
 }
 
-/// The line that answers the line of this number.
+/// The first line that answers the line of this number.
 fn write_line<W: Sink>(
     sink: &mut W,
     number: u64,
     outcome: &Result<Answer, Deny>,
 ) -> Result<(), SinkFailed>
     requires countable { W.failures sink.old + 1 < 2 ^ 64 }
-    ensures printed { let line = reply_line number (result_of outcome.now) in
-        Prints W.Sink line result sink.old sink.new }
+    ensures printed { let words = reply_words (result_of outcome.now) in
+        Prints W.Sink (printed_line number words) result sink.old sink.new }
 {
     let mut buffer = Buffer::new();
     write_all(sink, buffer.format(number).as_bytes())?;
@@ -229,18 +240,35 @@ fn write_line<W: Sink>(
     write_all(sink, b"\n")
 }
 
-/// Prints the line that answers the line of this number.
+/// The lines that answer the line of this number: a list of mounts has one for each behind the first.
+fn write_lines<W: Sink>(
+    sink: &mut W,
+    number: u64,
+    outcome: &Result<Answer, Deny>,
+) -> Result<(), SinkFailed>
+    requires countable { W.failures sink.old + 1 < 2 ^ 64 }
+    ensures printed { let text = reply_line number (result_of outcome.now) in
+        Prints W.Sink text result sink.old sink.new }
+{
+    write_line(sink, number, outcome)?;
+    match outcome {
+        Ok(Answer::MountList(lines)) => write_mounts(sink, number, lines),
+        _ => Ok(()),
+    }
+}
+
+/// Prints the lines that answer the line of this number.
 ///
-/// Only the sink can fail it. A front of the line is written then.
+/// Only the sink can fail it. A front of them is written then.
 pub fn write_reply<W: Sink>(
     sink: &mut W,
     number: u64,
     outcome: &Result<Answer, Deny>,
 ) -> Result<(), RunFault>
     requires countable { W.failures sink.old + 1 < 2 ^ 64 }
-    ensures printed { let line = reply_line number (result_of outcome.now) in
-        Prints W.Sink line result sink.old sink.new }
+    ensures printed { let text = reply_line number (result_of outcome.now) in
+        Prints W.Sink text result sink.old sink.new }
     ensures fault { IfErr result (λ fault. fault ≡ RunFault.Write) }
 {
-    write_line(sink, number, outcome).map_err(|_| RunFault::Write)
+    write_lines(sink, number, outcome).map_err(|_| RunFault::Write)
 }

@@ -5,7 +5,8 @@ use crate::line::Line;
 use crate::print::write_reply;
 use std::test::Fail;
 use vt_io::memory::BytesSink;
-use vt_request::Answer;
+use vt_location::MountFlags;
+use vt_request::{Answer, MountLine, Spot, TypeLine};
 
 /// A line of each call, some of them with words that may be left out.
 const CALLS: &[u8] = b"t ls /a
@@ -34,7 +35,33 @@ t umask 022
 t drop CAP_CHOWN,CAP_SETUID
 t fork
 t \\x66ork 0 4294967294 5,7 *
+t mount plain /a
+t mount plain /a ro,noexec
+t bind /a /b
+t rbind /a /b
+t move /a /b
+t umount /a
+t lazy /a
+t remount /a rw
+t type /a private
+t type /a unbindable
+t mounts
+t chdir /a
+t chroot /a
+t unshare
+t setns t.1
 t exit";
+
+/// Lines of the language that the product does not have.
+const OTHERS: &[u8] = b"t mount overlay /a lowerdir=/b
+t type /a shared
+t type /a slave
+t rtype /a private
+t opaque /a yes
+t whiteout /a
+t pivot_root /a /b
+t remount /a rw,nosymfollow
+! peers";
 
 #[test]
 fn reads_each_call(rt: HostRuntime) {
@@ -42,6 +69,46 @@ fn reads_each_call(rt: HostRuntime) {
         let parsed = Line::parse(rt.alloc(), line);
         assert!(rt; matches!(&parsed, Ok(Line::Call(_, _))), "at {line:?}");
     }
+}
+
+#[test]
+fn refuses_other_calls(rt: HostRuntime) {
+    for line in OTHERS.split(|byte| *byte == b'\n') {
+        let parsed = Line::parse(rt.alloc(), line);
+        assert!(rt; matches!(&parsed, Err(_)), "at {line:?}");
+    }
+}
+
+#[test]
+fn prints_mounts(rt: HostRuntime) -> Result<(), Fail> {
+    let alloc = rt.alloc();
+    let mut lines = Vec::new(alloc);
+    lines.push(MountLine {
+        mount_point: None,
+        overlay: false,
+        filesystem: 1,
+        root: Spot::Reached(Vec::new(alloc)),
+        flags: MountFlags::plain(),
+        kind: TypeLine::Private,
+    })?;
+    let mut path = Vec::new(alloc);
+    path.push(b"a b".to_vec(alloc)?)?;
+    lines.push(MountLine {
+        mount_point: Some((1, Spot::Reached(path))),
+        overlay: false,
+        filesystem: 2,
+        root: Spot::Gone,
+        flags: MountFlags::MS_RDONLY,
+        kind: TypeLine::Unbindable,
+    })?;
+    let mut sink = BytesSink::new(alloc, 3);
+    assert_eq!(rt;
+        write_reply(&mut sink, 7, &Ok(Answer::MountList(lines))),
+        Ok(())
+    );
+    let want = b"7 ok 2\n7 1 - - plain:1 / rw private\n7 2 1 /a\\x20b plain:2 gone ro unbindable\n";
+    assert_eq!(rt; sink.bytes(), want.as_slice());
+    Ok(())
 }
 
 #[test]

@@ -1,9 +1,10 @@
 //! The words of a line: its task, its call and what the call is given.
 ghost use Rattle.std.specs.Prelude.{◌≡◌, ◌<◌, option_map, length, is_some, true, Some, IfOk, IfSome, OnErr};
-ghost use Rattle.vt_spec.specs.Language.Script.{task_word, path_word, capability_named, capabilities_word, access_word, kept_or_identity, groups_word};
+ghost use Rattle.vt_spec.specs.Language.Script.{task_word, path_word, capability_named, capabilities_word, access_word, first_flags, kept_or_identity, groups_word, type_word};
 ghost use Rattle.vt_request.specs.declared.task.TheConstants.{INLINE_NUMBERS};
 ghost use Rattle.vt_cred.specs.Caps.{capability_bits};
-ghost use Rattle.vt_request.specs.Requests.{access_of, capabilities_of};
+ghost use Rattle.vt_location.specs.Flags.{flags_of};
+ghost use Rattle.vt_request.specs.Requests.{access_of, capabilities_of, type_word_of};
 
 use crate::number::{child_number, identity_word};
 use crate::token::Texts;
@@ -12,7 +13,8 @@ use std::alloc::{AllocError, Global};
 use std::marker::Model;
 use std::str;
 use vt_cred::{Caps, Flags, MAX_GROUPS};
-use vt_request::{Access, CapsWord, TaskName};
+use vt_location::MountFlags;
+use vt_request::{Access, CapsWord, TaskName, TypeWord};
 
 /// The groups of a child, of which none takes memory.
 pub type Groups = ArrayVec<u32, MAX_GROUPS>;
@@ -97,6 +99,40 @@ pub fn access_word(text: &[u8]) -> Option<Access>
         Some(Access::Write)
     } else if text == b"rw".as_slice() {
         Some(Access::ReadWrite)
+    } else {
+        None
+    }
+}
+
+/// The flags of a mount: `rw` or `ro`, and `noexec` behind a comma.
+pub fn flags_word(text: &[u8]) -> Option<MountFlags>
+    ensures { option_map flags_of result ≡ first_flags text.now }
+{
+    if text == b"rw".as_slice() {
+        Some(MountFlags::plain())
+    } else if text == b"ro".as_slice() {
+        Some(MountFlags::MS_RDONLY)
+    } else if text == b"rw,noexec".as_slice() {
+        Some(MountFlags::MS_NOEXEC)
+    } else if text == b"ro,noexec".as_slice() {
+        Some(MountFlags::MS_RDONLY.union(MountFlags::MS_NOEXEC))
+    } else {
+        None
+    }
+}
+
+/// The propagation type of a mount.
+pub fn type_word(text: &[u8]) -> Option<TypeWord>
+    ensures { option_map type_word_of result ≡ type_word text.now }
+{
+    if text == b"shared".as_slice() {
+        Some(TypeWord::Shared)
+    } else if text == b"slave".as_slice() {
+        Some(TypeWord::Slave)
+    } else if text == b"private".as_slice() {
+        Some(TypeWord::Private)
+    } else if text == b"unbindable".as_slice() {
+        Some(TypeWord::Unbindable)
     } else {
         None
     }

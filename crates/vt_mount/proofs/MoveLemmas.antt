@@ -1,5 +1,5 @@
 -- The lists stay right where a mount moves.
-use Rattle.std.proofs.Common.{◌≡◌, ℕ, Bool, true, false, cond, ◌&&◌, T, List, [], ◌∷◌, map, not, nat_lt, None, Some, refl, sym, ap, subst, ◌∙◌, arith, le-ltb}
+use Rattle.std.proofs.Common.{◌≡◌, ℕ, Bool, true, false, cond, ◌&&◌, T, List, [], ◌∷◌, map, not, nat_lt, ◌%◌, ◌==◌, eq-eqb, None, Some, refl, sym, ap, subst, ◌∙◌, arith, le-ltb}
 use Rattle.std.specs.Cmp.{nat_cmp_is}
 use Rattle.std.specs.Ordering.{eq_by_cmp, is_lt, nat_cmp}
 use Rattle.std.specs.declared.cmp.Ordering.TheVariants.{Equal, Greater}
@@ -182,3 +182,11 @@ counts-rise (one ∷ kept) rising = λ i. below-counts one.0 kept (first _ _ ris
 
 pub ascending-kept : (es : List (MountId × Mounted)) → are_ascending (mounts_in (entries_of es)) ≡ true
 ascending-kept es = counts-rise (in_order es) (rises-in_order es)
+
+-- each is that of a count
+counts-counted : (kept : List (MountId × Mounted)) → list_all (λ mount. mount.number % 4 == 1) (mounts_in (entries kept)) ≡ true
+counts-counted [] = refl
+counts-counted (one ∷ kept) = λ i. eq-eqb (counted one.0.count % 4) 1 (omega arith) i && counts-counted kept i
+
+pub counted-kept : (es : List (MountId × Mounted)) → list_all (λ mount. mount.number % 4 == 1) (mounts_in (entries_of es)) ≡ true
+counted-kept es = counts-counted (in_order es)

@@ -1,5 +1,5 @@
 //! All mounts, by their numbers.
-ghost use Rattle.std.specs.Prelude.{◌≡◌, ◌++◌, ◌∷◌, [], None, Some, filter, find, length, map};
+ghost use Rattle.std.specs.Prelude.{◌≡◌, ◌%◌, ◌==◌, ◌++◌, ◌∷◌, [], None, Some, filter, find, length, map};
 ghost use Rattle.std.specs.Prelude.{nat_eq, nat_lt, not, option_map, true, ◌<◌, IfErr, IsOk, OnErr, OnOk, IfSome};
 ghost use Rattle.std.specs.List.{list_all};
 ghost use Rattle.vt_spec.specs.declared.errors.Rule.TheVariants.{S5};
@@ -67,6 +67,13 @@ impl Mounts {
     /// A theorem, which does nothing: the mounts are in the ascending order of their numbers, no two of which are equal.
     pub fn are_ascending(&self)
         ensures { are_ascending (mounts_in self.now) ≡ true }
+    {
+        let _ = &self.by_number;
+    }
+
+    /// A theorem, which does nothing: each mount has the number of a count.
+    pub fn are_counted(&self)
+        ensures { list_all (λ mount. mount.number % 4 == 1) (mounts_in self.now) ≡ true }
     {
         let _ = &self.by_number;
     }

@@ -1,3 +1,4 @@
 pub mod ListedLemmas
+pub mod Named
 pub mod SortedNames
 pub mod ByteLemmas

@@ -1,8 +1,9 @@
 //! The entries of a directory: a map from names, which contracts see in the order of the names' bytes.
-ghost use Rattle.std.specs.Prelude.{◌≡◌, [], map, true, IsSome, IsTrue, IsOk, IfOk, ◌↔◌, OnOk, OnErr};
+ghost use Rattle.std.specs.Prelude.{◌≡◌, [], find, map, nat_eq, true, IsSome, IsTrue, IsOk, IfOk, ◌↔◌, OnOk, OnErr, option_copied, option_map};
 ghost use Rattle.std.specs.FinMap.Entries.{is_sorted};
 ghost use Rattle.vt_spec.specs.Tree.{name_cmp, entry_named, with_entry};
 ghost use Rattle.vt_spec.specs.Language.Changes.{without_entry};
+ghost use Rattle.vt_node.specs.Listed.{HasOneName};
 
 use crate::NodeId;
 use crate::copies::copied_names;
@@ -71,6 +72,17 @@ impl DirectoryEntries {
         let mut names = copied_names(alloc, self.by_name.keys().as_slice())?;
         names.sort_unstable();
         Ok(names)
+    }
+
+    /// The name that leads to a number which has one name at most. It passes over the entries.
+    pub fn name_of(&self, id: NodeId) -> Option<&[u8]>
+        requires { HasOneName id self.now }
+        ensures { option_copied result ≡ option_map (λ entry. entry.0) (find (λ entry. nat_eq id entry.1) self.now) }
+    {
+        let numbers = self.by_name.values().as_slice();
+        let place = numbers.iter().position(|number| *number == id)?;
+        let (name, _) = self.by_name.get_index(place)?;
+        Some(name.as_slice())
     }
 
     /// Whether there are no entries.

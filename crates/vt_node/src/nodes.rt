@@ -1,6 +1,6 @@
 //! Nodes: their attributes, and what they hold by their kind.
 ghost use Rattle.std.specs.FinMap.Entries.{is_sorted};
-ghost use Rattle.std.specs.Prelude.{◌≡◌, [], true, ◌+◌, ◌<◌, ◌^◌, map, length, not, take, drop, IsSome, IsOk, IfOk, OnOk, OnErr};
+ghost use Rattle.std.specs.Prelude.{◌≡◌, [], true, ◌+◌, ◌<◌, ◌^◌, find, map, length, nat_eq, not, take, drop, IsSome, IsOk, IfOk, OnOk, OnErr, option_copied, option_map};
 ghost use Rattle.vt_spec.specs.declared.attributes.Kind.TheVariants.{Dir, File};
 ghost use Rattle.vt_spec.specs.Rights.{is_directory};
 ghost use Rattle.vt_spec.specs.Language.Changes.{content_with_parent, without_entry};
@@ -9,6 +9,7 @@ ghost use Rattle.vt_spec.specs.Lists.{is_empty_list};
 ghost use Rattle.vt_spec.specs.Machine.Outcome.Descriptors.{overwritten};
 ghost use Rattle.vt_spec.specs.Tree.{name_cmp, kind_of, entries_of, bytes_of, parent_of, entry_named, new_directory, with_entries, with_entry, with_bytes};
 ghost use Rattle.vt_spec.specs.Tree.Content.{Regular, Symlink, Whiteout};
+ghost use Rattle.vt_node.specs.Listed.{HasOneName};
 
 use crate::{Attr, DirectoryEntries, Kind, NodeId};
 use std::alloc::{AllocError, Global};
@@ -180,6 +181,18 @@ impl Node {
         match &self.content {
             Content::Directory { entries, .. } => !entries.is_empty(),
             _ => false,
+        }
+    }
+
+    /// The name in it that leads to a number which has one name at most; what is no directory has none.
+    pub fn name_of(&self, id: NodeId) -> Option<&[u8]>
+        requires { HasOneName id (entries_of self.now.content) }
+        ensures { option_copied result
+            ≡ option_map (λ entry. entry.0) (find (λ entry. nat_eq id entry.1) (entries_of self.now.content)) }
+    {
+        match &self.content {
+            Content::Directory { entries, .. } => entries.name_of(id),
+            _ => None,
         }
     }
 

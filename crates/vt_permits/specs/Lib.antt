@@ -1,2 +1,3 @@
 pub mod PermitValue
 pub mod Memory
+pub mod Allocating

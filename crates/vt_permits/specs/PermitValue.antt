@@ -1,6 +1,5 @@
 -- What the definitions see of the code's permits.
 use Rattle.std.specs.Prelude.{option_map, ℕ}
-use Rattle.vt_spec.specs.Language.Calls as words
 use Rattle.vt_spec.specs.Language.Changes.Change.{AddName, Remove, SetAttr, SetBytes}
 use Rattle.vt_spec.specs.Machine.Outcome.Tasks.{with_dropped}
 use Rattle.vt_spec.specs.Machine.Permits as meant
@@ -12,17 +11,9 @@ use Rattle.vt_location.specs.declared.locations.Location.{Location}
 use Rattle.vt_location.specs.Flags.{flags_of}
 use Rattle.vt_location.specs.Locations.{location_of, number_of}
 use Rattle.vt_location.specs.Numbers.{counted, exchanged}
-use Rattle.vt_request.specs.Requests.{access_of}
+use Rattle.vt_request.specs.Requests.{access_of, type_word_of}
 use Rattle.vt_permits.specs.declared.permit.Permit.{Permit}
 use Rattle.vt_permits.specs.declared.permit.Permit.TheVariants.{Allowed, ToBind, ToClose, ToDrop, ToEnterNamespace, ToExit, ToFork, ToLink, ToList, ToListMounts, ToMake, ToMountPlain, ToMove, ToOpen, ToOpenNew, ToRead, ToReadPart, ToRemoveDirectory, ToRename, ToSetAttr, ToSetDirectory, ToSetFlags, ToSetRoot, ToSetType, ToSetUmask, ToStat, ToUnlink, ToUnmount, ToUnmountLazily, ToUnshare, ToWrite, ToWritePart}
-use Rattle.vt_permits.specs.declared.permit.TypeWord.{TypeWord}
-use Rattle.vt_permits.specs.declared.permit.TypeWord.TheVariants.{Private, Shared, Slave, Unbindable}
-
-abbrev pub type_word_of : TypeWord → words.TypeWord
-type_word_of Shared = words.TypeWord.ToShared
-type_word_of Slave = words.TypeWord.ToSlave
-type_word_of Private = words.TypeWord.ToPrivate
-type_word_of Unbindable = words.TypeWord.ToUnbindable
 
 -- an inode that is made in a directory, its parent by the number of an inode
 abbrev pub node_in : Location → Node ℕ → Node ℕ

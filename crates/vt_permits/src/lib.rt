@@ -3,4 +3,4 @@
 
 mod permit;
 
-pub use permit::{Permit, TypeWord};
+pub use permit::Permit;

@@ -3,16 +3,7 @@
 use vt_cred::{Caps, Cred, Mode};
 use vt_location::{Location, MountFlags, MountId, NamespaceId, NodeRef};
 use vt_node::{Attr, Node};
-use vt_request::Access;
-
-/// A propagation type as mount(2) names it: `MS_SHARED`, `MS_SLAVE`, `MS_PRIVATE`, `MS_UNBINDABLE`.
-#[derive(Clone, Copy, Debug, PartialEq, Eq)]
-pub enum TypeWord {
-    Shared,
-    Slave,
-    Private,
-    Unbindable,
-}
+use vt_request::{Access, TypeWord};
 
 /// What a call is permitted. It fits the world in which the call was judged, and no other.
 #[derive(Debug, Drop)]

@@ -1,6 +1,7 @@
 -- What requests ask for, in the policy's words, free of capacities.
 use Rattle.vt_spec.specs.Language.Calls as spec
 use Rattle.vt_cred.specs.Caps.{capability_bits}
+use Rattle.vt_location.specs.Flags.{flags_of}
 use Rattle.std.specs.Prelude.{false, option_map, true}
 use Rattle.vt_request.specs.declared.request.CapsWord.{CapsWord}
 use Rattle.vt_request.specs.declared.request.CapsWord.TheVariants.{Held, Named}
@@ -9,6 +10,8 @@ use Rattle.vt_request.specs.declared.request.Access.TheVariants.{Read, Write, Re
 use Rattle.vt_request.specs.declared.request.Creation.{Creation}
 use Rattle.vt_request.specs.declared.request.Creation.TheVariants.{Never, OrCreate, Exclusive}
 use Rattle.vt_request.specs.declared.request.ForkWords.{ForkWords}
+use Rattle.vt_request.specs.declared.request.TypeWord.{TypeWord}
+use Rattle.vt_request.specs.declared.request.TypeWord.TheVariants.{Private, Shared, Slave, Unbindable}
 use Rattle.vt_request.specs.declared.request.Call.{Call}
 use Rattle.vt_request.specs.declared.request.Call.TheVariants as call
 
@@ -38,6 +41,13 @@ fork_words_of words = record {
   capabilities = capabilities_of words.caps;
 }
 
+-- a propagation type
+abbrev pub type_word_of : TypeWord → spec.TypeWord
+type_word_of Shared = spec.TypeWord.ToShared
+type_word_of Slave = spec.TypeWord.ToSlave
+type_word_of Private = spec.TypeWord.ToPrivate
+type_word_of Unbindable = spec.TypeWord.ToUnbindable
+
 -- the call, in the policy's words
 abbrev pub call_of : Call → spec.Call
 call_of (call.Ls path) = spec.Call.Ls path.items
@@ -59,7 +69,19 @@ call_of (call.OpenFile path access creation) = spec.Call.OpenFile path.items (ac
 call_of (call.Pread descriptor offset size) = spec.Call.Pread descriptor offset size
 call_of (call.Pwrite descriptor offset bytes) = spec.Call.Pwrite descriptor offset bytes.items
 call_of (call.Close descriptor) = spec.Call.Close descriptor
+call_of (call.Chdir path) = spec.Call.Chdir path.items
+call_of (call.Chroot path) = spec.Call.Chroot path.items
 call_of (call.Umask mode) = spec.Call.Umask mode
 call_of (call.Drop caps) = spec.Call.Drop (capabilities_of caps)
 call_of (call.Fork words) = spec.Call.Fork (option_map fork_words_of words)
 call_of call.Exit = spec.Call.Exit
+call_of call.Unshare = spec.Call.Unshare
+call_of (call.Setns task) = spec.Call.Setns task
+call_of (call.MountPlain path flags) = spec.Call.MountPlain path.items (flags_of flags)
+call_of (call.Bind source path recursive) = spec.Call.Bind source.items path.items recursive
+call_of (call.MoveMount source path) = spec.Call.MoveMount source.items path.items
+call_of (call.Umount path) = spec.Call.Umount path.items
+call_of (call.Lazy path) = spec.Call.Lazy path.items
+call_of (call.Remount path flags) = spec.Call.Remount path.items (flags_of flags)
+call_of (call.SetType path word recursive) = spec.Call.SetType path.items (type_word_of word) recursive
+call_of call.ListMounts = spec.Call.ListMounts

@@ -1,6 +1,7 @@
 //! What a call answers.
 
 use crate::task::TaskName;
+use vt_location::MountFlags;
 use vt_spec::attributes::{Attr, Kind};
 
 /// What stat(2) and lstat(2) tell of an object.
@@ -12,6 +13,40 @@ pub struct StatLine {
     pub size: usize,
     /// Whether a directory has the mark that hides what lies below it in an overlay.
     pub opaque: bool,
+}
+
+/// Where a mount stands, or where the tree begins that it shows.
+#[derive(Debug, Drop, PartialEq, Eq)]
+pub enum Spot {
+    /// Nowhere any more: a directory on the way has lost its name.
+    Gone,
+    /// At the end of these names: from the root of the mount that it stands on, or of its filesystem.
+    Reached(Vec<Vec<u8>>),
+}
+
+/// The propagation type of a mount, its groups by the numbers that they are printed with.
+#[derive(Clone, Copy, Debug, PartialEq, Eq)]
+pub enum TypeLine {
+    Shared { group: usize, master: Option<usize> },
+    Slave { master: usize },
+    Private,
+    Unbindable,
+}
+
+/// A line of the list of mounts: mountinfo of proc(5), in the product's form.
+#[derive(Debug, Drop, PartialEq, Eq)]
+pub struct MountLine {
+    /// The place in the list of the mount that it stands on, from 1 on (0: that one is not in the list), and where it stands
+    /// there. The root mount of a namespace has none.
+    pub mount_point: Option<(usize, Spot)>,
+    /// Whether its filesystem is an overlay.
+    pub overlay: bool,
+    /// Its filesystem, by where that first stands in the list, from 1 on.
+    pub filesystem: usize,
+    /// Where in its filesystem the tree begins that it shows.
+    pub root: Spot,
+    pub flags: MountFlags,
+    pub kind: TypeLine,
 }
 
 /// What a call that was granted tells.
@@ -29,4 +64,6 @@ pub enum Answer {
     Opened(u8),
     /// The name of the child that was made.
     Child(TaskName),
+    /// The mounts of the caller's namespace, in the order of their attachment.
+    MountList(Vec<MountLine>),
 }

@@ -5,8 +5,8 @@ pub mod answer;
 pub mod request;
 pub mod task;
 
-pub use answer::{Answer, StatLine};
-pub use request::{Access, Call, CapsWord, Creation, ForkWords};
+pub use answer::{Answer, MountLine, Spot, StatLine, TypeLine};
+pub use request::{Access, Call, CapsWord, Creation, ForkWords, TypeWord};
 pub use task::TaskName;
 
 #[cfg(test)]

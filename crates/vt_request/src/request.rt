@@ -2,7 +2,9 @@
 ghost use Rattle.std.specs.Prelude.{◌≤◌, vec_len};
 ghost use Rattle.vt_cred.specs.declared.credentials.TheConstants.{MAX_GROUPS};
 
+use crate::task::TaskName;
 use vt_cred::Caps;
+use vt_location::MountFlags;
 use vt_spec::attributes::Mode;
 
 /// The capabilities that a call names.
@@ -51,6 +53,15 @@ pub enum Creation {
     Exclusive(Mode),
 }
 
+/// A propagation type as mount(2) names it: `MS_SHARED`, `MS_SLAVE`, `MS_PRIVATE`, `MS_UNBINDABLE`.
+#[derive(Clone, Copy, Debug, PartialEq, Eq)]
+pub enum TypeWord {
+    Shared,
+    Slave,
+    Private,
+    Unbindable,
+}
+
 /// The credentials that fork(2) is given for the child.
 #[derive(Debug, Drop, PartialEq, Eq)]
 pub struct ForkWords {
@@ -63,7 +74,7 @@ pub struct ForkWords {
 }
 
 /// A call of a task.
-#[derive(Debug, Drop, PartialEq, Eq)]
+#[derive(Debug, Drop)]
 pub enum Call {
     /// The names in a directory: open(2) with `O_DIRECTORY`, then getdents(2).
     Ls {
@@ -156,6 +167,14 @@ pub enum Call {
     Close {
         descriptor: u8,
     },
+    /// chdir(2)
+    Chdir {
+        path: Vec<u8>,
+    },
+    /// chroot(2)
+    Chroot {
+        path: Vec<u8>,
+    },
     /// umask(2)
     Umask {
         mode: Mode,
@@ -170,4 +189,47 @@ pub enum Call {
     },
     /// _exit(2)
     Exit,
+    /// unshare(2) with `CLONE_NEWNS`
+    Unshare,
+    /// setns(2): the namespace of this task.
+    Setns {
+        task: TaskName,
+    },
+    /// mount(2) of a new, empty tmpfs
+    MountPlain {
+        path: Vec<u8>,
+        flags: MountFlags,
+    },
+    /// mount(2) with `MS_BIND`, and `MS_REC`
+    Bind {
+        source: Vec<u8>,
+        path: Vec<u8>,
+        recursive: bool,
+    },
+    /// mount(2) with `MS_MOVE`
+    MoveMount {
+        source: Vec<u8>,
+        path: Vec<u8>,
+    },
+    /// umount(2)
+    Umount {
+        path: Vec<u8>,
+    },
+    /// umount(2) with `MNT_DETACH`
+    Lazy {
+        path: Vec<u8>,
+    },
+    /// mount(2) with `MS_REMOUNT` and `MS_BIND`
+    Remount {
+        path: Vec<u8>,
+        flags: MountFlags,
+    },
+    /// mount(2) with a propagation type, and `MS_REC`
+    SetType {
+        path: Vec<u8>,
+        word: TypeWord,
+        recursive: bool,
+    },
+    /// The mounts of the caller's namespace: mountinfo of proc(5).
+    ListMounts,
 }

@@ -1,6 +1,6 @@
-//! Names of tasks, and values that are equal.
+//! Names of tasks.
 
-use crate::{Answer, Call, TaskName};
+use crate::{Answer, TaskName};
 use std::test::Fail;
 
 #[test]
@@ -12,16 +12,5 @@ fn names_children(rt: HostRuntime) -> Result<(), Fail> {
     assert_eq!(rt; grandchild.clone()?, grandchild);
     assert!(rt; child != grandchild);
     assert_eq!(rt; Answer::Child(child.clone()?), Answer::Child(child));
-    Ok(())
-}
-
-#[test]
-fn tells_calls_apart(rt: HostRuntime) -> Result<(), Fail> {
-    let path = b"/d".to_vec(rt.alloc())?;
-    let stat = Call::Stat { path };
-    let path = b"/d".to_vec(rt.alloc())?;
-    let lstat = Call::Lstat { path };
-    assert!(rt; stat != lstat);
-    assert_eq!(rt; stat, stat);
     Ok(())
 }

@@ -1,3 +1,4 @@
+pub mod GrammarLemmas
 pub mod ReplyLemmas
 pub mod RunLemmas
 pub mod SessionLemmas

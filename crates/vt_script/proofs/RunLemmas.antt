@@ -1,11 +1,16 @@
 -- Moments of a run, one after another.
-use Rattle.std.proofs.Common.{◌≡◌, ◌≢◌, ◌<◌, ◌-◌, ℕ, zero, suc, ◌+◌, ◌==◌, arith, drop, get_or, length, length-append, length-take, take, Bool, true, false, List, [], ◌∷◌, ◌++◌, Some, None, refl, sym, ap, ◌∙◌, subst, append_assoc, nat_eq}
+use Rattle.std.proofs.Common.{◌≡◌, ◌≢◌, ◌<◌, ◌-◌, ℕ, suc, ◌+◌, ◌==◌, arith, drop, get_or, length, length-append, length-take, take, Bool, true, false, List, [], ◌∷◌, ◌++◌, Some, None, refl, sym, ap, ◌∙◌, subst, append_assoc, nat_eq}
 use Rattle.std.proofs.lemmas.Bool.Decides.{nat_tests}
 use Rattle.std.proofs.lemmas.List.{append-nil, drop_more, get_or-take, take-append-drop, take_rest}
-use Rattle.vt_spec.specs.OneTree.World.{World}
-use Rattle.vt_spec.specs.Language.Script.{lines_of, with_line_byte}
-use Rattle.vt_spec.specs.OneTree.Run.{Tells, line_step, step_text, step_world, text_from, handed, later}
+use Rattle.vt_spec.specs.Language.Script.{lines_of, namespaces, with_line_byte}
+use Rattle.vt_spec.specs.Machine.Run.{handed, later, line_step, numbers_for, step_text, step_world, text_from}
+use Rattle.vt_spec.specs.Machine.SameWorlds.{SameWorlds}
+use Rattle.vt_spec.specs.Machine.World.{World}
+use Rattle.vt_laws.specs.Numbers.{Allotment}
+use Rattle.vt_run_laws.specs.Handed.{may_be_given}
+use Rattle.vt_run_laws.specs.Runs.{ServesInHand, TellsAlike}
 use Rattle.vt_script.specs.Progress.{Moment, Runs, HasNoNewline, after_line, whole_lines, whole_with}
+use Rattle.vt_script.specs.Session.{step_of}
 
 -- a line ends at its newline
 pub lines_of-newline : (line more : List ℕ) → HasNoNewline line → lines_of (line ++ 10 ∷ more) ≡ line ∷ lines_of more
@@ -151,60 +156,62 @@ line_then : (line more : List ℕ) → HasNoNewline line → lines_of ((line ++ 
 line_then line more none = ap lines_of (append_assoc line (10 ∷ []) more) ∙ lines_of-newline line more none
 
 -- a newline answers the line, which was refused memory
-pub runs_refused : (moment : Moment) → HasNoNewline moment.line →
-    let step = line_step nat_eq moment.world moment.line None in
-    Runs moment (10 ∷ []) (step_text (moment.answered + 1) step) (after_line moment step)
-runs_refused moment none = record {
+pub runs_refused : (moment : Moment) (world : World ℕ) → HasNoNewline moment.line →
+    let step = step_of moment.world moment.line None in
+    SameWorlds (step_world moment.world step) world →
+    Runs moment (10 ∷ []) (step_text (moment.answered + 1) step) (after_line moment world)
+runs_refused moment world none same = record {
   ended = moment.line ++ 10 ∷ [];
   split = sym (append-nil (moment.line ++ 10 ∷ []));
   whole = whole_lines-newline moment.line;
   refused = true ∷ [];
   counted = sym (ap length (lines_of-newline moment.line [] none));
   goes_on = λ more later rest told.
-      subst (λ lines. Tells nat_eq moment.world (moment.answered + 1) lines (true ∷ later) (step_text (moment.answered + 1) (line_step nat_eq moment.world moment.line None) ++ rest))
+      subst (λ lines. TellsAlike namespaces may_be_given moment.world (moment.answered + 1) lines (true ∷ later) (step_text (moment.answered + 1) (step_of moment.world moment.line None) ++ rest))
       (sym (line_then moment.line more none))
-      (rest, refl, told);
+      (world, same, rest, refl, told);
 }
 
--- a newline answers the line, to which a number was handed that is not in use
-pub runs_spoken : (moment : Moment) (fresh : ℕ) → moment.world.inodes.inode fresh ≡ None → HasNoNewline moment.line →
-    let step = line_step nat_eq moment.world moment.line (Some fresh) in
-    Runs moment (10 ∷ []) (step_text (moment.answered + 1) step) (after_line moment step)
-runs_spoken moment fresh unused none = record {
+-- a newline answers the line, to which numbers were handed that serve the world
+pub runs_spoken : (moment : Moment) (allotment : Allotment) (world : World ℕ) → ServesInHand may_be_given moment.world allotment → HasNoNewline moment.line →
+    let step = step_of moment.world moment.line (Some allotment) in
+    SameWorlds (step_world moment.world step) world →
+    Runs moment (10 ∷ []) (step_text (moment.answered + 1) step) (after_line moment world)
+runs_spoken moment allotment world serves none same = record {
   ended = moment.line ++ 10 ∷ [];
   split = sym (append-nil (moment.line ++ 10 ∷ []));
   whole = whole_lines-newline moment.line;
   refused = false ∷ [];
   counted = sym (ap length (lines_of-newline moment.line [] none));
   goes_on = λ more later rest told.
-      subst (λ lines. Tells nat_eq moment.world (moment.answered + 1) lines (false ∷ later) (step_text (moment.answered + 1) (line_step nat_eq moment.world moment.line (Some fresh)) ++ rest))
+      subst (λ lines. TellsAlike namespaces may_be_given moment.world (moment.answered + 1) lines (false ∷ later) (step_text (moment.answered + 1) (step_of moment.world moment.line (Some allotment)) ++ rest))
       (sym (line_then moment.line more none))
-      (fresh, unused, rest, refl, told);
+      (allotment, serves, world, same, rest, refl, told);
 }
 
 -- the text of the lines that ended
-pub told_whole : (old : Moment) (bytes text : List ℕ) (new : Moment) (runs : Runs old bytes text new) → Tells nat_eq old.world (old.answered + 1) (lines_of runs.ended) runs.refused text
+pub told_whole : (old : Moment) (bytes text : List ℕ) (new : Moment) (runs : Runs old bytes text new) → TellsAlike namespaces may_be_given old.world (old.answered + 1) (lines_of runs.ended) runs.refused text
 told_whole old bytes text new runs =
-    let told : Tells nat_eq old.world (old.answered + 1) (lines_of (runs.ended ++ [])) (runs.refused ++ []) (text ++ []) = runs.goes_on [] [] [] refl in
+    let told : TellsAlike namespaces may_be_given old.world (old.answered + 1) (lines_of (runs.ended ++ [])) (runs.refused ++ []) (text ++ []) = runs.goes_on [] [] [] refl in
     rw (append-nil runs.ended, append-nil runs.refused, append-nil text) at told
 
 -- the text of lines that are not all is a beginning of the text of all
 pub text_from-front : (world : World ℕ) (number : ℕ) (front back : List (List ℕ)) (refused : List Bool) →
-    (more : List ℕ) × (text_from world number (front ++ back) refused ≡ text_from world number front refused ++ more)
-text_from-front world number [] back refused = (text_from world number back refused, refl)
+    (more : List ℕ) × (text_from namespaces world number (front ++ back) refused ≡ text_from namespaces world number front refused ++ more)
+text_from-front world number [] back refused = (text_from namespaces world number back refused, refl)
 text_from-front world number (line ∷ front) back refused =
-    let step = line_step nat_eq world line (handed number refused) in
+    let step = line_step nat_eq namespaces world line (handed number refused) in
     let rest = text_from-front (step_world world step) (number + 1) front back (later refused) in
     (rest.0, ap (λ xs. step_text number step ++ xs) rest.1 ∙ sym (append_assoc (step_text number step) _ rest.0))
 
 -- what is said of lines that are not there changes no text
 pub text_from-padded : (world : World ℕ) (number : ℕ) (lines : List (List ℕ)) (refused pad : List Bool) → length refused ≡ length lines →
-    text_from world number lines (refused ++ pad) ≡ text_from world number lines refused
+    text_from namespaces world number lines (refused ++ pad) ≡ text_from namespaces world number lines refused
 text_from-padded world number [] refused pad e = refl
 text_from-padded world number (line ∷ lines) [] pad e = absurd (omega (arith, e))
 text_from-padded world number (line ∷ lines) (true ∷ refused) pad e =
-    let step = line_step nat_eq world line None in
+    let step = line_step nat_eq namespaces world line None in
     ap (λ rest. step_text number step ++ rest) (text_from-padded (step_world world step) (number + 1) lines refused pad (omega (arith, e)))
 text_from-padded world number (line ∷ lines) (false ∷ refused) pad e =
-    let step = line_step nat_eq world line (Some number) in
+    let step = line_step nat_eq namespaces world line (Some (numbers_for number)) in
     ap (λ rest. step_text number step ++ rest) (text_from-padded (step_world world step) (number + 1) lines refused pad (omega (arith, e)))

@@ -1,14 +1,19 @@
 -- How the steps of a session follow one another.
-use Rattle.std.proofs.Common.{◌≡◌, ◌≢◌, ℕ, ◌+◌, ◌==◌, true, false, List, [], ◌∷◌, ◌++◌, length, take, drop, get_or, ◌<◌, Option, Some, None, Result, Ok, Err, refl, sym, ap, ◌∙◌, subst, append_assoc, arith, length-append, length-take, nat_eq, ◌≤◌}
-use Rattle.std.proofs.lemmas.List.{append-nil, take-append-drop, take_more}
+use Rattle.std.proofs.Common.{◌≡◌, ◌≢◌, ℕ, ◌+◌, true, false, List, [], ◌∷◌, ◌++◌, length, take, Option, Some, None, Result, Ok, Err, refl, sym, ap, ◌∙◌, subst, append_assoc, arith, length-append, length-take, ◌≤◌}
+use Rattle.std.proofs.lemmas.List.{append-nil}
 use Rattle.vt_io.specs.declared.output.Sink.{Ghosts}
 use Rattle.vt_io.specs.LineBuffer.{Holds}
 use Rattle.vt_io.proofs.Printing.{Wrote-nothing, Wrote-append, WroteFront-append}
-use Rattle.vt_spec.specs.OneTree.World.{World}
-use Rattle.vt_spec.specs.OneTree.Run.{Tells, line_step, step_text}
-use Rattle.vt_spec.specs.Language.Script.{lines_of}
+use Rattle.vt_spec.specs.Language.Script.{lines_of, namespaces}
+use Rattle.vt_spec.specs.Machine.Run.{step_text, step_world}
+use Rattle.vt_spec.specs.Machine.SameWorlds.{SameWorlds}
+use Rattle.vt_spec.specs.Machine.World.{World}
+use Rattle.vt_laws.specs.Numbers.{Allotment}
+use Rattle.vt_run_laws.specs.Handed.{may_be_given}
+use Rattle.vt_run_laws.specs.Runs.{TellsAlike}
+use Rattle.vt_run_laws.proofs.AlikeWorlds.{sameness_is_an_equivalence}
 use Rattle.vt_script.specs.Progress.{Moment, Runs, HasNoNewline, after_line}
-use Rattle.vt_script.specs.Session.{State, moment, IsReading, IsHanded, Fed, Feeds, Broke, begun, lines_begun, IsLast, Closed, BrokeLast, Closes, Replied, BrokeReply, Replies}
+use Rattle.vt_script.specs.Session.{State, moment, IsReading, IsHanded, Fed, Feeds, Broke, begun, lines_begun, IsLast, Closed, BrokeLast, Closes, Replied, BrokeReply, Replies, step_of}
 use Rattle.vt_script.proofs.RunLemmas.{stays, runs_then, runs_bytes, runs_refused, runs_spoken, lines_of-last, HasNoNewline-append}
 
 same_moment : {a b : Moment} → a.world ≡ b.world → a.answered ≡ b.answered → a.line ≡ b.line → a ≡ b
@@ -73,62 +78,69 @@ module _ {W : Type 0} (sink : Ghosts W) where
       }
 
   -- the run goes through the newline of a line that is answered
-  runs_line : (state : State) (line : List ℕ) (handed : Option ℕ) → HasNoNewline line → IsHanded state.world handed →
-      let step = line_step nat_eq state.world line handed in
-      Runs (moment state line) (10 ∷ []) (step_text (state.answered + 1) step) (after_line (moment state line) step)
-  runs_line state line None whole handed = runs_refused (moment state line) whole
-  runs_line state line (Some fresh) whole handed = runs_spoken (moment state line) fresh handed whole
+  runs_line : (state : State) (line : List ℕ) (handed : Option Allotment) (world : World ℕ) → HasNoNewline line → IsHanded state.world handed →
+      let step = step_of state.world line handed in
+      SameWorlds (step_world state.world step) world →
+      Runs (moment state line) (10 ∷ []) (step_text (state.answered + 1) step) (after_line (moment state line) world)
+  runs_line state line None world whole handed same = runs_refused (moment state line) world whole same
+  runs_line state line (Some allotment) world whole handed same = runs_spoken (moment state line) allotment world handed whole same
 
   -- a line that was answered at its newline
   pub fed_line : (old new : State) (line : List ℕ) (x y : W) → IsReading old line → Replied sink old.world line (old.answered + 1) new.world x y → new.answered ≡ old.answered + 1 → Holds [] new.kept →
       Fed sink (moment old line) (10 ∷ []) new x y
   fed_line old new line x y reading replied answered held =
-      let step = line_step nat_eq old.world line replied.handed in
-      let same : moment new [] ≡ after_line (moment old line) step = same_moment replied.world answered refl in
+      let step = step_of old.world line replied.handed in
+      let same : moment new [] ≡ after_line (moment old line) new.world = same_moment refl answered refl in
       record {
         line = [];
         text = step_text (old.answered + 1) step;
         reading = record { held = held; whole = tt };
-        runs = subst (λ m. Runs (moment old line) (10 ∷ []) (step_text (old.answered + 1) step) m) (sym same) (runs_line old line replied.handed reading.whole replied.unused);
+        runs = subst (λ m. Runs (moment old line) (10 ∷ []) (step_text (old.answered + 1) step) m) (sym same)
+            (runs_line old line replied.handed new.world reading.whole replied.serves replied.world);
         wrote = replied.wrote;
       }
 
   -- a write failed in the answer to a line
   pub broke_line : (old : State) (line : List ℕ) (x y : W) → IsReading old line → BrokeReply sink old.world line (old.answered + 1) x y → Broke sink (moment old line) (10 ∷ []) x y
   broke_line old line x y reading broke =
-      let step = line_step nat_eq old.world line broke.handed in
+      let step = step_of old.world line broke.handed in
+      let left = step_world old.world step in
       record {
         read = 10 ∷ [];
         unread = [];
         text = step_text (old.answered + 1) step;
-        new = after_line (moment old line) step;
+        new = after_line (moment old line) left;
         split = refl;
-        runs = runs_line old line broke.handed reading.whole broke.unused;
+        runs = runs_line old line broke.handed left reading.whole broke.serves (sameness_is_an_equivalence.itself left);
         wrote = broke.wrote;
       }
 
 -- what may be told of a last line of which some byte was read
-told_last : (moment : Moment) (handed : Option ℕ) (byte : ℕ) (bytes : List ℕ) → moment.line ≡ byte ∷ bytes → HasNoNewline moment.line → IsHanded moment.world handed →
-    IsLast moment (step_text (moment.answered + 1) (line_step nat_eq moment.world moment.line handed))
-told_last moment None byte bytes some whole handed = record {
-  refused = true ∷ [];
-  counted = sym (ap length (last_line moment.line byte bytes some whole));
-  tells = subst (λ lines. Tells nat_eq moment.world (moment.answered + 1) lines (true ∷ []) (step_text (moment.answered + 1) (line_step nat_eq moment.world moment.line None)))
-      (sym (last_line moment.line byte bytes some whole)) ([], sym (append-nil _), refl);
-}
-told_last moment (Some fresh) byte bytes some whole handed = record {
-  refused = false ∷ [];
-  counted = sym (ap length (last_line moment.line byte bytes some whole));
-  tells = subst (λ lines. Tells nat_eq moment.world (moment.answered + 1) lines (false ∷ []) (step_text (moment.answered + 1) (line_step nat_eq moment.world moment.line (Some fresh))))
-      (sym (last_line moment.line byte bytes some whole)) (fresh, handed, [], sym (append-nil _), refl);
-}
+told_last : (moment : Moment) (handed : Option Allotment) (byte : ℕ) (bytes : List ℕ) → moment.line ≡ byte ∷ bytes → HasNoNewline moment.line → IsHanded moment.world handed →
+    IsLast moment (step_text (moment.answered + 1) (step_of moment.world moment.line handed))
+told_last moment None byte bytes some whole handed =
+    let left = step_world moment.world (step_of moment.world moment.line None) in
+    record {
+      refused = true ∷ [];
+      counted = sym (ap length (last_line moment.line byte bytes some whole));
+      tells = subst (λ lines. TellsAlike namespaces may_be_given moment.world (moment.answered + 1) lines (true ∷ []) (step_text (moment.answered + 1) (step_of moment.world moment.line None)))
+          (sym (last_line moment.line byte bytes some whole)) (left, sameness_is_an_equivalence.itself left, [], sym (append-nil _), refl);
+    }
+told_last moment (Some allotment) byte bytes some whole handed =
+    let left = step_world moment.world (step_of moment.world moment.line (Some allotment)) in
+    record {
+      refused = false ∷ [];
+      counted = sym (ap length (last_line moment.line byte bytes some whole));
+      tells = subst (λ lines. TellsAlike namespaces may_be_given moment.world (moment.answered + 1) lines (false ∷ []) (step_text (moment.answered + 1) (step_of moment.world moment.line (Some allotment))))
+          (sym (last_line moment.line byte bytes some whole)) (allotment, handed, left, sameness_is_an_equivalence.itself left, [], sym (append-nil _), refl);
+    }
 
 module _ {W : Type 0} (sink : Ghosts W) where
   -- there is no last line
   pub closed_none : (state : State) (line : List ℕ) (x : W) → line ≡ [] → Closed sink (moment state line) x x
   closed_none state line x none = record {
     text = [];
-    told = record { refused = []; counted = sym (ap (λ line. length (lines_of line)) none); tells = subst (λ l. Tells nat_eq state.world (state.answered + 1) (lines_of l) [] []) (sym none) refl };
+    told = record { refused = []; counted = sym (ap (λ line. length (lines_of line)) none); tells = subst (λ l. TellsAlike namespaces may_be_given state.world (state.answered + 1) (lines_of l) [] []) (sym none) refl };
     wrote = Wrote-nothing sink x;
   }
 
@@ -136,8 +148,8 @@ module _ {W : Type 0} (sink : Ghosts W) where
   pub closed_reply : (state : State) (line : List ℕ) (new : World ℕ) (x y : W) → line ≢ [] → IsReading state line → Replied sink state.world line (state.answered + 1) new x y → Closed sink (moment state line) x y
   closed_reply state [] new x y some reading replied = absurd (some refl)
   closed_reply state (byte ∷ bytes) new x y some reading replied = record {
-    text = step_text (state.answered + 1) (line_step nat_eq state.world (byte ∷ bytes) replied.handed);
-    told = told_last (moment state (byte ∷ bytes)) replied.handed byte bytes refl reading.whole replied.unused;
+    text = step_text (state.answered + 1) (step_of state.world (byte ∷ bytes) replied.handed);
+    told = told_last (moment state (byte ∷ bytes)) replied.handed byte bytes refl reading.whole replied.serves;
     wrote = replied.wrote;
   }
 
@@ -145,8 +157,8 @@ module _ {W : Type 0} (sink : Ghosts W) where
   pub broke_last : (state : State) (line : List ℕ) (x y : W) → line ≢ [] → IsReading state line → BrokeReply sink state.world line (state.answered + 1) x y → BrokeLast sink (moment state line) x y
   broke_last state [] x y some reading broke = absurd (some refl)
   broke_last state (byte ∷ bytes) x y some reading broke = record {
-    text = step_text (state.answered + 1) (line_step nat_eq state.world (byte ∷ bytes) broke.handed);
-    told = told_last (moment state (byte ∷ bytes)) broke.handed byte bytes refl reading.whole broke.unused;
+    text = step_text (state.answered + 1) (step_of state.world (byte ∷ bytes) broke.handed);
+    told = told_last (moment state (byte ∷ bytes)) broke.handed byte bytes refl reading.whole broke.serves;
     wrote = broke.wrote;
   }
 

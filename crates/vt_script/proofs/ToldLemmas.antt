@@ -1,19 +1,34 @@
 -- What a run has told, from its opening on.
-use Rattle.std.proofs.Common.{◌≡◌, ℕ, ◌+◌, ◌-◌, ◌≤◌, Bool, List, ◌++◌, length, length-append, map, false, take, drop, sym, ap, ◌∙◌, append_assoc, nat_eq, subst, Result, Ok, Err, arith}
+use Rattle.std.proofs.Common.{◌≡◌, ℕ, ◌+◌, ◌-◌, ◌≤◌, Bool, List, ◌++◌, length, length-append, map, false, take, drop, sym, ap, ◌∙◌, append_assoc, nat_eq, subst, refl, Result, Ok, Err, arith}
 use Rattle.std.proofs.Math.Seq.{take-append-add}
 use Rattle.std.proofs.lemmas.List.{length-map, take-append-drop}
 use Rattle.std.specs.Io.{StartsWith}
-use Rattle.vt_spec.specs.OneTree.World.{opening}
-use Rattle.vt_spec.specs.Language.Script.{lines_of}
-use Rattle.vt_spec.specs.OneTree.Run.{Tells, text_from, script_text}
+use Rattle.vt_spec.specs.Language.Script.{lines_of, namespaces}
+use Rattle.vt_spec.specs.Machine.Run.{first_world, script_text, text_from}
+use Rattle.vt_spec.specs.Machine.World.{opening}
+use Rattle.vt_run_laws.specs.Handed.{may_be_given}
+use Rattle.vt_run_laws.specs.Runs.{TellsAlike}
+use Rattle.vt_run_laws.proofs.Counts.{programs_have_one_text}
+use Rattle.vt_run_laws.proofs.GrammarsPlain.{grammars_keep_overlays_out}
+use Rattle.vt_run_laws.proofs.InodesAllotted.{allotted_numbers_open}
+use Rattle.vt_location.specs.Numbers.{inode_number}
+use Rattle.vt_world.specs.Opening.{opening_numbers}
+use Rattle.vt_script.proofs.GrammarLemmas.{no_overlays}
 use Rattle.std.specs.Prelude.{OnOk, IsErrOf}
-use Rattle.vt_one_text.proofs.OneTreeTexts.{one_tree_has_one_text}
 use Rattle.vt_io.specs.declared.output.Sink.{Ghosts}
 use Rattle.vt_io.specs.Sink.{WroteFront}
 use Rattle.vt_io.proofs.Printing.{Wrote-append, WroteFront-append}
 use Rattle.vt_script.specs.Session.{State, moment, Fed, Broke, Closed, BrokeLast, Closes, AnswersScript, BeginsToAnswer}
 use Rattle.vt_script.specs.Progress.{Moment, Runs, HasNoNewline, opening_moment, whole_lines}
 use Rattle.vt_script.proofs.RunLemmas.{whole_lines-rest, told_whole, text_from-front, text_from-padded, lines_of-whole}
+
+-- what a run tells from the opening on is the text of its script
+one_text : (script : List ℕ) (refused : List Bool) (text : List ℕ) →
+    TellsAlike namespaces may_be_given (opening nat_eq opening_numbers) 1 (lines_of script) refused text → text ≡ script_text refused script
+unfolding script_text
+one_text script refused text told =
+    programs_have_one_text namespaces refused script text opening_numbers (allotted_numbers_open 0 3 (inode_number 2 0) refl)
+    (grammars_keep_overlays_out namespaces no_overlays (lines_of script)) told
 
 -- what a sink took of a text, where it holds a beginning of all
 pub front_of : (held text new : List ℕ) → length held ≤ length new → StartsWith (held ++ text) new → (front : List ℕ) × (more : List ℕ) × (new ≡ held ++ front) × (text ≡ front ++ more)
@@ -34,19 +49,19 @@ pub whole_told : (read text : List ℕ) (new : Moment) (runs : Runs opening_mome
 whole_told read text new runs none = (
   runs.refused,
   runs.counted ∙ ap (λ ended. length (lines_of ended)) (sym (whole_read read text new runs none)),
-  one_tree_has_one_text runs.ended runs.refused 0 text (told_whole opening_moment read text new runs) ∙ ap (script_text runs.refused) (sym (whole_read read text new runs none)),
+  one_text runs.ended runs.refused text (told_whole opening_moment read text new runs) ∙ ap (script_text runs.refused) (sym (whole_read read text new runs none)),
 )
 
 -- the text of all lines is the policy's text
 pub all_told : (script text : List ℕ) (new : Moment) (runs : Runs opening_moment script text new) (refused : List Bool) (last : List ℕ) →
-    Tells nat_eq new.world (new.answered + 1) (lines_of new.line) refused last → length refused ≡ length (lines_of new.line) →
+    TellsAlike namespaces may_be_given new.world (new.answered + 1) (lines_of new.line) refused last → length refused ≡ length (lines_of new.line) →
     (all : List Bool) × (length all ≡ length (lines_of script)) × (text ++ last ≡ script_text all script)
 all_told script text new runs refused last told counted =
     let lines = ap lines_of runs.split ∙ lines_of-whole runs.ended new.line runs.whole in
-    let all : Tells nat_eq (opening nat_eq 0) 1 (lines_of (runs.ended ++ new.line)) (runs.refused ++ refused) (text ++ last) = runs.goes_on new.line refused last told in (
+    let all : TellsAlike namespaces may_be_given (opening nat_eq opening_numbers) 1 (lines_of (runs.ended ++ new.line)) (runs.refused ++ refused) (text ++ last) = runs.goes_on new.line refused last told in (
       runs.refused ++ refused,
       omega (arith, runs.counted, counted, length-append runs.refused refused, ap length lines, length-append (lines_of runs.ended) (lines_of new.line)),
-      one_tree_has_one_text (runs.ended ++ new.line) (runs.refused ++ refused) 0 (text ++ last) all ∙ ap (script_text (runs.refused ++ refused)) (sym runs.split),
+      one_text (runs.ended ++ new.line) (runs.refused ++ refused) (text ++ last) all ∙ ap (script_text (runs.refused ++ refused)) (sym runs.split),
     )
 
 -- the text of the lines that ended is a beginning of the policy's text, whatever follows what was read
@@ -60,13 +75,13 @@ front_told read unread text new runs =
     ∙ lines_of-whole runs.ended (new.line ++ unread) runs.whole in
     let others = lines_of (new.line ++ unread) in
     let pad : List Bool = map (λ line. false) others in
-    let front = text_from-front (opening nat_eq 0) 1 (lines_of runs.ended) others (runs.refused ++ pad) in (
+    let front = text_from-front first_world 1 (lines_of runs.ended) others (runs.refused ++ pad) in (
       runs.refused ++ pad,
       omega (arith, runs.counted, length-append runs.refused pad, length-map others (λ line. false), ap length lines, length-append (lines_of runs.ended) others),
       front.0,
-      ap (λ xs. text_from (opening nat_eq 0) 1 xs (runs.refused ++ pad)) lines ∙ front.1
-          ∙ ap (λ xs. xs ++ front.0) (text_from-padded (opening nat_eq 0) 1 (lines_of runs.ended) runs.refused pad runs.counted)
-          ∙ ap (λ xs. xs ++ front.0) (sym (one_tree_has_one_text runs.ended runs.refused 0 text (told_whole opening_moment read text new runs))),
+      ap (λ xs. text_from namespaces first_world 1 xs (runs.refused ++ pad)) lines ∙ front.1
+          ∙ ap (λ xs. xs ++ front.0) (text_from-padded first_world 1 (lines_of runs.ended) runs.refused pad runs.counted)
+          ∙ ap (λ xs. xs ++ front.0) (sym (one_text runs.ended runs.refused text (told_whole opening_moment read text new runs))),
     )
 
 module _ {W : Type 0} (sink : Ghosts W) where

@@ -1,8 +1,10 @@
 -- How far a run has come: what was read and written between two moments of it.
 use Rattle.std.specs.Prelude.{◌≡◌, ℕ, ◌+◌, ◌==◌, nat_eq, Bool, true, false, List, [], ◌∷◌, ◌++◌, length}
-use Rattle.vt_spec.specs.OneTree.World.{World, opening}
-use Rattle.vt_spec.specs.Language.Script.{lines_of}
-use Rattle.vt_spec.specs.OneTree.Run.{Tells, Step, step_world}
+use Rattle.vt_spec.specs.Language.Script.{lines_of, namespaces}
+use Rattle.vt_spec.specs.Machine.World.{World, opening}
+use Rattle.vt_run_laws.specs.Handed.{may_be_given}
+use Rattle.vt_run_laws.specs.Runs.{TellsAlike}
+use Rattle.vt_world.specs.Opening.{opening_numbers}
 
 -- a text up to its last newline
 abbrev pub whole_with : Bool → ℕ → List ℕ → List ℕ
@@ -14,7 +16,7 @@ abbrev pub whole_lines : List ℕ → List ℕ
 whole_lines [] = []
 whole_lines (byte ∷ bytes) = whole_with (byte == 10) byte (whole_lines bytes)
 
--- a moment of a run: the world, how many lines are answered, and what was read of the next line
+-- a moment of a run: the code's world as the definitions see it, how many lines are answered, and what was read of the next line
 pub record Moment : Type 0 where
   pub world : World ℕ
   pub answered : ℕ
@@ -22,7 +24,7 @@ pub record Moment : Type 0 where
 
 -- nothing is read yet
 abbrev pub opening_moment : Moment
-opening_moment = record { world = opening nat_eq 0; answered = 0; line = [] }
+opening_moment = record { world = opening nat_eq opening_numbers; answered = 0; line = [] }
 
 -- From one moment to another these bytes were read and this text was written. The lines that ended among them, with what stood before,
 -- are told by the text: whatever is told of more, is told behind it.
@@ -33,14 +35,14 @@ pub record Runs (old : Moment) (bytes text : List ℕ) (new : Moment) : Type 0 w
   pub refused : List Bool
   pub counted : length refused ≡ length (lines_of ended)
   pub goes_on : (more : List ℕ) (later : List Bool) (rest : List ℕ) →
-      Tells nat_eq new.world (new.answered + 1) (lines_of more) later rest →
-      Tells nat_eq old.world (old.answered + 1) (lines_of (ended ++ more)) (refused ++ later) (text ++ rest)
+      TellsAlike namespaces may_be_given new.world (new.answered + 1) (lines_of more) later rest →
+      TellsAlike namespaces may_be_given old.world (old.answered + 1) (lines_of (ended ++ more)) (refused ++ later) (text ++ rest)
 
 -- no byte of the line is a newline
 abbrev pub HasNoNewline : List ℕ → Type 0
 HasNoNewline [] = Unit {0}
 HasNoNewline (byte ∷ bytes) = ((byte == 10) ≡ false) × HasNoNewline bytes
 
--- the moment after a line was answered by a step
-abbrev pub after_line : Moment → Step ℕ → Moment
-after_line moment step = record { world = step_world moment.world step; answered = moment.answered + 1; line = [] }
+-- the moment after a line was answered, which left this world
+abbrev pub after_line : Moment → World ℕ → Moment
+after_line moment world = record { world = world; answered = moment.answered + 1; line = [] }

@@ -1,11 +1,15 @@
 -- What a session does between two bytes of a script, and what a run leaves in a sink.
-use Rattle.std.specs.Prelude.{◌≡◌, ℕ, ◌+◌, nat_eq, Bool, List, [], ◌∷◌, ◌++◌, length, Option, Some, None, Result, Ok, Err}
+use Rattle.std.specs.Prelude.{◌≡◌, ℕ, ◌+◌, nat_eq, Bool, List, [], ◌∷◌, ◌++◌, length, Option, Some, None, Result, Ok, Err, option_map}
 use Rattle.vt_io.specs.declared.output.Sink.{Ghosts}
 use Rattle.vt_io.specs.Sink.{Wrote, WroteFront}
 use Rattle.vt_io.specs.LineBuffer.{LineSoFar, Holds}
-use Rattle.vt_spec.specs.OneTree.World.{World}
-use Rattle.vt_spec.specs.Language.Script.{lines_of}
-use Rattle.vt_spec.specs.OneTree.Run.{Tells, line_step, step_text, step_world, script_text}
+use Rattle.vt_spec.specs.Language.Script.{lines_of, namespaces}
+use Rattle.vt_spec.specs.Machine.Run.{Step, line_step, script_text, step_text, step_world}
+use Rattle.vt_spec.specs.Machine.SameWorlds.{SameWorlds}
+use Rattle.vt_spec.specs.Machine.World.{World}
+use Rattle.vt_laws.specs.Numbers.{Allotment}
+use Rattle.vt_run_laws.specs.Handed.{may_be_given}
+use Rattle.vt_run_laws.specs.Runs.{ServesInHand, TellsAlike}
 use Rattle.vt_script.specs.Progress.{Moment, Runs, HasNoNewline, whole_lines}
 
 -- a session: the world, how many lines are answered, and what is kept of the next line
@@ -32,16 +36,20 @@ begun (byte ∷ bytes) = 1
 abbrev pub lines_begun : State → ℕ
 lines_begun state = state.answered + begun state.kept.bytes
 
--- a number that is not in use, or none where memory was refused
-abbrev pub IsHanded : World ℕ → Option ℕ → Type 0
+-- numbers that serve the world, or none where memory was refused
+abbrev pub IsHanded : World ℕ → Option Allotment → Type 0
 IsHanded world None = Unit {0}
-IsHanded world (Some fresh) = world.inodes.inode fresh ≡ None
+IsHanded world (Some allotment) = ServesInHand may_be_given world allotment
+
+-- the step of a line to which these numbers are handed
+abbrev pub step_of : World ℕ → List ℕ → Option Allotment → Step ℕ
+step_of world line handed = line_step nat_eq namespaces world line (option_map (λ allotment. allotment.new) handed)
 
 -- what may be told of the last line
 pub record IsLast (old : Moment) (text : List ℕ) : Type 0 where
   pub refused : List Bool
   pub counted : length refused ≡ length (lines_of old.line)
-  pub tells : Tells nat_eq old.world (old.answered + 1) (lines_of old.line) refused text
+  pub tells : TellsAlike namespaces may_be_given old.world (old.answered + 1) (lines_of old.line) refused text
 
 module _ {W : Type 0} (sink : Ghosts W) where
   -- bytes were read, and the lines that ended were answered
@@ -82,18 +90,18 @@ module _ {W : Type 0} (sink : Ghosts W) where
   Closes old (Ok t) before after = Closed old before after
   Closes old (Err fault) before after = BrokeLast old before after
 
-  -- one line was answered by its step
+  -- one line was answered by its step, which leaves this world but for change numbers and the order of numbers beside trees
   pub record Replied (old : World ℕ) (line : List ℕ) (number : ℕ) (new : World ℕ) (before after : W) : Type 0 where
-    pub handed : Option ℕ
-    pub unused : IsHanded old handed
-    pub world : new ≡ step_world old (line_step nat_eq old line handed)
-    pub wrote : Wrote sink before after (step_text number (line_step nat_eq old line handed))
+    pub handed : Option Allotment
+    pub serves : IsHanded old handed
+    pub world : SameWorlds (step_world old (step_of old line handed)) new
+    pub wrote : Wrote sink before after (step_text number (step_of old line handed))
 
   -- a write failed in the text of one line
   pub record BrokeReply (old : World ℕ) (line : List ℕ) (number : ℕ) (before after : W) : Type 0 where
-    pub handed : Option ℕ
-    pub unused : IsHanded old handed
-    pub wrote : WroteFront sink before after (step_text number (line_step nat_eq old line handed))
+    pub handed : Option Allotment
+    pub serves : IsHanded old handed
+    pub wrote : WroteFront sink before after (step_text number (step_of old line handed))
 
   abbrev pub Replies : {T E : Type 0} → World ℕ → List ℕ → ℕ → Result T E → World ℕ → W → W → Type 0
   Replies old line number (Ok t) new before after = Replied old line number new before after

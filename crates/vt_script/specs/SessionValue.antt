@@ -1,5 +1,5 @@
 -- What the definitions see of the code's session.
-use Rattle.vt_ns.specs.WorldValue.{world_of}
+use Rattle.vt_world.specs.WorldValue.{world_of}
 use Rattle.vt_script.specs.Session.{State}
 use Rattle.vt_script.specs.declared.session.Session.{Session}
 

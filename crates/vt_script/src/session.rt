@@ -1,7 +1,7 @@
 //! What is kept from one piece of a script to the next.
 ghost use Rattle.std.specs.Prelude.{◌≡◌, ◌+◌, ◌<◌, ◌≤◌, ◌^◌, ◌++◌, ◌∷◌, [], List, ℕ, length, IfOk, IfErr, MatchOption, OnOk, OnErr};
 ghost use Rattle.vt_io.specs.LineBuffer.{Holds};
-ghost use Rattle.vt_ns.specs.WorldValue.{world_of};
+ghost use Rattle.vt_world.specs.WorldValue.{world_of};
 ghost use Rattle.vt_script.specs.Progress.{opening_moment, HasNoNewline};
 ghost use Rattle.vt_script.specs.Session.{moment, lines_begun, IsReading, Feeds, Closes, Replies};
 ghost use Rattle.vt_script.specs.SessionValue.{state_of};
@@ -14,8 +14,8 @@ use vt_io::output::Sink;
 use vt_line::fault::RunFault;
 use vt_line::line::Line;
 use vt_line::print::write_reply;
-use vt_ns::World;
 use vt_spec::errors::Rule;
+use vt_world::World;
 
 /// The world, how many lines are answered, and the line that is being read.
 #[derive(Drop)]
@@ -53,8 +53,8 @@ fn answer<W: Sink>(
     ensures counted { OnErr result (W.failures sink.new ≡ W.failures sink.old + 1) }
     ensures fault { IfErr result (λ fault. fault ≡ RunFault.Write) }
 {
-    // Its clause says that the number which a new object would get is not in use.
-    let _fresh = world.tree.next_number();
+    // By its clause there are numbers for what the line may make.
+    world.is_held();
     if line.is_overlong() {
         return write_reply(sink, number, &Err(Rule::S1.denial()));
     }

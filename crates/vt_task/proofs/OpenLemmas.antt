@@ -11,6 +11,7 @@ use Rattle.vt_spec.specs.Machine.Outcome.Descriptors.{free_from, inserted}
 use Rattle.vt_spec.specs.Machine.World.{Descriptor}
 use Rattle.vt_task.specs.declared.descriptors.OpenFile.{OpenFile}
 use Rattle.vt_location.specs.Locations.{location_of}
+use Rattle.vt_request.specs.Requests.{access_of}
 use Rattle.vt_task.specs.Open.{are_ascending, descriptor_of, numbered}
 
 abbrev pub opened : List (ℕ × OpenFile) → List (Descriptor ℕ)
@@ -250,6 +251,10 @@ length-opened (x ∷ es) = ap suc (length-opened es)
 pub files-opened : (es : List (ℕ × OpenFile)) → map (λ held. location_of held.location) (values_of es) ≡ map (λ d. d.location) (opened es)
 files-opened [] = refl
 files-opened (x ∷ es) = ap (λ fs. location_of x.1.location ∷ fs) (files-opened es)
+
+pub writes-opened : (es : List (ℕ × OpenFile)) → map (λ held. (access_of held.access).writes) (values_of es) ≡ map (λ d. d.writes) (opened es)
+writes-opened [] = refl
+writes-opened (x ∷ es) = ap (λ fs. (access_of x.1.access).writes ∷ fs) (writes-opened es)
 
 -- A new number that is put before a place stands there
 pub entries-inserted : {S : Type 0} (m : IndexMap ℕ OpenFile S) (free place : ℕ) (held : OpenFile) (new : List (ℕ × OpenFile))

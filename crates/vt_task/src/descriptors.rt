@@ -4,6 +4,7 @@ ghost use Rattle.vt_spec.specs.Machine.Outcome.Descriptors.{free_from, inserted}
 ghost use Rattle.vt_spec.specs.declared.errors.Rule.TheVariants.{S5};
 ghost use Rattle.vt_spec.specs.Errors.{denial};
 ghost use Rattle.vt_location.specs.Locations.{location_of};
+ghost use Rattle.vt_request.specs.Requests.{access_of};
 ghost use Rattle.vt_task.specs.Open.{numbered};
 
 use indexmap::IndexMap;
@@ -110,7 +111,8 @@ impl Descriptors {
 
     /// The open files, in the order of their numbers.
     pub fn files(&self) -> &[OpenFile]
-        ensures { map (λ held. location_of held.location) result.now ≡ map (λ descriptor. descriptor.location) self.now }
+        ensures locations { map (λ held. location_of held.location) result.now ≡ map (λ descriptor. descriptor.location) self.now }
+        ensures writes { map (λ held. (access_of held.access).writes) result.now ≡ map (λ descriptor. descriptor.writes) self.now }
     {
         self.by_number.values().as_slice()
     }

@@ -1,2 +1,3 @@
 pub mod InodeLemmas
+pub mod PathLemmas
 pub mod MoveLemmas

@@ -1,2 +1,3 @@
 pub mod TreeValue
 pub mod TreeRules
+pub mod Paths

@@ -2,6 +2,7 @@
 #![tactic(auto)]
 
 mod changes;
+mod paths;
 mod trees;
 
 pub use trees::Tree;

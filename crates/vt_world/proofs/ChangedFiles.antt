@@ -154,7 +154,7 @@ module _ (value : WorldValue) (held : IsHeld value) (location : Location ℕ) (c
       ∙ found_by_number value.filesystems count
       ∙ ap (λ found. filesystem_seen (unwrap_or found (no_entry count))) made.found
 
-  is_change : IsChange (world_of value) location (inodes_seen made.entry) change
+  pub is_change : IsChange (world_of value) location (inodes_seen made.entry) change
   is_change = record {
     in_world = held.in_world;
     plain = files_are_plain value.filesystems;
@@ -175,10 +175,10 @@ module _ (value : WorldValue) (held : IsHeld value) (location : Location ℕ) (c
   pairs : ArePaired count (changed_by change) value.filesystems filesystems
   pairs = paired count (changed_by change) value.filesystems filesystems made.changes.changed
 
-  partner : HasPartner count (changed_by change) made.entry filesystems
+  pub partner : HasPartner count (changed_by change) made.entry filesystems
   partner = becomes_one count (changed_by change) value.filesystems filesystems pairs made.entry made.among
 
-  inodes_after : inodes_seen partner.entry ≡ changed nat_eq (inodes_seen made.entry) change
+  pub inodes_after : inodes_seen partner.entry ≡ changed nat_eq (inodes_seen made.entry) change
   inodes_after =
       partner.is.inodes_are
       ∙ ap (λ b. cond b (changed nat_eq (inodes_seen made.entry) change) (inodes_seen made.entry)) (eq-eqb count count refl)
@@ -326,7 +326,7 @@ module _ (value : WorldValue) (held : IsHeld value) (location : Location ℕ) (c
     own_inodes = all_from_among HasOwnInodes filesystems own_after;
     namespaces = all_from_among (CountsWhatIsInIt (world_of new)) value.namespaces (λ entry m.
         let was = among_from_all (CountsWhatIsInIt (world_of value)) value.namespaces held.namespaces entry m in
-        record { tasks = was.tasks; mounts = was.mounts; root = was.root });
+        record { tasks = was.tasks });
   }
     where
       mounts_of_filesystem : ℕ → ℕ

@@ -62,7 +62,7 @@ new_in_slot count slot small node fits = by node.content fits
     by (Symlink text) new = inr refl
     by Whiteout new = inr refl
 
-new_is_named : (named : ℕ → Bool) (directory : ℕ) (node : Node ℕ) → named directory ≡ true → IsNewIn directory node
+pub new_is_named : (named : ℕ → Bool) (directory : ℕ) (node : Node ℕ) → named directory ≡ true → IsNewIn directory node
     → content_named named node.content ≡ true
 new_is_named named directory node there new =
     ⊎_elim (λ same. ap (content_named named) same ∙ (λ i. there i && true)) (λ other. by node.content other) new

@@ -145,7 +145,7 @@ among_first n (x ∷ a) b m = by (nat_eq n x) m (among_first n a b)
     by true e next = refl
     by false e next = next e
 
-two_left_out : (next : ℕ) → LeavesOutTwo (is_counted_before next)
+pub two_left_out : (next : ℕ) → LeavesOutTwo (is_counted_before next)
 two_left_out next = (3, 7, (λ same. cc), refl, refl)
 
 pub mount_named : (value : WorldValue) → IsHeld value → (number : ℕ)

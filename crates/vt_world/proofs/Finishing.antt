@@ -55,7 +55,7 @@ unpinned_own count (inode ∷ rest) inodes own =
     by true = own_unpinned count inodes inode.1 own
     by false = own
 
-own_exchanged : (count : ℕ) (gained lost : List Inode) (inodes : Inodes ℕ) → IsOwn count inodes
+pub own_exchanged : (count : ℕ) (gained lost : List Inode) (inodes : Inodes ℕ) → IsOwn count inodes
     → IsOwn count (exchanged (counted count) gained lost inodes)
 own_exchanged count gained lost inodes own =
     unpinned_own count lost (folded (pinned_if (counted count)) inodes gained) (pinned_own count gained inodes own)
@@ -73,6 +73,31 @@ pub record CountsBeside (new : WorldValue) : Type 0 where
   pub uses : All (CountsItsUses (world_of new)) new.mounts
   pub mounts : (entry : FilesystemEntry) → Among entry new.filesystems → entry.mounts ≡ mounts_showing (world_of new) (counted entry.count)
   pub namespaces : All (CountsWhatIsInIt (world_of new)) new.namespaces
+
+-- what is left is a world, so the code's world has its invariants
+module _ (value : WorldValue) (whole : IsHeld value) (next : World ℕ)
+    (left : IsWorld nat_eq (settled nat_eq next) × IsPlain (settled nat_eq next)) where
+  pub swept_held : (gained lost : List Inode) (new : WorldValue) → IsSwept value next gained lost new → CountsBeside new
+      → KeepsTo (is_counted_before new.next) (world_of new) → IsHeld new
+  swept_held gained lost new swept counts keeps =
+      let same = swept_is_same value whole next gained lost new swept left.0 in
+      let world = same_worlds_are_worlds (settled nat_eq next) (world_of new) same left.1 left.0 in
+      record {
+        in_world = world.0;
+        ungrouped = counts.ungrouped;
+        given = keeps;
+        mounts = counts.uses;
+        filesystems = all_from_among (CountsItsMounts (world_of new)) new.filesystems (λ entry m. record {
+          mounts = counts.mounts entry m;
+          inodes = swept_is_counted value whole next gained lost new swept left.0 entry m world.0;
+        });
+        own_inodes = all_from_among HasOwnInodes new.filesystems (λ entry m. let from = swept.entries entry m in
+            subst (λ count. IsOwn count (inodes_seen entry)) (sym from.count)
+            (subst (IsOwn from.was.count) (sym from.inodes)
+            (own_exchanged from.was.count gained lost (inodes_seen from.was)
+            (among_from_all HasOwnInodes value.filesystems whole.own_inodes from.was from.among))));
+        namespaces = counts.namespaces;
+      }
 
 module _ (value : WorldValue) (whole : IsHeld value) (name : TaskName) (permit : Permit ℕ) (task : Task ℕ) (next : World ℕ)
     (is : IsApplied value name permit task next) where
@@ -92,25 +117,10 @@ module _ (value : WorldValue) (whole : IsHeld value) (name : TaskName) (permit :
   finished gained lost new swept counts same_next =
       let left = is_left in
       let same = swept_is_same value whole next gained lost new swept left.0 in
-      let world = same_worlds_are_worlds (settled nat_eq next) (world_of new) same left.1 left.0 in
       record {
-        held = record {
-          in_world = world.0;
-          ungrouped = counts.ungrouped;
-          given = subst (λ count. KeepsTo (is_counted_before count) (world_of new)) (sym same_next)
-              (same_worlds_keep_to_numbers (is_counted_before value.next) (settled nat_eq next) (world_of new) same left.1 keeps_left);
-          mounts = counts.uses;
-          filesystems = all_from_among (CountsItsMounts (world_of new)) new.filesystems (λ entry m. record {
-            mounts = counts.mounts entry m;
-            inodes = swept_is_counted value whole next gained lost new swept left.0 entry m world.0;
-          });
-          own_inodes = all_from_among HasOwnInodes new.filesystems (λ entry m. let from = swept.entries entry m in
-              subst (λ count. IsOwn count (inodes_seen entry)) (sym from.count)
-              (subst (IsOwn from.was.count) (sym from.inodes)
-              (own_exchanged from.was.count gained lost (inodes_seen from.was)
-              (among_from_all HasOwnInodes value.filesystems whole.own_inodes from.was from.among))));
-          namespaces = counts.namespaces;
-        };
+        held = swept_held value whole next left gained lost new swept counts
+            (subst (λ count. KeepsTo (is_counted_before count) (world_of new)) (sym same_next)
+            (same_worlds_keep_to_numbers (is_counted_before value.next) (settled nat_eq next) (world_of new) same left.1 keeps_left));
         becomes = becomes_so value name permit new task is.called
             (subst (λ one. SameWorlds (settled nat_eq one) (world_of new)) (sym (is.applied (supply_of value permit))) same);
       }

@@ -1,5 +1,5 @@
 -- Events of tasks after which the mount of a location that was left goes, and its filesystem with its last mount.
-use Rattle.std.proofs.Common.{◌≡◌, ◌≢◌, refl, sym, ap, subst, ◌∙◌, ⊎_elim, inl, inr, ℕ, ◌+◌, ◌-◌, nat_eq, eqb-true, eq-eqb, Bool, true, false, true≢false, cond, not, ◌||◌, List, [], ◌∷◌, ◌++◌, map, filter, find, length, Option, Some, None, option_map, is_some, unwrap_or, arith}
+use Rattle.std.proofs.Common.{◌≡◌, ◌≢◌, refl, sym, ap, subst, ◌∙◌, ⊎_elim, inl, inr, ℕ, ◌+◌, ◌-◌, nat_eq, eqb-true, eq-eqb, Bool, true, false, true≢false, cond, not, ◌||◌, List, [], ◌∷◌, ◌++◌, map, filter, find, Option, Some, None, option_map, is_some, unwrap_or, arith}
 use Rattle.std.specs.Prelude.{nat_lt}
 use Rattle.std.proofs.lemmas.Bool.{and_parts, eqb-false, lt-ltb}
 use Rattle.vt_spec.specs.Language.Calls.{TaskName}
@@ -52,7 +52,7 @@ filter_dropped p q (x ∷ xs) none = by (q x) refl (p x) refl (filter_dropped p 
     by false e true f later = absurd (true≢false (sym f ∙ none x (inl refl) e))
     by false e false f later = later
 
-found_kept : (p : Filesystem ℕ → Bool) (filesystems : List (Filesystem ℕ)) (k : ℕ)
+pub found_kept : (p : Filesystem ℕ → Bool) (filesystems : List (Filesystem ℕ)) (k : ℕ)
     → ((x : Filesystem ℕ) → Among x filesystems → x.number ≡ k → p x ≡ true)
     → unwrap_or (find (λ x. nat_eq k x.number) (filter p filesystems)) (no_filesystem k) ≡ unwrap_or (find (λ x. nat_eq k x.number) filesystems) (no_filesystem k)
 found_kept p [] k stays = refl
@@ -67,7 +67,7 @@ found_kept p (x ∷ xs) k stays = by (nat_eq k x.number) refl (p x) refl (found_
     by false e true f later = ap (λ d. unwrap_or (cond d (Some x) (find (λ x. nat_eq k x.number) (filter p xs))) (no_filesystem k)) e ∙ later
     by false e false f later = later
 
-map_filtered : {A B : Type 0} (f : A → B) (p : A → Bool) (q : B → Bool) → ((a : A) → q (f a) ≡ p a) → (xs : List A) → map f (filter p xs) ≡ filter q (map f xs)
+pub map_filtered : {A B : Type 0} (f : A → B) (p : A → Bool) (q : B → Bool) → ((a : A) → q (f a) ≡ p a) → (xs : List A) → map f (filter p xs) ≡ filter q (map f xs)
 map_filtered f p q same [] = refl
 map_filtered f p q same (x ∷ xs) =
     by (p x) (map_filtered f p q same xs) ∙ ap (λ b. cond b (f x ∷ filter q (map f xs)) (filter q (map f xs))) (sym (same x))
@@ -78,7 +78,7 @@ map_filtered f p q same (x ∷ xs) =
     by false later = later
 
 -- where each counts what a rule says, so does what is found
-shown_counts : (f : ℕ) (counts : ℕ → ℕ) (all : List Shown) → ((one : Shown) → Among one all → one.mounts ≡ counts (counted one.count))
+pub shown_counts : (f : ℕ) (counts : ℕ → ℕ) (all : List Shown) → ((one : Shown) → Among one all → one.mounts ≡ counts (counted one.count))
     → (one : Shown) → Among one all → f ≡ counted one.count → mounts_shown f all ≡ counts f
 shown_counts f counts [] each one m same = absurd m
 shown_counts f counts (first ∷ rest) each one m same =
@@ -92,18 +92,18 @@ shown_counts f counts (first ∷ rest) each one m same =
         (λ here. absurd (true≢false (sym (eq-eqb f (counted first.count) (same ∙ ap (λ (x : Shown). counted x.count) here)) ∙ e)))
         next m
 
-positive : (a : ℕ) → nat_lt 0 a ≡ not (nat_eq a 0)
+pub positive : (a : ℕ) → nat_lt 0 a ≡ not (nat_eq a 0)
 positive a = by (nat_eq a 0) refl
   where
     by : (b : Bool) → nat_eq a 0 ≡ b → nat_lt 0 a ≡ not b
     by true e = ap (nat_lt 0) (eqb-true a 0 e)
     by false e = let some : a ≢ 0 = eqb-false a 0 e in lt-ltb 0 a (omega (arith, some))
 
-or_nothing : (b : Bool) → (b || false) ≡ b
+pub or_nothing : (b : Bool) → (b || false) ≡ b
 or_nothing true = refl
 or_nothing false = refl
 
-or_all : (b : Bool) → (b || true) ≡ true
+pub or_all : (b : Bool) → (b || true) ≡ true
 or_all true = refl
 or_all false = refl
 
@@ -395,12 +395,7 @@ module _ (value : WorldValue) (whole : IsHeld value) (tasks : Tasks) (more : Lis
         ∙ (λ i. times (λ (x : Mount ℕ). nat_eq (counted (sym (ap (λ (one : Shown). one.count) from.2 ∙ is.0) i)) x.filesystem) (sym mounts_are i));
     namespaces = all_from_among (CountsWhatIsInIt (world_of (remade value mounts filesystems tasks))) value.namespaces (λ entry m.
         let was = among_from_all (CountsWhatIsInIt world) value.namespaces whole.namespaces entry m in
-        let inside_it = ap (filter (λ (x : Mount ℕ). holds_of (nat_eq (counted entry.count)) x.namespace)) mounts_are ∙ same_in_namespace (counted entry.count) in
-        record {
-          tasks = was.tasks ∙ sym (inside (counted entry.count));
-          mounts = was.mounts ∙ ap length (sym inside_it);
-          root = ap (λ all. option_map (λ (x : Mount ℕ). x.number) (find (λ (x : Mount ℕ). not (is_some x.mount_point)) all)) inside_it ∙ was.root;
-        });
+        record { tasks = was.tasks ∙ sym (inside (counted entry.count)) });
   }
 
   pub gone_done : (name : TaskName) (permit : Permit ℕ) (task : Task ℕ) → IsApplied value name permit task next

@@ -31,7 +31,7 @@ use Rattle.vt_world.proofs.Remaining.{remade, remains_done}
 use Rattle.vt_world.proofs.Shown.{found_entry}
 use Rattle.vt_world.proofs.Staying.{IsDone, after}
 
-found_it : {A : Type 0} (p : A → Bool) (xs : List A) (x : A) → find p xs ≡ Some x → Among x xs × (p x ≡ true)
+pub found_it : {A : Type 0} (p : A → Bool) (xs : List A) (x : A) → find p xs ≡ Some x → Among x xs × (p x ≡ true)
 found_it p [] x e = absurd cc
 found_it p (y ∷ ys) x e = by (p y) refl e (found_it p ys x)
   where
@@ -39,7 +39,7 @@ found_it p (y ∷ ys) x e = by (p y) refl e (found_it p ys x)
     by true passed here later = let same : y ≡ x = cc in (inl (sym same), ap p (sym same) ∙ passed)
     by false passed here later = let found = later here in (inr found.0, found.1)
 
-none_among : (number : ℕ) (mounts : List (Mount ℕ)) → find (λ x. nat_eq number x.number) mounts ≡ None → is_among nat_eq number (map (λ x. x.number) mounts) ≡ false
+pub none_among : (number : ℕ) (mounts : List (Mount ℕ)) → find (λ x. nat_eq number x.number) mounts ≡ None → is_among nat_eq number (map (λ x. x.number) mounts) ≡ false
 none_among number [] e = refl
 none_among number (x ∷ xs) e = by (nat_eq number x.number) e (none_among number xs)
   where

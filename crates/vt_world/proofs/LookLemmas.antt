@@ -153,7 +153,7 @@ module _ (value : WorldValue) (held : IsHeld value) where
         ∙ turned at.node.filesystem.count directory.filesystem.count ∙ other)))
 
     -- the mounts that stand on an inode, through whatever mount
-    points_are : points_of nat_eq (world_of value) (location_of at)
+    pub points_are : points_of nat_eq (world_of value) (location_of at)
         ≡ ((mount_at nat_eq (world_of value) (location_of at)).filesystem, number_of at.node) ∷ []
     points_are =
         let shown = (mount_at nat_eq (world_of value) (location_of at)).filesystem in
@@ -161,7 +161,7 @@ module _ (value : WorldValue) (held : IsHeld value) where
         ∷ overlay_or [] (λ overlay. upper_points (world_of value) (found value.filesystems shown) overlay (number_of at.node))
         (found_plain value.filesystems shown i)
 
-    point_seen : (mount : meant.Mount ℕ) → Among mount (mounts_in value.mounts)
+    pub point_seen : (mount : meant.Mount ℕ) → Among mount (mounts_in value.mounts)
         → list_any (λ (point : ℕ × ℕ). is_point nat_eq (world_of value) point.0 point.1 mount) (points_of nat_eq (world_of value) (location_of at))
         ≡ (is_seen value at && stands_over (number_of at.node) mount)
     point_seen mount m =

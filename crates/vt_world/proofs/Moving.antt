@@ -53,7 +53,7 @@ hold_if entry held_use = cond (nat_eq held_use.location.mount entry.mount.number
 abbrev pub release_if : MountEntry → Use → MountEntry
 release_if entry held_use = cond (nat_eq held_use.location.mount entry.mount.number) (released held_use.writes entry) entry
 
-map_itself : {A : Type 0} (xs : List A) → xs ≡ map (λ x. x) xs
+pub map_itself : {A : Type 0} (xs : List A) → xs ≡ map (λ x. x) xs
 map_itself [] = refl
 map_itself (x ∷ xs) = ap (λ rest. x ∷ rest) (map_itself xs)
 

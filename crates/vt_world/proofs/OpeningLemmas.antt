@@ -39,7 +39,7 @@ use Rattle.vt_world.specs.Opening.{first_shown, opening_numbers}
 use Rattle.vt_world.specs.WorldValue.{NamespaceEntry, WorldValue, namespace_of, world_of}
 
 -- One filesystem, with a use more of its root again and again
-pinned_once : (root uses : ℕ) → pinned nat_eq (one_counted root uses) root ≡ one_counted root (uses + 1)
+pub pinned_once : (root uses : ℕ) → pinned nat_eq (one_counted root uses) root ≡ one_counted root (uses + 1)
 pinned_once root uses = λ i. record { root = root; inode = λ other. each (nat_eq other root) i; count = 1 }
   where
     here : used_once_more (if nat_eq root root then Some (root_counted root uses) else None) ≡ Some (root_counted root (uses + 1))
@@ -161,7 +161,7 @@ abbrev first_mount_entries : List MountEntry
 first_mount_entries = record { mount = first_mount nat_eq opening_numbers; uses = 2; writers = 0 } ∷ []
 
 abbrev first_namespace_entries : List NamespaceEntry
-first_namespace_entries = record { count = 1; root = 0; tasks = 1; mounts = 1 } ∷ []
+first_namespace_entries = record { count = 1; tasks = 1 } ∷ []
 
 abbrev first_tasks : List (meant.Task ℕ)
 first_tasks = first_task nat_eq opening_numbers ∷ []
@@ -203,7 +203,7 @@ module _ (entry : FilesystemEntry) (counts : entry.count ≡ 2) (inodes : inodes
             }) (All-nil _));
         own_inodes = All-cons HasOwnInodes entry [] (own entry counts inodes) (All-nil _);
         namespaces = subst (λ world. All (CountsWhatIsInIt world) first_namespace_entries) (sym first_world)
-            (All-cons (CountsWhatIsInIt (opening nat_eq opening_numbers)) _ [] (record { tasks = refl; mounts = refl; root = refl }) (All-nil _));
+            (All-cons (CountsWhatIsInIt (opening nat_eq opening_numbers)) _ [] (record { tasks = refl }) (All-nil _));
       }
 
 -- what is made for the opening world is held, and is seen as that
@@ -259,8 +259,8 @@ module _ (number : MountId) (namespace : NamespaceId) (filesystem : FilesystemId
         writers = 0;
       } ∷ []
 
-  pub namespaces_made : record { count = namespace.count; root = number.count; tasks = 1; mounts = 1 } ∷ [] ≡ first_namespace_entries
-  namespaces_made = λ i. record { count = (namespace_is i).count; root = (number_is i).count; tasks = 1; mounts = 1 } ∷ []
+  pub namespaces_made : record { count = namespace.count; tasks = 1 } ∷ [] ≡ first_namespace_entries
+  namespaces_made = λ i. record { count = (namespace_is i).count; tasks = 1 } ∷ []
 
   pub tasks_made : first_task_at (counted namespace.count) (location_of (record { mount = number; node = root_place })) ∷ [] ≡ first_tasks
   tasks_made =

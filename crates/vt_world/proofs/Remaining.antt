@@ -125,8 +125,6 @@ module _ (value : WorldValue) (whole : IsHeld value) (tasks : Tasks) (more less 
           let was = among_from_all (CountsWhatIsInIt (world_of value)) value.namespaces whole.namespaces entry m in
           subst (λ all. CountsWhatIsInIt (record (world_of (remade value mounts filesystems tasks)) { mounts = all }) entry) (sym same_mounts) (record {
             tasks = was.tasks ∙ sym (inside (counted entry.count));
-            mounts = was.mounts;
-            root = was.root;
           }));
     }
 

@@ -101,8 +101,6 @@ module _ (value : WorldValue) (tasks : Tasks) (same : all_locations (world_of (a
     namespaces = all_from_among (CountsWhatIsInIt (world_of (after value tasks))) value.namespaces (λ entry m.
         let was = among_from_all (CountsWhatIsInIt (world_of value)) value.namespaces held.namespaces entry m in record {
           tasks = was.tasks ∙ sym (inside (counted entry.count));
-          mounts = was.mounts;
-          root = was.root;
         });
   }
 

@@ -1,10 +1,10 @@
 -- What holds of each world of the code: the invariants of a world, and that what is counted beside it is what the
 -- definitions count.
-use Rattle.std.specs.Prelude.{All, Bool, List, None, Some, [], false, length, nat_eq, option_map, true, ℕ, ◌&&◌, ◌+◌, ◌∷◌, ◌≡◌}
+use Rattle.std.specs.Prelude.{All, Bool, List, None, [], false, nat_eq, true, ℕ, ◌&&◌, ◌+◌, ◌∷◌, ◌≡◌}
 use Rattle.std.specs.List.{list_all}
 use Rattle.vt_spec.specs.Machine.Mounts.{Propagation}
 use Rattle.vt_spec.specs.Machine.Mounts.Propagation.{Private, Shared, Slave, Unbindable}
-use Rattle.vt_spec.specs.Machine.World.{Descriptor, Task, World, mounts_of, root_mount}
+use Rattle.vt_spec.specs.Machine.World.{Descriptor, Task, World}
 use Rattle.vt_spec.specs.Machine.WorldLaws.{IsWorld}
 use Rattle.vt_count_laws.specs.Counted.{IsCounted}
 use Rattle.vt_fs.specs.FilesystemsValue.{FilesystemEntry, filesystem_seen, inodes_seen}
@@ -47,11 +47,9 @@ pub record CountsItsMounts (world : World ℕ) (entry : FilesystemEntry) : Type 
 abbrev pub HasOwnInodes : FilesystemEntry → Type 0
 HasOwnInodes entry = (number : ℕ) → is_inode_of entry.count number ≡ false → (inodes_seen entry).inode number ≡ None
 
--- a namespace counts its tasks and its mounts
+-- a namespace counts its tasks
 pub record CountsWhatIsInIt (world : World ℕ) (entry : NamespaceEntry) : Type 0 where
   pub tasks : entry.tasks ≡ times (λ task. nat_eq (counted entry.count) task.namespace) world.tasks
-  pub mounts : entry.mounts ≡ length (mounts_of nat_eq world (counted entry.count))
-  pub root : option_map (λ mount. mount.number) (root_mount nat_eq world (counted entry.count)) ≡ Some (counted entry.root)
 
 pub record IsHeld (value : WorldValue) : Type 0 where
   pub in_world : IsWorld nat_eq (world_of value)

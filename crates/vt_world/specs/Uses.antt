@@ -1,13 +1,17 @@
 -- Mounts and filesystems with their counts, where a use of a location comes or goes: chdir(2), open(2), close(2).
-use Rattle.std.specs.Prelude.{Bool, List, None, Option, Some, filter, find, if◌then◌else◌, is_some, map, nat_eq, not, option_map, unwrap_or, ℕ, ◌&&◌, ◌-◌}
+use Rattle.std.specs.Option.{option_and_then}
+use Rattle.std.specs.Prelude.{Bool, List, None, Option, Some, filter, find, if◌then◌else◌, is_some, map, nat_eq, not, option_map, unwrap_or, ℕ, ◌&&◌, ◌+◌, ◌++◌, ◌-◌}
 use Rattle.vt_count_laws.specs.Using.{pinned_if, unpinned_if}
 use Rattle.vt_fs.specs.FilesystemsValue.{Filesystems, Shown, shown}
 use Rattle.vt_letting_go.specs.OneByOne.{Inode}
 use Rattle.vt_location.specs.declared.locations.Location.{Location}
 use Rattle.vt_location.specs.declared.locations.NodeRef.{NodeRef}
+use Rattle.vt_location.specs.declared.mounts.Mount.{Mount as Attached}
+use Rattle.vt_location.specs.MountValue.{mount_of}
 use Rattle.vt_location.specs.Locations.{number_of}
 use Rattle.vt_location.specs.Numbers.{counted}
-use Rattle.vt_spec.specs.Machine.Mounts.{Mount}
+use Rattle.vt_spec.specs.Lists.{folded}
+use Rattle.vt_spec.specs.Machine.Mounts.{Location as Place, Mount, detached}
 use Rattle.vt_mount.specs.MountsValue.{MountEntry, changed, entry_numbered, held, released, without}
 
 -- mounts and filesystems as they are counted
@@ -84,3 +88,51 @@ with_location at writes k = with_use (counted at.mount.count) (inode_of at.node)
 
 abbrev pub without_location : Location → Bool → Kept → Kept
 without_location at writes k = without_use (counted at.mount.count) (inode_of at.node) writes k
+
+-- Mounts that leave their namespaces
+
+-- the mount point of a mount
+abbrev pub point_of : ℕ → List MountEntry → Option (Place ℕ)
+point_of number all = option_and_then (λ entry. entry.mount.mount_point) (entry_numbered all number)
+
+-- one use less of the inode at a mount point
+abbrev pub unpinned_at : Option Location → List Shown → List Shown
+unpinned_at None all = all
+unpinned_at (Some point) all = unpinned_in (inode_of point.node) all
+
+-- a mount loses its namespace and its mount point, and goes if nothing is on it
+abbrev pub detached_entry : MountEntry → MountEntry
+detached_entry entry = record entry { mount = detached entry.mount }
+
+abbrev pub detached_use : ℕ → Option Location → Kept → Kept
+detached_use number point k =
+    record { mounts = changed number detached_entry k.mounts; filesystems = unpinned_at point k.filesystems }
+
+abbrev pub without_attachment : ℕ → Option Location → Kept → Kept
+without_attachment number point k = let_go_mount number (detached_use number point k)
+
+-- Mounts that are attached
+
+abbrev pub pinned_at : Option Location → List Shown → List Shown
+pinned_at None all = all
+pinned_at (Some point) all = pinned_in (inode_of point.node) all
+
+-- one mount more of a filesystem
+abbrev pub mounted_if : ℕ → Shown → Shown
+mounted_if filesystem one = if nat_eq filesystem (counted one.count) then record one { mounts = one.mounts + 1 } else one
+
+abbrev pub mounted_in : ℕ → List Shown → List Shown
+mounted_in filesystem all = map (mounted_if filesystem) all
+
+-- a mount that comes is a use of its root's inode and of its mount point's, and one more mount of its filesystem
+abbrev pub shown_by : List Shown → Attached → List Shown
+shown_by all mount =
+    mounted_in (counted mount.root.filesystem.count) (pinned_at mount.mount_point (pinned_in (inode_of mount.root) all))
+
+abbrev pub unused_entry : Attached → MountEntry
+unused_entry mount = record { mount = mount_of mount; uses = 0; writers = 0 }
+
+-- the mounts come after all others, and nothing is on them
+abbrev pub with_attached : List Attached → Kept → Kept
+with_attached new k =
+    record { mounts = k.mounts ++ map unused_entry new; filesystems = folded shown_by k.filesystems new }

@@ -7,12 +7,10 @@ use Rattle.vt_location.specs.declared.numbers.NamespaceId.{NamespaceId}
 use Rattle.vt_mount.specs.MountsValue.{MountEntry, mounts_in}
 use Rattle.vt_world.specs.declared.namespaces.Namespace.{Namespace}
 
--- a namespace: its count, its root mount's, and how many tasks and mounts are in it
+-- a namespace: its count, and how many tasks are in it
 pub record NamespaceEntry : Type 0 where
   pub count : ℕ
-  pub root : ℕ
   pub tasks : ℕ
-  pub mounts : ℕ
 
 -- `next` is what is counted next: all mounts, filesystems and namespaces have lower counts
 pub record WorldValue : Type 0 where
@@ -41,7 +39,7 @@ namespace_counted value count = find (λ entry. nat_eq count entry.count) value.
 
 -- the namespaces as they are kept
 abbrev pub entry_of : NamespaceId × Namespace → NamespaceEntry
-entry_of kept = record { count = kept.0.count; root = kept.1.root.count; tasks = kept.1.tasks; mounts = kept.1.mounts }
+entry_of kept = record { count = kept.0.count; tasks = kept.1.tasks }
 
 abbrev pub entries_of : List (NamespaceId × Namespace) → List NamespaceEntry
 entries_of kept = map entry_of kept

@@ -1,14 +1,12 @@
-//! Events that change files and names: chmod(2), write(2), pwrite(2), mkdir(2), link(2), unlink(2), rmdir(2).
-ghost use Rattle.std.specs.Prelude.{◌≡◌, IfErr, OnErr, OnOk, [], nat_eq};
+//! Events that change files and names: chmod(2), write(2), pwrite(2), mkdir(2), link(2), unlink(2).
+ghost use Rattle.std.specs.Prelude.{◌≡◌, IfErr, OnErr, OnOk};
 ghost use Rattle.vt_fs.specs.FilesystemsValue.{node_seen};
 ghost use Rattle.vt_location.specs.Locations.{location_of, number_of};
 ghost use Rattle.vt_spec.specs.Errors.{denial};
 ghost use Rattle.vt_spec.specs.declared.errors.Rule.TheVariants.{S5};
 ghost use Rattle.vt_spec.specs.Language.Changes.Change.{AddName, Remove, SetAttr, SetBytes};
-ghost use Rattle.vt_spec.specs.Machine.Detach.{mounts_on};
-ghost use Rattle.vt_spec.specs.Machine.Permits.Permit.{ToChange, ToMake, ToRemoveDirectory, ToWritePart};
+ghost use Rattle.vt_spec.specs.Machine.Permits.Permit.{ToChange, ToMake, ToWritePart};
 ghost use Rattle.vt_world.specs.Events.{Becomes, Permits};
-ghost use Rattle.vt_world.specs.WorldValue.{world_of};
 
 use crate::world::World;
 use vt_location::{Location, NodeRef};
@@ -76,26 +74,6 @@ impl World {
         ensures err { OnErr result (self.new ≡ self.old) }
     {
         self.filesystems.unlink(directory.node, entry, object)
-    }
-
-    /// Removes an empty directory on which no mount stands: rmdir(2). With its last use it goes.
-    ///
-    /// S5 (ENOMEM): memory was refused.
-    pub fn remove_directory(
-        &mut self,
-        name: &TaskName,
-        parent: Location,
-        entry: &[u8],
-        directory: Location,
-    ) -> Result<(), Deny>
-        requires permitted { Permits self.old name.now (ToRemoveDirectory (location_of parent) entry.now (location_of directory)) }
-        requires unmounted { mounts_on nat_eq (world_of self.old) (location_of directory) ≡ [] }
-        ensures ok { OnOk result
-            (Becomes self.old name.now (ToRemoveDirectory (location_of parent) entry.now (location_of directory)) self.new) }
-        ensures memory { IfErr result (λ deny. deny ≡ denial S5) }
-        ensures err { OnErr result (self.new ≡ self.old) }
-    {
-        self.filesystems.unlink(parent.node, entry, directory.node)
     }
 
     /// Writes bytes into a file from an offset on, and zeros into a gap before them: pwrite(2). No bytes change nothing.

@@ -1,14 +1,34 @@
 //! `World`: filesystems, mounts, namespaces and tasks, and the events that change them.
 #![tactic(auto)]
 
+mod attaching;
+mod copying;
+mod detaching;
+mod ending;
+mod entering;
+mod exits;
 mod files;
+mod forking;
+mod listing;
 mod looking;
+mod mount_binds;
+mod mount_lines;
 mod mount_looks;
+mod mount_moves;
+mod mounting;
 mod namespaces;
 mod opening;
+mod opening_files;
 mod reading;
+mod removing;
+mod renaming;
+mod retyping;
 mod tasks;
+mod trees;
+mod unmounting;
+mod unsharing;
 mod uses;
+mod vacancy;
 mod world;
 
 pub use world::World;

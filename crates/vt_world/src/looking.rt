@@ -13,8 +13,8 @@ use vt_node::Node;
 use vt_request::TaskName;
 
 impl World {
-    // The filesystem that a mount shows. A number that no mount has stands for a mount of the filesystem with that number.
-    fn shown(&self, mount: MountId) -> FilesystemId
+    /// The filesystem that a mount shows. A number that no mount has stands for a mount of the filesystem with that number.
+    pub(crate) fn shown(&self, mount: MountId) -> FilesystemId
         ensures { counted result.count ≡ (mount_numbered nat_eq (world_of self.now) (counted mount.count)).filesystem }
     {
         match self.mounts.get(mount) {

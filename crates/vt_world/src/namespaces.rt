@@ -1,11 +1,8 @@
 //! The mount namespaces: mount_namespaces(7).
 
-use vt_location::{MountId, NamespaceId};
-
-/// A mount namespace: its root mount, and how many tasks and mounts are in it.
+/// A mount namespace. Its mounts are listed with the mounts, and its root mount is the one of them without a mount point.
 #[derive(Clone, Copy, Debug, PartialEq, Eq)]
 pub struct Namespace {
-    pub root: MountId,
+    /// How many tasks are in it.
     pub tasks: u64,
-    pub mounts: u64,
 }

@@ -50,7 +50,7 @@ impl World {
         Ok(World {
             mounts: first_mounts(alloc, mount)?,
             filesystems: first_filesystems(alloc, filesystem)?,
-            namespaces: first_namespaces(alloc, namespace, number)?,
+            namespaces: first_namespaces(alloc, namespace)?,
             tasks: Tasks::new(
                 alloc,
                 namespace,
@@ -100,23 +100,17 @@ fn first_filesystems(alloc: Global, filesystem: FilesystemId) -> Result<Filesyst
     Ok(filesystems)
 }
 
-// A namespace alone, with one task and its root mount.
+// A namespace alone, with one task.
 fn first_namespaces(
     alloc: Global,
     namespace: NamespaceId,
-    root: MountId,
 ) -> Result<IndexMap<NamespaceId, Namespace>, Deny>
     ensures ok { IfOk result (λ namespaces. entries_of namespaces.entries
-        ≡ record { count = namespace.count; root = root.count; tasks = 1; mounts = 1 } ∷ []) }
+        ≡ record { count = namespace.count; tasks = 1 } ∷ []) }
     ensures memory { IfErr result (λ deny. deny ≡ denial S5) }
 {
     let mut namespaces = IndexMap::new(alloc);
-    let first = Namespace {
-        root,
-        tasks: 1,
-        mounts: 1,
-    };
-    let Ok(_) = namespaces.insert(namespace, first) else {
+    let Ok(_) = namespaces.insert(namespace, Namespace { tasks: 1 }) else {
         return Err(Rule::S5.denial());
     };
     Ok(namespaces)

@@ -1,5 +1,5 @@
 -- The text of a script: its lines, tokens and grammar (profile).
-use Rattle.std.specs.Prelude.{Bool, List, None, Option, Some, [], codes, drop, false, if◌then◌else◌, length, nat_le, nat_lt, not, option_map, slice_index, take, true, unwrap_or, ℕ, ◌&&◌, ◌*◌, ◌+◌, ◌-◌, ◌==◌, ◌∷◌}
+use Rattle.std.specs.Prelude.{Bool, List, None, Option, Some, [], codes, drop, false, if◌then◌else◌, length, nat_le, nat_lt, not, option_map, slice_index, take, true, unwrap_or, ℕ, ◌&&◌, ◌*◌, ◌++◌, ◌+◌, ◌-◌, ◌==◌, ◌||◌, ◌∷◌}
 use Rattle.std.specs.Int.RustNames.{bit_or}
 use Rattle.std.specs.List.{list_all, list_any}
 use Rattle.std.specs.Str.{bytes_eq}
@@ -431,12 +431,40 @@ file_call_names =
     ∷ codes "chmod" ∷ codes "chown" ∷ codes "open" ∷ codes "pread" ∷ codes "pwrite" ∷ codes "close"
     ∷ codes "umask" ∷ codes "drop" ∷ codes "fork" ∷ codes "exit" ∷ []
 
--- the calls on files and tasks alone, which the product has today
+-- the calls on files and tasks alone, of one tree
 abbrev pub files : Grammar
 files = record {
   version = One;
   knows = λ name. list_any (bytes_eq name) file_call_names;
   has = λ call. true;
+  directs = λ name. false;
+}
+
+-- the names of the calls on mounts, and on the places and namespaces of tasks
+abbrev pub mounting_call_names : List (List ℕ)
+mounting_call_names =
+    codes "mount" ∷ codes "bind" ∷ codes "rbind" ∷ codes "move" ∷ codes "umount" ∷ codes "lazy" ∷ codes "remount"
+    ∷ codes "type" ∷ codes "mounts" ∷ codes "chdir" ∷ codes "chroot" ∷ codes "unshare" ∷ codes "setns" ∷ []
+
+-- a type whose mounts stand in groups
+abbrev pub is_grouped_type : TypeWord → Bool
+is_grouped_type ToShared = true
+is_grouped_type ToSlave = true
+is_grouped_type ToPrivate = false
+is_grouped_type ToUnbindable = false
+
+-- Without overlays and groups: a type is one that groups no mounts, and is set for one mount at a time.
+abbrev pub needs_no_layers_or_groups : Call → Bool
+needs_no_layers_or_groups (MountOverlay path options given) = false
+needs_no_layers_or_groups (SetType path word recursive) = not (is_grouped_type word || recursive)
+needs_no_layers_or_groups call = true
+
+-- the calls on files, tasks, mounts and namespaces, which the product has today
+abbrev pub namespaces : Grammar
+namespaces = record {
+  version = One;
+  knows = λ name. list_any (bytes_eq name) (file_call_names ++ mounting_call_names);
+  has = needs_no_layers_or_groups;
   directs = λ name. false;
 }
 

@@ -2,7 +2,7 @@ use Rattle.std.proofs.Common.{[], Ok}
 use Rattle.std.proofs.lemmas.Result.{err_from_is_err_and}
 use Rattle.vt_spec.specs.Machine.Judge.{type_permit}
 use Rattle.vt_spec.specs.Machine.Permits.Permit.{ToSetType}
-use Rattle.vt_permits.specs.PermitValue.{type_word_of}
+use Rattle.vt_request.specs.Requests.{type_word_of}
 use Rattle.vt_task.specs.TaskValue.{task_of}
 use Rattle.vt_judge.proofs.MountLemmas.{root_refused}
 use Rattle.vt_judge.proofs.mounting.set_type.Goals as goal

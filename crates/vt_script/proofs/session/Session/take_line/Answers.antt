@@ -1,4 +1,4 @@
-use Rattle.std.proofs.Common.{[], ◌∷◌, ◌++◌, refl}
+use Rattle.std.proofs.Common.{[], ◌∷◌, refl}
 use Rattle.vt_script.specs.Session.{moment}
 use Rattle.vt_script.specs.SessionValue.{state_of}
 use Rattle.vt_script.proofs.SessionLemmas.{fed_bytes, feeds_then}

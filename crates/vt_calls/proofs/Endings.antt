@@ -1,0 +1,223 @@
+-- How a call ends, from what its judgement and its event say.
+use Rattle.std.proofs.Common.{◌≡◌, refl, sym, ap, subst, ◌∙◌, ℕ, Bool, false, true, not, ◌||◌, nat_eq, Some, None, Result, Ok, Err, ok_or, inl, inr}
+use Rattle.std.specs.Prelude.{IfErr, OnErr, OnOk, ⊤}
+use Rattle.vt_spec.specs.declared.errors.Deny.{Deny}
+use Rattle.vt_spec.specs.declared.errors.Rule.TheVariants.{S2, S5}
+use Rattle.vt_spec.specs.Errors.{denial}
+use Rattle.vt_spec.specs.Language.Calls.{Call, TaskName}
+use Rattle.vt_spec.specs.Machine.Apply.{apply, overfills}
+use Rattle.vt_spec.specs.Machine.Judge.{Judgement, judge_in}
+use Rattle.vt_spec.specs.Machine.Looks.{looks_of}
+use Rattle.vt_spec.specs.Machine.Outcomes.{after}
+use Rattle.vt_spec.specs.Machine.Permits.{Permit}
+use Rattle.vt_spec.specs.Machine.Policy.{call_outcome, filesystems_changed_by, finished, policy}
+use Rattle.vt_spec.specs.Machine.SameWorlds.{SameWorlds}
+use Rattle.vt_spec.specs.Machine.Settled.{settled}
+use Rattle.vt_spec.specs.Machine.World.{Task, task_called}
+use Rattle.vt_permits.specs.Allocating.{TakesMemory}
+use Rattle.vt_permits.specs.Memory.{JudgesAlike, JudgesByReceivers}
+use Rattle.vt_permits.specs.PermitValue.{permit_of}
+use Rattle.vt_permits.specs.declared.permit.Permit as code
+use Rattle.vt_permits.specs.declared.permit.Permit.TheVariants.{ToSetType}
+use Rattle.vt_spec.specs.Language.Script.{is_grouped_type}
+use Rattle.vt_location.specs.declared.numbers.MountId.{MountId}
+use Rattle.vt_request.specs.Answers.{answer_of}
+use Rattle.vt_request.specs.Requests.{type_word_of}
+use Rattle.vt_request.specs.declared.request.TypeWord.{TypeWord}
+use Rattle.vt_request.specs.declared.answer.Answer.{Answer}
+use Rattle.vt_request.specs.declared.answer.Answer.TheVariants.{Done}
+use Rattle.vt_run_laws.proofs.AlikeWorlds.{sameness_is_an_equivalence}
+use Rattle.vt_run_laws.specs.Handed.{counts_from}
+use Rattle.vt_world.specs.Events.{Becomes, Permits, left_by, supply_of}
+use Rattle.vt_world.specs.Held.{IsHeld}
+use Rattle.vt_world.specs.WorldValue.{WorldValue, world_of}
+use Rattle.vt_calls.proofs.Finishing.{answers, grants, leaves, refuses}
+use Rattle.vt_calls.proofs.Forms.{frees, is_free, types, ungroups}
+use Rattle.vt_calls.proofs.Supplies.{AreVacant, allotted, counts, judged_with, permits}
+use Rattle.vt_calls.specs.Answered.{answered}
+use Rattle.vt_calls.specs.Meets.{Ends, MayBeRefusedMemory, Meets}
+use Rattle.vt_calls.specs.Permitted.{EndsGiven, IsGiven, IsPermitted}
+
+-- A call that is refused
+
+module _ (value : WorldValue) (name : TaskName) (call : Call) (held : IsHeld value) where
+  -- by a rule that answers so
+  refused_by : (deny : Deny) → (policy nat_eq (counts_from value.next) (world_of value) name call).answer ≡ Err deny
+      → Ends value name call (Err deny) value
+  refused_by deny e =
+      let supplied = counts value held in
+      let is : (policy nat_eq supplied.0.new (world_of value) name call).answer ≡ Err deny =
+      ap (λ fresh. (policy nat_eq fresh (world_of value) name call).answer) supplied.1 ∙ e in record {
+        allotment = supplied.0;
+        serves = supplied.2;
+        outcome = (inl is, refl);
+        memory = λ none. sym is;
+      }
+
+  -- for want of memory
+  short_by : (deny : Deny) → deny ≡ denial S5
+      → MayBeRefusedMemory (policy nat_eq (counts_from value.next) (world_of value) name call).answer
+      → (¬ TakesMemory call → ⊥) → Ends value name call (Err deny) value
+  short_by deny short may takes =
+      let supplied = counts value held in record {
+        allotment = supplied.0;
+        serves = supplied.2;
+        outcome = (
+          inr (
+            short,
+            subst (λ fresh. MayBeRefusedMemory (policy nat_eq fresh (world_of value) name call).answer) (sym supplied.1) may,
+          ),
+          refl,
+        );
+        memory = λ none. absurd (takes none);
+      }
+
+  -- of a task that does not exist
+  pub nobody : task_called (world_of value) name ≡ None → Ends value name call (Err (denial S2)) value
+  nobody called =
+      refused_by (denial S2)
+      (ap (λ found. (after (world_of value) (ok_or found (denial S2)) (λ one.
+      finished nat_eq (world_of value) name call
+      (filesystems_changed_by nat_eq (world_of value) (judge_in nat_eq (counts_from value.next) (world_of value) one call))
+      (call_outcome nat_eq (counts_from value.next) (world_of value) one call))).answer) called)
+
+  -- as it is judged
+  pub refused : (task : Task ℕ) → task_called (world_of value) name ≡ Some task → (judged : Judgement ℕ)
+      → judge_in nat_eq (counts_from value.next) (world_of value) task call ≡ judged → (deny : Deny)
+      → JudgesByReceivers task judged (Err deny) → (¬ TakesMemory call → JudgesAlike task judged (Err deny))
+      → Ends value name call (Err deny) value
+  refused task called (Ok permit) e deny short alike =
+      let granted = grants (counts_from value.next) (world_of value) task permit in
+      short_by deny short
+      (subst MayBeRefusedMemory
+      (sym (answers (counts_from value.next) (world_of value) name task call called (Ok permit) e ∙ granted.1)) tt)
+      (λ none. let same : Ok permit ≡ Err deny = alike none in cc)
+  refused task called (Err refusal) e deny (inl same) alike =
+      refused_by deny (refuses (counts_from value.next) (world_of value) name task call called refusal e ∙ ap Err (sym same))
+  refused task called (Err refusal) e deny (inr (short, late)) alike =
+      later (refuses (counts_from value.next) (world_of value) name task call called refusal e)
+    where
+      later : (policy nat_eq (counts_from value.next) (world_of value) name call).answer ≡ Err refusal
+          → Ends value name call (Err deny) value
+      later is =
+          let supplied = counts value held in
+          let handed : (policy nat_eq supplied.0.new (world_of value) name call).answer ≡ Err refusal =
+          ap (λ fresh. (policy nat_eq fresh (world_of value) name call).answer) supplied.1 ∙ is in record {
+            allotment = supplied.0;
+            serves = supplied.2;
+            outcome = (inr (short, subst MayBeRefusedMemory (sym handed) late), refl);
+            memory = λ none. let judged : Err refusal ≡ Err deny =
+                alike none in let same : refusal ≡ deny = cc in sym (handed ∙ ap Err same);
+          }
+
+-- A call that is given a permit
+
+module _ (old : WorldValue) (name : TaskName) (call : Call) (permit : code.Permit) (given : IsPermitted old name call permit) where
+  abbrev granted : Permit ℕ
+  granted = permit_of given.task permit
+
+  -- it is applied
+  ends_ok : (new : WorldValue) (answer : Answer) → AreVacant old granted
+      → (apply nat_eq (supply_of old granted) (world_of old) given.task granted).answer ≡ Ok (answer_of answer)
+      → Becomes old name granted new → Ends old name call (Ok answer) new
+  ends_ok new answer vacant told becomes =
+      let fresh = supply_of old granted in
+      let supplied = allotted old given.held granted vacant in
+      let judged : judge_in nat_eq fresh (world_of old) given.task call ≡ Ok granted = judged_with old name call permit given fresh in
+      let meets : Meets (policy nat_eq fresh (world_of old) name call) (Ok answer) old new = (
+        answers fresh (world_of old) name given.task call given.called (Ok granted) judged ∙ told,
+        sameness_is_an_equivalence.onward (policy nat_eq fresh (world_of old) name call).world (left_by old given.task granted)
+            (world_of new)
+            (leaves fresh (world_of old) name given.task call given.called granted judged given.held.in_world.nothing_unused)
+            (becomes given.task given.called),
+      ) in
+      let handed : Meets (policy nat_eq supplied.0.new (world_of old) name call) (Ok answer) old new =
+      subst (λ numbers. Meets (policy nat_eq numbers (world_of old) name call) (Ok answer) old new) (sym supplied.1) meets in record {
+        allotment = supplied.0;
+        serves = supplied.2;
+        outcome = handed;
+        memory = λ none. sym handed.0;
+      }
+
+  -- or memory is refused
+  ends_short : (new : WorldValue) (deny : Deny) → deny ≡ denial S5 → new ≡ old → is_free granted ≡ false
+      → Ends old name call (Err deny) new
+  ends_short new deny short same taken =
+      let fresh = counts_from old.next in
+      let told = grants fresh (world_of old) given.task granted in
+      subst (Ends old name call (Err deny)) (sym same)
+      (short_by old name call given.held deny short
+      (subst MayBeRefusedMemory
+      (sym (answers fresh (world_of old) name given.task call given.called (Ok granted) given.judged ∙ told.1)) tt)
+      (frees (looks_of nat_eq (world_of old)) (overfills nat_eq fresh (world_of old) given.task) given.task call granted given.judged
+      taken))
+
+-- The permit, as an arm of code has it, and as the definitions see it
+
+module _ (old : WorldValue) (name : TaskName) (permit arm : code.Permit) (meant : Permit ℕ) (is : permit ≡ arm)
+    (seen : (task : Task ℕ) → task_called (world_of old) name ≡ Some task → permit_of task arm ≡ meant) where
+  granted_is : (call : Call) (given : IsPermitted old name call permit) → permit_of given.task permit ≡ meant
+  granted_is call given = ap (permit_of given.task) is ∙ seen given.task given.called
+
+  pub permitted : AreVacant old meant → IsGiven old name permit → Permits old name meant
+  permitted vacant given =
+      let same = granted_is given.0 given.1 in
+      subst (Permits old name) same (permits old name given.0 permit given.1 (subst (AreVacant old) (sym same) vacant))
+
+  pub made : (new : WorldValue) (answer : Answer) → AreVacant old meant
+      → ((task : Task ℕ) → task_called (world_of old) name ≡ Some task
+      → (apply nat_eq (supply_of old meant) (world_of old) task meant).answer ≡ Ok (answer_of answer))
+      → Becomes old name meant new → EndsGiven old name permit (Ok answer) new
+  made new answer vacant told becomes call given =
+      let same = granted_is call given in
+      ends_ok old name call permit given new answer (subst (AreVacant old) (sym same) vacant)
+      (subst (λ p. (apply nat_eq (supply_of old p) (world_of old) given.task p).answer ≡ Ok (answer_of answer)) (sym same)
+      (told given.task given.called))
+      (subst (λ p. Becomes old name p new) (sym same) becomes)
+
+  pub short : (new : WorldValue) (deny : Deny) → deny ≡ denial S5 → new ≡ old → is_free meant ≡ false
+      → EndsGiven old name permit (Err deny) new
+  short new deny refused same taken call given =
+      ends_short old name call permit given new deny refused same (ap is_free (granted_is call given) ∙ taken)
+
+  -- it only looks
+  pub looked : (answer : Answer) → AreVacant old meant
+      → ((task : Task ℕ) → task_called (world_of old) name ≡ Some task
+      → (apply nat_eq (supply_of old meant) (world_of old) task meant).answer ≡ Ok (answer_of answer))
+      → ((task : Task ℕ) → (apply nat_eq (supply_of old meant) (world_of old) task meant).world ≡ world_of old)
+      → EndsGiven old name permit (Ok answer) old
+  looked answer vacant told kept call given =
+      made old answer vacant told (λ task called.
+      subst (λ world. SameWorlds world (world_of old))
+      (sym (ap (settled nat_eq) (kept task) ∙ given.held.in_world.nothing_unused))
+      (sameness_is_an_equivalence.itself (world_of old))) call given
+
+  -- it is a change that answers `ok`
+  pub changed : (new : WorldValue) (change : Result ⊤ Deny) (result : Result Answer Deny) → result ≡ answered change
+      → AreVacant old meant
+      → ((task : Task ℕ) → task_called (world_of old) name ≡ Some task
+      → (apply nat_eq (supply_of old meant) (world_of old) task meant).answer ≡ Ok (answer_of Done))
+      → is_free meant ≡ false → OnOk change (Becomes old name meant new) → IfErr change (λ deny. deny ≡ denial S5)
+      → OnErr change (new ≡ old) → EndsGiven old name permit result new
+  changed new (Ok done) result e vacant told taken becomes memory same =
+      subst (λ r. EndsGiven old name permit r new) (sym e) (made new Done vacant told becomes)
+  changed new (Err deny) result e vacant told taken becomes memory same =
+      subst (λ r. EndsGiven old name permit r new) (sym e) (short new deny memory same taken)
+
+-- The type of a mount that the grammar lets a call set: one mount's, and in no group
+
+both_false : (a b : Bool) → not (a || b) ≡ true → (a ≡ false) × (b ≡ false)
+both_false true b e = absurd cc
+both_false false true e = absurd cc
+both_false false false e = (refl, refl)
+
+pub simple_type : (old : WorldValue) (name : TaskName) (permit : code.Permit) (mount : MountId) (word : TypeWord) (recursive : Bool)
+    → permit ≡ ToSetType mount word recursive → IsGiven old name permit
+    → (is_grouped_type (type_word_of word) ≡ false) × (recursive ≡ false)
+simple_type old name permit mount word recursive is given =
+    let asked = given.1 in
+    let fresh = counts_from old.next in
+    let fits : ungroups (permit_of asked.task permit) ≡ true =
+    types (looks_of nat_eq (world_of old)) (overfills nat_eq fresh (world_of old) asked.task) asked.task given.0
+    (permit_of asked.task permit) asked.judged asked.has in
+    both_false (is_grouped_type (type_word_of word)) recursive (ap (λ p. ungroups (permit_of asked.task p)) (sym is) ∙ fits)

@@ -1,0 +1,272 @@
+-- Which permits a call may be given: of a call that does not allocate one whose change does not, and of a call of the grammar
+-- none that puts mounts into groups.
+use Rattle.std.proofs.Common.{◌≡◌, refl, ℕ, Bool, true, false, not, ◌||◌, ◌++◌, nat_eq, nat_lt, length, List, [], ◌∷◌, Option, Some, None, ok_or, Result, Ok}
+use Rattle.vt_spec.specs.declared.attributes.Attr.{Attr}
+use Rattle.vt_spec.specs.declared.errors.Deny.{Deny}
+use Rattle.vt_spec.specs.declared.errors.Rule.TheVariants.{E1, E2, E6, K1, S2}
+use Rattle.vt_spec.specs.Errors.{Rules, and_then, denial, unless}
+use Rattle.vt_spec.specs.Language.Calls.{Access, Call, Creation}
+use Rattle.vt_spec.specs.Language.Calls.Call.{Bind, Chdir, Chmod, Chown, Chroot, Close, Drop, Exec, Exit, Fork, Lazy, LinkTo, ListMounts, Ls, Lstat, MakeWhiteout, Mkdir, MountOverlay, MountPlain, MoveMount, Opaque, OpenFile, PivotRoot, Pread, Pwrite, Read, Readlink, Remount, Rename, Rmdir, SetType, Setns, Stat, SymlinkAt, Umask, Umount, Unlink, Unshare, Write}
+use Rattle.vt_spec.specs.Language.Calls.Creation.{Exclusive, NoCreation, OrCreate}
+use Rattle.vt_spec.specs.Language.Changes.{Change}
+use Rattle.vt_spec.specs.Language.Changes.Change.{SetAttr}
+use Rattle.vt_spec.specs.Language.Limits.{largest_file}
+use Rattle.vt_spec.specs.Language.Script.{is_grouped_type, namespaces}
+use Rattle.vt_spec.specs.Machine.Judge.{Judgement, attr_permit, bind_permit, chdir_permit, chmod_permit, chown_permit, chroot_permit, close_permit, create_file_permit, exec_permit, fork_permit, hard_link_permit, judge, lazy_permit, list_permit, lstat_permit, made_permit, mkdir_permit, mount_plain_permit, move_permit, opaque_permit, open_by_permit, open_file_permit, open_permit, opened_or_created_permit, pivot_permit, pread_permit, pwrite_permit, read_permit, readlink_permit, remount_permit, rename_permit, renamed_permit, rmdir_permit, setns_permit, stat_permit, symlink_permit, type_permit, umount_permit, unlink_permit, unnumbered, unshare_permit, whiteout_permit, write_permit, written_permit}
+use Rattle.vt_spec.specs.Machine.Looks.{Looks}
+use Rattle.vt_spec.specs.Machine.Mounts.{Location}
+use Rattle.vt_spec.specs.Machine.Outcome.Attributes.{attr_with_mode, attr_with_owner, may_chown}
+use Rattle.vt_spec.specs.Machine.Outcome.Making.{file_mode, linking, new_file}
+use Rattle.vt_spec.specs.Machine.Outcome.Tasks.{child_credentials}
+use Rattle.vt_spec.specs.Machine.Permits.{Permit}
+use Rattle.vt_spec.specs.Machine.Permits.Permit.{Allowed, ToBind, ToChange, ToClose, ToExit, ToMountPlain, ToMove, ToSetCredentials, ToSetFlags, ToSetType, ToSetUmask, ToStat}
+use Rattle.vt_spec.specs.Machine.Rules.Attributes.{attr_at, attr_rules, opaque_rules}
+use Rattle.vt_spec.specs.Machine.Rules.Conditions.{lacks}
+use Rattle.vt_spec.specs.Machine.Rules.Descriptors.{descriptor_at, descriptor_rules, exclusive_word_rules, open_rules, pwrite_rules}
+use Rattle.vt_spec.specs.Machine.Rules.Looking.{exec_rules, list_rules, read_rules, readlink_rules}
+use Rattle.vt_spec.specs.Machine.Rules.Making.{file_word_rules, hard_link_rules, link_text_rules, make_rules, new_word_rules, rewrite_rules, whiteout_rules}
+use Rattle.vt_spec.specs.Machine.Rules.Mounting.{admin_rules, bind_rules, destination_walk, lazy_rules, move_rules, new_mount_rules, pivot_rules, remount_rules, source_walk, type_rules, umount_rules}
+use Rattle.vt_spec.specs.Machine.Rules.Removing.{is_one_object, object_there, old_word_rules, rename_new_walk, rename_rules, rmdir_rules, rmdir_word_rules, same_object_rules, unlink_rules}
+use Rattle.vt_spec.specs.Machine.Rules.Tasks.{enter_rules, fork_rules}
+use Rattle.vt_spec.specs.Machine.Walking.{Place, directory_walk, file_walk, is_directory_there, is_special, new_leaf_walk, new_walk, object_walk, old_leaf_walk, old_walk, symlink_walk, walk_end}
+use Rattle.vt_spec.specs.Machine.World.{Task}
+use Rattle.vt_spec.specs.Rights.{cap_sys_admin, cap_sys_chroot, owns}
+use Rattle.vt_spec.specs.Tree.{Node}
+use Rattle.vt_permit_laws.proofs.SeesGiven.{Gives, given_is, gives_then, gives_unless}
+use Rattle.vt_permits.specs.Allocating.{TakesMemory}
+
+-- a change that does not allocate
+abbrev pub is_free_change : Change ℕ → Bool
+is_free_change (SetAttr object attr) = true
+is_free_change change = false
+
+abbrev pub is_free : Permit ℕ → Bool
+is_free Allowed = true
+is_free (ToStat object) = true
+is_free (ToChange location change) = is_free_change change
+is_free (ToClose descriptor) = true
+is_free (ToSetUmask umask) = true
+is_free (ToSetCredentials credentials) = true
+is_free ToExit = true
+is_free (ToSetFlags mount flags) = true
+is_free (ToSetType mount word recursive) = true
+is_free permit = false
+
+-- no mount comes into a group
+abbrev pub ungroups : Permit ℕ → Bool
+ungroups (ToSetType mount word recursive) = not (is_grouped_type word || recursive)
+ungroups permit = true
+
+abbrev IsFree : Permit ℕ → Type 0
+IsFree permit = is_free permit ≡ true
+
+abbrev Ungroups : Permit ℕ → Type 0
+Ungroups permit = ungroups permit ≡ true
+
+-- the permit at the end of walks and rules
+walked : {A : Type 0} (P : Permit ℕ → Type 0) (step : Result A Deny) (next : A → Judgement ℕ) → ((a : A) → Gives P (next a))
+    → Gives P (and_then step next)
+walked P step next h = gives_then P step next (λ a e. h a)
+
+ruled : (P : Permit ℕ → Type 0) (rules : Rules) (judgement : Judgement ℕ) → Gives P judgement → Gives P (unless rules judgement)
+ruled P rules judgement h = gives_unless P rules judgement (λ passed. h)
+
+module _ (looks : Looks ℕ) (overfills : Permit ℕ → Bool) (task : Task ℕ) where
+  attr_form : (P : Permit ℕ → Type 0) (object : Location ℕ) (allowed : Bool) (attr : Attr)
+      → P (ToChange object (SetAttr object.node attr))
+      → Gives P (attr_permit nat_eq looks object allowed attr)
+  attr_form P object allowed attr h = ruled P (attr_rules looks object allowed attr) _ h
+
+  chmod_form : (P : Permit ℕ → Type 0) → ((object : Location ℕ) (attr : Attr) → P (ToChange object (SetAttr object.node attr)))
+      → (path : List ℕ) (mode : ℕ) → Gives P (chmod_permit nat_eq looks task path mode)
+  unfolding chmod_permit
+  chmod_form P h path mode =
+      walked P (walk_end (object_walk nat_eq looks task path)) _ (λ here.
+      attr_form P here.location (owns task.credentials (attr_at looks here.location))
+      (attr_with_mode (attr_at looks here.location) mode)
+      (h here.location (attr_with_mode (attr_at looks here.location) mode)))
+
+  chown_form : (P : Permit ℕ → Type 0) → ((object : Location ℕ) (attr : Attr) → P (ToChange object (SetAttr object.node attr)))
+      → (path : List ℕ) (uid gid : Option ℕ) → Gives P (chown_permit nat_eq looks task path uid gid)
+  unfolding chown_permit
+  chown_form P h path uid gid =
+      walked P (walk_end (object_walk nat_eq looks task path)) _ (λ here.
+      attr_form P here.location
+      (may_chown task.credentials (attr_at looks here.location) (attr_with_owner (attr_at looks here.location) uid gid))
+      (attr_with_owner (attr_at looks here.location) uid gid)
+      (h here.location (attr_with_owner (attr_at looks here.location) uid gid)))
+
+  -- Calls that do not allocate
+  free : (call : Call) → ¬ TakesMemory call → Gives IsFree (judge nat_eq looks overfills task call)
+  unfolding stat_permit lstat_permit exec_permit close_permit remount_permit type_permit
+  free (Stat path) none = walked IsFree (walk_end (object_walk nat_eq looks task path)) _ (λ here. refl)
+  free (Lstat path) none = walked IsFree (walk_end (symlink_walk nat_eq looks task path)) _ (λ here. refl)
+  free (Exec path) none =
+      walked IsFree (walk_end (object_walk nat_eq looks task path)) _
+      (λ here. ruled IsFree (exec_rules looks task here.location) _ refl)
+  free (Chmod path mode) none = chmod_form IsFree (λ object attr. refl) path mode
+  free (Chown path uid gid) none = chown_form IsFree (λ object attr. refl) path uid gid
+  free (Umask mode) none = refl
+  free (Drop which) none = refl
+  free (Close number) none = walked IsFree (descriptor_at task number (λ descriptor. true)) _ (λ descriptor. refl)
+  free Exit none = refl
+  free (Remount path flags) none =
+      ruled IsFree (admin_rules task) _ (walked IsFree (walk_end (directory_walk nat_eq looks task path)) _ (λ here.
+      ruled IsFree (remount_rules nat_eq looks task here.location flags) _ refl))
+  free (SetType path word recursive) none =
+      ruled IsFree (admin_rules task) _ (walked IsFree (walk_end (directory_walk nat_eq looks task path)) _ (λ here.
+      ruled IsFree (type_rules nat_eq looks task here.location) _ refl))
+  free call none = absurd (none tt)
+
+  pub frees : (call : Call) (permit : Permit ℕ) → judge nat_eq looks overfills task call ≡ Ok permit → is_free permit ≡ false
+      → ¬ TakesMemory call → ⊥
+  frees call permit e taken none =
+      let there : is_free permit ≡ true = given_is IsFree (judge nat_eq looks overfills task call) permit e (free call none) in cc
+
+  -- Calls on names
+  made_form : (place : Place ℕ) (node : Node ℕ) → Gives Ungroups (made_permit nat_eq looks task place node)
+  made_form place node = ruled Ungroups (new_word_rules place ++ make_rules looks task place (unnumbered place node)) _ refl
+
+  created_form : (place : Place ℕ) (access : Access) (mode : ℕ)
+      → Gives Ungroups (create_file_permit nat_eq looks task place access mode)
+  created_form place access mode = ruled Ungroups (make_rules looks task place (unnumbered place (new_file task mode []))) _ refl
+
+  opened_form : (file : Location ℕ) (access : Access) → Gives Ungroups (open_file_permit nat_eq looks task file access)
+  opened_form file access = ruled Ungroups (open_rules looks task file access) _ refl
+
+  there_form : (place : Place ℕ) (access : Access) (mode : ℕ) (object : Option (Location ℕ))
+      → Gives Ungroups (opened_or_created_permit nat_eq looks task place access mode object)
+  there_form place access mode (Some file) = opened_form file access
+  there_form place access mode None = created_form place access mode
+
+  open_form : (path : List ℕ) (access : Access) (creation : Creation)
+      → Gives Ungroups (open_by_permit nat_eq looks task path access creation)
+  open_form path access NoCreation =
+      walked Ungroups (walk_end (object_walk nat_eq looks task path)) _ (λ here. opened_form here.location access)
+  open_form path access (OrCreate mode) =
+      walked Ungroups (walk_end (file_walk nat_eq looks task path)) _ (λ place.
+      ruled Ungroups (file_word_rules place) _ (there_form place access mode place.object))
+  open_form path access (Exclusive mode) =
+      walked Ungroups (walk_end (new_walk nat_eq looks task path)) _ (λ place.
+      ruled Ungroups (exclusive_word_rules place) _ (created_form place access mode))
+
+  written_form : (place : Place ℕ) (bytes : List ℕ) (object : Option (Location ℕ))
+      → Gives Ungroups (written_permit nat_eq looks task place bytes object)
+  written_form place bytes (Some file) = ruled Ungroups (rewrite_rules looks task file bytes) _ refl
+  written_form place bytes None =
+      ruled Ungroups ((nat_lt largest_file (length bytes), E6) ∷ []) _
+      (ruled Ungroups (make_rules looks task place (unnumbered place (new_file task file_mode bytes))) _ refl)
+
+  renamed_form : (same : Bool) (from to : Place ℕ) (old : Location ℕ)
+      → Gives Ungroups (renamed_permit nat_eq same looks task from to old)
+  renamed_form true from to old = ruled Ungroups (same_object_rules nat_eq looks from to) _ refl
+  renamed_form false from to old = ruled Ungroups (rename_rules nat_eq looks task from to old) _ refl
+
+  typed : (call : Call) → namespaces.has call ≡ true → Gives Ungroups (judge nat_eq looks overfills task call)
+  unfolding list_permit stat_permit lstat_permit readlink_permit read_permit write_permit exec_permit mkdir_permit
+      symlink_permit whiteout_permit hard_link_permit unlink_permit rmdir_permit rename_permit opaque_permit open_permit
+      pread_permit pwrite_permit close_permit chdir_permit chroot_permit fork_permit unshare_permit setns_permit
+      mount_plain_permit bind_permit move_permit umount_permit lazy_permit remount_permit type_permit pivot_permit
+  typed (Ls path) has =
+      walked Ungroups (walk_end (directory_walk nat_eq looks task path)) _
+      (λ here. ruled Ungroups (list_rules looks task here.location) _ refl)
+  typed (Stat path) has = walked Ungroups (walk_end (object_walk nat_eq looks task path)) _ (λ here. refl)
+  typed (Lstat path) has = walked Ungroups (walk_end (symlink_walk nat_eq looks task path)) _ (λ here. refl)
+  typed (Readlink path) has =
+      walked Ungroups (walk_end (symlink_walk nat_eq looks task path)) _
+      (λ here. ruled Ungroups (readlink_rules looks here.location) _ refl)
+  typed (Read path) has =
+      walked Ungroups (walk_end (object_walk nat_eq looks task path)) _
+      (λ here. ruled Ungroups (read_rules looks task here.location) _ refl)
+  typed (Write path bytes) has =
+      walked Ungroups (walk_end (file_walk nat_eq looks task path)) _ (λ place.
+      ruled Ungroups (file_word_rules place) _ (written_form place bytes place.object))
+  typed (Exec path) has =
+      walked Ungroups (walk_end (object_walk nat_eq looks task path)) _
+      (λ here. ruled Ungroups (exec_rules looks task here.location) _ refl)
+  typed (Mkdir path mode) has = walked Ungroups (walk_end (new_walk nat_eq looks task path)) _ (λ place. made_form place _)
+  typed (SymlinkAt text path) has =
+      ruled Ungroups (link_text_rules text) _ (walked Ungroups (walk_end (new_leaf_walk nat_eq looks task path)) _
+      (λ place. made_form place _))
+  typed (MakeWhiteout path) has =
+      walked Ungroups (walk_end (new_leaf_walk nat_eq looks task path)) _
+      (λ place. ruled Ungroups (whiteout_rules looks task place) _ refl)
+  typed (LinkTo old new) has =
+      walked Ungroups (walk_end (symlink_walk nat_eq looks task old)) _ (λ from.
+      walked Ungroups (walk_end (new_leaf_walk nat_eq looks task new)) _ (λ place.
+      ruled Ungroups ((is_special place.last, E1) ∷ []) _
+      (ruled Ungroups (hard_link_rules nat_eq looks task from.location place (linking from.location place)) _ refl)))
+  typed (Unlink path) has =
+      walked Ungroups (walk_end (old_leaf_walk nat_eq looks task path)) _ (λ place.
+      ruled Ungroups ((is_special place.last, E2) ∷ []) _ (ruled Ungroups (unlink_rules looks task place (object_there place)) _ refl))
+  typed (Rmdir path) has =
+      walked Ungroups (walk_end (old_walk nat_eq looks task path)) _ (λ place.
+      ruled Ungroups (rmdir_word_rules place) _ (ruled Ungroups (rmdir_rules nat_eq looks task place (object_there place)) _ refl))
+  typed (Rename old new) has =
+      walked Ungroups (walk_end (old_leaf_walk nat_eq looks task old)) _ (λ from.
+      ruled Ungroups (old_word_rules from) _
+      (walked Ungroups (walk_end (rename_new_walk nat_eq looks task new (is_directory_there nat_eq looks from))) _ (λ to.
+      ruled Ungroups (old_word_rules to) _
+      (renamed_form (is_one_object nat_eq looks (object_there from) to.object) from to (object_there from)))))
+  typed (Chmod path mode) has = chmod_form Ungroups (λ object attr. refl) path mode
+  typed (Chown path uid gid) has = chown_form Ungroups (λ object attr. refl) path uid gid
+  typed (Opaque path mark) has =
+      ruled Ungroups (admin_rules task) _ (walked Ungroups (walk_end (directory_walk nat_eq looks task path)) _ (λ here.
+      ruled Ungroups (opaque_rules looks here.location) _ refl))
+  typed (OpenFile path access creation) has = ruled Ungroups (descriptor_rules task) _ (open_form path access creation)
+  typed (Pread number offset size) has =
+      walked Ungroups (descriptor_at task number (λ descriptor. descriptor.reads)) _ (λ descriptor. refl)
+  typed (Pwrite number offset bytes) has =
+      walked Ungroups (descriptor_at task number (λ descriptor. descriptor.writes)) _ (λ descriptor.
+      ruled Ungroups (pwrite_rules looks descriptor.location offset bytes) _ refl)
+  typed (Close number) has = walked Ungroups (descriptor_at task number (λ descriptor. true)) _ (λ descriptor. refl)
+  typed (Chdir path) has =
+      walked Ungroups (walk_end (directory_walk nat_eq looks task path)) _
+      (λ here. ruled Ungroups (enter_rules looks task here.location) _ refl)
+  typed (Chroot path) has =
+      ruled Ungroups ((lacks task cap_sys_chroot, K1) ∷ []) _
+      (walked Ungroups (walk_end (directory_walk nat_eq looks task path)) _ (λ here.
+      ruled Ungroups (enter_rules looks task here.location) _ refl))
+  typed (Umask mode) has = refl
+  typed (Drop which) has = refl
+  typed (Fork words) has = ruled Ungroups (fork_rules task (child_credentials task.credentials words)) _ refl
+  typed Exit has = refl
+  typed Unshare has = ruled Ungroups (admin_rules task) _ refl
+  typed (Setns name) has =
+      walked Ungroups (ok_or (looks.namespace_called name) (denial S2)) _ (λ namespace.
+      ruled Ungroups ((lacks task cap_sys_admin || lacks task cap_sys_chroot, K1) ∷ []) _ refl)
+  typed (MountPlain path flags) has =
+      ruled Ungroups (admin_rules task) _ (walked Ungroups (walk_end (destination_walk nat_eq looks task path)) _ (λ here.
+      ruled Ungroups (new_mount_rules nat_eq looks task here.location (overfills (ToMountPlain here.location flags))) _ refl))
+  typed (MountOverlay path options flags) has = absurd cc
+  typed (Bind source path recursive) has =
+      ruled Ungroups (admin_rules task) _ (walked Ungroups (walk_end (source_walk nat_eq looks task source)) _ (λ from.
+      walked Ungroups (walk_end (destination_walk nat_eq looks task path)) _ (λ here.
+      ruled Ungroups (bind_rules nat_eq looks task from.location here.location
+      (overfills (ToBind from.location here.location recursive))) _ refl)))
+  typed (MoveMount source path) has =
+      ruled Ungroups (admin_rules task) _ (walked Ungroups (walk_end (source_walk nat_eq looks task source)) _ (λ from.
+      walked Ungroups (walk_end (destination_walk nat_eq looks task path)) _ (λ here.
+      ruled Ungroups (move_rules nat_eq looks task from.location here.location (overfills (ToMove from.location.mount here.location))) _
+      refl)))
+  typed (Umount path) has =
+      ruled Ungroups (admin_rules task) _ (walked Ungroups (walk_end (directory_walk nat_eq looks task path)) _ (λ here.
+      ruled Ungroups (umount_rules nat_eq looks task here.location) _ refl))
+  typed (Lazy path) has =
+      ruled Ungroups (admin_rules task) _ (walked Ungroups (walk_end (directory_walk nat_eq looks task path)) _ (λ here.
+      ruled Ungroups (lazy_rules nat_eq looks task here.location) _ refl))
+  typed (Remount path flags) has =
+      ruled Ungroups (admin_rules task) _ (walked Ungroups (walk_end (directory_walk nat_eq looks task path)) _ (λ here.
+      ruled Ungroups (remount_rules nat_eq looks task here.location flags) _ refl))
+  typed (SetType path word recursive) has =
+      ruled Ungroups (admin_rules task) _ (walked Ungroups (walk_end (directory_walk nat_eq looks task path)) _ (λ here.
+      ruled Ungroups (type_rules nat_eq looks task here.location) _ has))
+  typed (PivotRoot new put) has =
+      ruled Ungroups (admin_rules task) _ (walked Ungroups (walk_end (source_walk nat_eq looks task new)) _ (λ root.
+      walked Ungroups (walk_end (destination_walk nat_eq looks task put)) _ (λ here.
+      ruled Ungroups (pivot_rules nat_eq looks task root.location here.location) _ refl)))
+  typed ListMounts has = refl
+
+  pub types : (call : Call) (permit : Permit ℕ) → judge nat_eq looks overfills task call ≡ Ok permit → namespaces.has call ≡ true
+      → ungroups permit ≡ true
+  types call permit e has = given_is Ungroups (judge nat_eq looks overfills task call) permit e (typed call has)

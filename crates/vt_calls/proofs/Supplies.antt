@@ -1,0 +1,155 @@
+-- The numbers that a permit is handed: they serve the world, so the permit is given with them.
+use Rattle.std.proofs.Common.{◌≡◌, refl, sym, subst, ◌∙◌, ℕ, true, false, nat_eq, ◌&&◌, List, [], ◌∷◌, Some, Ok, arith}
+use Rattle.std.specs.Prelude.{All, ⊤}
+use Rattle.std.specs.List.{list_all}
+use Rattle.std.proofs.lemmas.List.Elements.{All-cons}
+use Rattle.vt_spec.specs.Language.Calls.{Call, TaskName}
+use Rattle.vt_spec.specs.Language.Calls.Call.{MountOverlay}
+use Rattle.vt_spec.specs.Language.Script.{namespaces}
+use Rattle.vt_spec.specs.Machine.Judge.{judge_in}
+use Rattle.vt_spec.specs.Machine.Mounts.{Propagation}
+use Rattle.vt_spec.specs.Machine.Mounts.Propagation.{Private, Shared, Slave, Unbindable}
+use Rattle.vt_spec.specs.Machine.Permits.{Permit}
+use Rattle.vt_spec.specs.Machine.Permits.Permit.{Allowed, ToBind, ToChange, ToClose, ToEnterNamespace, ToExit, ToFork, ToList, ToListMounts, ToMake, ToMountOverlay, ToMountPlain, ToMove, ToOpen, ToOpenNew, ToPivot, ToRead, ToReadPart, ToRemoveDirectory, ToRename, ToSetCredentials, ToSetDirectory, ToSetFlags, ToSetRoot, ToSetType, ToSetUmask, ToStat, ToUnmount, ToUnmountLazily, ToUnshare, ToWritePart}
+use Rattle.vt_spec.specs.Machine.Run.{Serves}
+use Rattle.vt_spec.specs.Machine.World.{Filesystem, is_overlay, task_called}
+use Rattle.vt_fs.specs.FilesystemsValue.{FilesystemEntry, filesystem_seen, filesystems_seen}
+use Rattle.vt_laws.specs.Numbers.{Allotment}
+use Rattle.vt_laws.proofs.Texts.{room_serves}
+use Rattle.vt_location.specs.Numbers.{inode_number}
+use Rattle.vt_mount.specs.MountsValue.{MountEntry, mounts_in}
+use Rattle.vt_permit_laws.proofs.InUseServes.{worlds_keep_to_named_before}
+use Rattle.vt_permit_laws.proofs.TakenJudged.{judgements_do_not_see_supplies}
+use Rattle.vt_permit_laws.specs.Taken as law
+use Rattle.vt_permit_laws.specs.Taken.{IsUngrouped}
+use Rattle.vt_permits.specs.PermitValue.{permit_of}
+use Rattle.vt_permits.specs.declared.permit.Permit as code
+use Rattle.vt_run_laws.proofs.Counts.{counts_serve}
+use Rattle.vt_run_laws.proofs.InodesAllotted.{allotted_numbers_serve}
+use Rattle.vt_run_laws.specs.Handed.{counts_from, handed_from, may_be_given}
+use Rattle.vt_run_laws.specs.Runs.{ServesInHand}
+use Rattle.vt_tree_laws.specs.Trees.Calls.{mounts_overlay}
+use Rattle.vt_world.specs.Events.{Permits, next_inode, supply_of}
+use Rattle.vt_world.specs.Held.{IsHeld, is_ungrouped}
+use Rattle.vt_world.specs.Vacancy.{IsVacant, NextInodeIsVacant, NextRootIsVacant}
+use Rattle.vt_world.specs.WorldValue.{WorldValue, world_of}
+use Rattle.vt_world_laws.proofs.CallsKept.{name_found}
+use Rattle.vt_world_laws.specs.Worlds.Kept.{IsPlain}
+use Rattle.vt_calls.specs.Permitted.{IsPermitted}
+
+-- no filesystem of the code is an overlay
+filesystems_plain : (entries : List FilesystemEntry)
+    → All (λ (filesystem : Filesystem ℕ). is_overlay filesystem ≡ false) (filesystems_seen entries)
+filesystems_plain [] = λ k d below. absurd (omega arith)
+filesystems_plain (entry ∷ rest) =
+    All-cons (λ (filesystem : Filesystem ℕ). is_overlay filesystem ≡ false) (filesystem_seen entry) (filesystems_seen rest) refl
+    (filesystems_plain rest)
+
+pub plain : (value : WorldValue) → IsPlain (world_of value)
+plain value = filesystems_plain value.filesystems
+
+-- and no mount is in a peer group
+alone : (propagation : Propagation ℕ) → is_ungrouped propagation ≡ law.is_ungrouped propagation
+alone (Shared group) = refl
+alone (Slave master) = refl
+alone Private = refl
+alone Unbindable = refl
+
+mounts_alone : (entries : List MountEntry)
+    → list_all (λ (entry : MountEntry). is_ungrouped entry.mount.propagation) entries
+    ≡ list_all (λ mount. law.is_ungrouped mount.propagation) (mounts_in entries)
+mounts_alone [] = refl
+mounts_alone (entry ∷ rest) = λ i. alone entry.mount.propagation i && mounts_alone rest i
+
+pub ungrouped : (value : WorldValue) → IsHeld value → IsUngrouped (world_of value)
+ungrouped value held = sym (mounts_alone value.mounts) ∙ held.ungrouped
+
+-- what a permit is handed beside counts is not in use
+abbrev pub AreVacant : WorldValue → Permit ℕ → Type 0
+AreVacant value (ToMake directory name node) = NextInodeIsVacant value directory
+AreVacant value (ToOpenNew directory name node access) = NextInodeIsVacant value directory
+AreVacant value (ToMountPlain place flags) = NextRootIsVacant value
+AreVacant value permit = ⊤
+
+-- the numbers of a supply are an allotment
+abbrev pub IsAllotted : WorldValue → (ℕ → ℕ) → Type 0
+IsAllotted value fresh = (allotment : Allotment) × (allotment.new ≡ fresh) × ServesInHand may_be_given (world_of value) allotment
+
+pub counts : (value : WorldValue) → IsHeld value → IsAllotted value (counts_from value.next)
+counts value held = counts_serve value.next (world_of value) held.given
+
+handed : (value : WorldValue) → IsHeld value → (place inode : ℕ) → IsVacant value inode
+    → IsAllotted value (handed_from value.next place inode)
+handed value held place inode vacant =
+    allotted_numbers_serve value.next place inode vacant.even (world_of value)
+    (worlds_keep_to_named_before value.next inode (world_of value) held.in_world (plain value) held.given vacant.unused)
+
+pub allotted : (value : WorldValue) → IsHeld value → (permit : Permit ℕ) → AreVacant value permit
+    → IsAllotted value (supply_of value permit)
+allotted value held (ToMake directory name node) vacant = handed value held 0 (next_inode value directory) vacant
+allotted value held (ToOpenNew directory name node access) vacant = handed value held 0 (next_inode value directory) vacant
+allotted value held (ToMountPlain place flags) vacant = handed value held 2 (inode_number value.next 0) vacant
+allotted value held Allowed vacant = counts value held
+allotted value held (ToList directory) vacant = counts value held
+allotted value held (ToStat object) vacant = counts value held
+allotted value held (ToRead file) vacant = counts value held
+allotted value held (ToReadPart file offset size) vacant = counts value held
+allotted value held (ToChange location change) vacant = counts value held
+allotted value held (ToRemoveDirectory parent name directory) vacant = counts value held
+allotted value held (ToRename from old to new object replaced) vacant = counts value held
+allotted value held (ToOpen file access) vacant = counts value held
+allotted value held (ToWritePart file offset bytes) vacant = counts value held
+allotted value held (ToClose descriptor) vacant = counts value held
+allotted value held (ToSetDirectory directory) vacant = counts value held
+allotted value held (ToSetRoot root) vacant = counts value held
+allotted value held (ToSetUmask umask) vacant = counts value held
+allotted value held (ToSetCredentials credentials) vacant = counts value held
+allotted value held (ToFork credentials) vacant = counts value held
+allotted value held ToExit vacant = counts value held
+allotted value held ToUnshare vacant = counts value held
+allotted value held (ToEnterNamespace namespace) vacant = counts value held
+allotted value held (ToMountOverlay place overlay flags) vacant = counts value held
+allotted value held (ToBind source place recursive) vacant = counts value held
+allotted value held (ToMove mount place) vacant = counts value held
+allotted value held (ToUnmount mount) vacant = counts value held
+allotted value held (ToUnmountLazily mount) vacant = counts value held
+allotted value held (ToSetFlags mount flags) vacant = counts value held
+allotted value held (ToSetType mount word recursive) vacant = counts value held
+allotted value held (ToPivot new put) vacant = counts value held
+allotted value held ToListMounts vacant = counts value held
+
+-- the grammar has no mount of an overlay
+pub no_overlay : (call : Call) → namespaces.has call ≡ true → mounts_overlay call ≡ false
+no_overlay (MountOverlay path options flags) has = absurd cc
+no_overlay call has = refl
+
+module _ (value : WorldValue) (name : TaskName) (call : Call) (permit : code.Permit) (given : IsPermitted value name call permit) where
+  abbrev granted : Permit ℕ
+  granted = permit_of given.task permit
+
+  -- whatever is handed in, the call is given the permit
+  pub judged_with : (fresh : ℕ → ℕ) → judge_in nat_eq fresh (world_of value) given.task call ≡ Ok granted
+  judged_with fresh =
+      judgements_do_not_see_supplies (world_of value) given.task call fresh (counts_from value.next)
+      (ungrouped value given.held) (no_overlay call given.has)
+      ∙ given.judged
+
+  -- so it is permitted to the task
+  pub permits : AreVacant value granted → Permits value name granted
+  permits vacant =
+      let supplied = allotted value given.held granted vacant in record {
+        task = given.task;
+        called = given.called;
+        given = record {
+          serves =
+              subst (Serves nat_eq (world_of value)) supplied.1
+              (room_serves may_be_given (world_of value) supplied.0 supplied.2.serves);
+          called =
+              subst (λ called. task_called (world_of value) called ≡ Some given.task)
+              (name_found (world_of value) name given.task given.called) given.called;
+          call = call;
+          no_overlay = no_overlay call given.has;
+          few_groups = given.few_groups;
+          judged = judged_with (supply_of value granted);
+        };
+      }

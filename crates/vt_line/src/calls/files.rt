@@ -1,0 +1,201 @@
+//! The calls on files that are given more than paths.
+ghost use Rattle.std.specs.Prelude.{◌≡◌, option_map};
+ghost use Rattle.vt_spec.specs.Language.Calls.Call.{Chmod, Chown, Mkdir, OpenFile, Pwrite, Write};
+ghost use Rattle.vt_spec.specs.Language.Script.{creation_words};
+ghost use Rattle.vt_request.specs.Requests.{access_of, call_of, creation_of};
+ghost use Rattle.vt_line.specs.Calls.{call_named, call_worded, IsCallRead};
+
+use crate::calls::ReadError;
+use crate::names::CallName;
+use crate::number::{descriptor_word, mode_word, offset_word};
+use crate::words::{Words, access_word, kept_or_identity, path_word};
+use std::alloc::Global;
+use vt_request::{Access, Call, Creation};
+use vt_spec::attributes::Mode;
+
+/// The words of `write PATH BYTES`.
+fn write_words(mut words: Words<'_>) -> Option<(&[u8], &[u8])>
+    ensures { option_map (λ w. Write w.0.now w.1.now) result ≡ call_worded CallName.Write words.entry }
+{
+    let path = path_word(words.next()?)?;
+    let bytes = words.next()?;
+    words.end()?;
+    Some((path, bytes))
+}
+
+/// The words of `mkdir PATH [MODE]`.
+fn mkdir_words(mut words: Words<'_>) -> Option<(&[u8], Option<Mode>)>
+    ensures { option_map (λ w. Mkdir w.0.now w.1) result ≡ call_worded CallName.Mkdir words.entry }
+{
+    let path = path_word(words.next()?)?;
+    let Some(mode) = words.next() else {
+        return Some((path, None));
+    };
+    let mode = mode_word(mode)?;
+    words.end()?;
+    Some((path, Some(mode)))
+}
+
+/// The words of `chmod PATH MODE`.
+fn chmod_words(mut words: Words<'_>) -> Option<(&[u8], Mode)>
+    ensures { option_map (λ w. Chmod w.0.now w.1) result ≡ call_worded CallName.Chmod words.entry }
+{
+    let path = path_word(words.next()?)?;
+    let mode = mode_word(words.next()?)?;
+    words.end()?;
+    Some((path, mode))
+}
+
+/// The words of `chown PATH UID GID`, of which one may stay.
+fn chown_words(mut words: Words<'_>) -> Option<(&[u8], Option<u32>, Option<u32>)>
+    ensures { option_map (λ w. Chown w.0.now w.1 w.2) result ≡ call_worded CallName.Chown words.entry }
+{
+    let path = path_word(words.next()?)?;
+    let uid = kept_or_identity(words.next()?)?;
+    let gid = kept_or_identity(words.next()?)?;
+    if uid.is_none() && gid.is_none() {
+        return None;
+    }
+    words.end()?;
+    Some((path, uid, gid))
+}
+
+/// The words that follow the path and the access of `open`: `create MODE`, `excl MODE` or none.
+fn creation_words(mut words: Words<'_>) -> Option<Creation>
+    ensures { option_map creation_of result ≡ creation_words words.entry }
+{
+    let Some(word) = words.next() else {
+        return Some(Creation::Never);
+    };
+    let is_exclusive = word == b"excl".as_slice();
+    if !is_exclusive && word != b"create".as_slice() {
+        return None;
+    }
+    let mode = mode_word(words.next()?)?;
+    words.end()?;
+    Some(if is_exclusive {
+        Creation::Exclusive(mode)
+    } else {
+        Creation::OrCreate(mode)
+    })
+}
+
+/// The words of `open PATH ACCESS`, with what is done where the name is missing.
+fn open_words(mut words: Words<'_>) -> Option<(&[u8], Access, Creation)>
+    ensures { option_map (λ w. OpenFile w.0.now (access_of w.1) (creation_of w.2)) result ≡ call_worded CallName.Open words.entry }
+{
+    let path = path_word(words.next()?)?;
+    let access = access_word(words.next()?)?;
+    let creation = creation_words(words)?;
+    Some((path, access, creation))
+}
+
+/// The words of `pwrite DESCRIPTOR OFFSET BYTES`.
+fn pwrite_words(mut words: Words<'_>) -> Option<(u8, u32, &[u8])>
+    ensures { option_map (λ w. Pwrite w.0 w.1 w.2.now) result ≡ call_worded CallName.Pwrite words.entry }
+{
+    let descriptor = descriptor_word(words.next()?)?;
+    let offset = offset_word(words.next()?)?;
+    let bytes = words.next()?;
+    words.end()?;
+    Some((descriptor, offset, bytes))
+}
+
+/// `pread DESCRIPTOR OFFSET SIZE`.
+pub fn pread(mut words: Words<'_>) -> Option<Call>
+    ensures { option_map call_of result ≡ call_named CallName.Pread words.entry }
+{
+    let descriptor = descriptor_word(words.next()?)?;
+    let offset = offset_word(words.next()?)?;
+    let size = offset_word(words.next()?)?;
+    words.end()?;
+    Some(Call::Pread {
+        descriptor,
+        offset,
+        size,
+    })
+}
+
+/// `close DESCRIPTOR`.
+pub fn close(mut words: Words<'_>) -> Option<Call>
+    ensures { option_map call_of result ≡ call_named CallName.Close words.entry }
+{
+    let descriptor = descriptor_word(words.next()?)?;
+    words.end()?;
+    Some(Call::Close { descriptor })
+}
+
+/// `write PATH BYTES`.
+pub fn write(alloc: Global, words: Words<'_>) -> Result<Call, ReadError>
+    ensures { IsCallRead (call_named CallName.Write words.entry) result }
+{
+    let Some((path, bytes)) = write_words(words) else {
+        return Err(ReadError::Grammar);
+    };
+    let path = path.to_vec(alloc)?;
+    let bytes = bytes.to_vec(alloc)?;
+    Ok(Call::Write { path, bytes })
+}
+
+/// `mkdir PATH [MODE]`.
+pub fn mkdir(alloc: Global, words: Words<'_>) -> Result<Call, ReadError>
+    ensures { IsCallRead (call_named CallName.Mkdir words.entry) result }
+{
+    let Some((path, mode)) = mkdir_words(words) else {
+        return Err(ReadError::Grammar);
+    };
+    let path = path.to_vec(alloc)?;
+    Ok(Call::Mkdir { path, mode })
+}
+
+/// `chmod PATH MODE`.
+pub fn chmod(alloc: Global, words: Words<'_>) -> Result<Call, ReadError>
+    ensures { IsCallRead (call_named CallName.Chmod words.entry) result }
+{
+    let Some((path, mode)) = chmod_words(words) else {
+        return Err(ReadError::Grammar);
+    };
+    let path = path.to_vec(alloc)?;
+    Ok(Call::Chmod { path, mode })
+}
+
+/// `chown PATH UID GID`.
+pub fn chown(alloc: Global, words: Words<'_>) -> Result<Call, ReadError>
+    ensures { IsCallRead (call_named CallName.Chown words.entry) result }
+{
+    let Some((path, uid, gid)) = chown_words(words) else {
+        return Err(ReadError::Grammar);
+    };
+    let path = path.to_vec(alloc)?;
+    Ok(Call::Chown { path, uid, gid })
+}
+
+/// `open PATH ACCESS [create MODE | excl MODE]`.
+pub fn open(alloc: Global, words: Words<'_>) -> Result<Call, ReadError>
+    ensures { IsCallRead (call_named CallName.Open words.entry) result }
+{
+    let Some((path, access, creation)) = open_words(words) else {
+        return Err(ReadError::Grammar);
+    };
+    let path = path.to_vec(alloc)?;
+    Ok(Call::OpenFile {
+        path,
+        access,
+        creation,
+    })
+}
+
+/// `pwrite DESCRIPTOR OFFSET BYTES`.
+pub fn pwrite(alloc: Global, words: Words<'_>) -> Result<Call, ReadError>
+    ensures { IsCallRead (call_named CallName.Pwrite words.entry) result }
+{
+    let Some((descriptor, offset, bytes)) = pwrite_words(words) else {
+        return Err(ReadError::Grammar);
+    };
+    let bytes = bytes.to_vec(alloc)?;
+    Ok(Call::Pwrite {
+        descriptor,
+        offset,
+        bytes,
+    })
+}

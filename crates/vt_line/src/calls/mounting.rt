@@ -1,0 +1,89 @@
+//! The calls on mounts that are given more than paths.
+ghost use Rattle.std.specs.Prelude.{◌≡◌, option_map, false};
+ghost use Rattle.vt_spec.specs.Language.Calls.Call.{MountPlain, Remount, SetType};
+ghost use Rattle.vt_location.specs.Flags.{flags_of};
+ghost use Rattle.vt_request.specs.Requests.{type_word_of};
+ghost use Rattle.vt_line.specs.Calls.{call_named, call_worded, IsCallRead};
+
+use crate::calls::ReadError;
+use crate::names::CallName;
+use crate::words::{Words, flags_word, path_word, type_word};
+use std::alloc::Global;
+use vt_location::MountFlags;
+use vt_request::{Call, TypeWord};
+
+/// The words of `mount plain PATH [FLAGS]`. The product has no overlays.
+fn mount_words(mut words: Words<'_>) -> Option<(&[u8], MountFlags)>
+    ensures { option_map (λ w. MountPlain w.0.now (flags_of w.1)) result ≡ call_named CallName.Mount words.entry }
+{
+    if words.next()? != b"plain".as_slice() {
+        return None;
+    }
+    let path = path_word(words.next()?)?;
+    let Some(flags) = words.next() else {
+        return Some((path, MountFlags::plain()));
+    };
+    let flags = flags_word(flags)?;
+    words.end()?;
+    Some((path, flags))
+}
+
+/// The words of `remount PATH FLAGS`.
+fn remount_words(mut words: Words<'_>) -> Option<(&[u8], MountFlags)>
+    ensures { option_map (λ w. Remount w.0.now (flags_of w.1)) result ≡ call_worded CallName.Remount words.entry }
+{
+    let path = path_word(words.next()?)?;
+    let flags = flags_word(words.next()?)?;
+    words.end()?;
+    Some((path, flags))
+}
+
+/// The words of `type PATH private` and `type PATH unbindable`. The product has no peer groups.
+fn type_words(mut words: Words<'_>) -> Option<(&[u8], TypeWord)>
+    ensures { option_map (λ w. SetType w.0.now (type_word_of w.1) false) result ≡ call_named CallName.SetType words.entry }
+{
+    let path = path_word(words.next()?)?;
+    let word = type_word(words.next()?)?;
+    words.end()?;
+    match word {
+        TypeWord::Private | TypeWord::Unbindable => Some((path, word)),
+        TypeWord::Shared | TypeWord::Slave => None,
+    }
+}
+
+/// `mount plain PATH [FLAGS]`.
+pub fn mount(alloc: Global, words: Words<'_>) -> Result<Call, ReadError>
+    ensures { IsCallRead (call_named CallName.Mount words.entry) result }
+{
+    let Some((path, flags)) = mount_words(words) else {
+        return Err(ReadError::Grammar);
+    };
+    let path = path.to_vec(alloc)?;
+    Ok(Call::MountPlain { path, flags })
+}
+
+/// `remount PATH FLAGS`.
+pub fn remount(alloc: Global, words: Words<'_>) -> Result<Call, ReadError>
+    ensures { IsCallRead (call_named CallName.Remount words.entry) result }
+{
+    let Some((path, flags)) = remount_words(words) else {
+        return Err(ReadError::Grammar);
+    };
+    let path = path.to_vec(alloc)?;
+    Ok(Call::Remount { path, flags })
+}
+
+/// `type PATH TYPE`.
+pub fn set_type(alloc: Global, words: Words<'_>) -> Result<Call, ReadError>
+    ensures { IsCallRead (call_named CallName.SetType words.entry) result }
+{
+    let Some((path, word)) = type_words(words) else {
+        return Err(ReadError::Grammar);
+    };
+    let path = path.to_vec(alloc)?;
+    Ok(Call::SetType {
+        path,
+        word,
+        recursive: false,
+    })
+}

@@ -1,0 +1,102 @@
+//! The calls of a task on itself that are given more than a path.
+ghost use Rattle.std.specs.Prelude.{◌≡◌, option_map, is_some, true, IfSome};
+ghost use Rattle.vt_spec.specs.Language.Calls.Call.{Fork, Setns};
+ghost use Rattle.vt_spec.specs.Language.Script.{fork_words, task_word};
+ghost use Rattle.vt_spec.specs.Lists.{then_some};
+ghost use Rattle.vt_request.specs.Requests.{call_of};
+ghost use Rattle.vt_line.specs.Calls.{call_named, call_worded, child_of, IsCallRead};
+
+use crate::calls::ReadError;
+use crate::names::CallName;
+use crate::number::{identity_word, mode_word};
+use crate::words::{Groups, Words, capabilities_word, groups_word, is_task, task_name};
+use std::alloc::Global;
+use vt_request::{Call, CapsWord, ForkWords};
+
+/// The credentials that a child is given, before they are kept.
+#[derive(Drop)]
+pub struct Child {
+    uid: u32,
+    gid: u32,
+    groups: Groups,
+    caps: CapsWord,
+}
+
+/// The words of `fork [UID GID GROUPS CAPS]`.
+fn fork_words(mut words: Words<'_>) -> Option<Option<Child>>
+    ensures { option_map (λ child. Fork (option_map child_of child)) result ≡ fork_words words.entry }
+{
+    let Some(uid) = words.next() else {
+        return Some(None);
+    };
+    let uid = identity_word(uid)?;
+    let gid = identity_word(words.next()?)?;
+    let groups = groups_word(words.next()?)?;
+    let caps = capabilities_word(words.next()?)?;
+    words.end()?;
+    Some(Some(Child {
+        uid,
+        gid,
+        groups,
+        caps,
+    }))
+}
+
+/// The word of `setns TASK`, which names a task.
+fn setns_word(mut words: Words<'_>) -> Option<&[u8]>
+    ensures task { IfSome result (λ task. is_some (task_word task.now) ≡ true) }
+    ensures call { then_some result (λ task. option_map Setns (task_word task.now)) ≡ call_worded CallName.Setns words.entry }
+{
+    let task = words.next()?;
+    words.end()?;
+    if is_task(task) { Some(task) } else { None }
+}
+
+/// `umask MODE`.
+pub fn umask(mut words: Words<'_>) -> Option<Call>
+    ensures { option_map call_of result ≡ call_named CallName.Umask words.entry }
+{
+    let mode = mode_word(words.next()?)?;
+    words.end()?;
+    Some(Call::Umask { mode })
+}
+
+/// `drop CAPS`.
+pub fn drop(mut words: Words<'_>) -> Option<Call>
+    ensures { option_map call_of result ≡ call_named CallName.Drop words.entry }
+{
+    let caps = capabilities_word(words.next()?)?;
+    words.end()?;
+    Some(Call::Drop { caps })
+}
+
+/// `fork [UID GID GROUPS CAPS]`.
+pub fn fork(alloc: Global, words: Words<'_>) -> Result<Call, ReadError>
+    ensures { IsCallRead (call_named CallName.Fork words.entry) result }
+{
+    let Some(child) = fork_words(words) else {
+        return Err(ReadError::Grammar);
+    };
+    let Some(child) = child else {
+        return Ok(Call::Fork { words: None });
+    };
+    let groups = child.groups.as_slice().to_vec(alloc)?;
+    let words = Some(ForkWords {
+        uid: child.uid,
+        gid: child.gid,
+        groups,
+        caps: child.caps,
+    });
+    Ok(Call::Fork { words })
+}
+
+/// `setns TASK`. Only a name of many numbers can fail.
+pub fn setns(alloc: Global, words: Words<'_>) -> Result<Call, ReadError>
+    ensures { IsCallRead (call_named CallName.Setns words.entry) result }
+{
+    let Some(task) = setns_word(words) else {
+        return Err(ReadError::Grammar);
+    };
+    let task = task_name(alloc, task)?;
+    Ok(Call::Setns { task })
+}

@@ -1,6 +1,0 @@
-//! What a call that no rule refuses may do: made by judging it, and spent by doing it.
-#![tactic(auto)]
-
-mod permit;
-
-pub use permit::{Change, Permit};

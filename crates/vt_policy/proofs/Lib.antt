@@ -1,3 +1,0 @@
-pub mod WalkEnds
-pub mod RenameLemmas
-pub mod MemoryLemmas

@@ -1,0 +1,93 @@
+-- What the grammar has: its calls, of which none mounts an overlay.
+use Rattle.std.proofs.Common.{◌≡◌, refl, ℕ, Bool, true, false, cond, List, [], ◌∷◌, Option, Some, None, option_map, subst}
+use Rattle.vt_spec.specs.Language.Calls.{Call, TaskName}
+use Rattle.vt_spec.specs.Language.Calls.Call.{Bind, Chdir, Chmod, Chown, Chroot, Close, Drop, Exec, Exit, Fork, Lazy, LinkTo, ListMounts, Ls, Lstat, MakeWhiteout, Mkdir, MountOverlay, MountPlain, MoveMount, Opaque, OpenFile, PivotRoot, Pread, Pwrite, Read, Readlink, Remount, Rename, Rmdir, SetType, Setns, Stat, SymlinkAt, Umask, Umount, Unlink, Unshare, Write}
+use Rattle.vt_spec.specs.Language.Script.{Request, Who, asked_by, call_asked, call_words, directive_asked, each_of, namespaces, raw_tokens, request_of, request_of_texts, token_text, who_of}
+use Rattle.vt_spec.specs.Language.Script.Request.{Asking, Calling}
+use Rattle.vt_spec.specs.Language.Script.Who.{Nobody, Someone}
+use Rattle.vt_spec.specs.Lists.{then_some, when}
+use Rattle.vt_tree_laws.specs.Trees.Calls.{mounts_overlay}
+
+pub no_overlays : (call : Call) → namespaces.has call ≡ true → mounts_overlay call ≡ false
+no_overlays (Ls path) has = refl
+no_overlays (Stat path) has = refl
+no_overlays (Lstat path) has = refl
+no_overlays (Readlink path) has = refl
+no_overlays (Read path) has = refl
+no_overlays (Write path bytes) has = refl
+no_overlays (Exec path) has = refl
+no_overlays (Mkdir path mode) has = refl
+no_overlays (SymlinkAt text path) has = refl
+no_overlays (MakeWhiteout path) has = refl
+no_overlays (LinkTo old new) has = refl
+no_overlays (Unlink path) has = refl
+no_overlays (Rmdir path) has = refl
+no_overlays (Rename old new) has = refl
+no_overlays (Chmod path mode) has = refl
+no_overlays (Chown path uid gid) has = refl
+no_overlays (Opaque path mark) has = refl
+no_overlays (OpenFile path access made) has = refl
+no_overlays (Pread descriptor offset size) has = refl
+no_overlays (Pwrite descriptor offset bytes) has = refl
+no_overlays (Close descriptor) has = refl
+no_overlays (Chdir path) has = refl
+no_overlays (Chroot path) has = refl
+no_overlays (Umask mode) has = refl
+no_overlays (Drop which) has = refl
+no_overlays (Fork words) has = refl
+no_overlays Exit has = refl
+no_overlays Unshare has = refl
+no_overlays (Setns task) has = refl
+no_overlays (MountPlain path flags) has = refl
+no_overlays (MountOverlay path options flags) has = cc
+no_overlays (Bind source path recursive) has = refl
+no_overlays (MoveMount source path) has = refl
+no_overlays (Umount path) has = refl
+no_overlays (Lazy path) has = refl
+no_overlays (Remount path flags) has = refl
+no_overlays (SetType path word recursive) has = refl
+no_overlays (PivotRoot new put) has = refl
+no_overlays ListMounts has = refl
+
+-- a call that is asked for is one that the grammar has
+abbrev IsHad : Option Request → Type 0
+IsHad None = Unit {0}
+IsHad (Some (Calling task call)) = namespaces.has call ≡ true
+IsHad (Some (Asking directive)) = Unit {0}
+
+call_had : (task : TaskName) (words : Option Call)
+    → IsHad (option_map (Calling task) (then_some words (λ call. when (namespaces.has call) call)))
+call_had task None = tt
+call_had task (Some call) = by (namespaces.has call) refl
+  where
+    by : (there : Bool) → namespaces.has call ≡ there → IsHad (option_map (Calling task) (when there call))
+    by true is = is
+    by false is = tt
+
+calls_had : (task : TaskName) (words : List (List ℕ)) → IsHad (call_asked namespaces task words)
+calls_had task [] = tt
+calls_had task (name ∷ words) = by (namespaces.knows name)
+  where
+    by : (known : Bool)
+        → IsHad (cond known (option_map (Calling task)
+        (then_some (call_words namespaces.version name words) (λ call. when (namespaces.has call) call))) None)
+    by true = call_had task (call_words namespaces.version name words)
+    by false = tt
+
+directives_had : (words : List (List ℕ)) → IsHad (directive_asked namespaces words)
+directives_had [] = tt
+directives_had (name ∷ words) = tt
+
+asked_had : (who : Option Who) (words : List (List ℕ)) → IsHad (asked_by namespaces who words)
+asked_had None words = tt
+asked_had (Some (Someone task)) words = calls_had task words
+asked_had (Some Nobody) words = directives_had words
+
+texts_had : (texts : Option (List (List ℕ))) → IsHad (then_some texts (request_of_texts namespaces))
+texts_had None = tt
+texts_had (Some []) = tt
+texts_had (Some (first ∷ words)) = asked_had (who_of first) words
+
+pub line_had : (line : List ℕ) (task : TaskName) (call : Call) → request_of namespaces line ≡ Some (Calling task call) → namespaces.has call ≡ true
+unfolding request_of
+line_had line task call is = subst IsHad is (texts_had (each_of token_text (raw_tokens line)))

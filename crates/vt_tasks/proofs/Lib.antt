@@ -1,3 +1,0 @@
-pub mod GivenOnce
-pub mod OpenLemmas
-pub mod TasksLemmas

@@ -1,2 +1,0 @@
-pub mod Open
-pub mod TasksValue

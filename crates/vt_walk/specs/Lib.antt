@@ -1,2 +1,0 @@
-pub mod PendingTexts
-pub mod WalkValue
