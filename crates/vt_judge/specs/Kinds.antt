@@ -24,7 +24,7 @@ is_on_file call = false
 
 -- open files
 abbrev pub is_on_descriptor : Call → Bool
-is_on_descriptor (OpenFile path access creation) = true
+is_on_descriptor (OpenFile path access how) = true
 is_on_descriptor (Pread descriptor offset size) = true
 is_on_descriptor (Pwrite descriptor offset bytes) = true
 is_on_descriptor (Close descriptor) = true

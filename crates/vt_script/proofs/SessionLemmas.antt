@@ -179,6 +179,11 @@ begun-grows old [] size longer = omega arith
 begun-grows [] (byte ∷ new) size longer = omega arith
 begun-grows (first ∷ old) (byte ∷ new) size longer = omega arith
 
+-- where some byte was read of the next line, one more line is begun
+pub begun_of_some : (line : List ℕ) → line ≢ [] → begun line ≡ 1
+begun_of_some [] some = absurd (some refl)
+begun_of_some (byte ∷ line) some = refl
+
 pub lines_begun-grows : (old new : State) (bytes : List ℕ) → new.answered ≡ old.answered → new.kept.bytes ≡ take 8192 (old.kept.bytes ++ bytes)
     → lines_begun new ≤ lines_begun old + length bytes
 lines_begun-grows old new bytes answered kept =

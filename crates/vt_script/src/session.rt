@@ -1,10 +1,9 @@
 //! What is kept from one piece of a script to the next.
 ghost use Rattle.std.specs.Prelude.{◌≡◌, ◌+◌, ◌<◌, ◌≤◌, ◌^◌, ◌++◌, ◌∷◌, [], List, ℕ, length, IfOk, IfErr, MatchOption, OnOk, OnErr};
 ghost use Rattle.vt_io.specs.LineBuffer.{Holds};
-ghost use Rattle.vt_world.specs.WorldValue.{world_of};
 ghost use Rattle.vt_script.specs.Progress.{opening_moment, HasNoNewline};
 ghost use Rattle.vt_script.specs.Session.{moment, lines_begun, IsReading, Feeds, Closes, Replies};
-ghost use Rattle.vt_script.specs.SessionValue.{state_of};
+ghost use Rattle.vt_script.specs.SessionValue.{state_of, world_seen};
 
 use memchr::memchr;
 use std::alloc::Global;
@@ -48,7 +47,7 @@ fn answer<W: Sink>(
 ) -> Result<(), RunFault>
     requires { W.failures sink.old + 1 < 2 ^ 64 }
     ensures replies { (text : List ℕ) → Holds text line.now
-        → Replies W.Sink (world_of world.old) text number result (world_of world.new) sink.old sink.new }
+        → Replies W.Sink (world_seen world.old) text number result (world_seen world.new) sink.old sink.new }
     ensures kept { OnOk result (W.failures sink.new ≡ W.failures sink.old) }
     ensures counted { OnErr result (W.failures sink.new ≡ W.failures sink.old + 1) }
     ensures fault { IfErr result (λ fault. fault ≡ RunFault.Write) }
