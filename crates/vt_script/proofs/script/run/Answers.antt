@@ -1,5 +1,8 @@
-use Rattle.std.proofs.Common.{sym, ap, ◌∙◌, ◌++◌, take, append_assoc, append-nil, length-take, arith}
-use Rattle.vt_script.proofs.SessionLemmas.{fed_then, broke_then}
+use Rattle.std.proofs.Common.{Err, inl, [], refl, sym, ap, subst, ◌∙◌, ◌++◌, take, append_assoc, append-nil, length-take, arith}
+use Rattle.std.proofs.lemmas.Result.{err_from_is_err_and}
+use Rattle.vt_script.specs.Session.{Fed}
+use Rattle.vt_script.specs.SessionValue.{state_of}
+use Rattle.vt_script.proofs.SessionLemmas.{fed_nothing, fed_then, broke_then}
 use Rattle.vt_script.proofs.ToldLemmas.{whole_held, broke_held, ends_well, ends_badly}
 use Rattle.vt_script.proofs.script.run.Goals as goal
 
@@ -10,6 +13,21 @@ returns-in-Err-clause-after_read g c = λ is tells holds.
       inv.rest tells ∙ ap (λ rest. inv.read ++ rest) (sym (c.in-Err.ensures.none_lost (inv.source_tells tells))),
       whole_held g.W.Sink inv.read _ _ _ inv.feeds holds,
     )
+
+pub pieces-init : goal.pieces-init
+pieces-init g c =
+    let new = state_of c.in_ok-session.session in
+    let sink = c.args.sink.now in
+    record {
+      source_failures = refl;
+      sink_failures = refl;
+      lines = omega (arith, c.in_ok-session.ensures.begun, g.met.R.Source.limited c.args.source.now);
+      source_tells = λ tells. tells;
+      read = [];
+      rest = λ tells. refl;
+      feeds = subst (λ old. Fed g.W.Sink old [] new sink sink) c.in_ok-session.ensures.opening
+          (fed_nothing g.W.Sink new [] sink c.in_ok-session.ensures.reading);
+    }
 
 pub pieces-preserved : goal.pieces-preserved
 pieces-preserved g c =
@@ -30,6 +48,11 @@ returns-in_err-feed-clause-after_write g c = λ is tells holds.
     broke_held g.W.Sink _ (inv.read ++ take c.in-Ok.count c.read.new.buffer) (g.R.Source.rest c.read.new.self) _ _
     (inv.rest tells ∙ ap (λ rest. inv.read ++ rest) (c.in-Ok.ensures.bytes (inv.source_tells tells)) ∙ sym (append_assoc inv.read _ _))
     (broke_then g.W.Sink _ inv.read _ _ _ _ _ inv.feeds (c.in_err-feed.ensures.feeds inv.feeds.line inv.feeds.reading)) holds
+
+pub returns-in_err-feed-clause-no_write_failed : goal.returns-in_err-feed-clause-no_write_failed
+returns-in_err-feed-clause-no_write_failed g c =
+    let failed = err_from_is_err_and c.from_residual-in_err-feed.result c.from_residual-in_err-feed.ensures.1 in
+    inl (failed.1 ∙ ap Err (failed.2 ∙ c.in_err-feed.ensures.fault))
 
 pub returns-clause-ok : goal.returns-clause-ok
 returns-clause-ok g c =

@@ -10,7 +10,7 @@ use Rattle.vt_script.proofs.GrammarLemmas.{line_had}
 use Rattle.vt_script.proofs.session.answer.Goals as goal
 
 pub returns-then-is_overlong-clause-replies : goal.returns-then-is_overlong-clause-replies
-  unfolding world_seen
+unfolding world_seen
 returns-then-is_overlong-clause-replies g c = λ text held.
     replies_too_long g.W.Sink c.write_reply.result (world_seen c.args.world.now) text c.args.line.now c.args.number _ _ held
     (sym c.is_overlong.ensures ∙ c.if-is_overlong.true)
@@ -18,13 +18,13 @@ returns-then-is_overlong-clause-replies g c = λ text held.
     c.denial.ensures c.write_reply.ensures.printed)
 
 pub returns-in-Ok-Silent-clause-replies : goal.returns-in-Ok-Silent-clause-replies
-  unfolding world_seen
+unfolding world_seen
 returns-in-Ok-Silent-clause-replies g c = λ text held.
     let whole : c.bytes.result.now ≡ text = c.bytes.ensures ∙ kept_whole text c.args.line.now held (sym c.is_overlong.ensures ∙ c.if-is_overlong.false) in
     replied_silent g.W.Sink _ text c.args.number _ (subst IsSilent whole (c.in-Ok-Silent.ensures.silent.0 (ap Ok c.in-Ok-Silent.field-0-is)))
 
 pub returns-in-Ok-Call-clause-replies : goal.returns-in-Ok-Call-clause-replies
-  unfolding world_seen
+unfolding world_seen
 returns-in-Ok-Call-clause-replies g c = λ text held.
     let whole : c.bytes.result.now ≡ text = c.bytes.ensures ∙ kept_whole text c.args.line.now held (sym c.is_overlong.ensures ∙ c.if-is_overlong.false) in
     let reading = subst (λ l. IsReadingOf l c.in-Ok-Call.field-0) whole c.in-Ok-Call.ensures.reading in
@@ -38,7 +38,7 @@ call-answer-requires g c =
     line_had c.bytes.result.now _ _ reading.1
 
 pub returns-in-Err-clause-replies : goal.returns-in-Err-clause-replies
-  unfolding world_seen
+unfolding world_seen
 returns-in-Err-clause-replies g c = λ text held.
     let whole : c.bytes.result.now ≡ text = c.bytes.ensures ∙ kept_whole text c.args.line.now held (sym c.is_overlong.ensures ∙ c.if-is_overlong.false) in
     replies_unread g.W.Sink c.write_reply-in-Err.result c.args.world.now text c.args.number c.in-Err.deny _ _ c.is_held.ensures c.in-Err.ensures.refused
