@@ -6,3 +6,12 @@ pub mod Through
 pub mod Opened
 pub mod OpenedNew
 pub mod WalkedAlike
+pub mod Ways
+pub mod WaysPlaces
+pub mod WaysTrees
+pub mod WaysStay
+pub mod WaysChanges
+pub mod AfterChange
+pub mod Looked
+pub mod Readers
+pub mod Unlinked

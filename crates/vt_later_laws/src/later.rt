@@ -1,4 +1,5 @@
 //! What later calls of the machine see of earlier ones.
+ghost use Rattle.vt_later_laws.specs.LaterPaths.{UnlinkThenLstat};
 ghost use Rattle.vt_later_laws.specs.Later.{CreateThenPread, ExclusiveThenPread, OpenOrCreateThenPread, OpenThenPread, PwriteThenPread};
 
 /// What a granted call did is seen by the calls after it, in a world that has the invariants, and no overlay.
@@ -10,4 +11,12 @@ pub fn later_calls_see_earlier_ones()
     ensures opened_or_created { OpenOrCreateThenPread }
     ensures created { CreateThenPread }
     ensures created_alone { ExclusiveThenPread }
+{}
+
+/// What a granted call did is seen at the same path by the calls after it: by the same task, and by each task that has its root and
+/// working directory and may search and read everything.
+///
+/// The walk to it leads where it led, through mounts and symlinks. Only the removal of a name takes it away.
+pub fn later_calls_see_it_at_the_path()
+    ensures unlinked { UnlinkThenLstat }
 {}
