@@ -15,3 +15,5 @@ pub mod AfterChange
 pub mod Looked
 pub mod Readers
 pub mod Unlinked
+pub mod MadeSeen
+pub mod LinkedSeen

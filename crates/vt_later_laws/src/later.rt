@@ -1,5 +1,5 @@
 //! What later calls of the machine see of earlier ones.
-ghost use Rattle.vt_later_laws.specs.LaterPaths.{UnlinkThenLstat};
+ghost use Rattle.vt_later_laws.specs.LaterPaths.{LinkThenLstat, MkdirThenList, SymlinkThenReadlink, UnlinkThenLstat};
 ghost use Rattle.vt_later_laws.specs.Later.{CreateThenPread, ExclusiveThenPread, OpenOrCreateThenPread, OpenThenPread, PwriteThenPread};
 
 /// What a granted call did is seen by the calls after it, in a world that has the invariants, and no overlay.
@@ -18,5 +18,8 @@ pub fn later_calls_see_earlier_ones()
 ///
 /// The walk to it leads where it led, through mounts and symlinks. Only the removal of a name takes it away.
 pub fn later_calls_see_it_at_the_path()
+    ensures made { MkdirThenList }
+    ensures linked { SymlinkThenReadlink }
+    ensures named { LinkThenLstat }
     ensures unlinked { UnlinkThenLstat }
 {}
