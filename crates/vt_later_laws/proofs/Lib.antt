@@ -17,3 +17,4 @@ pub mod Readers
 pub mod Unlinked
 pub mod MadeSeen
 pub mod LinkedSeen
+pub mod AttrSeen

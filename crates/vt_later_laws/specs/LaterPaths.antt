@@ -1,14 +1,16 @@
 -- What later calls see at a path of an earlier one, in a world that has the invariants, and no overlay. The later call is at the
 -- same path; symlinks on the way are followed, and a final one where the call follows it.
 use Rattle.std.specs.Prelude.{Bool, Err, List, Ok, Option, Some, [], nat_eq, true, ℕ, ◌||◌, ◌≡◌, ◌⊎◌}
+use Rattle.vt_spec.specs.declared.attributes.Attr.{Attr}
 use Rattle.vt_spec.specs.declared.errors.Rule.{Rule}
-use Rattle.vt_spec.specs.declared.errors.Rule.TheVariants.{C1, W6}
+use Rattle.vt_spec.specs.declared.errors.Rule.TheVariants.{C1, W4, W6}
 use Rattle.vt_spec.specs.Errors.{denial}
 use Rattle.vt_spec.specs.Language.Answers.{Answer, StatLine}
 use Rattle.vt_spec.specs.Language.Answers.Answer.{Bytes, Done, Names, Told}
 use Rattle.vt_spec.specs.Language.Calls.{Call, TaskName}
-use Rattle.vt_spec.specs.Language.Calls.Call.{LinkTo, Ls, Lstat, Mkdir, Readlink, SymlinkAt, Unlink}
+use Rattle.vt_spec.specs.Language.Calls.Call.{Chmod, Chown, LinkTo, Ls, Lstat, Mkdir, Readlink, Stat, SymlinkAt, Unlink}
 use Rattle.vt_spec.specs.Lists.{Fresh}
+use Rattle.vt_spec.specs.Machine.Outcome.Attributes.{attr_with_mode, attr_with_owner}
 use Rattle.vt_spec.specs.Machine.Policy.{policy}
 use Rattle.vt_spec.specs.Machine.Run.{Serves}
 use Rattle.vt_spec.specs.Machine.World.{Task, World, task_called}
@@ -87,3 +89,21 @@ LinkThenLstat =
     → (line : StatLine) × IsAnswered world name (Lstat old) (Told line)
     × IsAnswered (policy nat_eq fresh world name (LinkTo old new)).world name (Lstat new) (Told line)
     × IsSeenByAll (policy nat_eq fresh world name (LinkTo old new)).world task (Lstat new) (Told line)
+
+-- After a granted call that sets attributes stat tells these in the place of those that it told before, and nothing else has
+-- changed. Where the object is a directory on the way, the task may have lost the right to search it.
+abbrev pub TellsAfter : Call → List ℕ → (Attr → Attr) → Type 0
+TellsAfter call path set =
+    (world : World ℕ) (fresh : Fresh ℕ) (name : TaskName) (task : Task ℕ)
+    → IsWorld nat_eq world → IsPlain world → Serves nat_eq world fresh → task_called world name ≡ Some task
+    → (policy nat_eq fresh world name call).answer ≡ Ok Done
+    → (line : StatLine) × IsAnswered world name (Stat path) (Told line)
+    × IsAnsweredUnless W4 (policy nat_eq fresh world name call).world name (Stat path) (Told (record line { attr = set line.attr }))
+    × IsSeenByAll (policy nat_eq fresh world name call).world task (Stat path) (Told (record line { attr = set line.attr }))
+
+abbrev pub ChmodThenStat : Type 0
+ChmodThenStat = (path : List ℕ) (mode : ℕ) → TellsAfter (Chmod path mode) path (λ attr. attr_with_mode attr mode)
+
+abbrev pub ChownThenStat : Type 0
+ChownThenStat =
+    (path : List ℕ) (uid gid : Option ℕ) → TellsAfter (Chown path uid gid) path (λ attr. attr_with_owner attr uid gid)

@@ -1,5 +1,5 @@
 //! What later calls of the machine see of earlier ones.
-ghost use Rattle.vt_later_laws.specs.LaterPaths.{LinkThenLstat, MkdirThenList, SymlinkThenReadlink, UnlinkThenLstat};
+ghost use Rattle.vt_later_laws.specs.LaterPaths.{ChmodThenStat, ChownThenStat, LinkThenLstat, MkdirThenList, SymlinkThenReadlink, UnlinkThenLstat};
 ghost use Rattle.vt_later_laws.specs.Later.{CreateThenPread, ExclusiveThenPread, OpenOrCreateThenPread, OpenThenPread, PwriteThenPread};
 
 /// What a granted call did is seen by the calls after it, in a world that has the invariants, and no overlay.
@@ -16,10 +16,13 @@ pub fn later_calls_see_earlier_ones()
 /// What a granted call did is seen at the same path by the calls after it: by the same task, and by each task that has its root and
 /// working directory and may search and read everything.
 ///
-/// The walk to it leads where it led, through mounts and symlinks. Only the removal of a name takes it away.
+/// The walk to it leads where it led, through mounts and symlinks. Of the changes only those of rights may hide it from the task, and only the removal
+/// of a name takes it away.
 pub fn later_calls_see_it_at_the_path()
     ensures made { MkdirThenList }
     ensures linked { SymlinkThenReadlink }
+    ensures mode_set { ChmodThenStat }
+    ensures owner_set { ChownThenStat }
     ensures named { LinkThenLstat }
     ensures unlinked { UnlinkThenLstat }
 {}

@@ -1,3 +1,4 @@
+use Rattle.vt_later_laws.proofs.AttrSeen.{chmod_then_stat, chown_then_stat}
 use Rattle.vt_later_laws.proofs.LinkedSeen.{link_then_lstat}
 use Rattle.vt_later_laws.proofs.MadeSeen.{mkdir_then_list, symlink_then_readlink}
 use Rattle.vt_later_laws.proofs.Unlinked.{unlink_then_lstat}
@@ -8,6 +9,12 @@ returns-clause-made c = mkdir_then_list
 
 pub returns-clause-linked : goal.returns-clause-linked
 returns-clause-linked c = symlink_then_readlink
+
+pub returns-clause-mode_set : goal.returns-clause-mode_set
+returns-clause-mode_set c = chmod_then_stat
+
+pub returns-clause-owner_set : goal.returns-clause-owner_set
+returns-clause-owner_set c = chown_then_stat
 
 pub returns-clause-named : goal.returns-clause-named
 returns-clause-named c = link_then_lstat
