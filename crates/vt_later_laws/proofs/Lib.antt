@@ -18,3 +18,5 @@ pub mod Unlinked
 pub mod MadeSeen
 pub mod LinkedSeen
 pub mod AttrSeen
+pub mod WaysFiles
+pub mod WrittenSeen

@@ -1,17 +1,17 @@
 -- What calls that look answer where their walks end.
 use Rattle.std.proofs.Common.{◌≡◌, refl, ap, ◌∙◌, inl, inr, ◌⊎◌, ℕ, nat_eq, Bool, true, false, cond, not, ◌||◌, ◌&&◌, List, [], ◌∷◌, Option, Some, None, Result, Ok, Err, ok_or}
 use Rattle.vt_spec.specs.declared.attributes.Attr.{Attr}
-use Rattle.vt_spec.specs.declared.attributes.Kind.TheVariants.{Link}
-use Rattle.vt_spec.specs.declared.errors.Rule.TheVariants.{B1, C1, E5, S2}
+use Rattle.vt_spec.specs.declared.attributes.Kind.TheVariants.{File, Link, White}
+use Rattle.vt_spec.specs.declared.errors.Rule.TheVariants.{B1, C1, E2, E5, E9, S2}
 use Rattle.vt_spec.specs.Errors.{denial}
 use Rattle.vt_spec.specs.FileTree.{is_kind_in}
 use Rattle.vt_spec.specs.Language.Answers.Answer.{Bytes, Names, Told}
 use Rattle.vt_spec.specs.Language.Calls.{Call, TaskName}
-use Rattle.vt_spec.specs.Language.Calls.Call.{Ls, Lstat, Readlink, Stat}
+use Rattle.vt_spec.specs.Language.Calls.Call.{Ls, Lstat, Read, Readlink, Stat}
 use Rattle.vt_spec.specs.Lists.{Fresh}
 use Rattle.vt_spec.specs.Machine.Judge.{judge_in}
 use Rattle.vt_spec.specs.Machine.Mounts.{Location}
-use Rattle.vt_spec.specs.Machine.Outcome.Looking.{list_outcome, list_rules, lstat_outcome, readlink_outcome, readlink_rules, stat_line, stat_outcome}
+use Rattle.vt_spec.specs.Machine.Outcome.Looking.{list_outcome, list_rules, lstat_outcome, read_outcome, read_rules, readlink_outcome, readlink_rules, stat_line, stat_outcome}
 use Rattle.vt_spec.specs.Machine.Outcomes.{Outcome, after, granted, judged}
 use Rattle.vt_spec.specs.Machine.Policy.{call_outcome, filesystems_changed_by, finished, policy}
 use Rattle.vt_spec.specs.Machine.Rightful.{mounter_allows, node_allows}
@@ -134,5 +134,27 @@ module _ (world : World ℕ) (fresh : Fresh ℕ) (name : TaskName) (task : Task 
       by : (b : Bool)
           → (judged world ((not b, C1) ∷ (false, B1) ∷ []) (granted (Names (names_in (node_at nat_eq world here.location))) world)).answer
           ≡ cond b (Ok (Names (names_in (node_at nat_eq world here.location)))) (Err (denial C1))
+      by true = refl
+      by false = refl
+
+  -- a regular file is read, if it may be
+  pub read_of : IsPlain world → (here : Here ℕ) → object_walk nat_eq world task path ≡ Ok here
+      → (attr : Attr) (bytes : List ℕ) → node_at nat_eq world here.location ≡ Some (record { attr = attr; content = Regular bytes })
+      → (policy nat_eq fresh world name (Read path)).answer
+      ≡ cond (allows task.credentials attr File read_right) (Ok (Bytes bytes)) (Err (denial C1))
+  unfolding read_outcome
+  read_of plain here walk attr bytes is =
+      ap (λ o. (by_task (Read path) o).answer) called
+      ∙ ap (λ r. (after world (walk_end r) (λ here. judged world (read_rules nat_eq world task here.location)
+      (granted (Bytes (bytes_in (node_at nat_eq world here.location))) world))).answer) walk
+      ∙ (λ i. (judged world ((is_directory_node (is i), E2) ∷ (is_kind_in White (is i), E9)
+      ∷ (not (node_allows task.credentials read_right (is i)), C1)
+      ∷ (not (mounter_allows (plain_numbered world plain (mount_at nat_eq world here.location).filesystem i) read_right (is i)), B1) ∷ [])
+      (granted (Bytes (bytes_in (is i))) world)).answer)
+      ∙ by (allows task.credentials attr File read_right)
+    where
+      by : (b : Bool)
+          → (judged world ((false, E2) ∷ (false, E9) ∷ (not b, C1) ∷ (false, B1) ∷ []) (granted (Bytes bytes) world)).answer
+          ≡ cond b (Ok (Bytes bytes)) (Err (denial C1))
       by true = refl
       by false = refl

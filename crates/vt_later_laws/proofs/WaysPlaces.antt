@@ -33,17 +33,17 @@ pub record NamedPlace (looks : Looks ℕ) (task : Task ℕ) (path : List ℕ) (p
   pub slash_is : ends_in_slash path ≡ place.slash
 
 -- what a word that names an entry was placed at
-record IsPlacedAt (looks : Looks ℕ) (task : Task ℕ) (here : Here ℕ) (last : LastWord) (slash : Bool) (place : Place ℕ) : Type 0 where
-  searched : AllPass (search_rules nat_eq looks task here.location)
-  parent_is : here.location ≡ place.parent
-  last_is : last ≡ place.last
-  object_is : object_named nat_eq looks task here.location last ≡ Ok place.object
-  slash_is : slash ≡ place.slash
+pub record IsPlacedAt (looks : Looks ℕ) (task : Task ℕ) (here : Here ℕ) (last : LastWord) (slash : Bool) (place : Place ℕ) : Type 0 where
+  pub searched : AllPass (search_rules nat_eq looks task here.location)
+  pub parent_is : here.location ≡ place.parent
+  pub last_is : last ≡ place.last
+  pub object_is : object_named nat_eq looks task here.location last ≡ Ok place.object
+  pub slash_is : slash ≡ place.slash
 
 no_name : (last : LastWord) (place : Place ℕ) → last ≡ place.last → is_special last ≡ true → is_special place.last ≡ false → ⊥
 no_name last place e special named = true≢false (sym special ∙ ap is_special e ∙ named)
 
-placed_at : (looks : Looks ℕ) (task : Task ℕ) (here : Here ℕ) (last : LastWord) (slash : Bool) (place : Place ℕ)
+pub placed_at : (looks : Looks ℕ) (task : Task ℕ) (here : Here ℕ) (last : LastWord) (slash : Bool) (place : Place ℕ)
     → placed nat_eq looks task here last slash ≡ Ok place → is_special place.last ≡ false
     → IsPlacedAt looks task here last slash place
 placed_at looks task here NoWord slash place e special =
@@ -117,7 +117,7 @@ module _ (looks later : Looks ℕ) (task reader : Task ℕ) (Refused : Deny → 
   abbrev pub EndsSo : Result (Here ℕ) (Stop ℕ) → Here ℕ → Type 0
   EndsSo walk here = Ends looks later task reader Refused Known leads walk here
 
-  begun : (path : List ℕ) → walk_start reader path ≡ at (walk_start task path) []
+  pub begun : (path : List ℕ) → walk_start reader path ≡ at (walk_start task path) []
   begun path = λ i.
       record {
         location = start_same looks later task reader Refused Known leads reader.directory task.directory path leads.working i;
@@ -162,14 +162,14 @@ module _ (looks later : Looks ℕ) (task reader : Task ℕ) (Refused : Deny → 
       ), subst (λ (h : Here ℕ). Known h.location) parts.1 known))
 
   -- what is led through a walk that ends so
-  through : {B : Type 0} (P : Result B (Stop ℕ) → Type 0) (first : Result (Here ℕ) (Stop ℕ)) (next : Here ℕ → Result B (Stop ℕ))
+  pub through : {B : Type 0} (P : Result B (Stop ℕ) → Type 0) (first : Result (Here ℕ) (Stop ℕ)) (next : Here ℕ → Result B (Stop ℕ))
       (a : Here ℕ) → EndsSo first a → ((steps : List (List ℕ)) → Known a.location → P (next (at a steps)))
       → ((stop : Stop ℕ) → Refused stop.deny → P (Err stop)) → P (then_walk first next)
   through P first next a (inl e) ends stops = subst (λ r. P (then_walk r next)) (sym e.0.1) (ends e.0.0 e.1)
   through P first next a (inr stop) ends stops = subst (λ r. P (then_walk r next)) (sym stop.2) (stops stop.0 stop.1)
 
   -- the last word, which leads to what is there now
-  last_too : (here : Here ℕ) (word : LastWord) (next : Location ℕ) (steps : List (List ℕ)) → Known here.location
+  pub last_too : (here : Here ℕ) (word : LastWord) (next : Location ℕ) (steps : List (List ℕ)) → Known here.location
       → AllPass (search_rules nat_eq looks task here.location) → stepped nat_eq later reader here.location word ≡ Ok next
       → EndsThere Refused (word_walked nat_eq later reader (at here steps) word) next here.left
   last_too here word next steps known pass found =

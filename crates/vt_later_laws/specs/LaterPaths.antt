@@ -8,7 +8,7 @@ use Rattle.vt_spec.specs.Errors.{denial}
 use Rattle.vt_spec.specs.Language.Answers.{Answer, StatLine}
 use Rattle.vt_spec.specs.Language.Answers.Answer.{Bytes, Done, Names, Told}
 use Rattle.vt_spec.specs.Language.Calls.{Call, TaskName}
-use Rattle.vt_spec.specs.Language.Calls.Call.{Chmod, Chown, LinkTo, Ls, Lstat, Mkdir, Readlink, Stat, SymlinkAt, Unlink}
+use Rattle.vt_spec.specs.Language.Calls.Call.{Chmod, Chown, LinkTo, Ls, Lstat, Mkdir, Read, Readlink, Stat, SymlinkAt, Unlink, Write}
 use Rattle.vt_spec.specs.Lists.{Fresh}
 use Rattle.vt_spec.specs.Machine.Outcome.Attributes.{attr_with_mode, attr_with_owner}
 use Rattle.vt_spec.specs.Machine.Policy.{policy}
@@ -58,6 +58,14 @@ IsSeenByAll world task call answer =
 abbrev pub IsRefusedToAll : Rule → World ℕ → Task ℕ → Call → Type 0
 IsRefusedToAll rule world task call =
     (name : TaskName) (reading : Task ℕ) → LooksFrom world task name reading → IsRefused rule world name call
+
+-- What was written at a path is read there, unless the task may write and not read. A final symlink is followed, also one that
+-- led to no file yet.
+abbrev pub WriteThenRead : Type 0
+WriteThenRead =
+    (path bytes : List ℕ)
+    → AfterGranted (Write path bytes) (λ later name task.
+    IsAnsweredUnless C1 later name (Read path) (Bytes bytes) × IsSeenByAll later task (Read path) (Bytes bytes))
 
 -- A directory that was made is listed, and is empty, unless the task may not read it.
 abbrev pub MkdirThenList : Type 0

@@ -1,5 +1,5 @@
 //! What later calls of the machine see of earlier ones.
-ghost use Rattle.vt_later_laws.specs.LaterPaths.{ChmodThenStat, ChownThenStat, LinkThenLstat, MkdirThenList, SymlinkThenReadlink, UnlinkThenLstat};
+ghost use Rattle.vt_later_laws.specs.LaterPaths.{ChmodThenStat, ChownThenStat, LinkThenLstat, MkdirThenList, SymlinkThenReadlink, UnlinkThenLstat, WriteThenRead};
 ghost use Rattle.vt_later_laws.specs.Later.{CreateThenPread, ExclusiveThenPread, OpenOrCreateThenPread, OpenThenPread, PwriteThenPread};
 
 /// What a granted call did is seen by the calls after it, in a world that has the invariants, and no overlay.
@@ -19,6 +19,7 @@ pub fn later_calls_see_earlier_ones()
 /// The walk to it leads where it led, through mounts and symlinks. Of the changes only those of rights may hide it from the task, and only the removal
 /// of a name takes it away.
 pub fn later_calls_see_it_at_the_path()
+    ensures written { WriteThenRead }
     ensures made { MkdirThenList }
     ensures linked { SymlinkThenReadlink }
     ensures mode_set { ChmodThenStat }

@@ -2,7 +2,11 @@ use Rattle.vt_later_laws.proofs.AttrSeen.{chmod_then_stat, chown_then_stat}
 use Rattle.vt_later_laws.proofs.LinkedSeen.{link_then_lstat}
 use Rattle.vt_later_laws.proofs.MadeSeen.{mkdir_then_list, symlink_then_readlink}
 use Rattle.vt_later_laws.proofs.Unlinked.{unlink_then_lstat}
+use Rattle.vt_later_laws.proofs.WrittenSeen.{write_then_read}
 use Rattle.vt_later_laws.proofs.later.later_calls_see_it_at_the_path.Goals as goal
+
+pub returns-clause-written : goal.returns-clause-written
+returns-clause-written c = write_then_read
 
 pub returns-clause-made : goal.returns-clause-made
 returns-clause-made c = mkdir_then_list
