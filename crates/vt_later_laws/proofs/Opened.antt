@@ -47,7 +47,7 @@ free_above number (descriptor ∷ rest) = by (nat_eq descriptor.number number) (
     by true h = omega arith
     by false h = omega arith
 
-inserted_found : (number : ℕ) (descriptors : List (Descriptor ℕ)) (new : Descriptor ℕ)
+pub inserted_found : (number : ℕ) (descriptors : List (Descriptor ℕ)) (new : Descriptor ℕ)
     → are_ascending_from number descriptors ≡ true → new.number ≡ free_from number descriptors
     → find (λ (d : Descriptor ℕ). nat_eq new.number d.number) (inserted new descriptors) ≡ Some new
 inserted_found number [] new order free =
@@ -153,7 +153,7 @@ open_parts looks task path access permit e =
     )
 
 -- without overlays nothing is copied when a file is opened
-open_spent : (fresh : Fresh ℕ) (world : World ℕ) (plain : IsPlain world) (task : Task ℕ) (file : Location ℕ)
+pub open_spent : (fresh : Fresh ℕ) (world : World ℕ) (plain : IsPlain world) (task : Task ℕ) (file : Location ℕ)
     (access : Access) → apply nat_eq fresh world task (ToOpen file access) ≡ opened world task file access
 open_spent fresh world plain task file access =
     ap (λ b. opened (with_copy nat_eq b fresh world file) task file access)
@@ -164,14 +164,14 @@ open_spent fresh world plain task file access =
     nothing true = refl
     nothing false = refl
 
-opened_number : (a b : ℕ) → Path (Result Answer Deny) (Ok (Opened a)) (Ok (Opened b)) → b ≡ a
+pub opened_number : (a b : ℕ) → Path (Result Answer Deny) (Ok (Opened a)) (Ok (Opened b)) → b ≡ a
 opened_number a b e = sym (ap of_answer e)
   where
     of_answer : Result Answer Deny → ℕ
     of_answer (Ok (Opened number)) = number
     of_answer answer = 0
 
-descriptors_in_order : (task : Task ℕ) → is_within_limits task ≡ true → are_ascending_from 0 task.descriptors ≡ true
+pub descriptors_in_order : (task : Task ℕ) → is_within_limits task ≡ true → are_ascending_from 0 task.descriptors ≡ true
 descriptors_in_order task h =
     (and_parts _ _ (and_parts _ _ (and_parts _ _ (and_parts _ _ (and_parts _ _ (and_parts _ _ h).0).0).0).0).0).1
 

@@ -1,16 +1,17 @@
 -- What later calls see of an earlier one, in a world that has the invariants, and no overlay.
-use Rattle.std.specs.Prelude.{List, Ok, Some, drop, length, nat_eq, take, true, ℕ, ◌≡◌}
+use Rattle.std.specs.Prelude.{List, None, Ok, Some, [], drop, length, nat_eq, take, true, ℕ, ◌≡◌}
 use Rattle.vt_spec.specs.Language.Calls.{Access, Call, TaskName}
 use Rattle.vt_spec.specs.Language.Calls.Call.{OpenFile, Pread, Pwrite}
-use Rattle.vt_spec.specs.Language.Calls.Creation.{NoCreation}
+use Rattle.vt_spec.specs.Language.Calls.Creation.{Exclusive, NoCreation, OrCreate}
 use Rattle.vt_spec.specs.Lists.{Fresh}
 use Rattle.vt_spec.specs.Machine.Mounts.{Location}
+use Rattle.vt_spec.specs.Machine.Outcome.Making.{new_file}
 use Rattle.vt_spec.specs.Machine.Outcome.Descriptors.{descriptor_numbered, free_number}
 use Rattle.vt_spec.specs.Language.Answers.{Answer}
 use Rattle.vt_spec.specs.Language.Answers.Answer.{Bytes, Done, Opened}
 use Rattle.vt_spec.specs.Machine.Policy.{policy}
 use Rattle.vt_spec.specs.Machine.Run.{Serves}
-use Rattle.vt_spec.specs.Machine.Walk.{Here, object_walk}
+use Rattle.vt_spec.specs.Machine.Walk.{Here, Place, file_walk, new_walk, object_walk}
 use Rattle.vt_spec.specs.Machine.World.{Descriptor, Task, World, mount_at, node_at, task_called}
 use Rattle.vt_spec.specs.Machine.WorldLaws.{IsWorld}
 use Rattle.vt_spec.specs.Tree.{bytes_in}
@@ -50,3 +51,59 @@ OpenThenPread =
     × ((offset size : ℕ)
     → IsAnswered (policy nat_eq fresh world name (OpenFile path access NoCreation)).world name
     (Pread number offset size) (Bytes (take size (drop offset (bytes_in (node_at nat_eq world here.location))))))
+
+-- the task has a descriptor with its number
+abbrev pub HasDescriptor : World ℕ → TaskName → Descriptor ℕ → Type 0
+HasDescriptor world name descriptor =
+    (task : Task ℕ) × (task_called world name ≡ Some task)
+    × (descriptor_numbered task descriptor.number ≡ Some descriptor)
+
+-- The descriptor has the least number that is free and is on this file.
+abbrev pub OpensFile : World ℕ → Fresh ℕ → TaskName → Task ℕ → Call → Location ℕ → Access → ℕ → Type 0
+OpensFile world fresh name task call file access number =
+    (number ≡ free_number task)
+    × HasDescriptor (policy nat_eq fresh world name call).world name
+    (record { number = number; location = file; reads = access.reads; writes = access.writes })
+
+-- pread tells these bytes by it
+abbrev pub ReadsBy : World ℕ → Fresh ℕ → TaskName → Call → Access → ℕ → List ℕ → Type 0
+ReadsBy world fresh name call access number bytes =
+    access.reads ≡ true → (offset size : ℕ)
+    → IsAnswered (policy nat_eq fresh world name call).world name (Pread number offset size) (Bytes (take size (drop offset bytes)))
+
+-- So it is with creat, where the walk of the path led to a file that is there.
+abbrev pub OpenOrCreateThenPread : Type 0
+OpenOrCreateThenPread =
+    (world : World ℕ) (fresh : Fresh ℕ) (name : TaskName) (task : Task ℕ) (path : List ℕ) (access : Access) (mode number : ℕ)
+    (place : Place ℕ) (file : Location ℕ)
+    → IsWorld nat_eq world → IsPlain world → Serves nat_eq world fresh → task_called world name ≡ Some task
+    → file_walk nat_eq world task path ≡ Ok place → place.object ≡ Some file
+    → (policy nat_eq fresh world name (OpenFile path access (OrCreate mode))).answer ≡ Ok (Opened number)
+    → OpensFile world fresh name task (OpenFile path access (OrCreate mode)) file access number
+    × ReadsBy world fresh name (OpenFile path access (OrCreate mode)) access number (bytes_in (node_at nat_eq world file))
+
+-- The descriptor is on the new regular file, whose number is the first of those that were handed in, and which is empty.
+abbrev pub OpensNewFile : World ℕ → Fresh ℕ → TaskName → Task ℕ → Call → Place ℕ → Access → ℕ → ℕ → Type 0
+OpensNewFile world fresh name task call place access mode number =
+    OpensFile world fresh name task call (record { mount = place.parent.mount; node = fresh 0 }) access number
+    × (node_at nat_eq (policy nat_eq fresh world name call).world (record { mount = place.parent.mount; node = fresh 0 })
+    ≡ Some (new_file task mode []))
+    × ReadsBy world fresh name call access number []
+
+-- So it is after creat, where the walk of the path led to a missing name, and after creat with excl.
+abbrev pub CreateThenPread : Type 0
+CreateThenPread =
+    (world : World ℕ) (fresh : Fresh ℕ) (name : TaskName) (task : Task ℕ) (path : List ℕ) (access : Access) (mode number : ℕ)
+    (place : Place ℕ)
+    → IsWorld nat_eq world → IsPlain world → Serves nat_eq world fresh → task_called world name ≡ Some task
+    → file_walk nat_eq world task path ≡ Ok place → place.object ≡ None
+    → (policy nat_eq fresh world name (OpenFile path access (OrCreate mode))).answer ≡ Ok (Opened number)
+    → OpensNewFile world fresh name task (OpenFile path access (OrCreate mode)) place access mode number
+
+abbrev pub ExclusiveThenPread : Type 0
+ExclusiveThenPread =
+    (world : World ℕ) (fresh : Fresh ℕ) (name : TaskName) (task : Task ℕ) (path : List ℕ) (access : Access) (mode number : ℕ)
+    → IsWorld nat_eq world → IsPlain world → Serves nat_eq world fresh → task_called world name ≡ Some task
+    → (policy nat_eq fresh world name (OpenFile path access (Exclusive mode))).answer ≡ Ok (Opened number)
+    → (place : Place ℕ) × (new_walk nat_eq world task path ≡ Ok place)
+    × OpensNewFile world fresh name task (OpenFile path access (Exclusive mode)) place access mode number

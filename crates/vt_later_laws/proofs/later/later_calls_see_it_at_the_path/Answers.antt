@@ -1,0 +1,27 @@
+use Rattle.vt_later_laws.proofs.AttrSeen.{chmod_then_stat, chown_then_stat}
+use Rattle.vt_later_laws.proofs.LinkedSeen.{link_then_lstat}
+use Rattle.vt_later_laws.proofs.MadeSeen.{mkdir_then_list, symlink_then_readlink}
+use Rattle.vt_later_laws.proofs.Unlinked.{unlink_then_lstat}
+use Rattle.vt_later_laws.proofs.WrittenSeen.{write_then_read}
+use Rattle.vt_later_laws.proofs.later.later_calls_see_it_at_the_path.Goals as goal
+
+pub returns-clause-written : goal.returns-clause-written
+returns-clause-written c = write_then_read
+
+pub returns-clause-made : goal.returns-clause-made
+returns-clause-made c = mkdir_then_list
+
+pub returns-clause-linked : goal.returns-clause-linked
+returns-clause-linked c = symlink_then_readlink
+
+pub returns-clause-mode_set : goal.returns-clause-mode_set
+returns-clause-mode_set c = chmod_then_stat
+
+pub returns-clause-owner_set : goal.returns-clause-owner_set
+returns-clause-owner_set c = chown_then_stat
+
+pub returns-clause-named : goal.returns-clause-named
+returns-clause-named c = link_then_lstat
+
+pub returns-clause-unlinked : goal.returns-clause-unlinked
+returns-clause-unlinked c = unlink_then_lstat

@@ -1,0 +1,117 @@
+-- What later calls see at a path of an earlier one, in a world that has the invariants, and no overlay. The later call is at the
+-- same path; symlinks on the way are followed, and a final one where the call follows it.
+use Rattle.std.specs.Prelude.{Bool, Err, List, Ok, Option, Some, [], nat_eq, true, ℕ, ◌||◌, ◌≡◌, ◌⊎◌}
+use Rattle.vt_spec.specs.declared.attributes.Attr.{Attr}
+use Rattle.vt_spec.specs.declared.errors.Rule.{Rule}
+use Rattle.vt_spec.specs.declared.errors.Rule.TheVariants.{C1, W4, W6}
+use Rattle.vt_spec.specs.Errors.{denial}
+use Rattle.vt_spec.specs.Language.Answers.{Answer, StatLine}
+use Rattle.vt_spec.specs.Language.Answers.Answer.{Bytes, Done, Names, Told}
+use Rattle.vt_spec.specs.Language.Calls.{Call, TaskName}
+use Rattle.vt_spec.specs.Language.Calls.Call.{Chmod, Chown, LinkTo, Ls, Lstat, Mkdir, Read, Readlink, Stat, SymlinkAt, Unlink, Write}
+use Rattle.vt_spec.specs.Lists.{Fresh}
+use Rattle.vt_spec.specs.Machine.Outcome.Attributes.{attr_with_mode, attr_with_owner}
+use Rattle.vt_spec.specs.Machine.Policy.{policy}
+use Rattle.vt_spec.specs.Machine.Run.{Serves}
+use Rattle.vt_spec.specs.Machine.World.{Task, World, task_called}
+use Rattle.vt_spec.specs.Machine.WorldLaws.{IsWorld}
+use Rattle.vt_spec.specs.Rights.{Credentials, cap_dac_override, cap_dac_read_search, has_all}
+use Rattle.vt_world_laws.specs.Worlds.Kept.{IsPlain}
+use Rattle.vt_later_laws.specs.Later.{IsAnswered}
+
+-- The world that a granted call leaves is so for its task, where the numbers that were handed in were not in use.
+abbrev pub AfterGranted : Call → (World ℕ → TaskName → Task ℕ → Type 0) → Type 0
+AfterGranted call IsSo =
+    (world : World ℕ) (fresh : Fresh ℕ) (name : TaskName) (task : Task ℕ)
+    → IsWorld nat_eq world → IsPlain world → Serves nat_eq world fresh → task_called world name ≡ Some task
+    → (policy nat_eq fresh world name call).answer ≡ Ok Done
+    → IsSo (policy nat_eq fresh world name call).world name task
+
+-- the task's call is answered so, or refused by this rule, whatever numbers are handed to it
+abbrev pub IsAnsweredUnless : Rule → World ℕ → TaskName → Call → Answer → Type 0
+IsAnsweredUnless rule world name call answer =
+    (fresh : Fresh ℕ)
+    → ((policy nat_eq fresh world name call).answer ≡ Ok answer) ⊎ ((policy nat_eq fresh world name call).answer ≡ Err (denial rule))
+
+-- it is refused by this rule
+abbrev pub IsRefused : Rule → World ℕ → TaskName → Call → Type 0
+IsRefused rule world name call = (fresh : Fresh ℕ) → (policy nat_eq fresh world name call).answer ≡ Err (denial rule)
+
+-- CAP_DAC_OVERRIDE or CAP_DAC_READ_SEARCH, by which every directory may be searched and read, and every file read:
+-- capabilities(7)
+abbrev pub reads_all : Credentials → Bool
+reads_all who = has_all who.capabilities cap_dac_override || has_all who.capabilities cap_dac_read_search
+
+-- a task that may search and read everything, and has the root and the working directory of this one
+pub record LooksFrom (world : World ℕ) (task : Task ℕ) (name : TaskName) (reading : Task ℕ) : Type 0 where
+  pub called : task_called world name ≡ Some reading
+  pub root : reading.root ≡ task.root
+  pub directory : reading.directory ≡ task.directory
+  pub all : reads_all reading.credentials ≡ true
+
+-- each of these is answered so
+abbrev pub IsSeenByAll : World ℕ → Task ℕ → Call → Answer → Type 0
+IsSeenByAll world task call answer =
+    (name : TaskName) (reading : Task ℕ) → LooksFrom world task name reading → IsAnswered world name call answer
+
+-- or refused by this rule
+abbrev pub IsRefusedToAll : Rule → World ℕ → Task ℕ → Call → Type 0
+IsRefusedToAll rule world task call =
+    (name : TaskName) (reading : Task ℕ) → LooksFrom world task name reading → IsRefused rule world name call
+
+-- What was written at a path is read there, unless the task may write and not read. A final symlink is followed, also one that
+-- led to no file yet.
+abbrev pub WriteThenRead : Type 0
+WriteThenRead =
+    (path bytes : List ℕ)
+    → AfterGranted (Write path bytes) (λ later name task.
+    IsAnsweredUnless C1 later name (Read path) (Bytes bytes) × IsSeenByAll later task (Read path) (Bytes bytes))
+
+-- A directory that was made is listed, and is empty, unless the task may not read it.
+abbrev pub MkdirThenList : Type 0
+MkdirThenList =
+    (path : List ℕ) (mode : Option ℕ)
+    → AfterGranted (Mkdir path mode) (λ later name task.
+    IsAnsweredUnless C1 later name (Ls path) (Names []) × IsSeenByAll later task (Ls path) (Names []))
+
+-- The text of a symlink that was made is told, to whoever may search the way.
+abbrev pub SymlinkThenReadlink : Type 0
+SymlinkThenReadlink =
+    (text path : List ℕ)
+    → AfterGranted (SymlinkAt text path) (λ later name task.
+    IsAnswered later name (Readlink path) (Bytes text) × IsSeenByAll later task (Readlink path) (Bytes text))
+
+-- A name that was removed is missing, whatever other names the file has, and also where the path itself led through it.
+abbrev pub UnlinkThenLstat : Type 0
+UnlinkThenLstat =
+    (path : List ℕ)
+    → AfterGranted (Unlink path) (λ later name task.
+    IsRefused W6 later name (Lstat path) × IsRefusedToAll W6 later task (Lstat path))
+
+-- A name more leads to the object that the old one leads to: all that lstat told of it before.
+abbrev pub LinkThenLstat : Type 0
+LinkThenLstat =
+    (old new : List ℕ) (world : World ℕ) (fresh : Fresh ℕ) (name : TaskName) (task : Task ℕ)
+    → IsWorld nat_eq world → IsPlain world → Serves nat_eq world fresh → task_called world name ≡ Some task
+    → (policy nat_eq fresh world name (LinkTo old new)).answer ≡ Ok Done
+    → (line : StatLine) × IsAnswered world name (Lstat old) (Told line)
+    × IsAnswered (policy nat_eq fresh world name (LinkTo old new)).world name (Lstat new) (Told line)
+    × IsSeenByAll (policy nat_eq fresh world name (LinkTo old new)).world task (Lstat new) (Told line)
+
+-- After a granted call that sets attributes stat tells these in the place of those that it told before, and nothing else has
+-- changed. Where the object is a directory on the way, the task may have lost the right to search it.
+abbrev pub TellsAfter : Call → List ℕ → (Attr → Attr) → Type 0
+TellsAfter call path set =
+    (world : World ℕ) (fresh : Fresh ℕ) (name : TaskName) (task : Task ℕ)
+    → IsWorld nat_eq world → IsPlain world → Serves nat_eq world fresh → task_called world name ≡ Some task
+    → (policy nat_eq fresh world name call).answer ≡ Ok Done
+    → (line : StatLine) × IsAnswered world name (Stat path) (Told line)
+    × IsAnsweredUnless W4 (policy nat_eq fresh world name call).world name (Stat path) (Told (record line { attr = set line.attr }))
+    × IsSeenByAll (policy nat_eq fresh world name call).world task (Stat path) (Told (record line { attr = set line.attr }))
+
+abbrev pub ChmodThenStat : Type 0
+ChmodThenStat = (path : List ℕ) (mode : ℕ) → TellsAfter (Chmod path mode) path (λ attr. attr_with_mode attr mode)
+
+abbrev pub ChownThenStat : Type 0
+ChownThenStat =
+    (path : List ℕ) (uid gid : Option ℕ) → TellsAfter (Chown path uid gid) path (λ attr. attr_with_owner attr uid gid)
