@@ -28,6 +28,8 @@ pub mod LowersEveryCall
 pub mod LowersKept
 pub mod LowersMounts
 pub mod LowersWorld
+pub mod MountingKept
+pub mod MountingWalked
 pub mod ShownAlike
 pub mod ShownAtPath
 pub mod ShownDirectories
