@@ -20,6 +20,7 @@ pub mod LockedApart
 pub mod LockedChange
 pub mod LockedEachCall
 pub mod LockedEveryCall
+pub mod LockedPaths
 pub mod LockedSteps
 pub mod LockedWalks
 pub mod LowersCalls
