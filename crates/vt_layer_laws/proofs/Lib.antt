@@ -57,3 +57,7 @@ pub mod ViewsMoves
 pub mod ViewsNames
 pub mod ViewsStay
 pub mod ViewsWalks
+pub mod WholeAttributes
+pub mod WholeGrown
+pub mod WholeNames
+pub mod WholeParts

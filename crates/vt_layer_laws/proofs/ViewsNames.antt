@@ -25,7 +25,7 @@ pub no_entries : (tree : Tree ℕ) (object : ℕ) → entries_in (tree.node obje
     → entry_at tree object word ≡ None
 no_entries tree object empty word = ap (entry_named word) empty
 
-file_is_empty : (o : Option (Node ℕ)) → is_directory_node o ≡ false → entries_in o ≡ []
+pub file_is_empty : (o : Option (Node ℕ)) → is_directory_node o ≡ false → entries_in o ≡ []
 file_is_empty None e = refl
 file_is_empty (Some node) e = by node.content e
   where

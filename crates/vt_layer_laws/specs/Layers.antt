@@ -11,3 +11,4 @@ pub mod Directories
 pub mod DirectoryTrees
 pub mod NewOverlays
 pub mod Mounting
+pub mod WhatIsShown

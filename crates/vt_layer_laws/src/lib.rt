@@ -7,4 +7,5 @@ pub mod directories;
 pub mod layers;
 pub mod locked;
 pub mod mounting;
+pub mod steps;
 pub mod views;

@@ -1,0 +1,8 @@
+use Rattle.vt_layer_laws.proofs.WholeAttributes.{attr_keeps_whole, bytes_keep_whole}
+use Rattle.vt_layer_laws.proofs.steps.steps_keep_what_is_shown.Goals as goal
+
+pub returns-clause-bytes : goal.returns-clause-bytes
+returns-clause-bytes c = bytes_keep_whole
+
+pub returns-clause-attr : goal.returns-clause-attr
+returns-clause-attr c = attr_keeps_whole
