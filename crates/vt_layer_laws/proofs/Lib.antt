@@ -58,6 +58,8 @@ pub mod ViewsNames
 pub mod ViewsStay
 pub mod ViewsWalks
 pub mod WholeAttributes
+pub mod WholeCopied
 pub mod WholeGrown
+pub mod WholeLines
 pub mod WholeNames
 pub mod WholeParts

@@ -1,9 +1,9 @@
 -- Bytes and attributes of what stands in the upper layer are set: the tree is still what the layers show.
-use Rattle.std.proofs.Common.{◌≡◌, ◌≢◌, refl, sym, ap, subst, ◌∙◌, true≢false, eqb-true, ne_eqb, eq-eqb, ℕ, zero, suc, nat_eq, Bool, true, false, cond, ◌&&◌, List, [], ◌∷◌, ◌++◌, map, Option, Some, None, is_some, slice_get, unwrap_or}
+use Rattle.std.proofs.Common.{◌≡◌, refl, sym, ap, subst, ◌∙◌, true≢false, eqb-true, eq-eqb, ℕ, zero, suc, nat_eq, Bool, true, false, cond, ◌&&◌, List, [], ◌∷◌, map, Option, Some, None, is_some, slice_get, unwrap_or}
 use Rattle.vt_spec.specs.declared.attributes.Attr.{Attr}
 use Rattle.vt_spec.specs.declared.attributes.Kind.TheVariants.{White}
-use Rattle.vt_spec.specs.FileTree.{FileTree, is_kind, is_kind_in, is_opaque_in, opaque_of}
-use Rattle.vt_spec.specs.Language.Changes.{Change, changed, changed_node, node_with_attr}
+use Rattle.vt_spec.specs.FileTree.{is_kind, is_kind_in, is_opaque_in, opaque_of}
+use Rattle.vt_spec.specs.Language.Changes.{changed_node, node_with_attr}
 use Rattle.vt_spec.specs.Language.Changes.Change.{SetAttr, SetBytes}
 use Rattle.vt_spec.specs.Lists.{then_some}
 use Rattle.vt_spec.specs.Machine.CopyUp.{Merge, Stack, changed_both, upper_of}
@@ -16,10 +16,7 @@ use Rattle.vt_spec.specs.Tree.Content.{Directory, Regular, Symlink, Whiteout}
 use Rattle.vt_spec.specs.TreeLaws.{IsTree}
 use Rattle.std.specs.Str.{bytes_eq}
 use Rattle.vt_tree_laws.proofs.ChangesKeepTrees.{changes_keep_numbers, changes_keep_trees}
-use Rattle.vt_tree_laws.specs.Trees.{IsProper}
 use Rattle.vt_layer_laws.specs.Layers.ChangesUpper.{StandsInUpper}
-use Rattle.vt_layer_laws.specs.Layers.ShownAfter.{IsPlainChange, may_show}
-use Rattle.vt_layer_laws.specs.Layers.Views.{view_after, view_in}
 use Rattle.vt_layer_laws.specs.Layers.WhatIsShown.{AttrKeepsWhole, BytesKeepWhole, IsWhole, inode_behind, layers_under, real_seen}
 use Rattle.vt_layer_laws.proofs.CopyingParts.{kept_part}
 use Rattle.vt_layer_laws.proofs.ShownAtPath.{none_is_some, some_is_one}
@@ -161,11 +158,13 @@ module _ (stack : Stack ℕ) (merge : Merge ℕ) (whole : IsWhole stack merge) (
   }
 
   whole_later : IsTree later.files.tree → ListsNumbers nat_eq later.files → IsTree later.upper.tree
-      → Rattle.vt_spec.specs.TreeLaws.IsDirectory later.upper.tree stack.directory → IsWhole stack later
-  whole_later tree numbers upper directory = record {
+      → Rattle.vt_spec.specs.TreeLaws.IsDirectory later.upper.tree stack.directory
+      → Rattle.vt_spec.specs.TreeLaws.IsReached later.upper.tree stack.directory → IsWhole stack later
+  whole_later tree numbers upper directory reached = record {
     tree = tree;
     numbers = numbers;
     layers = by;
+    reached = reached;
     shown = what_is_shown stack later fine_later;
   }
     where
@@ -189,6 +188,7 @@ attr_keeps_whole stack merge object attr whole stands =
     (changes_keep_trees merge.upper (SetAttr (upper_of merge object) attr) top.0 tt)
     (kept_part Rattle.vt_spec.specs.Tree.is_directory_node merge.upper (upper_of merge object) (node_with_attr attr)
     (λ o. elim o as (λ o. Rattle.vt_spec.specs.Tree.is_directory_node (node_with_attr attr o) ≡ Rattle.vt_spec.specs.Tree.is_directory_node o) [ None ↦ refl | Some node ↦ refl ]) stack.directory ∙ top.1)
+    (whole.reached.0, (attr_changes_one_inode merge.upper merge.upper.tree.root (upper_of merge object) attr).0 whole.reached.0 ∙ whole.reached.1)
 
 pub bytes_keep_whole : BytesKeepWhole
 bytes_keep_whole stack merge file bytes whole stands =
@@ -201,3 +201,4 @@ bytes_keep_whole stack merge file bytes whole stands =
     (changes_keep_trees merge.upper (SetBytes (upper_of merge file) bytes) top.0 tt)
     (kept_part Rattle.vt_spec.specs.Tree.is_directory_node merge.upper (upper_of merge file) (node_with_bytes bytes)
     (Rattle.vt_spec.proofs.Nodes.is_directory-node_with_bytes bytes) stack.directory ∙ top.1)
+    (whole.reached.0, (bytes_change_one_inode merge.upper merge.upper.tree.root (upper_of merge file) bytes).0 whole.reached.0 ∙ whole.reached.1)

@@ -1,5 +1,5 @@
 -- An overlay in which one inode has a new object in the upper layer, and all others are as they were but for names.
-use Rattle.std.proofs.Common.{◌≡◌, ◌≢◌, refl, sym, ap, subst, ◌∙◌, true≢false, eqb-true, eq-eqb, ne_eqb, ⊎_elim, ℕ, nat_eq, Bool, true, false, cond, List, Option, Some, None, is_some}
+use Rattle.std.proofs.Common.{◌≡◌, ◌≢◌, refl, sym, ap, subst, ◌∙◌, true≢false, eqb-true, eq-eqb, ⊎_elim, ℕ, nat_eq, Bool, true, false, cond, List, Option, Some, None, is_some}
 use Rattle.std.proofs.lemmas.Bool.Decides.{eqb_tells}
 use Rattle.std.specs.Str.{bytes_eq}
 use Rattle.vt_spec.specs.declared.attributes.Kind.{Kind}
@@ -10,12 +10,13 @@ use Rattle.vt_spec.specs.Machine.CopyUp.{Merge, Stack, with_real}
 use Rattle.vt_spec.specs.Machine.World.{Real, upper_object}
 use Rattle.vt_spec.specs.Machine.World.Real.{Below, Upper}
 use Rattle.vt_spec.specs.Machine.WorldLaws.{SameObject, number_at_path, same_content}
-use Rattle.vt_spec.specs.Tree.{Content, Node, bytes_of, kind_of}
+use Rattle.vt_spec.specs.Rights.{is_directory}
+use Rattle.vt_spec.specs.Tree.{Content, Node, bytes_of, is_directory_node, kind_of}
 use Rattle.vt_spec.specs.Tree.Content.{Directory, Regular, Symlink, Whiteout}
 use Rattle.vt_layer_laws.specs.Layers.Mounted.{IsAlike}
 use Rattle.vt_layer_laws.specs.Layers.WhatIsShown.{inode_behind, real_seen}
 use Rattle.vt_layer_laws.proofs.ShownAlike.{white_alike}
-use Rattle.vt_layer_laws.proofs.ShownAtPath.{none_is_some, some_is_one}
+use Rattle.vt_layer_laws.proofs.ShownAtPath.{some_is_one}
 use Rattle.vt_layer_laws.proofs.WholeParts.{IsFine}
 
 -- Objects that are alike are the same objects
@@ -56,6 +57,12 @@ alike_objects (Some a) (Some b) (Some c) (Some d) s x y = (
   x.attr ∙ s.0 ∙ sym y.attr,
   content_by c.content d.content ∙ (λ i. same_by (x.kind i) (y.kind i) (x.bytes i) (y.bytes i)) ∙ sym (content_by a.content b.content) ∙ s.1,
 )
+
+pub directory_alike : (one other : Option (Node ℕ)) → IsAlike one other → is_directory_node other ≡ is_directory_node one
+directory_alike None None x = refl
+directory_alike None (Some other) x = absurd (true≢false x.there)
+directory_alike (Some one) None x = absurd (true≢false (sym x.there))
+directory_alike (Some one) (Some other) x = ap is_directory x.kind
 
 module _ (stack : Stack ℕ) (merge : Merge ℕ) (is_fine : IsFine stack merge) (files upper : FileTree ℕ) (number copy : ℕ)
     (vacant : merge.upper.tree.node copy ≡ None)

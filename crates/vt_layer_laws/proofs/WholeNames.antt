@@ -1,19 +1,18 @@
 -- Where names lead in the tree of an overlay and in its upper layer.
-use Rattle.std.proofs.Common.{◌≡◌, ◌≢◌, refl, sym, ap, subst, ◌∙◌, true≢false, eqb-true, eq-eqb, ℕ, zero, suc, ◌+◌, nat_eq, Bool, true, false, not, cond, ◌&&◌, ◌||◌, List, [], ◌∷◌, ◌++◌, map, Option, Some, None, is_some, option_and_then}
-use Rattle.std.specs.List.{list_any}
+use Rattle.std.proofs.Common.{◌≡◌, refl, sym, ap, subst, ◌∙◌, true≢false, eqb-true, eq-eqb, ℕ, zero, suc, nat_eq, Bool, true, false, not, ◌&&◌, List, [], ◌∷◌, ◌++◌, map, Option, Some, None, is_some, option_and_then, slice_get}
 use Rattle.std.specs.Str.{bytes_eq}
 use Rattle.vt_spec.specs.declared.attributes.Kind.TheVariants.{White}
 use Rattle.vt_spec.specs.FileTree.{FileTree, is_kind_in}
-use Rattle.vt_spec.specs.Lists.{front_of, fronts, is_empty_list, last_or, same_option, then_some, when}
+use Rattle.vt_spec.specs.Lists.{front_of, is_empty_list, last_or, same_option, then_some, when}
 use Rattle.vt_spec.specs.Machine.CopyUp.{Merge, Stack}
 use Rattle.vt_spec.specs.Machine.Layers.{OpenLayer, Shown, at_path, shown, view_of}
 use Rattle.vt_spec.specs.Machine.Merging.{real_object}
 use Rattle.vt_spec.specs.Machine.Views.{View, cuts, shown_from, shown_over}
 use Rattle.vt_spec.specs.Machine.World.{upper_object}
-use Rattle.vt_spec.specs.Machine.World.Real.{Below, Upper}
-use Rattle.vt_spec.specs.Machine.WorldLaws.{SameObject, number_at_path}
-use Rattle.vt_spec.specs.Tree.{Tree, is_directory_node}
-use Rattle.vt_spec.specs.TreeLaws.{entry_at, led}
+use Rattle.vt_spec.specs.Machine.World.Real.{Upper}
+use Rattle.vt_spec.specs.Machine.WorldLaws.{ListsNumbers, SameObject, number_at_path}
+use Rattle.vt_spec.specs.Tree.{is_directory_node}
+use Rattle.vt_spec.specs.TreeLaws.{IsDirectory, IsReached, IsTree, entry_at, led}
 use Rattle.vt_layer_laws.specs.Layers.Shown.{IsShown}
 use Rattle.vt_layer_laws.specs.Layers.Views.{goes_through, names_entry, view_in}
 use Rattle.vt_layer_laws.specs.Layers.WhatIsShown.{IsWhole, inode_behind, layers_under}
@@ -23,9 +22,12 @@ use Rattle.vt_layer_laws.proofs.ShownPaths.{last_of_longer}
 use Rattle.vt_layer_laws.proofs.UpperFit.{same_directory}
 use Rattle.vt_layer_laws.proofs.UpperShown.{front_of_longer}
 use Rattle.vt_layer_laws.proofs.ViewsAfter.{on_top}
+use Rattle.vt_layer_laws.proofs.ShownNames.{last_name}
+use Rattle.vt_layer_laws.proofs.ViewsBelow.{is_named}
 use Rattle.vt_layer_laws.proofs.ViewsFronts.{fronts_agree}
+use Rattle.vt_layer_laws.proofs.ViewsMoves.{led_parts, through_is_split}
 use Rattle.vt_layer_laws.proofs.WholeAttributes.{bytes_same}
-use Rattle.vt_layer_laws.proofs.WholeParts.{IsFine, fine, real_by}
+use Rattle.vt_layer_laws.proofs.WholeParts.{IsFine, fine, real_by, what_is_shown}
 
 pub same_is : (o : Option ℕ) (n : ℕ) → same_option nat_eq o (Some n) ≡ true → o ≡ Some n
 same_is None n e = absurd (true≢false (sym e))
@@ -46,6 +48,36 @@ entry_named_so files top directory name way e =
     longer : (way : List (List ℕ)) → is_empty_list (way ++ name ∷ []) ≡ false
     longer [] = refl
     longer (word ∷ way) = refl
+
+-- and leads where the entry does
+pub named_led : (files : FileTree ℕ) (top directory : ℕ) (name : List ℕ) (path : List (List ℕ)) → names_entry (view_in files top) directory name path ≡ true
+    → led files.tree top path ≡ entry_at files.tree directory name
+named_led files top directory name path e =
+    let named = is_named files top directory name path e in
+    ap (led files.tree top) (sym named.1) ∙ last_name files.tree top named.0 name ∙ ap (option_and_then (λ d. entry_at files.tree d name)) named.2
+
+-- a path through a name that is free leads nowhere
+pub through_free : (files : FileTree ℕ) (top directory : ℕ) (name : List ℕ) → entry_at files.tree directory name ≡ None → (path : List (List ℕ))
+    → goes_through (view_in files top) directory name path ≡ true → led files.tree top path ≡ None
+through_free files top directory name free path through =
+    let parts = through_is_split files top directory name path through in
+    ap (led files.tree top) (sym parts.2) ∙ led_parts files.tree parts.0 (name ∷ parts.1) top directory parts.3
+    ∙ ap (option_and_then (λ next. led files.tree next parts.1)) free
+
+-- and one through what has no names in it too, but for its own path
+pub through_bare : (files : FileTree ℕ) (top directory object : ℕ) (name : List ℕ) → entry_at files.tree directory name ≡ Some object
+    → ((word : List ℕ) → entry_at files.tree object word ≡ None) → (path : List (List ℕ))
+    → goes_through (view_in files top) directory name path ≡ true → names_entry (view_in files top) directory name path ≡ false
+    → led files.tree top path ≡ None
+through_bare files top directory object name e bare path through other =
+    let parts = through_is_split files top directory name path through in
+    ap (led files.tree top) (sym parts.2) ∙ led_parts files.tree parts.0 (name ∷ parts.1) top directory parts.3
+    ∙ ap (option_and_then (λ next. led files.tree next parts.1)) e ∙ by parts.0 parts.1 parts.2 parts.3
+  where
+    by : (way rest : List (List ℕ)) → way ++ name ∷ rest ≡ path → led files.tree top way ≡ Some directory → led files.tree object rest ≡ None
+    by way [] is l =
+        absurd (true≢false (sym (entry_named_so files top directory name way l) ∙ ap (names_entry (view_in files top) directory name) is ∙ other))
+    by way (word ∷ rest) is l = ap (option_and_then (λ next. led files.tree next rest)) (bare word)
 
 -- Views that differ in what they lead to and hide at other paths
 pub over_same : (one other : View ℕ) (lowers : List (View ℕ)) (path : List (List ℕ)) → other.leads path ≡ one.leads path
@@ -138,3 +170,19 @@ module _ (stack : Stack ℕ) (merge : Merge ℕ) (whole : IsWhole stack merge) w
     same_through name path =
         fronts_agree (names_entry (view_in merge.upper stack.directory) ud name) (names_entry (view_in merge.files merge.files.tree.root) d name) path
         (λ front is. same_entry name front)
+
+-- an overlay that is fine is whole, where its trees are
+pub whole_again : (stack : Stack ℕ) (merge later : Merge ℕ) → IsWhole stack merge → IsTree later.files.tree → ListsNumbers nat_eq later.files
+    → IsTree later.upper.tree → IsDirectory later.upper.tree stack.directory → IsReached later.upper.tree stack.directory
+    → IsFine stack later → IsWhole stack later
+whole_again stack merge later whole tree numbers upper directory reached is = record {
+  tree = tree;
+  numbers = numbers;
+  layers = by;
+  reached = reached;
+  shown = what_is_shown stack later is;
+}
+  where
+    by : (depth : ℕ) (layer : OpenLayer ℕ) → slice_get (layers_under stack later) depth ≡ Some layer → IsTree layer.tree × IsDirectory layer.tree layer.directory
+    by zero layer e = subst (λ l. IsTree l.tree × IsDirectory l.tree l.directory) (some_is_one _ layer e) (upper, directory)
+    by (suc depth) layer e = whole.layers (suc depth) layer e

@@ -1,19 +1,19 @@
 -- That the tree of an overlay is what its layers show, as one equation for each path.
-use Rattle.std.proofs.Common.{◌≡◌, ◌≢◌, refl, sym, ap, subst, ◌∙◌, true≢false, eqb-true, ne_eqb, eq-eqb, ℕ, zero, suc, nat_eq, Bool, true, false, cond, ◌&&◌, ◌||◌, List, [], ◌∷◌, ◌++◌, map, Option, Some, None, is_some, slice_get}
+use Rattle.std.proofs.Common.{◌≡◌, refl, sym, ap, subst, ◌∙◌, true≢false, ℕ, zero, suc, true, false, List, Option, Some, None, is_some}
 use Rattle.std.specs.Prelude.{option_map}
 use Rattle.vt_spec.specs.declared.attributes.Kind.TheVariants.{White}
 use Rattle.vt_spec.specs.FileTree.{is_kind_in, is_opaque_in}
 use Rattle.vt_spec.specs.Lists.{then_some}
 use Rattle.vt_spec.specs.Machine.CopyUp.{Merge, Stack}
-use Rattle.vt_spec.specs.Machine.Layers.{OpenLayer, Shown, at_path, node_at_path, shown}
+use Rattle.vt_spec.specs.Machine.Layers.{OpenLayer, Shown, node_at_path, shown}
 use Rattle.vt_spec.specs.Machine.Merging.{layer_node, real_object}
-use Rattle.vt_spec.specs.Machine.World.{Real, upper_object}
-use Rattle.vt_spec.specs.Machine.World.Real.{Below, Upper}
+use Rattle.vt_spec.specs.Machine.World.{Real}
+use Rattle.vt_spec.specs.Machine.World.Real.{Upper}
 use Rattle.vt_spec.specs.Machine.WorldLaws.{SameObject, number_at_path}
 use Rattle.vt_spec.specs.Tree.{Node}
 use Rattle.vt_layer_laws.specs.Layers.Shown.{IsShown}
 use Rattle.vt_layer_laws.specs.Layers.WhatIsShown.{IsWhatIsShown, inode_behind, layers_under, real_seen}
-use Rattle.vt_layer_laws.proofs.ShownAtPath.{computed, none_is_some, some_is_one}
+use Rattle.vt_layer_laws.proofs.ShownAtPath.{computed, none_is_some}
 use Rattle.vt_layer_laws.proofs.ShownDirectories.{AreOpen, led_is_there}
 
 -- the real object of something that is shown

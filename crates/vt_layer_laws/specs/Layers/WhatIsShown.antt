@@ -1,19 +1,19 @@
 -- Each step of a change of an overlay keeps that its tree is what its layers show: the kernel's overlayfs document, "upper and
 -- lower", "directories" and "whiteouts and opaque directories".
-use Rattle.std.specs.Prelude.{List, None, Option, Some, false, is_some, nat_eq, option_map, slice_get, true, ℕ, ◌∷◌, ◌≡◌, ◌≢◌}
+use Rattle.std.specs.Prelude.{List, None, Option, Some, false, is_some, nat_eq, option_map, slice_get, true, ℕ, ◌∷◌, ◌≡◌}
 use Rattle.vt_spec.specs.declared.attributes.Attr.{Attr}
 use Rattle.vt_spec.specs.declared.attributes.Kind.TheVariants.{White}
 use Rattle.vt_spec.specs.FileTree.{a_name, is_kind_in, is_opaque_in}
 use Rattle.vt_spec.specs.Language.Changes.{node_with_attr}
 use Rattle.vt_spec.specs.Lists.{Fresh, then_some}
-use Rattle.vt_spec.specs.Machine.CopyUp.{Merge, Stack, changed_both, copied_up, copy_of_node, made}
+use Rattle.vt_spec.specs.Machine.CopyUp.{Merge, Stack, changed_both, copied_up, copy_of_node}
 use Rattle.vt_spec.specs.Machine.Layers.{OpenLayer, node_at_path, shown}
 use Rattle.vt_spec.specs.Machine.Merging.{layer_node, merged_at, real_object}
 use Rattle.vt_spec.specs.Machine.World.{Real, upper_object}
 use Rattle.vt_spec.specs.Machine.World.Real.{Below, Upper}
 use Rattle.vt_spec.specs.Machine.WorldLaws.{ListsNumbers, SameObject, number_at_path}
 use Rattle.vt_spec.specs.Tree.{Node, node_with_bytes}
-use Rattle.vt_spec.specs.TreeLaws.{IsDirectory, IsTree}
+use Rattle.vt_spec.specs.TreeLaws.{IsDirectory, IsReached, IsTree}
 use Rattle.vt_layer_laws.specs.Layers.ChangesUpper.{StandsInUpper}
 use Rattle.vt_layer_laws.specs.Layers.Upper.{IsThere}
 
@@ -45,12 +45,14 @@ pub record IsWhatIsShown (stack : Stack ℕ) (merge : Merge ℕ) : Type 0 where
   pub upper_there : (number object : ℕ) → merge.real number ≡ Some (Upper object) → is_some (merge.upper.tree.node object) ≡ true
   pub one_to_one : (a b : ℕ) → is_some (merge.real a) ≡ true → merge.real a ≡ merge.real b → a ≡ b
 
--- Its tree and those of its layers are trees, each layer's directory is one, and the tree is what the layers show.
+-- Its tree and those of its layers are trees, each layer's directory is one, names lead to the upper layer's from the root of its
+-- tree, and the overlay's tree is what the layers show.
 pub record IsWhole (stack : Stack ℕ) (merge : Merge ℕ) : Type 0 where
   pub tree : IsTree merge.files.tree
   pub numbers : ListsNumbers nat_eq merge.files
   pub layers : (depth : ℕ) (layer : OpenLayer ℕ)
       → slice_get (layers_under stack merge) depth ≡ Some layer → IsTree layer.tree × IsDirectory layer.tree layer.directory
+  pub reached : IsReached merge.upper.tree stack.directory
   pub shown : IsWhatIsShown stack merge
 
 -- Bytes and attributes of what stands in the upper layer are set.
@@ -75,3 +77,10 @@ CopyKeepsWhole =
     → merge.upper.tree.node copy ≡ None
     → ((name : ℕ × List ℕ) → a_name nat_eq merge.files object ≡ Some name → StandsInUpper merge name.0)
     → IsWhole stack (copy_of_node nat_eq merge object copy node)
+
+-- An object is copied up, with the directories above it that lie only below, by such numbers.
+abbrev pub CopiesKeepWhole : Type 0
+CopiesKeepWhole =
+    (fresh : Fresh ℕ) (stack : Stack ℕ) (merge : Merge ℕ) (object : ℕ)
+    → IsWhole stack merge → ((j k : ℕ) → fresh j ≡ fresh k → j ≡ k) → ((k : ℕ) → merge.upper.tree.node (fresh k) ≡ None)
+    → IsThere merge.files object → IsWhole stack (copied_up nat_eq fresh merge object)

@@ -1,3 +1,5 @@
+use Rattle.vt_layer_laws.proofs.WholeCopied.{copy_keeps_whole}
+use Rattle.vt_layer_laws.proofs.WholeLines.{copies_keep_whole}
 use Rattle.vt_layer_laws.proofs.WholeAttributes.{attr_keeps_whole, bytes_keep_whole}
 use Rattle.vt_layer_laws.proofs.steps.steps_keep_what_is_shown.Goals as goal
 
@@ -6,3 +8,9 @@ returns-clause-bytes c = bytes_keep_whole
 
 pub returns-clause-attr : goal.returns-clause-attr
 returns-clause-attr c = attr_keeps_whole
+
+pub returns-clause-copy : goal.returns-clause-copy
+returns-clause-copy c = copy_keeps_whole
+
+pub returns-clause-copies : goal.returns-clause-copies
+returns-clause-copies c = copies_keep_whole
