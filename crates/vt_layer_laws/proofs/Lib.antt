@@ -61,5 +61,8 @@ pub mod WholeAttributes
 pub mod WholeCopied
 pub mod WholeGrown
 pub mod WholeLines
+pub mod WholeMade
 pub mod WholeNames
+pub mod WholeNew
 pub mod WholeParts
+pub mod WholePlaces

@@ -146,7 +146,7 @@ module _ (stack : Stack ℕ) (merge : Merge ℕ) (whole : IsWhole stack merge) w
   directory_above number u r = same_directory (merge.files.tree.node number) (merge.upper.tree.node u) (object_above number u r)
 
   module _ (d ud : ℕ) (r : merge.real d ≡ Some (Upper ud)) (is_directory : is_directory_node (merge.upper.tree.node ud) ≡ true) where
-    same_place : (path : List (List ℕ)) → same_option nat_eq (number_at_path merge.files path) (Some d) ≡ same_option nat_eq (led merge.upper.tree stack.directory path) (Some ud)
+    pub same_place : (path : List (List ℕ)) → same_option nat_eq (number_at_path merge.files path) (Some d) ≡ same_option nat_eq (led merge.upper.tree stack.directory path) (Some ud)
     same_place path =
         by (same_option nat_eq (number_at_path merge.files path) (Some d)) refl (same_option nat_eq (led merge.upper.tree stack.directory path) (Some ud)) refl
       where

@@ -3,17 +3,18 @@
 use Rattle.std.specs.Prelude.{List, None, Option, Some, false, is_some, nat_eq, option_map, slice_get, true, ℕ, ◌∷◌, ◌≡◌}
 use Rattle.vt_spec.specs.declared.attributes.Attr.{Attr}
 use Rattle.vt_spec.specs.declared.attributes.Kind.TheVariants.{White}
-use Rattle.vt_spec.specs.FileTree.{a_name, is_kind_in, is_opaque_in}
+use Rattle.vt_spec.specs.FileTree.{a_name, is_kind, is_kind_in, is_opaque_in}
 use Rattle.vt_spec.specs.Language.Changes.{node_with_attr}
 use Rattle.vt_spec.specs.Lists.{Fresh, then_some}
-use Rattle.vt_spec.specs.Machine.CopyUp.{Merge, Stack, changed_both, copied_up, copy_of_node}
+use Rattle.vt_spec.specs.Machine.CopyUp.{Merge, Stack, changed_both, copied_up, copy_of_node, made}
 use Rattle.vt_spec.specs.Machine.Layers.{OpenLayer, node_at_path, shown}
 use Rattle.vt_spec.specs.Machine.Merging.{layer_node, merged_at, real_object}
 use Rattle.vt_spec.specs.Machine.World.{Real, upper_object}
 use Rattle.vt_spec.specs.Machine.World.Real.{Below, Upper}
 use Rattle.vt_spec.specs.Machine.WorldLaws.{ListsNumbers, SameObject, number_at_path}
-use Rattle.vt_spec.specs.Tree.{Node, node_with_bytes}
+use Rattle.vt_spec.specs.Tree.{Node, kind_of, node_with_bytes}
 use Rattle.vt_spec.specs.TreeLaws.{IsDirectory, IsReached, IsTree}
+use Rattle.vt_tree_laws.specs.Trees.{MayMake}
 use Rattle.vt_layer_laws.specs.Layers.ChangesUpper.{StandsInUpper}
 use Rattle.vt_layer_laws.specs.Layers.Upper.{IsThere}
 
@@ -84,3 +85,11 @@ CopiesKeepWhole =
     (fresh : Fresh ℕ) (stack : Stack ℕ) (merge : Merge ℕ) (object : ℕ)
     → IsWhole stack merge → ((j k : ℕ) → fresh j ≡ fresh k → j ≡ k) → ((k : ℕ) → merge.upper.tree.node (fresh k) ≡ None)
     → IsThere merge.files object → IsWhole stack (copied_up nat_eq fresh merge object)
+
+-- A new object is put under a name that shows nothing, with an opaque mark where it must hide a directory.
+abbrev pub MakeKeepsShown : Type 0
+MakeKeepsShown =
+    (fresh : Fresh ℕ) (stack : Stack ℕ) (merge : Merge ℕ) (directory : ℕ) (name : List ℕ) (number : ℕ) (node : Node ℕ)
+    → IsWhole stack merge → StandsInUpper merge directory → merge.upper.tree.node (fresh 0) ≡ None
+    → MayMake merge.files.tree directory name number node → is_kind White (kind_of node.content) ≡ false
+    → IsWhatIsShown stack (made nat_eq fresh stack merge directory name number node)

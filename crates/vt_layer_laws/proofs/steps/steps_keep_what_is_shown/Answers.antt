@@ -1,3 +1,4 @@
+use Rattle.vt_layer_laws.proofs.WholeMade.{make_keeps_shown}
 use Rattle.vt_layer_laws.proofs.WholeCopied.{copy_keeps_whole}
 use Rattle.vt_layer_laws.proofs.WholeLines.{copies_keep_whole}
 use Rattle.vt_layer_laws.proofs.WholeAttributes.{attr_keeps_whole, bytes_keep_whole}
@@ -14,3 +15,6 @@ returns-clause-copy c = copy_keeps_whole
 
 pub returns-clause-copies : goal.returns-clause-copies
 returns-clause-copies c = copies_keep_whole
+
+pub returns-clause-made : goal.returns-clause-made
+returns-clause-made c = make_keeps_shown
