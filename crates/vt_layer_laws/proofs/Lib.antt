@@ -57,12 +57,3 @@ pub mod ViewsMoves
 pub mod ViewsNames
 pub mod ViewsStay
 pub mod ViewsWalks
-pub mod WholeAttributes
-pub mod WholeCopied
-pub mod WholeGrown
-pub mod WholeLines
-pub mod WholeMade
-pub mod WholeNames
-pub mod WholeNew
-pub mod WholeParts
-pub mod WholePlaces

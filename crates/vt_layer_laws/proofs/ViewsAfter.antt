@@ -50,7 +50,7 @@ fronts_fail test path front is none = fails (list_any test (fronts front)) (λ e
       there.1.2,
     ) none)
 
-itself_fails : (test : List (List ℕ) → Bool) (path : List (List ℕ)) → test [] ≡ false
+pub itself_fails : (test : List (List ℕ) → Bool) (path : List (List ℕ)) → test [] ≡ false
     → list_any test (fronts path) ≡ false → test path ≡ false
 itself_fails test [] start none = start
 itself_fails test (word ∷ path) start none =

@@ -106,7 +106,7 @@ module _ (files : FileTree ℕ) (top directory : ℕ) (name : List ℕ) where
       not_empty (word ∷ way) = cons_is_not_empty word (way ++ name ∷ [])
 
   -- and the way to its directory does not
-  way_goes_elsewhere : IsTree files.tree → (object : ℕ) → entry_at files.tree directory name ≡ Some object
+  pub way_goes_elsewhere : IsTree files.tree → (object : ℕ) → entry_at files.tree directory name ≡ Some object
       → (way : List (List ℕ)) → led files.tree top way ≡ Some directory
       → goes_through (view_in files top) directory name way ≡ false
   way_goes_elsewhere tree object named way e =

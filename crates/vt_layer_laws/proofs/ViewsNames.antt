@@ -80,7 +80,7 @@ alike_both one middle other a b = record {
   mark = b.mark ∙ a.mark;
 }
 
-alike_after : (files : FileTree ℕ) (number : ℕ) (change : Option (Node ℕ) → Option (Node ℕ)) → KeepsButNames change
+pub alike_after : (files : FileTree ℕ) (number : ℕ) (change : Option (Node ℕ) → Option (Node ℕ)) → KeepsButNames change
     → (inode : ℕ)
     → IsAlike (files.tree.node inode) ((changed_node nat_eq files number change).tree.node inode)
 alike_after files number change keeps inode =

@@ -11,4 +11,3 @@ pub mod Directories
 pub mod DirectoryTrees
 pub mod NewOverlays
 pub mod Mounting
-pub mod WhatIsShown

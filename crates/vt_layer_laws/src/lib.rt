@@ -7,5 +7,4 @@ pub mod directories;
 pub mod layers;
 pub mod locked;
 pub mod mounting;
-pub mod steps;
 pub mod views;

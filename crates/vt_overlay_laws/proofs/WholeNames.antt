@@ -15,7 +15,7 @@ use Rattle.vt_spec.specs.Tree.{is_directory_node}
 use Rattle.vt_spec.specs.TreeLaws.{IsDirectory, IsReached, IsTree, entry_at, led}
 use Rattle.vt_layer_laws.specs.Layers.Shown.{IsShown}
 use Rattle.vt_layer_laws.specs.Layers.Views.{goes_through, names_entry, view_in}
-use Rattle.vt_layer_laws.specs.Layers.WhatIsShown.{IsWhole, inode_behind, layers_under}
+use Rattle.vt_overlay_laws.specs.WhatIsShown.{IsWhole, inode_behind, layers_under}
 use Rattle.vt_layer_laws.proofs.ShownAtPath.{computed, none_is_some, some_is_one}
 use Rattle.vt_layer_laws.proofs.ShownDirectories.{no_white_directory}
 use Rattle.vt_layer_laws.proofs.ShownPaths.{last_of_longer}
@@ -26,8 +26,8 @@ use Rattle.vt_layer_laws.proofs.ShownNames.{last_name}
 use Rattle.vt_layer_laws.proofs.ViewsBelow.{is_named}
 use Rattle.vt_layer_laws.proofs.ViewsFronts.{fronts_agree}
 use Rattle.vt_layer_laws.proofs.ViewsMoves.{led_parts, through_is_split}
-use Rattle.vt_layer_laws.proofs.WholeAttributes.{bytes_same}
-use Rattle.vt_layer_laws.proofs.WholeParts.{IsFine, fine, real_by, what_is_shown}
+use Rattle.vt_overlay_laws.proofs.WholeAttributes.{bytes_same}
+use Rattle.vt_overlay_laws.proofs.WholeParts.{IsFine, fine, real_by, what_is_shown}
 
 pub same_is : (o : Option ℕ) (n : ℕ) → same_option nat_eq o (Some n) ≡ true → o ≡ Some n
 same_is None n e = absurd (true≢false (sym e))

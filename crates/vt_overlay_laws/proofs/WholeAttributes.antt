@@ -17,12 +17,12 @@ use Rattle.vt_spec.specs.TreeLaws.{IsTree}
 use Rattle.std.specs.Str.{bytes_eq}
 use Rattle.vt_tree_laws.proofs.ChangesKeepTrees.{changes_keep_numbers, changes_keep_trees}
 use Rattle.vt_layer_laws.specs.Layers.ChangesUpper.{StandsInUpper}
-use Rattle.vt_layer_laws.specs.Layers.WhatIsShown.{AttrKeepsWhole, BytesKeepWhole, IsWhole, inode_behind, layers_under, real_seen}
+use Rattle.vt_overlay_laws.specs.WhatIsShown.{AttrKeepsWhole, BytesKeepWhole, IsWhole, inode_behind, layers_under, real_seen}
 use Rattle.vt_layer_laws.proofs.CopyingParts.{kept_part}
 use Rattle.vt_layer_laws.proofs.ShownAtPath.{none_is_some, some_is_one}
 use Rattle.vt_layer_laws.proofs.ViewsAfter.{shown_elsewhere_stays}
 use Rattle.vt_layer_laws.proofs.ViewsStay.{attr_changes_one_inode, bytes_change_one_inode}
-use Rattle.vt_layer_laws.proofs.WholeParts.{IsFine, fine, real_by, what_is_shown}
+use Rattle.vt_overlay_laws.proofs.WholeParts.{IsFine, fine, real_by, what_is_shown}
 
 -- the object that an inode of the upper layer has there
 pub upper_real : (merge : Merge ℕ) (number : ℕ) → StandsInUpper merge number → merge.real number ≡ Some (Upper (upper_of merge number))

@@ -15,13 +15,13 @@ use Rattle.vt_spec.proofs.Nodes.{directory_used, is_some-node_with_entry, node_o
 use Rattle.vt_tree_laws.proofs.TreesWalked.{no_some}
 use Rattle.vt_layer_laws.specs.Layers.ChangesUpper.{StandsInUpper}
 use Rattle.vt_layer_laws.specs.Layers.Upper.{IsThere}
-use Rattle.vt_layer_laws.specs.Layers.WhatIsShown.{CopiesKeepWhole, IsWhole}
+use Rattle.vt_overlay_laws.specs.WhatIsShown.{CopiesKeepWhole, IsWhole}
 use Rattle.vt_layer_laws.proofs.CopyingParts.{kept_part}
 use Rattle.vt_layer_laws.proofs.ShownAtPath.{none_is_some, some_is_one}
 use Rattle.vt_layer_laws.proofs.ShownObjects.{Among}
 use Rattle.vt_layer_laws.proofs.UpperChain.{depth_bound, up_at_root, up_from}
 use Rattle.vt_layer_laws.proofs.UpperLine.{ReachedIn, is_reached_in, named_so, reached_directory}
-use Rattle.vt_layer_laws.proofs.WholeCopied.{copy_keeps_whole}
+use Rattle.vt_overlay_laws.proofs.WholeCopied.{copy_keeps_whole}
 
 -- each object of a list comes after the directory of its name
 abbrev pub IsLine : FileTree ℕ → List ℕ → List ℕ → Type 0

@@ -23,7 +23,7 @@ use Rattle.vt_tree_laws.proofs.ChangesKeepTrees.{changes_keep_trees}
 use Rattle.vt_layer_laws.specs.Layers.ChangesUpper.{StandsInUpper}
 use Rattle.vt_layer_laws.specs.Layers.Mounted.{IsAlike}
 use Rattle.vt_layer_laws.specs.Layers.Views.{TakesName, goes_through, names_entry, view_in}
-use Rattle.vt_layer_laws.specs.Layers.WhatIsShown.{CopyKeepsWhole, IsWhole, layers_under, real_seen}
+use Rattle.vt_overlay_laws.specs.WhatIsShown.{CopyKeepsWhole, IsWhole, layers_under, real_seen}
 use Rattle.vt_layer_laws.proofs.ShownAlike.{white_alike}
 use Rattle.vt_layer_laws.proofs.ShownAtPath.{none_is_some, some_is_one}
 use Rattle.vt_layer_laws.proofs.ShownDirectories.{last_of, led_is_there, no_white_directory}
@@ -37,10 +37,10 @@ use Rattle.vt_layer_laws.proofs.ViewsMoves.{led_parts}
 use Rattle.vt_layer_laws.proofs.ShownPaths.{not_empty}
 use Rattle.vt_layer_laws.proofs.ViewsNames.{alike_same, file_is_empty, inode_entries, make_adds_inode, make_adds_path, make_is_seen, no_entries}
 use Rattle.vt_layer_laws.proofs.ViewsStay.{inode_moves_no_path}
-use Rattle.vt_layer_laws.proofs.WholeAttributes.{bytes_same, top_open, upper_real}
-use Rattle.vt_layer_laws.proofs.WholeGrown.{directory_alike, grown_is_fine}
-use Rattle.vt_layer_laws.proofs.WholeNames.{above_named, cut_shows_none, named_led, through_bare, through_free, whole_again, directory_above, entry_named_so, is_fine, named_above, over_same, same_entry, same_through}
-use Rattle.vt_layer_laws.proofs.WholeParts.{IsFine, real_by, real_by_none}
+use Rattle.vt_overlay_laws.proofs.WholeAttributes.{bytes_same, top_open, upper_real}
+use Rattle.vt_overlay_laws.proofs.WholeGrown.{directory_alike, grown_is_fine}
+use Rattle.vt_overlay_laws.proofs.WholeNames.{above_named, cut_shows_none, named_led, through_bare, through_free, whole_again, directory_above, entry_named_so, is_fine, named_above, over_same, same_entry, same_through}
+use Rattle.vt_overlay_laws.proofs.WholeParts.{IsFine, real_by, real_by_none}
 
 -- the content of a copy
 copy_same : (parent : ℕ) (content : Content ℕ) → is_kind White (kind_of content) ≡ false → same_content content (copied_content parent content) ≡ true
@@ -106,7 +106,7 @@ module _ (stack : Stack ℕ) (merge : Merge ℕ) (whole : IsWhole stack merge) (
   has_real : is_some (merge.real object) ≡ true
   has_real = by (merge.real object) (fine_before.objects object)
     where
-      by : (o : Option (Real ℕ)) → SameObject (merge.files.tree.node object) (then_some o (Rattle.vt_layer_laws.specs.Layers.WhatIsShown.inode_behind stack merge)) → is_some o ≡ true
+      by : (o : Option (Real ℕ)) → SameObject (merge.files.tree.node object) (then_some o (Rattle.vt_overlay_laws.specs.WhatIsShown.inode_behind stack merge)) → is_some o ≡ true
       by None same = absurd (subst (λ n. SameObject n None) is same)
       by (Some real) same = refl
 

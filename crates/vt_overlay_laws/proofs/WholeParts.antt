@@ -12,7 +12,7 @@ use Rattle.vt_spec.specs.Machine.World.Real.{Upper}
 use Rattle.vt_spec.specs.Machine.WorldLaws.{SameObject, number_at_path}
 use Rattle.vt_spec.specs.Tree.{Node}
 use Rattle.vt_layer_laws.specs.Layers.Shown.{IsShown}
-use Rattle.vt_layer_laws.specs.Layers.WhatIsShown.{IsWhatIsShown, inode_behind, layers_under, real_seen}
+use Rattle.vt_overlay_laws.specs.WhatIsShown.{IsWhatIsShown, inode_behind, layers_under, real_seen}
 use Rattle.vt_layer_laws.proofs.ShownAtPath.{computed, none_is_some}
 use Rattle.vt_layer_laws.proofs.ShownDirectories.{AreOpen, led_is_there}
 

@@ -14,10 +14,10 @@ use Rattle.vt_spec.specs.Rights.{is_directory}
 use Rattle.vt_spec.specs.Tree.{Content, Node, bytes_of, is_directory_node, kind_of}
 use Rattle.vt_spec.specs.Tree.Content.{Directory, Regular, Symlink, Whiteout}
 use Rattle.vt_layer_laws.specs.Layers.Mounted.{IsAlike}
-use Rattle.vt_layer_laws.specs.Layers.WhatIsShown.{inode_behind, real_seen}
+use Rattle.vt_overlay_laws.specs.WhatIsShown.{inode_behind, real_seen}
 use Rattle.vt_layer_laws.proofs.ShownAlike.{white_alike}
 use Rattle.vt_layer_laws.proofs.ShownAtPath.{some_is_one}
-use Rattle.vt_layer_laws.proofs.WholeParts.{IsFine}
+use Rattle.vt_overlay_laws.proofs.WholeParts.{IsFine}
 
 -- Objects that are alike are the same objects
 same_by : Kind → Kind → List ℕ → List ℕ → Bool

@@ -6,7 +6,7 @@ use Rattle.vt_spec.specs.declared.attributes.Kind.TheVariants.{White}
 use Rattle.vt_spec.specs.FileTree.{a_name, is_kind, is_kind_in, is_opaque_in}
 use Rattle.vt_spec.specs.Language.Changes.{node_with_attr}
 use Rattle.vt_spec.specs.Lists.{Fresh, then_some}
-use Rattle.vt_spec.specs.Machine.CopyUp.{Merge, Stack, changed_both, copied_up, copy_of_node, made}
+use Rattle.vt_spec.specs.Machine.CopyUp.{Merge, Stack, changed_both, copied_up, copy_of_node, linked, made, removed}
 use Rattle.vt_spec.specs.Machine.Layers.{OpenLayer, node_at_path, shown}
 use Rattle.vt_spec.specs.Machine.Merging.{layer_node, merged_at, real_object}
 use Rattle.vt_spec.specs.Machine.World.{Real, upper_object}
@@ -14,7 +14,7 @@ use Rattle.vt_spec.specs.Machine.World.Real.{Below, Upper}
 use Rattle.vt_spec.specs.Machine.WorldLaws.{ListsNumbers, SameObject, number_at_path}
 use Rattle.vt_spec.specs.Tree.{Node, kind_of, node_with_bytes}
 use Rattle.vt_spec.specs.TreeLaws.{IsDirectory, IsReached, IsTree}
-use Rattle.vt_tree_laws.specs.Trees.{MayMake}
+use Rattle.vt_tree_laws.specs.Trees.{MayAddName, MayMake, MayRemove}
 use Rattle.vt_layer_laws.specs.Layers.ChangesUpper.{StandsInUpper}
 use Rattle.vt_layer_laws.specs.Layers.Upper.{IsThere}
 
@@ -93,3 +93,20 @@ MakeKeepsShown =
     → IsWhole stack merge → StandsInUpper merge directory → merge.upper.tree.node (fresh 0) ≡ None
     → MayMake merge.files.tree directory name number node → is_kind White (kind_of node.content) ≡ false
     → IsWhatIsShown stack (made nat_eq fresh stack merge directory name number node)
+
+-- An object that is no directory gets a further name; both stand in the upper layer.
+abbrev pub LinkKeepsShown : Type 0
+LinkKeepsShown =
+    (stack : Stack ℕ) (merge : Merge ℕ) (directory : ℕ) (name : List ℕ) (object : ℕ)
+    → IsWhole stack merge → StandsInUpper merge directory → StandsInUpper merge object
+    → MayAddName merge.files.tree directory name object
+    → IsWhatIsShown stack (linked nat_eq merge directory name object)
+
+-- The name of an object without names in it is taken away, with a whiteout where lower layers show something there, or without
+-- one.
+abbrev pub RemoveKeepsShown : Type 0
+RemoveKeepsShown =
+    (fresh : Fresh ℕ) (stack : Stack ℕ) (merge : Merge ℕ) (directory : ℕ) (name : List ℕ) (object : ℕ)
+    → IsWhole stack merge → StandsInUpper merge directory → merge.upper.tree.node (fresh 0) ≡ None
+    → MayRemove merge.files.tree directory name object
+    → IsWhatIsShown stack (removed nat_eq fresh stack merge directory name object)

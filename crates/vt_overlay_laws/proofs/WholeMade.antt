@@ -20,7 +20,7 @@ use Rattle.vt_spec.proofs.Trees.{led-append}
 use Rattle.vt_tree_laws.specs.Trees.{MayMake}
 use Rattle.vt_layer_laws.specs.Layers.ChangesUpper.{StandsInUpper}
 use Rattle.vt_layer_laws.specs.Layers.Views.{TakesName, goes_through, names_entry, view_in}
-use Rattle.vt_layer_laws.specs.Layers.WhatIsShown.{IsWhole, MakeKeepsShown, layers_under, real_seen}
+use Rattle.vt_overlay_laws.specs.WhatIsShown.{IsWhole, MakeKeepsShown, layers_under, real_seen}
 use Rattle.vt_layer_laws.proofs.ShownAtPath.{none_is_some}
 use Rattle.vt_layer_laws.proofs.ShownDirectories.{append_assoc, led_is_there}
 use Rattle.vt_layer_laws.proofs.ShownFronts.{front_found, front_passes}
@@ -29,12 +29,12 @@ use Rattle.vt_layer_laws.proofs.UpperShown.{front_of_longer}
 use Rattle.vt_layer_laws.proofs.ViewsAfter.{fails, new_name_is_shown, on_top, shown_elsewhere_stays}
 use Rattle.vt_layer_laws.proofs.ViewsMoves.{through_is_split}
 use Rattle.vt_layer_laws.proofs.ViewsNames.{make_adds_inode, make_adds_path, no_entries}
-use Rattle.vt_layer_laws.proofs.WholeAttributes.{bytes_same, top_open, upper_real}
-use Rattle.vt_layer_laws.proofs.WholeGrown.{grown_is_fine}
-use Rattle.vt_layer_laws.proofs.WholeNames.{cut_shows_none, directory_above, entry_named_so, is_fine, named_above, same_entry, same_holds, same_is, same_place, same_through, through_bare, through_free}
-use Rattle.vt_layer_laws.proofs.WholeNew
-use Rattle.vt_layer_laws.proofs.WholeParts.{IsFine, real_by, real_by_none, what_is_shown}
-use Rattle.vt_layer_laws.proofs.WholePlaces.{directory_below_top, path_to_is, shown_longer}
+use Rattle.vt_overlay_laws.proofs.WholeAttributes.{bytes_same, top_open, upper_real}
+use Rattle.vt_overlay_laws.proofs.WholeGrown.{grown_is_fine}
+use Rattle.vt_overlay_laws.proofs.WholeNames.{cut_shows_none, directory_above, entry_named_so, is_fine, named_above, same_entry, same_holds, same_is, same_place, same_through, through_bare, through_free}
+use Rattle.vt_overlay_laws.proofs.WholeNew
+use Rattle.vt_overlay_laws.proofs.WholeParts.{IsFine, real_by, real_by_none, what_is_shown}
+use Rattle.vt_overlay_laws.proofs.WholePlaces.{directory_below_top, path_to_is, shown_longer}
 
 -- a whiteout has no names in it
 pub white_bare : (o : Option (Node ℕ)) → is_kind_in White o ≡ true → entries_in o ≡ []
