@@ -10,3 +10,5 @@ pub mod WholeParts
 pub mod WholePlaces
 pub mod WholeRemoved
 pub mod WholeStill
+pub mod WholeTogether
+pub mod WholeWorlds
