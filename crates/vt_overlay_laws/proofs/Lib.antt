@@ -1,6 +1,7 @@
 pub mod WholeAttributes
 pub mod WholeCopied
 pub mod WholeGrown
+pub mod WholeHidden
 pub mod WholeLines
 pub mod WholeLinked
 pub mod WholeMade

@@ -7,7 +7,7 @@ use Rattle.vt_spec.specs.Language.Changes.{with_inode}
 use Rattle.vt_spec.specs.Lists.{Fresh, chain}
 use Rattle.vt_spec.specs.Machine.CopyUp.{Merge, Stack, copied_content, copied_each, copied_up, copy_named, copy_of, copy_of_node, copy_parent, directories_to, is_in_upper, line_by, line_to, upper_of, with_real}
 use Rattle.vt_spec.specs.Machine.World.{upper_object}
-use Rattle.vt_spec.specs.Machine.World.Real.{Upper}
+use Rattle.vt_spec.specs.Machine.World.Real.{Below, Upper}
 use Rattle.vt_spec.specs.Machine.WorldLaws.{ListsNumbers}
 use Rattle.vt_spec.specs.Tree.{Node, node_with_entry}
 use Rattle.vt_spec.specs.TreeLaws.{IsTree}
@@ -109,6 +109,7 @@ pub record IsCopied (stack : Stack ℕ) (fresh : Fresh ℕ) (merge later : Merge
   pub files : later.files ≡ merge.files
   pub grows : (n : ℕ) → StandsInUpper merge n → StandsInUpper later n
   pub vacant : (x : ℕ) → merge.upper.tree.node x ≡ None → ((j : ℕ) → x ≢ fresh j) → later.upper.tree.node x ≡ None
+  pub lower : (n layer : ℕ) (path : List (List ℕ)) → later.real n ≡ Some (Below layer path) → merge.real n ≡ Some (Below layer path)
 
 pub record IsLineCopied (stack : Stack ℕ) (fresh : Fresh ℕ) (merge later : Merge ℕ) (list : List ℕ) : Type 0 where
   pub copied : IsCopied stack fresh merge later
@@ -122,6 +123,15 @@ module _ (stack : Stack ℕ) (fresh : Fresh ℕ) (distinct : (j k : ℕ) → fre
   still_vacant merge copy node (Some name) x none differ =
       no_some _ (kept_part is_some (with_inode nat_eq merge.upper copy node) (upper_of merge name.0) (node_with_entry name.1 copy) (is_some-node_with_entry name.1 copy) x
       ∙ ap is_some (node_other merge.upper.tree copy (Some node) x differ ∙ none))
+
+  -- what lies below after a copy lay there before
+  pub below_before : (merge : Merge ℕ) (object copy n layer : ℕ) (path : List (List ℕ)) → with_real nat_eq merge.real object (Upper copy) n ≡ Some (Below layer path)
+      → merge.real n ≡ Some (Below layer path)
+  below_before merge object copy n layer path e = by (nat_eq n object) e
+    where
+      by : (b : Bool) → cond b (Some (Upper copy)) (merge.real n) ≡ Some (Below layer path) → merge.real n ≡ Some (Below layer path)
+      by true e = none_is_some copy (sym (ap upper_object e))
+      by false e = e
 
   grown_still : (merge : Merge ℕ) (object copy n : ℕ) → StandsInUpper merge n → is_some (upper_object (with_real nat_eq merge.real object (Upper copy) n)) ≡ true
   grown_still merge object copy n h = by (nat_eq n object)
@@ -141,7 +151,7 @@ module _ (stack : Stack ℕ) (fresh : Fresh ℕ) (distinct : (j k : ℕ) → fre
       → ((j : ℕ) → k ≤ j → merge.upper.tree.node (fresh j) ≡ None)
       → IsLineCopied stack fresh merge (copied_each nat_eq fresh k merge list) list
   line_copied [] k merge done whole line up there unused = record {
-    copied = record { whole = whole; files = refl; grows = λ n h. h; vacant = λ x none out. none };
+    copied = record { whole = whole; files = refl; grows = λ n h. h; vacant = λ x none out. none; lower = λ n layer path e. e };
     all = λ n m. absurd m;
   }
   line_copied (object ∷ rest) k merge done whole line up there unused =
@@ -178,6 +188,7 @@ module _ (stack : Stack ℕ) (fresh : Fresh ℕ) (distinct : (j k : ℕ) → fre
               files = next.copied.files;
               grows = λ n h. next.copied.grows n (grows n h);
               vacant = λ x none out. next.copied.vacant x (still x none (out k)) out;
+              lower = λ n layer path e. below_before merge object (fresh k) n layer path (next.copied.lower n layer path e);
             };
             all = λ n m. ⊎_elim (λ e. subst (StandsInUpper (copied_each nat_eq fresh (k + 1) one rest)) e (next.copied.grows object stands)) (λ l. next.all n l) m;
           }

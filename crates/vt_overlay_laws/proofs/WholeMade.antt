@@ -48,7 +48,7 @@ white_bare (Some node) e = by node.content e
     by Whiteout e = refl
 
 -- a new inode has no names in it and no mark
-new_bare : (d : ℕ) (node : Node ℕ) → IsNewIn d node → entries_of node.content ≡ []
+pub new_bare : (d : ℕ) (node : Node ℕ) → IsNewIn d node → entries_of node.content ≡ []
 new_bare d node (inl e) = ap entries_of e
 new_bare d node (inr e) = by node.content e
   where

@@ -1,6 +1,6 @@
 -- Each change of an overlay keeps that its tree is what its layers show: the kernel's overlayfs document, "upper and lower",
 -- "directories" and "whiteouts and opaque directories".
-use Rattle.std.specs.Prelude.{None, Some, false, nat_eq, ℕ, ◌≡◌}
+use Rattle.std.specs.Prelude.{List, None, Some, false, nat_eq, ℕ, ◌+◌, ◌≡◌}
 use Rattle.vt_spec.specs.declared.attributes.Kind.TheVariants.{White}
 use Rattle.vt_spec.specs.FileTree.{FileTree, is_kind}
 use Rattle.vt_spec.specs.Language.Changes.{Change}
@@ -8,13 +8,14 @@ use Rattle.vt_spec.specs.Language.Changes.Change.{AddName, CopyUp, Make, Move, R
 use Rattle.vt_spec.specs.Lists.{Fresh}
 use Rattle.vt_spec.specs.Machine.CopyUp.{Merge, Stack, merge_changed}
 use Rattle.vt_spec.specs.Machine.Filesystems.{merge_of, stack_of}
+use Rattle.vt_spec.specs.Machine.Layers.{shown}
 use Rattle.vt_spec.specs.Machine.World.{Filesystem, Layer, Overlay, World, filesystem_numbered}
 use Rattle.vt_spec.specs.Machine.WorldLaws.{IsMerged, IsWorld}
 use Rattle.vt_spec.specs.Tree.{kind_of}
 use Rattle.vt_spec.specs.TreeLaws.{IsReached}
 use Rattle.vt_tree_laws.specs.Trees.{MayAddName, MayMake, MayRemove}
 use Rattle.vt_layer_laws.specs.Layers.Upper.{IsThere}
-use Rattle.vt_overlay_laws.specs.WhatIsShown.{IsWhatIsShown, IsWhole}
+use Rattle.vt_overlay_laws.specs.WhatIsShown.{IsWhatIsShown, IsWhole, layers_under}
 
 -- What is asked for: what the calls' tables of rules see to. A mark of an overlay's directory is never set by a call (O4), and
 -- moves are not among these.
@@ -53,3 +54,13 @@ OverlaysAreWhole =
     → (filesystem_numbered nat_eq world number).overlay ≡ Some overlay → overlay.upper ≡ Some upper
     → IsReached (filesystem_numbered nat_eq world upper.filesystem).files.tree upper.directory
     → IsWhole (stack_of nat_eq world overlay upper) (merge_of nat_eq world (filesystem_numbered nat_eq world number) overlay upper)
+
+-- What a lower layer shows at a path after a change it showed there before: what is hidden by a whiteout, an opaque mark or an
+-- upper object does not show again.
+abbrev pub HiddenStaysHidden : Type 0
+HiddenStaysHidden =
+    (fresh : Fresh ℕ) (stack : Stack ℕ) (merge : Merge ℕ) (change : Change ℕ) (path : List (List ℕ)) (layer object : ℕ)
+    → IsWhole stack merge → ((j k : ℕ) → fresh j ≡ fresh k → j ≡ k) → ((k : ℕ) → merge.upper.tree.node (fresh k) ≡ None)
+    → IsAskedWell merge.files change
+    → shown (layers_under stack (merge_changed nat_eq fresh stack merge change)) path ≡ Some (record { layer = layer + 1; object = object })
+    → shown (layers_under stack merge) path ≡ Some (record { layer = layer + 1; object = object })
