@@ -41,11 +41,11 @@ module _ {A : Type 0} where
   each_passes test (first ∷ list) e a (inl same) = ap test (sym same) ∙ and_first (test first) _ e
   each_passes test (first ∷ list) e a (inr among) = each_passes test list (and_second (test first) _ e) a among
 
-  no_pair : (test : A → A → Bool) (list : List A) → any_pair test list ≡ false → Pairwise (λ a b. test a b ≡ false) list
+  pub no_pair : (test : A → A → Bool) (list : List A) → any_pair test list ≡ false → Pairwise (λ a b. test a b ≡ false) list
   no_pair test [] e = tt
   no_pair test (first ∷ list) e = (none_passes (test first) list (or_first _ _ e), no_pair test list (or_second (list_any (test first) list) _ e))
 
-  from_no_pair : (test other : A → A → Bool) (list : List A) → Pairwise (λ a b. test a b ≡ false) list → ((a b : A) → Among list a → Among list b → other a b ≡ test a b) → any_pair other list ≡ false
+  pub from_no_pair : (test other : A → A → Bool) (list : List A) → Pairwise (λ a b. test a b ≡ false) list → ((a b : A) → Among list a → Among list b → other a b ≡ test a b) → any_pair other list ≡ false
   from_no_pair test other [] p same = refl
   from_no_pair test other (first ∷ list) p same =
       ap (λ b. b || any_pair other list) (none_pass (other first) list (λ a among. same first a (inl refl) (inr among) ∙ p.0 a among))

@@ -23,7 +23,7 @@ among_slice [] k layer e = none_is_some layer e
 among_slice (first ∷ list) zero layer e = inl (some_is_one first layer e)
 among_slice (first ∷ list) (suc k) layer e = inr (among_slice list k layer e)
 
-find_new : (test : Filesystem ℕ → Bool) (list : List (Filesystem ℕ)) (last : Filesystem ℕ) → find test list ≡ None → test last ≡ true → find test (list ++ last ∷ []) ≡ Some last
+pub find_new : (test : Filesystem ℕ → Bool) (list : List (Filesystem ℕ)) (last : Filesystem ℕ) → find test list ≡ None → test last ≡ true → find test (list ++ last ∷ []) ≡ Some last
 find_new test [] last f e = ap (λ b. cond b (Some last) None) e
 find_new test (first ∷ list) last f e = by (test first) f (find_new test list last)
   where

@@ -20,6 +20,7 @@ pub mod LockedApart
 pub mod LockedChange
 pub mod LockedEachCall
 pub mod LockedEveryCall
+pub mod LockedPaths
 pub mod LockedSteps
 pub mod LockedWalks
 pub mod LowersCalls
@@ -28,6 +29,8 @@ pub mod LowersEveryCall
 pub mod LowersKept
 pub mod LowersMounts
 pub mod LowersWorld
+pub mod MountingKept
+pub mod MountingWalked
 pub mod ShownAlike
 pub mod ShownAtPath
 pub mod ShownDirectories

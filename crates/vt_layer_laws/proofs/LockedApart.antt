@@ -37,7 +37,7 @@ pub never_both : (a b : Bool) → (a && b) ≡ false → a ≡ true → b ≡ tr
 never_both a b e f g = true≢false (sym (both_hold a b f g) ∙ e)
 
 -- a directory is under itself
-under_itself : (files : FileTree ℕ) (directory : ℕ) → is_directory_node (files.tree.node directory) ≡ true
+pub under_itself : (files : FileTree ℕ) (directory : ℕ) → is_directory_node (files.tree.node directory) ≡ true
     → is_under nat_eq files directory directory ≡ true
 under_itself files directory is =
     ap (λ b. cond b (is_among nat_eq directory (chain (Rattle.std.proofs.Common.length files.numbers) (named_parent nat_eq files.tree) directory)) (Rattle.vt_spec.specs.FileTree.is_file_under nat_eq files directory directory)) is

@@ -41,7 +41,7 @@ same_kind Whiteout (Regular bytes) e = refl
 same_kind Whiteout (Symlink text) e = refl
 same_kind Whiteout Whiteout e = refl
 
-same_directory : (a b : Option (Node ℕ)) → SameObject a b → is_directory_node b ≡ is_directory_node a
+pub same_directory : (a b : Option (Node ℕ)) → SameObject a b → is_directory_node b ≡ is_directory_node a
 same_directory None None same = refl
 same_directory None (Some other) same = absurd same
 same_directory (Some node) None same = absurd same

@@ -36,7 +36,7 @@ below_none name (entry ∷ entries) e =
     apart Equal e = absurd (true≢false (sym e))
     apart Greater e = refl
 
-found_is_named : (object : ℕ) (entries : Entries ℕ) (entry : List ℕ × ℕ) → is_sorted name_cmp entries ≡ true → find (λ entry. nat_eq object entry.1) entries ≡ Some entry → (entry_named entry.0 entries ≡ Some entry.1) × (entry.1 ≡ object)
+pub found_is_named : (object : ℕ) (entries : Entries ℕ) (entry : List ℕ × ℕ) → is_sorted name_cmp entries ≡ true → find (λ entry. nat_eq object entry.1) entries ≡ Some entry → (entry_named entry.0 entries ≡ Some entry.1) × (entry.1 ≡ object)
 found_is_named object [] entry sorted e = none_is_some entry e
 found_is_named object (first ∷ entries) entry sorted e =
     by (nat_eq object first.1) refl e (λ rest. found_is_named object entries entry (and_second (below_all name_cmp first.0 entries) _ sorted) rest)

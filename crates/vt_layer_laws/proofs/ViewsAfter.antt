@@ -50,7 +50,7 @@ fronts_fail test path front is none = fails (list_any test (fronts front)) (λ e
       there.1.2,
     ) none)
 
-itself_fails : (test : List (List ℕ) → Bool) (path : List (List ℕ)) → test [] ≡ false
+pub itself_fails : (test : List (List ℕ) → Bool) (path : List (List ℕ)) → test [] ≡ false
     → list_any test (fronts path) ≡ false → test path ≡ false
 itself_fails test [] start none = start
 itself_fails test (word ∷ path) start none =
@@ -266,7 +266,7 @@ shown_elsewhere_stays files change top lowers tree is_top plain path none =
     (lead_alike files top tree is_top change plain path none) lowers
 
 -- what the upper layer has is shown, unless it is a whiteout
-on_top : (view : View ℕ) (lowers : List (View ℕ)) (path : List (List ℕ)) (object : ℕ) (white : Bool)
+pub on_top : (view : View ℕ) (lowers : List (View ℕ)) (path : List (List ℕ)) (object : ℕ) (white : Bool)
     → view.leads path ≡ Some object → is_kind_in White (view.node object) ≡ white
     → shown_from 0 (view ∷ lowers) path ≡ when (not white) (record { layer = 0; object = object })
 on_top view lowers path object white e is =

@@ -44,7 +44,7 @@ named_by tree directory name (word ∷ next ∷ rest) start e =
         (word ∷ found.0, ap (λ p. word ∷ p) found.1, ap (option_and_then (λ n. led tree n found.0)) f ∙ found.2)
 
 -- the fronts of a path with a word more
-fronts_longer : (test : List (List ℕ) → Bool) (way : List (List ℕ)) (name : List ℕ)
+pub fronts_longer : (test : List (List ℕ) → Bool) (way : List (List ℕ)) (name : List ℕ)
     → list_any test (fronts (way ++ name ∷ [])) ≡ (list_any test (fronts way) || test (way ++ name ∷ []))
 fronts_longer test [] name = or_false (test (name ∷ []))
   where
@@ -88,7 +88,7 @@ shown_under before after lowers way name gone alike =
         ∙ ap (cuts before) (sym (front_of_longer way name))
 
 module _ (files : FileTree ℕ) (top directory : ℕ) (name : List ℕ) where
-  is_named : (path : List (List ℕ)) → names_entry (view_in files top) directory name path ≡ true
+  pub is_named : (path : List (List ℕ)) → names_entry (view_in files top) directory name path ≡ true
       → IsNamed files.tree top directory name path
   is_named path e =
       named_by files.tree directory name path top (sym (names_it files.tree directory name path top) ∙ e)
@@ -106,7 +106,7 @@ module _ (files : FileTree ℕ) (top directory : ℕ) (name : List ℕ) where
       not_empty (word ∷ way) = cons_is_not_empty word (way ++ name ∷ [])
 
   -- and the way to its directory does not
-  way_goes_elsewhere : IsTree files.tree → (object : ℕ) → entry_at files.tree directory name ≡ Some object
+  pub way_goes_elsewhere : IsTree files.tree → (object : ℕ) → entry_at files.tree directory name ≡ Some object
       → (way : List (List ℕ)) → led files.tree top way ≡ Some directory
       → goes_through (view_in files top) directory name way ≡ false
   way_goes_elsewhere tree object named way e =

@@ -16,7 +16,7 @@ use Rattle.vt_layer_laws.proofs.ShownFronts.{cons_is_not_empty, list_any_of_map}
 pub hides_so : (one other : Option (Node ℕ)) → IsAlike one other → HidesAlike one other
 hides_so one other is = record { of_kind = record { there = is.there; kind = is.kind }; mark = is.mark }
 
-hiding_alike : (one other : Option (Node ℕ)) → HidesAlike one other → hides other ≡ hides one
+pub hiding_alike : (one other : Option (Node ℕ)) → HidesAlike one other → hides other ≡ hides one
 hiding_alike None None is = refl
 hiding_alike None (Some there) is = absurd (true≢false is.of_kind.there)
 hiding_alike (Some here) None is = absurd (true≢false (sym is.of_kind.there))
@@ -29,7 +29,7 @@ white_of_kind (Some here) None is = absurd (true≢false (sym is.there))
 white_of_kind (Some here) (Some there) is = ap (is_kind White) is.kind
 
 -- tests that agree on the fronts of a path
-fronts_agree : (one other : List (List ℕ) → Bool) (path : List (List ℕ))
+pub fronts_agree : (one other : List (List ℕ) → Bool) (path : List (List ℕ))
     → ((front : List (List ℕ)) → IsFrontOf front path → other front ≡ one front)
     → list_any other (fronts path) ≡ list_any one (fronts path)
 fronts_agree one other [] same = refl

@@ -25,7 +25,7 @@ pub no_entries : (tree : Tree ℕ) (object : ℕ) → entries_in (tree.node obje
     → entry_at tree object word ≡ None
 no_entries tree object empty word = ap (entry_named word) empty
 
-file_is_empty : (o : Option (Node ℕ)) → is_directory_node o ≡ false → entries_in o ≡ []
+pub file_is_empty : (o : Option (Node ℕ)) → is_directory_node o ≡ false → entries_in o ≡ []
 file_is_empty None e = refl
 file_is_empty (Some node) e = by node.content e
   where
@@ -80,7 +80,7 @@ alike_both one middle other a b = record {
   mark = b.mark ∙ a.mark;
 }
 
-alike_after : (files : FileTree ℕ) (number : ℕ) (change : Option (Node ℕ) → Option (Node ℕ)) → KeepsButNames change
+pub alike_after : (files : FileTree ℕ) (number : ℕ) (change : Option (Node ℕ) → Option (Node ℕ)) → KeepsButNames change
     → (inode : ℕ)
     → IsAlike (files.tree.node inode) ((changed_node nat_eq files number change).tree.node inode)
 alike_after files number change keeps inode =

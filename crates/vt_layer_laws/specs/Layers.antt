@@ -10,3 +10,4 @@ pub mod ShownAfter
 pub mod Directories
 pub mod DirectoryTrees
 pub mod NewOverlays
+pub mod Mounting

@@ -6,4 +6,5 @@
 pub mod directories;
 pub mod layers;
 pub mod locked;
+pub mod mounting;
 pub mod views;

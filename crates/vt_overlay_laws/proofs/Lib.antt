@@ -1,0 +1,15 @@
+pub mod WholeAttributes
+pub mod WholeCopied
+pub mod WholeGrown
+pub mod WholeHidden
+pub mod WholeLines
+pub mod WholeLinked
+pub mod WholeMade
+pub mod WholeNames
+pub mod WholeNew
+pub mod WholeParts
+pub mod WholePlaces
+pub mod WholeRemoved
+pub mod WholeStill
+pub mod WholeTogether
+pub mod WholeWorlds

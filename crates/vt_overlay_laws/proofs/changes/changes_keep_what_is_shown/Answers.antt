@@ -1,0 +1,16 @@
+use Rattle.vt_overlay_laws.proofs.WholeHidden.{hidden_stays_hidden}
+use Rattle.vt_overlay_laws.proofs.WholeTogether.{changes_keep_shown}
+use Rattle.vt_overlay_laws.proofs.WholeWorlds.{overlays_are_whole, shown_is_merged}
+use Rattle.vt_overlay_laws.proofs.changes.changes_keep_what_is_shown.Goals as goal
+
+pub returns-clause-changes : goal.returns-clause-changes
+returns-clause-changes c = changes_keep_shown
+
+pub returns-clause-merged : goal.returns-clause-merged
+returns-clause-merged c = shown_is_merged
+
+pub returns-clause-whole : goal.returns-clause-whole
+returns-clause-whole c = overlays_are_whole
+
+pub returns-clause-hidden : goal.returns-clause-hidden
+returns-clause-hidden c = hidden_stays_hidden

@@ -1,0 +1,28 @@
+use Rattle.vt_overlay_laws.proofs.WholeLinked.{link_keeps_shown}
+use Rattle.vt_overlay_laws.proofs.WholeRemoved.{remove_keeps_shown}
+use Rattle.vt_overlay_laws.proofs.WholeMade.{make_keeps_shown}
+use Rattle.vt_overlay_laws.proofs.WholeCopied.{copy_keeps_whole}
+use Rattle.vt_overlay_laws.proofs.WholeLines.{copies_keep_whole}
+use Rattle.vt_overlay_laws.proofs.WholeAttributes.{attr_keeps_whole, bytes_keep_whole}
+use Rattle.vt_overlay_laws.proofs.steps.steps_keep_what_is_shown.Goals as goal
+
+pub returns-clause-bytes : goal.returns-clause-bytes
+returns-clause-bytes c = bytes_keep_whole
+
+pub returns-clause-attr : goal.returns-clause-attr
+returns-clause-attr c = attr_keeps_whole
+
+pub returns-clause-copy : goal.returns-clause-copy
+returns-clause-copy c = copy_keeps_whole
+
+pub returns-clause-copies : goal.returns-clause-copies
+returns-clause-copies c = copies_keep_whole
+
+pub returns-clause-made : goal.returns-clause-made
+returns-clause-made c = make_keeps_shown
+
+pub returns-clause-linked : goal.returns-clause-linked
+returns-clause-linked c = link_keeps_shown
+
+pub returns-clause-removed : goal.returns-clause-removed
+returns-clause-removed c = remove_keeps_shown

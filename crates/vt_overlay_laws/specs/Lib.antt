@@ -1,0 +1,2 @@
+pub mod WhatIsShown
+pub mod WholeChanges

@@ -1,0 +1,15 @@
+//! Laws of overlays as they are changed: each step keeps that the tree is what the layers show.
+ghost use Rattle.vt_overlay_laws.specs.WhatIsShown.{AttrKeepsWhole, BytesKeepWhole, CopiesKeepWhole, CopyKeepsWhole, LinkKeepsShown, MakeKeepsShown, RemoveKeepsShown};
+
+/// The tree of an overlay is what its layers show after each step of a change: bytes and attributes of what stands in the upper
+/// layer are set; one object is copied up, or one with all the directories above it; a new
+/// object, or one that is there, is put under a name; a name is taken away.
+pub fn steps_keep_what_is_shown()
+    ensures bytes { BytesKeepWhole }
+    ensures attr { AttrKeepsWhole }
+    ensures copy { CopyKeepsWhole }
+    ensures copies { CopiesKeepWhole }
+    ensures made { MakeKeepsShown }
+    ensures linked { LinkKeepsShown }
+    ensures removed { RemoveKeepsShown }
+{}
