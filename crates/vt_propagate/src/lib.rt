@@ -1,0 +1,8 @@
+//! How mounts and unmounts propagate between peer groups: mount_namespaces(7), and the kernel's document sharedsubtree.
+#![tactic(auto)]
+
+mod reach;
+mod receiving;
+
+pub use reach::Reach;
+pub use receiving::parts;
