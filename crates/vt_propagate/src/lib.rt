@@ -3,6 +3,8 @@
 
 mod reach;
 mod receiving;
+mod unmounting;
 
 pub use reach::Reach;
 pub use receiving::parts;
+pub use unmounting::{going, is_busy};
