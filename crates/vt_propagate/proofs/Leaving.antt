@@ -48,7 +48,7 @@ is_some-same f g None (Some b) e = ap is_some e
 is_some-same f g (Some a) None e = ap is_some e
 is_some-same f g (Some a) (Some b) e = refl
 
-same_from : (a b : Bool) → (a ≡ true → b ≡ true) → (b ≡ true → a ≡ true) → a ≡ b
+pub same_from : (a b : Bool) → (a ≡ true → b ≡ true) → (b ≡ true → a ≡ true) → a ≡ b
 same_from true b to back = sym (to refl)
 same_from false true to back = back refl
 same_from false false to back = refl

@@ -1,3 +1,4 @@
 pub mod Found
 pub mod TakingPart
 pub mod Leaving
+pub mod Counting

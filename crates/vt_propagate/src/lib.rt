@@ -1,10 +1,12 @@
 //! How mounts and unmounts propagate between peer groups: mount_namespaces(7), and the kernel's document sharedsubtree.
 #![tactic(auto)]
 
+mod filling;
 mod reach;
 mod receiving;
 mod unmounting;
 
+pub use filling::overfills;
 pub use reach::Reach;
 pub use receiving::parts;
 pub use unmounting::{going, is_busy};
