@@ -2,3 +2,4 @@ pub mod Found
 pub mod TakingPart
 pub mod Leaving
 pub mod Counting
+pub mod Indexing
