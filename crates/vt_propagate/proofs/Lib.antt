@@ -3,3 +3,4 @@ pub mod TakingPart
 pub mod Leaving
 pub mod Counting
 pub mod Indexing
+pub mod Planning
