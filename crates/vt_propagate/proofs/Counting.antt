@@ -1,18 +1,18 @@
 -- How many mounts namespaces have once a tree is attached.
-use Rattle.std.proofs.Common.{◌≡◌, ◌<◌, ℕ, Bool, true, false, cond, ◌+◌, ◌*◌, ◌++◌, ◌||◌, List, [], ◌∷◌, map, filter, length, nat_eq, nat_lt, Option, None, Some, option_map, flat_map, suc, refl, sym, ap, ◌∙◌, arith, true≢false, inl, inr, ⊎_elim, eq-eqb, subst, append_assoc}
-use Rattle.std.specs.Prelude.{count_by, option_to_list, unwrap_or}
+use Rattle.std.proofs.Common.{◌≡◌, ℕ, Bool, true, false, cond, ◌+◌, ◌*◌, ◌++◌, ◌||◌, List, [], ◌∷◌, map, filter, length, nat_eq, nat_lt, Option, None, Some, option_map, flat_map, suc, refl, sym, ap, ◌∙◌, arith, true≢false, inl, ⊎_elim, subst, append_assoc}
+use Rattle.std.specs.Prelude.{option_to_list, unwrap_or}
 use Rattle.std.specs.List.{list_all, list_any}
-use Rattle.std.proofs.lemmas.Bool.{and_parts, eqb-true, ltb-true, false_from_ne_true}
+use Rattle.std.proofs.lemmas.Bool.{and_parts, eqb-true}
 use Rattle.std.proofs.lemmas.List.{length-append, length-map}
 use Rattle.std.proofs.lemmas.List.Elements.{filter-append}
 use Rattle.std.proofs.lemmas.List.Sums.{length-filter}
 use Rattle.vt_spec.specs.Language.Limits.{most_mounts}
-use Rattle.vt_spec.specs.Lists.{holds_of, is_among}
+use Rattle.vt_spec.specs.Lists.{holds_of}
 use Rattle.vt_spec.specs.Machine.Attach.{Copies, Graft, attached_by, copies_at, copy_at, graft_of, has_too_many, parts_of, pushed_onto, pushed_up, receiver_below, receivers_of, takes_part, twig_of}
 use Rattle.vt_spec.specs.Machine.Mounts.{Location, Mount, group_of, no_mount}
 use Rattle.vt_spec.specs.Machine.World.{Namespace, World, mount_at}
 use Rattle.vt_spec.specs.Machine.WorldLaws.{NamespaceInvariants, is_listed}
-use Rattle.vt_spec.proofs.Lists.{Among, among-filter, among-from_filter, among-from_map, among_from_list_all, among_numbers, any_among, any_from_among, none_among}
+use Rattle.vt_spec.proofs.Lists.{Among, among-from_filter, among-from_map, among_from_list_all, among_numbers, any_among, any_from_among, none_among}
 use Rattle.vt_location.specs.declared.mounts.Mount.{Mount as Kept}
 use Rattle.vt_location.specs.declared.numbers.NamespaceId.{NamespaceId}
 use Rattle.vt_location.specs.MountValue.{mount_of}

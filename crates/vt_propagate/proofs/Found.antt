@@ -1,6 +1,6 @@
 -- Mounts that are found by their numbers.
-use Rattle.std.proofs.Common.{◌≡◌, ℕ, Bool, true, false, cond, ◌&&◌, List, [], ◌∷◌, ◌++◌, map, filter, nat_eq, nat_lt, Option, None, Some, refl, sym, ap, ◌∙◌, arith, true≢false, inl, inr, ⊎_elim, eq-eqb, ne_eqb}
-use Rattle.std.specs.Prelude.{find as seek, filter_map}
+use Rattle.std.proofs.Common.{◌≡◌, ℕ, Bool, true, false, cond, List, [], ◌∷◌, map, filter, nat_eq, nat_lt, Option, None, Some, refl, sym, ap, ◌∙◌, arith, inl, inr, ⊎_elim, eq-eqb, ne_eqb}
+use Rattle.std.specs.Prelude.{find as seek}
 use Rattle.std.specs.List.{cons_option, list_all}
 use Rattle.std.proofs.lemmas.Bool.{and_parts, ltb-true}
 use Rattle.vt_spec.specs.Machine.Mounts.{Mount}

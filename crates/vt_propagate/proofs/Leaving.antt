@@ -1,5 +1,5 @@
 -- Which mounts an unmount detaches, by their numbers.
-use Rattle.std.proofs.Common.{◌≡◌, ℕ, Bool, true, false, cond, ◌&&◌, ◌||◌, List, [], ◌∷◌, map, filter, length, nat_eq, nat_lt, Option, None, Some, option_map, is_some, refl, sym, ap, ◌∙◌, arith, true≢false, inl, inr, ⊎_elim, eq-eqb, ◌+◌, ◌*◌}
+use Rattle.std.proofs.Common.{◌≡◌, ℕ, Bool, true, false, cond, ◌||◌, List, [], ◌∷◌, filter, length, nat_eq, nat_lt, Option, None, Some, option_map, is_some, refl, sym, ap, ◌∙◌, arith, true≢false, inl, inr, eq-eqb, ◌+◌, ◌*◌}
 use Rattle.std.proofs.lemmas.List.{length-map}
 use Rattle.std.specs.Prelude.{find as seek, filter_map, if◌then◌else◌, unwrap_or}
 use Rattle.std.specs.List.{cons_option, list_any}
@@ -7,7 +7,7 @@ use Rattle.std.proofs.lemmas.Bool.{and_parts, eqb-true}
 use Rattle.std.proofs.lemmas.Option.{same_Some}
 use Rattle.vt_spec.specs.Lists.{holds_of, is_among, then_some, when}
 use Rattle.vt_spec.specs.Machine.Attach.{receivers_of}
-use Rattle.vt_spec.specs.Machine.Detach.{covers_root, going, going_at, going_from, goes_at, has_child, is_busy, is_used, only_cover}
+use Rattle.vt_spec.specs.Machine.Detach.{covers_root, going, going_at, going_from, goes_at, is_busy, is_used, only_cover}
 use Rattle.vt_spec.specs.Machine.Mounts.{Location, Mount, child_at, children, group_of, is_shared, no_mount, root_of, same_location, stands_at, stands_on}
 use Rattle.vt_spec.specs.Machine.Receives.{receivers}
 use Rattle.vt_spec.specs.Machine.Settled.{is_located}

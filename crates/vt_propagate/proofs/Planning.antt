@@ -1,8 +1,7 @@
 -- What is made by the masters that are kept is what is made in the world.
-use Rattle.std.proofs.Common.{◌≡◌, ℕ, Bool, true, false, cond, ◌++◌, suc, zero, List, [], ◌∷◌, map, filter, length, nat_eq, Option, None, Some, option_map, flat_map, is_some, refl, sym, ap, ◌∙◌, arith, true≢false, inl, inr, ⊎_elim, subst}
+use Rattle.std.proofs.Common.{◌≡◌, ℕ, Bool, true, cond, ◌++◌, suc, zero, List, [], ◌∷◌, map, length, nat_eq, Option, None, Some, option_map, flat_map, is_some, refl, sym, ap, ◌∙◌, true≢false, inl, inr, ⊎_elim, subst}
 use Rattle.std.specs.Prelude.{find as seek, filter_map, if◌then◌else◌, not, slice_get, unwrap_or}
 use Rattle.std.specs.List.{cons_option}
-use Rattle.std.proofs.lemmas.List.{length-map}
 use Rattle.std.proofs.lemmas.Option.{same_Some}
 use Rattle.vt_spec.specs.Lists.{chain, then_some, when}
 use Rattle.vt_spec.specs.Machine.Attach as meant
@@ -19,10 +18,9 @@ use Rattle.vt_location.specs.Locations.{location_of}
 use Rattle.vt_location.specs.MountValue.{mount_of}
 use Rattle.vt_location.specs.declared.mounts.Mount.{Mount as Kept}
 use Rattle.vt_mount.specs.MountsValue.{MountEntry, mounts_in}
-use Rattle.vt_propagate.specs.declared.copying.Graft.{Graft}
 use Rattle.vt_propagate.specs.declared.numbering.Copying.{Copying}
 use Rattle.vt_propagate.specs.Copying.{as_kept, copied, counts_from, graft_seen, made, parts_seen, supply, tree_seen, twig}
-use Rattle.vt_propagate.specs.Planned.{graft_in, numbers_at, planned_copies, planned_groups}
+use Rattle.vt_propagate.specs.Planned.{planned_copies, planned_groups}
 use Rattle.vt_propagate.specs.Seen.{IsSeen}
 use Rattle.vt_propagate.proofs.Found.{numbered}
 use Rattle.vt_propagate.proofs.Leaving.{found_one}

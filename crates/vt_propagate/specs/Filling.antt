@@ -1,6 +1,5 @@
 -- How many mounts a namespace has.
 use Rattle.std.specs.Prelude.{Bool, List, Option, count_by, filter, length, nat_eq, nat_lt, ℕ, ◌*◌, ◌+◌}
-use Rattle.std.specs.List.{list_any}
 use Rattle.vt_spec.specs.Language.Limits.{most_mounts}
 use Rattle.vt_spec.specs.Lists.{holds_of}
 use Rattle.vt_spec.specs.Machine.Mounts as meant

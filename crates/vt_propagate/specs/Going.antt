@@ -1,5 +1,5 @@
 -- Which mounts an unmount detaches, by the list of mounts alone.
-use Rattle.std.specs.Prelude.{Bool, List, Option, filter_map, find, map, nat_eq, nat_lt, option_map, ℕ, ◌≡◌}
+use Rattle.std.specs.Prelude.{Bool, List, Option, filter_map, find, nat_eq, nat_lt, option_map, ℕ, ◌≡◌}
 use Rattle.vt_spec.specs.Lists.{then_some, when}
 use Rattle.vt_spec.specs.Machine.Detach.{only_cover}
 use Rattle.vt_spec.specs.Machine.Mounts.{Location, Mount, child_at, children, group_of}

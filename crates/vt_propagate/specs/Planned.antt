@@ -2,7 +2,7 @@
 use Rattle.std.specs.Prelude.{List, Option, flat_map, map, nat_eq, ℕ}
 use Rattle.vt_spec.specs.Machine.Attach as meant
 use Rattle.vt_spec.specs.Machine.Attach.{Copies, all_groups_made, copies_at, copies_from, graft_of, parts_of}
-use Rattle.vt_spec.specs.Machine.Mounts.{Location, Mount}
+use Rattle.vt_spec.specs.Machine.Mounts.{Mount}
 use Rattle.vt_spec.specs.Machine.World.{World}
 use Rattle.vt_location.specs.Locations.{location_of}
 use Rattle.vt_location.specs.MountValue.{mount_of}

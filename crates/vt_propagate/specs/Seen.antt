@@ -1,5 +1,5 @@
 -- The world that the mounts, the groups and the filesystems of code are.
-use Rattle.std.specs.Prelude.{Bool, List, filter_map, find, is_some, nat_eq, not, option_map, unwrap_or, ℕ, [], ◌&&◌, ◌∷◌, ◌≡◌, filter}
+use Rattle.std.specs.Prelude.{Bool, List, filter_map, find, is_some, nat_eq, not, ℕ, ◌&&◌, ◌≡◌}
 use Rattle.vt_spec.specs.FileTree.{is_directory_under}
 use Rattle.vt_spec.specs.Machine.Mounts.{Location, Mount}
 use Rattle.vt_spec.specs.Machine.World.{World, filesystem_numbered}

@@ -1,4 +1,4 @@
-use Rattle.std.proofs.Common.{◌≡◌, ◌∙◌}
+use Rattle.std.proofs.Common.{◌∙◌}
 use Rattle.vt_propagate.specs.declared.numbering.Copying.{Copying}
 use Rattle.vt_propagate.proofs.Planning.{copies_planned, first_part}
 use Rattle.vt_propagate.proofs.copying.copies.Goals as goal

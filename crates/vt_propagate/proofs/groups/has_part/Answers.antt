@@ -1,4 +1,4 @@
-use Rattle.std.proofs.Common.{◌≡◌, ◌∙◌, nat_eq, refl, rules, ℕ}
+use Rattle.std.proofs.Common.{◌∙◌, nat_eq, refl, rules}
 use Rattle.std.proofs.lemmas.Iterator.{YieldsList-from_slice}
 use Rattle.std.proofs.lemmas.Iterator.Search.{any_from_yields_List}
 use Rattle.vt_spec.specs.Lists.{holds_of}

@@ -1,4 +1,4 @@
-use Rattle.std.proofs.Common.{◌≡◌, ◌∙◌, ap, nat_eq, rules, ℕ}
+use Rattle.std.proofs.Common.{◌∙◌, ap, nat_eq, rules, ℕ}
 use Rattle.std.specs.Prelude.{unwrap_or}
 use Rattle.std.proofs.lemmas.Iterator.{YieldsList-from_slice}
 use Rattle.std.proofs.lemmas.Iterator.Adapters.{position_from-zero}

@@ -1,4 +1,4 @@
-use Rattle.std.proofs.Common.{◌≡◌, ◌++◌, drop, map}
+use Rattle.std.proofs.Common.{◌≡◌, ◌++◌, drop}
 use Rattle.vt_location.specs.Locations.{number_of}
 use Rattle.vt_mount.specs.MountsValue.{mounts_in}
 use Rattle.vt_propagate.specs.Going.{free_on}

@@ -1,15 +1,7 @@
-use Rattle.std.proofs.Common.{◌≡◌, ◌∙◌, ap, sym, Some, None, ℕ, Option, option_map, nat_eq, map, List, ◌∷◌, []}
+use Rattle.std.proofs.Common.{◌∙◌, ap, sym}
 use Rattle.std.specs.Prelude.{Err, IfOk, Ok, Result}
-use Rattle.vt_spec.specs.Machine.Detach.{going as going_of}
-use Rattle.vt_spec.specs.Machine.Mounts.{Location as Place}
-use Rattle.vt_spec.specs.Machine.World.{World, mount_numbered}
 use Rattle.vt_location.specs.Locations.{location_of}
 use Rattle.vt_location.specs.Numbers.{counted}
-use Rattle.vt_location.specs.declared.locations.Location.{Location}
-use Rattle.vt_location.specs.declared.numbers.GroupId.{GroupId}
-use Rattle.vt_location.specs.declared.numbers.MountId.{MountId}
-use Rattle.vt_mount.specs.MountsValue.{mounts_in}
-use Rattle.vt_propagate.specs.Going.{shared_point}
 use Rattle.vt_propagate.proofs.Found.{counts}
 use Rattle.vt_propagate.proofs.Leaving.{going-alone, going-everywhere}
 use Rattle.vt_propagate.proofs.unmounting.going.Goals as goal

@@ -1,4 +1,4 @@
-use Rattle.std.proofs.Common.{◌≡◌, ◌∙◌, ap, sym}
+use Rattle.std.proofs.Common.{◌∙◌, ap, sym}
 use Rattle.vt_location.specs.Numbers.{counted}
 use Rattle.vt_propagate.proofs.Found.{counts}
 use Rattle.vt_propagate.proofs.Leaving.{busy-told}
