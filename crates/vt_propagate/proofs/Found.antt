@@ -1,0 +1,72 @@
+-- Mounts that are found by their numbers.
+use Rattle.std.proofs.Common.{◌≡◌, ℕ, Bool, true, false, cond, List, [], ◌∷◌, map, filter, nat_eq, nat_lt, Option, None, Some, refl, sym, ap, ◌∙◌, arith, inl, inr, ⊎_elim, eq-eqb, ne_eqb}
+use Rattle.std.specs.Prelude.{find as seek}
+use Rattle.std.specs.List.{cons_option, list_all}
+use Rattle.std.proofs.lemmas.Bool.{and_parts, ltb-true}
+use Rattle.vt_spec.specs.Machine.Mounts.{Mount}
+use Rattle.vt_spec.proofs.Lists.{Among, among_from_list_all}
+use Rattle.vt_location.specs.declared.numbers.MountId.{MountId}
+use Rattle.vt_location.specs.Numbers.{counted}
+use Rattle.vt_mount.specs.MountsValue.{are_ascending}
+use Rattle.vt_propagate.specs.Seen.{mounts_numbered}
+
+abbrev pub counts : List MountId → List ℕ
+counts ids = map (λ id. counted id.count) ids
+
+abbrev pub numbers : List (Mount ℕ) → List ℕ
+numbers mounts = map (λ mount. mount.number) mounts
+
+abbrev pub numbered : List (Mount ℕ) → ℕ → Option (Mount ℕ)
+numbered mounts number = seek (λ mount. nat_eq number mount.number) mounts
+
+-- those of the mounts with these numbers that pass
+module _ (test : Mount ℕ → Bool) (all : List (Mount ℕ)) where
+  abbrev pub passing : List MountId → List (Mount ℕ)
+  passing ids = filter test (mounts_numbered all (counts ids))
+
+  pub passing-missing : (id : MountId) (ids : List MountId) → None ≡ numbered all (counted id.count) → passing (id ∷ ids) ≡ passing ids
+  passing-missing id ids e = ap (λ o. filter test (cons_option o (mounts_numbered all (counts ids)))) (sym e)
+
+  pub passing-here : (id : MountId) (ids : List MountId) (mount : Mount ℕ) → Some mount ≡ numbered all (counted id.count)
+      → test mount ≡ true → passing (id ∷ ids) ≡ mount ∷ passing ids
+  passing-here id ids mount e passes =
+      ap (λ o. filter test (cons_option o (mounts_numbered all (counts ids)))) (sym e)
+      ∙ ap (λ b. cond b (mount ∷ passing ids) (passing ids)) passes
+
+  pub passing-not : (id : MountId) (ids : List MountId) (mount : Mount ℕ) → Some mount ≡ numbered all (counted id.count)
+      → test mount ≡ false → passing (id ∷ ids) ≡ passing ids
+  passing-not id ids mount e fails =
+      ap (λ o. filter test (cons_option o (mounts_numbered all (counts ids)))) (sym e)
+      ∙ ap (λ b. cond b (mount ∷ passing ids) (passing ids)) fails
+
+-- each mount of an ascending list is found by its number
+pub numbered_among : (all : List (Mount ℕ)) → are_ascending all ≡ true → (mount : Mount ℕ) → Among mount all → numbered all mount.number ≡ Some mount
+numbered_among [] up mount m = absurd m
+numbered_among (first ∷ rest) up mount m = ⊎_elim here (later (numbered_among rest parts.1 mount)) m
+  where
+    parts : (list_all (λ later. nat_lt first.number later.number) rest ≡ true) × (are_ascending rest ≡ true)
+    parts = and_parts _ _ up
+
+    here : mount ≡ first → numbered (first ∷ rest) mount.number ≡ Some mount
+    here e =
+        ap (λ b. cond b (Some first) (numbered rest mount.number)) (eq-eqb mount.number first.number (ap (λ x. x.number) e))
+        ∙ ap Some (sym e)
+
+    later : (Among mount rest → numbered rest mount.number ≡ Some mount) → Among mount rest → numbered (first ∷ rest) mount.number ≡ Some mount
+    later again l =
+        ap (λ b. cond b (Some first) (numbered rest mount.number))
+        (ne_eqb mount.number first.number (λ same. omega (
+          arith,
+          same,
+          ltb-true first.number mount.number
+              (among_from_list_all (λ later. nat_lt first.number later.number) rest parts.0 mount l),
+        )))
+        ∙ again l
+
+-- the mounts of an ascending list that are numbered like some of them are these
+pub numbered_again : (all some : List (Mount ℕ)) → are_ascending all ≡ true → ((mount : Mount ℕ) → Among mount some → Among mount all)
+    → mounts_numbered all (numbers some) ≡ some
+numbered_again all [] up within = refl
+numbered_again all (mount ∷ some) up within =
+    ap (λ o. cons_option o (mounts_numbered all (numbers some))) (numbered_among all up mount (within mount (inl refl)))
+    ∙ ap (λ l. mount ∷ l) (numbered_again all some up (λ other m. within other (inr m)))

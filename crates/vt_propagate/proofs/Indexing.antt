@@ -1,0 +1,38 @@
+-- Where a mount stands in a list, by its number or by its group.
+use Rattle.std.proofs.Common.{◌≡◌, ℕ, Bool, true, false, cond, ◌+◌, ◌||◌, suc, List, [], ◌∷◌, map, nat_eq, Option, Some, refl, sym, ap, ◌∙◌, eq-eqb, ne_eqb}
+use Rattle.std.specs.List.{list_any, position_from}
+use Rattle.std.proofs.lemmas.Bool.{eqb-false, eqb-true}
+use Rattle.std.specs.Prelude.{find as seek}
+use Rattle.vt_spec.specs.Lists.{chain, place_from}
+use Rattle.vt_spec.proofs.Lists.{chain_goes_on}
+use Rattle.vt_location.specs.Numbers.{counted}
+use Rattle.vt_mount.proofs.EntryLemmas.{same_count}
+
+-- numbers are compared as counts are, either way round
+pub turned_count : (a b : ℕ) → nat_eq a b ≡ nat_eq (counted b) (counted a)
+turned_count a b = turned ∙ sym (same_count b a)
+  where
+    turned : nat_eq a b ≡ nat_eq b a
+    turned = by (nat_eq b a) (eqb-true b a) (eqb-false b a)
+      where
+        by : (t : Bool) → (t ≡ true → b ≡ a) → (t ≡ false → (b ≡ a → ⊥)) → nat_eq a b ≡ t
+        by true is apart = eq-eqb a b (sym (is refl))
+        by false is apart = ne_eqb a b (λ is. apart refl (sym is))
+
+module _ {A B : Type 0} (f : A → B) (test : A → Bool) (seen : B → Bool) (agree : (a : A) → test a ≡ seen (f a)) where
+  pub place-map : (k : ℕ) (list : List A) → position_from test k list ≡ place_from seen k (map f list)
+  place-map k [] = refl
+  place-map k (a ∷ list) =
+      λ i. cond (agree a i) (Some k) (place-map (k + 1) list i)
+
+  pub any-seen : (list : List A) → list_any test list ≡ list_any seen (map f list)
+  any-seen [] = refl
+  any-seen (a ∷ list) = λ i. agree a i || any-seen list i
+
+-- one step up a chain, past one that does not pass
+pub find_up : (test : ℕ → Bool) (next : ℕ → Option ℕ) (here above n k : ℕ) → n ≡ suc k → test here ≡ false → next here ≡ Some above
+    → seek test (chain k next above) ≡ seek test (chain n next here)
+find_up test next here above n k e fails is =
+    sym (ap (λ m. seek test (chain m next here)) e
+    ∙ ap (seek test) (chain_goes_on next k here above is)
+    ∙ ap (λ b. cond b (Some here) (seek test (chain k next above))) fails)

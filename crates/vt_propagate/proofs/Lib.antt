@@ -1,0 +1,6 @@
+pub mod Found
+pub mod TakingPart
+pub mod Leaving
+pub mod Counting
+pub mod Indexing
+pub mod Planning

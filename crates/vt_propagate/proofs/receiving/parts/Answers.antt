@@ -1,0 +1,19 @@
+use Rattle.std.proofs.Common.{◌≡◌, ◌∙◌, Some, ap, refl, sym}
+use Rattle.vt_location.specs.Locations.{location_of}
+use Rattle.vt_location.specs.MountValue.{mount_of}
+use Rattle.vt_location.specs.Numbers.{counted}
+use Rattle.vt_mount.specs.MountsValue.{mounts_in}
+use Rattle.std.specs.Prelude.{option_map}
+use Rattle.vt_propagate.proofs.Found.{counts, numbered}
+use Rattle.vt_propagate.proofs.TakingPart.{parts-found}
+use Rattle.vt_propagate.proofs.receiving.parts.Goals as goal
+
+pub returns-clause-ok : goal.returns-clause-ok
+returns-clause-ok g c world seen reaches =
+    let parent = c.unwrap-parent.result in
+    let found : Some (mount_of parent) ≡ numbered (mounts_in c.args.mounts.now) (counted c.args.place.mount.count) =
+    sym (ap (option_map mount_of) c.unwrap-parent.ensures) ∙ c.get.ensures in
+    c.in-Ok.ensures
+    ∙ parts-found world c.args.mounts.now c.args.groups.now seen (g.R.Reach.under c.args.directories.now) reaches c.are_ascending.ensures
+    (location_of c.args.place) (mount_of parent) found c.deref.result.now
+    (ap counts c.deref.ensures.value ∙ c.in_ok-receivers.ensures.ok world (mount_of parent) seen.groups seen.living refl)

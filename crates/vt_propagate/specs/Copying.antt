@@ -1,0 +1,76 @@
+-- What an attachment makes, as code has it: copies of mounts, and new groups.
+use Rattle.std.specs.Prelude.{List, Option, Some, [], length, map, nat_eq, not, option_map, if◌then◌else◌, ℕ, ◌*◌, ◌+◌, ◌<◌}
+use Rattle.vt_spec.specs.Lists.{Fresh, then_some, when}
+use Rattle.vt_spec.specs.Machine.Attach as meant
+use Rattle.vt_spec.specs.Machine.Attach.{Copies, Twig, copies_from, copy_number, copy_place, copy_type, image, is_destination, nearest_image, twig_master, twig_of}
+use Rattle.vt_spec.specs.Machine.Mounts.{Mount, group_of}
+use Rattle.vt_spec.specs.Machine.Receives.{is_member_of}
+use Rattle.vt_spec.specs.Machine.World.{World}
+use Rattle.vt_group.specs.Grouping.{Grouping, master_in}
+use Rattle.vt_group.specs.Steps.{group_number}
+use Rattle.vt_location.specs.Locations.{location_of}
+use Rattle.vt_location.specs.MountValue.{mount_of}
+use Rattle.vt_location.specs.Numbers.{counted}
+use Rattle.vt_mount.specs.MountsValue.{MountEntry, mounts_in}
+use Rattle.vt_propagate.specs.declared.copying.Graft.{Graft}
+use Rattle.vt_propagate.specs.declared.copying.NewGroup.{NewGroup}
+use Rattle.vt_propagate.specs.declared.numbering.Copying.{Copying}
+
+-- a new group, with its master
+abbrev pub new_group : NewGroup → ℕ × Option ℕ
+new_group new = (group_number new.group, option_map group_number new.master)
+
+-- the numbers of counts from the next one on
+abbrev pub counts_from : ℕ → Fresh ℕ
+counts_from next k = counted (next + k)
+
+-- the mounts and the masters that are kept, as a world without anything else
+abbrev pub as_kept : List MountEntry → Grouping → World ℕ
+as_kept kept grouping =
+    record { mounts = mounts_in kept; master = master_in grouping; filesystems = []; namespaces = []; tasks = []; change = 0 }
+
+-- what is copied and where, as the definitions have it
+
+abbrev pub parts_seen : Copying → List (Mount ℕ)
+parts_seen copying = map mount_of copying.graft.parts.now
+
+abbrev pub tree_seen : Copying → List (Mount ℕ)
+tree_seen copying = map mount_of copying.graft.tree.now
+
+abbrev pub supply : Copying → Copies ℕ
+supply copying = copies_from nat_eq (counts_from copying.next) (parts_seen copying) (tree_seen copying)
+
+abbrev pub twig : Copying → Mount ℕ → Twig ℕ
+twig copying origin = twig_of (supply copying) (group_of (mount_of copying.destination).propagation) origin
+
+abbrev pub graft_seen : Copying → meant.Graft ℕ
+graft_seen copying =
+    record { destination = location_of copying.graft.place; twigs = map (twig copying) (tree_seen copying); moves = copying.graft.moves }
+
+-- each count that is needed is below 2^64
+abbrev pub HasRoomFor : Graft → ℕ → Type 0
+HasRoomFor graft next = next + 2 * (length graft.parts.now * length graft.tree.now) < 18446744073709551616
+
+abbrev pub HasRoom : Copying → Type 0
+HasRoom copying = HasRoomFor copying.graft copying.next
+
+-- a copy at a part
+abbrev pub copied : World ℕ → Copying → Mount ℕ → Mount ℕ → Mount ℕ
+copied world copying part origin = record origin {
+  number = copy_number nat_eq (supply copying) (graft_seen copying) part.number origin.number;
+  namespace = part.namespace;
+  mount_point = Some (copy_place nat_eq (supply copying) (graft_seen copying) part.number origin);
+  propagation =
+      if is_destination nat_eq (graft_seen copying) part.number then (twig copying origin).propagation
+      else copy_type nat_eq world (supply copying) (parts_seen copying) (mount_of copying.destination) (twig copying origin) part.propagation;
+}
+
+-- the new group of a copy at a part, if it forms one
+abbrev pub made : World ℕ → Copying → Mount ℕ → Mount ℕ → Option (ℕ × Option ℕ)
+made world copying part origin =
+    if is_destination nat_eq (graft_seen copying) part.number then twig_master (twig copying origin)
+    else then_some (group_of part.propagation) (λ group.
+    when (not (is_member_of nat_eq group (mount_of copying.destination))) (
+      image nat_eq (supply copying) (mount_of copying.destination) (twig copying origin) group,
+      nearest_image nat_eq world (supply copying) (parts_seen copying) (mount_of copying.destination) (twig copying origin) (world.master group),
+    ))

@@ -1,0 +1,292 @@
+//! What an attachment makes: copies of a tree of mounts at its parts, and the groups that they form.
+ghost use Rattle.std.specs.Prelude.{◌≡◌, ◌<◌, ◌++◌, IfErr, IfOk, OnOk, filter_map, flat_map, length, map, nat_eq, option_map, ℕ};
+ghost use Rattle.vt_spec.specs.declared.errors.Rule.TheVariants.{S5};
+ghost use Rattle.vt_spec.specs.Errors.{denial};
+ghost use Rattle.vt_spec.specs.Machine.Attach.{copy_place as copy_place_of, is_top as is_top_of, parts_of, twig_master};
+ghost use Rattle.vt_spec.specs.Machine.Types.{master_after as master_after_of};
+ghost use Rattle.vt_spec.specs.Machine.World.{World};
+ghost use Rattle.vt_group.specs.Steps.{group_number};
+ghost use Rattle.vt_location.specs.Locations.{location_of};
+ghost use Rattle.vt_location.specs.MountValue.{mount_of, propagation_of};
+ghost use Rattle.vt_location.specs.Numbers.{counted};
+ghost use Rattle.vt_propagate.specs.Copying.{HasRoom, HasRoomFor, as_kept, copied, graft_seen, made, new_group, parts_seen, supply, tree_seen, twig};
+ghost use Rattle.vt_propagate.specs.Planned.{planned_copies, planned_groups};
+ghost use Rattle.vt_propagate.specs.Seen.{IsSeen};
+
+use crate::numbering::{Copying, is_member};
+use std::alloc::{AllocError, Global};
+use vt_group::Groups;
+use vt_location::{GroupId, Location, Mount, MountId, Propagation};
+use vt_mount::Mounts;
+use vt_spec::errors::{Deny, Rule};
+
+/// A tree of mounts and where it is attached.
+#[derive(Clone, Copy, Debug)]
+pub struct Graft<'a> {
+    /// The mount at the destination, then the receivers that take part.
+    pub parts: &'a [Mount],
+    /// Each mount stands before its children. The root of the first may be another directory than that of the mount itself.
+    pub tree: &'a [Mount],
+    /// The destination.
+    pub place: Location,
+    /// Whether the mounts move to the destination. Else a copy is attached there.
+    pub moves: bool,
+}
+
+/// A group that copies of a mount form, and its master.
+#[derive(Clone, Copy, Debug, PartialEq, Eq)]
+pub struct NewGroup {
+    pub group: GroupId,
+    pub master: Option<GroupId>,
+}
+
+/// The copies that are attached, with their types: all at the destination, in the order of the tree, then all at each receiver.
+/// Where a tree moves, those at the destination are the mounts themselves, as they are there. The copy at the i-th part of the
+/// j-th mount of n, both from 0, is counted `next + 2·(n·i + j)`.
+///
+/// S5 (ENOMEM): an allocation failed.
+pub fn copies(
+    alloc: Global,
+    mounts: &Mounts,
+    groups: &Groups,
+    graft: &Graft,
+    next: u64,
+) -> Result<Vec<Mount>, Deny>
+    requires { HasRoomFor graft.now next }
+    ensures ok { IfOk result (λ copies. (world : World ℕ) → IsSeen world mounts.now groups.now
+        → map mount_of graft.now.parts.now ≡ parts_of nat_eq world (location_of graft.now.place)
+        → map mount_of copies.items ≡ planned_copies world graft.now next) }
+    ensures memory { IfErr result (λ deny. deny ≡ denial S5) }
+{
+    let Some(destination) = graft.parts.first() else {
+        return Ok(Vec::new(alloc));
+    };
+    let copying = Copying {
+        graft: *graft,
+        destination: *destination,
+        next,
+    };
+    let Ok(copies) = copying.all_copies(alloc, mounts, groups) else {
+        return Err(Rule::S5.denial());
+    };
+    Ok(copies)
+}
+
+/// The new groups that copies form, each with its master, in the order of the copies: for each mount of the tree that joins a
+/// group at a shared destination, and for each mount and each further group that has a part. The group of the j-th mount of n for
+/// the group of the i-th part, both from 0, is counted `next + 2·(n·i + j) + 1`.
+///
+/// S5 (ENOMEM): an allocation failed.
+pub fn new_groups(
+    alloc: Global,
+    mounts: &Mounts,
+    groups: &Groups,
+    graft: &Graft,
+    next: u64,
+) -> Result<Vec<NewGroup>, Deny>
+    requires { HasRoomFor graft.now next }
+    ensures ok { IfOk result (λ new. (world : World ℕ) → IsSeen world mounts.now groups.now
+        → map mount_of graft.now.parts.now ≡ parts_of nat_eq world (location_of graft.now.place)
+        → map new_group new.items ≡ planned_groups world graft.now next) }
+    ensures memory { IfErr result (λ deny. deny ≡ denial S5) }
+{
+    let Some(destination) = graft.parts.first() else {
+        return Ok(Vec::new(alloc));
+    };
+    let copying = Copying {
+        graft: *graft,
+        destination: *destination,
+        next,
+    };
+    let Ok(new) = copying.all_groups(alloc, mounts, groups) else {
+        return Err(Rule::S5.denial());
+    };
+    Ok(new)
+}
+
+impl<'a> Copying<'a> {
+    // The copies at all parts.
+    fn all_copies(
+        &self,
+        alloc: Global,
+        mounts: &Mounts,
+        groups: &Groups,
+    ) -> Result<Vec<Mount>, AllocError>
+        requires { HasRoom self.now }
+        ensures { IfOk result (λ copies. map mount_of copies.items
+            ≡ flat_map (λ part. map (copied (as_kept mounts.now groups.now) self.now part) (tree_seen self.now)) (parts_seen self.now)) }
+    {
+        let mut copies = Vec::new(alloc);
+        for part in self.graft.parts {
+            self.push_copies(mounts, groups, part, &mut copies)?;
+        }
+        Ok(copies)
+    }
+
+    // Adds the copies at a part.
+    fn push_copies(
+        &self,
+        mounts: &Mounts,
+        groups: &Groups,
+        part: &Mount,
+        copies: &mut Vec<Mount>,
+    ) -> Result<(), AllocError>
+        requires room { HasRoom self.now }
+        requires parts { 0 < length self.now.graft.parts.now }
+        ensures { OnOk result (map mount_of copies.new.items ≡ map mount_of copies.old.items
+            ++ map (copied (as_kept mounts.now groups.now) self.now (mount_of part.now)) (tree_seen self.now)) }
+    {
+        for origin in self.graft.tree {
+            copies.push(self.copy(mounts, groups, part, origin))?;
+        }
+        Ok(())
+    }
+
+    // The copy of a mount at a part.
+    fn copy(&self, mounts: &Mounts, groups: &Groups, part: &Mount, origin: &Mount) -> Mount
+        requires room { HasRoom self.now }
+        requires parts { 0 < length self.now.graft.parts.now }
+        requires tree { 0 < length self.now.graft.tree.now }
+        ensures { mount_of result ≡ copied (as_kept mounts.now groups.now) self.now (mount_of part.now) (mount_of origin.now) }
+    {
+        let propagation = if part.number == self.graft.place.mount {
+            self.type_at(origin)
+        } else {
+            self.copy_type(mounts, groups, origin, part.propagation)
+        };
+        Mount {
+            number: self.copy_number(part.number, origin.number),
+            namespace: part.namespace,
+            mount_point: Some(self.copy_place(part.number, origin)),
+            propagation,
+            ..*origin
+        }
+    }
+
+    // Where the copy of a mount at a part stands: the first of the tree at the destination, each other one on the copy of its parent.
+    fn copy_place(&self, part: MountId, origin: &Mount) -> Location
+        requires room { HasRoom self.now }
+        requires parts { 0 < length self.now.graft.parts.now }
+        requires tree { 0 < length self.now.graft.tree.now }
+        ensures { location_of result
+            ≡ copy_place_of nat_eq (supply self.now) (graft_seen self.now) (counted part.count) (mount_of origin.now) }
+    {
+        if self.is_top(origin.number) {
+            return Location {
+                mount: part,
+                node: self.graft.place.node,
+            };
+        }
+        match origin.mount_point {
+            Some(point) => Location {
+                mount: self.copy_number(part, point.mount),
+                node: point.node,
+            },
+            None => self.graft.place,
+        }
+    }
+
+    // Whether this is the first mount of the tree.
+    fn is_top(&self, origin: MountId) -> bool
+        ensures { result ≡ is_top_of nat_eq (graft_seen self.now) (counted origin.count) }
+    {
+        match self.graft.tree.first() {
+            Some(top) => origin == top.number,
+            None => false,
+        }
+    }
+
+    // The new groups of all parts.
+    fn all_groups(
+        &self,
+        alloc: Global,
+        mounts: &Mounts,
+        groups: &Groups,
+    ) -> Result<Vec<NewGroup>, AllocError>
+        requires { HasRoom self.now }
+        ensures { IfOk result (λ new. map new_group new.items
+            ≡ flat_map (λ part. filter_map (made (as_kept mounts.now groups.now) self.now part) (tree_seen self.now)) (parts_seen self.now)) }
+    {
+        let mut new = Vec::new(alloc);
+        for part in self.graft.parts {
+            self.push_groups(mounts, groups, part, &mut new)?;
+        }
+        Ok(new)
+    }
+
+    // Adds the new groups of the copies at a part.
+    fn push_groups(
+        &self,
+        mounts: &Mounts,
+        groups: &Groups,
+        part: &Mount,
+        new: &mut Vec<NewGroup>,
+    ) -> Result<(), AllocError>
+        requires room { HasRoom self.now }
+        requires parts { 0 < length self.now.graft.parts.now }
+        ensures { OnOk result (map new_group new.new.items ≡ map new_group new.old.items
+            ++ filter_map (made (as_kept mounts.now groups.now) self.now (mount_of part.now)) (tree_seen self.now)) }
+    {
+        for origin in self.graft.tree {
+            if let Some(group) = self.group_made(mounts, groups, part, origin) {
+                new.push(group)?;
+            }
+        }
+        Ok(())
+    }
+
+    // The new group of the copy of a mount at a part, if it forms one.
+    fn group_made(
+        &self,
+        mounts: &Mounts,
+        groups: &Groups,
+        part: &Mount,
+        origin: &Mount,
+    ) -> Option<NewGroup>
+        requires room { HasRoom self.now }
+        requires parts { 0 < length self.now.graft.parts.now }
+        requires tree { 0 < length self.now.graft.tree.now }
+        ensures { option_map new_group result ≡ made (as_kept mounts.now groups.now) self.now (mount_of part.now) (mount_of origin.now) }
+    {
+        if part.number == self.graft.place.mount {
+            return self.group_at_destination(origin);
+        }
+        let Propagation::Shared(group) = part.propagation else {
+            return None;
+        };
+        if is_member(self.destination.propagation, group) {
+            return None;
+        }
+        Some(NewGroup {
+            group: self.image(origin, group),
+            master: self.nearest_image(mounts, groups, origin, groups.master_of(group)),
+        })
+    }
+
+    // The group that a mount joins at the destination, if that is a new one. A slave's master becomes the master of the group.
+    fn group_at_destination(&self, origin: &Mount) -> Option<NewGroup>
+        requires room { HasRoom self.now }
+        requires parts { 0 < length self.now.graft.parts.now }
+        requires tree { 0 < length self.now.graft.tree.now }
+        ensures { option_map new_group result ≡ twig_master (twig self.now (mount_of origin.now)) }
+    {
+        match (origin.propagation, self.type_at(origin)) {
+            (Propagation::Shared(_), _) => None,
+            (old, Propagation::Shared(group)) => Some(NewGroup {
+                group,
+                master: master_after(old),
+            }),
+            _ => None,
+        }
+    }
+}
+
+// The master of the group that a mount of this type starts.
+fn master_after(propagation: Propagation) -> Option<GroupId>
+    ensures { option_map group_number result ≡ master_after_of (propagation_of propagation) }
+{
+    match propagation {
+        Propagation::Slave(master) => Some(master),
+        Propagation::Shared(_) | Propagation::Private | Propagation::Unbindable => None,
+    }
+}

@@ -1,0 +1,105 @@
+//! How many mounts namespaces get when a tree of mounts is attached: ENOSPC of mount(2).
+ghost use Rattle.std.specs.Prelude.{◌≡◌, ◌<◌, ◌+◌, if◌then◌else◌, OnOk, IfErr, IfOk, count_by, false, length, map, nat_eq, unwrap_or, ℕ, List};
+ghost use Rattle.std.specs.List.{list_any};
+ghost use Rattle.std.specs.HashMap.{get};
+ghost use Rattle.vt_spec.specs.declared.errors.Rule.TheVariants.{S5};
+ghost use Rattle.vt_spec.specs.Errors.{denial};
+ghost use Rattle.vt_spec.specs.Lists.{holds_of};
+ghost use Rattle.vt_spec.specs.Machine.Attach.{Copies, attached_by, has_too_many, parts_of};
+ghost use Rattle.vt_spec.specs.Machine.Mounts as meant;
+ghost use Rattle.vt_spec.specs.Machine.World.{World};
+ghost use Rattle.vt_spec.specs.Machine.WorldLaws.{NamespaceInvariants};
+ghost use Rattle.vt_location.specs.declared.numbers.NamespaceId.{NamespaceId};
+ghost use Rattle.vt_location.specs.MountValue.{mount_of};
+ghost use Rattle.vt_mount.specs.MountsValue.{mounts_in};
+ghost use Rattle.vt_propagate.specs.Filling.{is_overfilled, is_part_in, parts_in, same_namespace};
+
+use std::alloc::{AllocError, Global};
+use std::collections::HashMap;
+use vt_location::{Mount, NamespaceId};
+use vt_mount::Mounts;
+use vt_spec::errors::{Deny, Rule};
+
+// How many mounts a namespace may have (profile).
+const MOST_MOUNTS: u64 = 4096;
+
+/// Whether a namespace has too many mounts once a tree of so many mounts is copied to each of these parts: ENOSPC of mount(2).
+///
+/// S5 (ENOMEM): an allocation failed.
+pub fn overfills(
+    alloc: Global,
+    mounts: &Mounts,
+    parts: &[Mount],
+    count: usize,
+) -> Result<bool, Deny>
+    ensures ok { IfOk result (λ too_many. (world : World ℕ) (new : Copies ℕ) (place : meant.Location ℕ) (tree : List (meant.Mount ℕ))
+        → mounts_in mounts.now ≡ world.mounts → NamespaceInvariants nat_eq world
+        → map mount_of parts.now ≡ parts_of nat_eq world place → length tree ≡ count
+        → too_many ≡ has_too_many nat_eq (attached_by nat_eq world new place false tree)) }
+    ensures memory { IfErr result (λ deny. deny ≡ denial S5) }
+{
+    let Ok(counts) = counts_of(alloc, parts) else {
+        return Err(Rule::S5.denial());
+    };
+    Ok(is_one_overfilled(mounts, parts, &counts, count))
+}
+
+// How many parts are in each namespace.
+fn counts_of(alloc: Global, parts: &[Mount]) -> Result<HashMap<NamespaceId, u64>, AllocError>
+    ensures { IfOk result (λ counts. (namespace : NamespaceId)
+        → unwrap_or (get same_namespace counts namespace) 0 ≡ parts_in parts.now namespace) }
+{
+    let mut counts = HashMap::new(alloc);
+    for part in parts {
+        count_one(&mut counts, part.namespace)?;
+    }
+    Ok(counts)
+}
+
+// Counts one more for a namespace, if there is one.
+fn count_one(
+    counts: &mut HashMap<NamespaceId, u64>,
+    namespace: Option<NamespaceId>,
+) -> Result<(), AllocError>
+    requires { (one : NamespaceId) → unwrap_or (get same_namespace counts.old one) 0 < u64.MAX }
+    ensures { OnOk result ((one : NamespaceId) → unwrap_or (get same_namespace counts.new one) 0
+        ≡ unwrap_or (get same_namespace counts.old one) 0 + (if holds_of (same_namespace one) namespace then 1 else 0)) }
+{
+    if let Some(namespace) = namespace {
+        let count = counts.get(&namespace).copied().unwrap_or(0);
+        counts.insert(namespace, count + 1)?;
+    }
+    Ok(())
+}
+
+// Whether the namespace of a part has too many mounts then.
+fn is_one_overfilled(
+    mounts: &Mounts,
+    parts: &[Mount],
+    counts: &HashMap<NamespaceId, u64>,
+    count: usize,
+) -> bool
+    ensures { result ≡ list_any (λ part. is_overfilled (mounts_in mounts.now) count
+        (λ namespace. unwrap_or (get same_namespace counts.now namespace) 0) part.namespace) parts.now }
+{
+    parts.iter().any(|part| is_overfilled(mounts, counts, part.namespace, count))
+}
+
+// Whether a namespace has too many mounts then.
+fn is_overfilled(
+    mounts: &Mounts,
+    counts: &HashMap<NamespaceId, u64>,
+    namespace: Option<NamespaceId>,
+    count: usize,
+) -> bool
+    ensures { result ≡ is_overfilled (mounts_in mounts.now) count
+        (λ namespace. unwrap_or (get same_namespace counts.now namespace) 0) namespace }
+{
+    let Some(namespace) = namespace else {
+        return false;
+    };
+    let parts = counts.get(&namespace).copied().unwrap_or(0);
+    let more = parts.saturating_mul(count as u64);
+    let had = mounts.attached_in(namespace).len() as u64;
+    had.saturating_add(more) > MOST_MOUNTS
+}

@@ -1,0 +1,116 @@
+//! Types and groups of copies: the kernel's document sharedsubtree, "Bind semantics" and "Move semantics".
+ghost use Rattle.std.specs.Prelude.{◌≡◌, ◌<◌, find, length, map, nat_eq, option_map};
+ghost use Rattle.vt_spec.specs.Machine.Attach.{copy_type as copy_type_of, image as image_of, nearest_image as nearest_image_of};
+ghost use Rattle.vt_spec.specs.Machine.Receives.{groups_up, has_members};
+ghost use Rattle.vt_group.specs.Steps.{group_number};
+ghost use Rattle.vt_location.specs.MountValue.{mount_of, propagation_of};
+ghost use Rattle.vt_location.specs.Numbers.{counted};
+ghost use Rattle.vt_propagate.specs.Copying.{HasRoom, as_kept, parts_seen, supply, twig};
+
+use crate::numbering::{Copying, is_member};
+use vt_group::Groups;
+use vt_location::{GroupId, Mount, Propagation};
+use vt_mount::Mounts;
+
+impl<'a> Copying<'a> {
+    /// The type of a mount of the tree at the destination: if that is shared, a mount that is not joins a new group there.
+    pub(crate) fn type_at(&self, origin: &Mount) -> Propagation
+        requires room { HasRoom self.now }
+        requires parts { 0 < length self.now.graft.parts.now }
+        requires tree { 0 < length self.now.graft.tree.now }
+        ensures { propagation_of result ≡ (twig self.now (mount_of origin.now)).propagation }
+    {
+        match (self.destination.propagation, origin.propagation) {
+            (_, Propagation::Shared(group)) => Propagation::Shared(group),
+            (Propagation::Shared(group), _) => {
+                Propagation::Shared(self.new_image(group, origin.number))
+            }
+            (_, kind) => kind,
+        }
+    }
+
+    /// The group that the copies of a mount form at the members of a group: for the destination's, the group of the mount there.
+    pub(crate) fn image(&self, origin: &Mount, group: GroupId) -> GroupId
+        requires room { HasRoom self.now }
+        requires parts { 0 < length self.now.graft.parts.now }
+        requires tree { 0 < length self.now.graft.tree.now }
+        ensures { counted result.count
+            ≡ image_of nat_eq (supply self.now) (mount_of self.now.destination) (twig self.now (mount_of origin.now)) (counted group.count) }
+    {
+        if is_member(self.destination.propagation, group) {
+            if let Propagation::Shared(own) = self.type_at(origin) {
+                return own;
+            }
+        }
+        self.new_image(group, origin.number)
+    }
+
+    /// The group that the copies of a mount form at the members of the nearest group with a part, from this one up the masters.
+    pub(crate) fn nearest_image(
+        &self,
+        mounts: &Mounts,
+        groups: &Groups,
+        origin: &Mount,
+        group: Option<GroupId>,
+    ) -> Option<GroupId>
+        requires room { HasRoom self.now }
+        requires parts { 0 < length self.now.graft.parts.now }
+        requires tree { 0 < length self.now.graft.tree.now }
+        ensures { option_map group_number result
+            ≡ nearest_image_of nat_eq (as_kept mounts.now groups.now) (supply self.now) (parts_seen self.now) (mount_of self.now.destination)
+            (twig self.now (mount_of origin.now)) (option_map group_number group) }
+    {
+        let nearest = nearest(mounts, groups, self.graft.parts, group?)?;
+        Some(self.image(origin, nearest))
+    }
+
+    /// The type of the copy of a mount at a receiver of this type.
+    pub(crate) fn copy_type(
+        &self,
+        mounts: &Mounts,
+        groups: &Groups,
+        origin: &Mount,
+        receiver: Propagation,
+    ) -> Propagation
+        requires room { HasRoom self.now }
+        requires parts { 0 < length self.now.graft.parts.now }
+        requires tree { 0 < length self.now.graft.tree.now }
+        ensures { propagation_of result
+            ≡ copy_type_of nat_eq (as_kept mounts.now groups.now) (supply self.now) (parts_seen self.now) (mount_of self.now.destination)
+            (twig self.now (mount_of origin.now)) (propagation_of receiver) }
+    {
+        match receiver {
+            Propagation::Shared(group) => Propagation::Shared(self.image(origin, group)),
+            Propagation::Slave(master) => {
+                match self.nearest_image(mounts, groups, origin, Some(master)) {
+                    Some(image) => Propagation::Slave(image),
+                    None => Propagation::Private,
+                }
+            }
+            Propagation::Private => Propagation::Private,
+            Propagation::Unbindable => Propagation::Unbindable,
+        }
+    }
+}
+
+// The nearest group that has a part, from this one up the masters.
+fn nearest(mounts: &Mounts, groups: &Groups, parts: &[Mount], group: GroupId) -> Option<GroupId>
+    ensures { option_map group_number result
+        ≡ find (has_members nat_eq (map mount_of parts.now)) (groups_up (as_kept mounts.now groups.now) (counted group.count)) }
+{
+    let mut here = group;
+    for _ in 0..mounts.len() {
+        if has_part(parts, here) {
+            return Some(here);
+        }
+        here = groups.master_of(here)?;
+    }
+    has_part(parts, here).then_some(here)
+}
+
+// Whether a part is a member of a group.
+fn has_part(parts: &[Mount], group: GroupId) -> bool
+    ensures { result ≡ has_members nat_eq (map mount_of parts.now) (counted group.count) }
+{
+    parts.iter().any(|part| is_member(part.propagation, group))
+}

@@ -1,0 +1,16 @@
+//! How mounts and unmounts propagate between peer groups: mount_namespaces(7), and the kernel's document sharedsubtree.
+#![tactic(auto)]
+
+mod copying;
+mod filling;
+mod groups;
+mod numbering;
+mod reach;
+mod receiving;
+mod unmounting;
+
+pub use copying::{Graft, NewGroup, copies, new_groups};
+pub use filling::overfills;
+pub use reach::Reach;
+pub use receiving::parts;
+pub use unmounting::{going, is_busy};

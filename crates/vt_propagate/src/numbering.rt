@@ -1,0 +1,97 @@
+//! Numbers of copies and of new groups.
+ghost use Rattle.std.specs.Prelude.{◌≡◌, ◌<◌, ◌+◌, ◌*◌, length, map, nat_eq};
+ghost use Rattle.vt_spec.specs.Machine.Attach.{copy_number as copy_number_of, index_of_group as index_of_group_in};
+ghost use Rattle.vt_spec.specs.Lists.{holds_of};
+ghost use Rattle.vt_spec.specs.Machine.Mounts.{group_of, index_of as index_of_in};
+ghost use Rattle.vt_location.specs.MountValue.{mount_of, propagation_of};
+ghost use Rattle.vt_location.specs.Numbers.{counted};
+ghost use Rattle.vt_propagate.specs.Copying.{HasRoom, graft_seen, supply};
+
+use crate::copying::Graft;
+use vt_location::{GroupId, Mount, MountId, Propagation};
+
+/// What is copied and where: a graft, the mount at its destination, and the first count that no number has.
+#[derive(Clone, Copy, Debug)]
+pub(crate) struct Copying<'a> {
+    pub(crate) graft: Graft<'a>,
+    pub(crate) destination: Mount,
+    pub(crate) next: u64,
+}
+
+impl<'a> Copying<'a> {
+    /// The number of a copy at a part. Mounts that move keep theirs at the destination.
+    pub(crate) fn copy_number(&self, part: MountId, origin: MountId) -> MountId
+        requires room { HasRoom self.now }
+        requires parts { 0 < length self.now.graft.parts.now }
+        requires tree { 0 < length self.now.graft.tree.now }
+        ensures { counted result.count
+            ≡ copy_number_of nat_eq (supply self.now) (graft_seen self.now) (counted part.count) (counted origin.count) }
+    {
+        if self.graft.moves && part == self.graft.place.mount {
+            return origin;
+        }
+        MountId::new(self.count(
+            index_of(self.graft.parts, part),
+            index_of(self.graft.tree, origin),
+            0,
+        ))
+    }
+
+    /// The new group that the copies of a mount form at the members of a group.
+    pub(crate) fn new_image(&self, group: GroupId, origin: MountId) -> GroupId
+        requires room { HasRoom self.now }
+        requires parts { 0 < length self.now.graft.parts.now }
+        requires tree { 0 < length self.now.graft.tree.now }
+        ensures { counted result.count ≡ (supply self.now).image (counted group.count) (counted origin.count) }
+    {
+        GroupId::new(self.count(
+            index_of_group(self.graft.parts, group),
+            index_of(self.graft.tree, origin),
+            1,
+        ))
+    }
+
+    // The count of the copy at a part of a mount of the tree, or of the group that stands for it.
+    fn count(&self, part: usize, origin: usize, group: u64) -> u64
+        requires room { HasRoom self.now }
+        requires part { part < length self.now.graft.parts.now }
+        requires origin { origin < length self.now.graft.tree.now }
+        requires group { group < 2 }
+        ensures { result ≡ self.now.next + (2 * (part * length self.now.graft.tree.now + origin) + group) }
+    {
+        let index = part * self.graft.tree.len() + origin;
+        self.next + (2 * index as u64 + group)
+    }
+}
+
+// The index of the mount with this number, or 0.
+fn index_of(mounts: &[Mount], id: MountId) -> usize
+    ensures value { result ≡ index_of_in nat_eq (map mount_of mounts.now) (counted id.count) }
+    ensures within { 0 < length mounts.now → result < length mounts.now }
+{
+    mounts
+        .iter()
+        .position(|mount| mount.number == id)
+        .unwrap_or(0)
+}
+
+// The index of the first member of this group, or 0.
+fn index_of_group(parts: &[Mount], group: GroupId) -> usize
+    ensures value { result ≡ index_of_group_in nat_eq (map mount_of parts.now) (counted group.count) }
+    ensures within { 0 < length parts.now → result < length parts.now }
+{
+    parts
+        .iter()
+        .position(|part| is_member(part.propagation, group))
+        .unwrap_or(0)
+}
+
+/// Whether a mount of this type is a member of this group.
+pub(crate) fn is_member(propagation: Propagation, group: GroupId) -> bool
+    ensures { result ≡ holds_of (nat_eq (counted group.count)) (group_of (propagation_of propagation)) }
+{
+    match propagation {
+        Propagation::Shared(own) => own == group,
+        Propagation::Slave(_) | Propagation::Private | Propagation::Unbindable => false,
+    }
+}

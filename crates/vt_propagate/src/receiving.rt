@@ -1,0 +1,99 @@
+//! Where a tree of mounts is attached: at its destination, and at the receivers of the mount there.
+ghost use Rattle.std.specs.Prelude.{◌≡◌, ◌∷◌, IfErr, IfOk, filter, map, nat_eq, true, ℕ};
+ghost use Rattle.vt_spec.specs.declared.errors.Rule.TheVariants.{S5};
+ghost use Rattle.vt_spec.specs.Errors.{denial};
+ghost use Rattle.vt_spec.specs.Machine.Attach.{parts_of, receivers_of};
+ghost use Rattle.vt_spec.specs.Machine.Mounts as meant;
+ghost use Rattle.vt_spec.specs.Machine.World.{World};
+ghost use Rattle.vt_group.specs.Grouping.{GroupsLive, Has, numbers_of};
+ghost use Rattle.vt_location.specs.Locations.{location_of};
+ghost use Rattle.vt_location.specs.MountValue.{mount_of, propagation_of};
+ghost use Rattle.vt_location.specs.Numbers.{counted};
+ghost use Rattle.vt_mount.specs.MountsValue.{mounts_in};
+ghost use Rattle.vt_propagate.specs.Seen.{IsSeen, ReachesAs, is_mounted, joins, mounts_numbered};
+
+use crate::reach::Reach;
+use std::alloc::{AllocError, Global};
+use vt_group::Groups;
+use vt_location::{Location, Mount, MountId, Propagation};
+use vt_mount::Mounts;
+use vt_spec::errors::{Deny, Rule};
+
+/// The mounts at which a tree of mounts is attached: the destination's mount, then the receivers that take part, in order of
+/// attachment. A receiver takes part if it is attached and shows the destination.
+///
+/// S5 (ENOMEM): an allocation failed.
+pub fn parts<R: Reach>(
+    alloc: Global,
+    mounts: &Mounts,
+    groups: &Groups,
+    directories: &R,
+    place: Location,
+) -> Result<Vec<Mount>, Deny>
+    requires { is_mounted mounts.now (counted place.mount.count) ≡ true }
+    ensures ok { IfOk result (λ parts. (world : World ℕ) → IsSeen world mounts.now groups.now → ReachesAs world (R.under directories.now)
+        → map mount_of parts.items ≡ parts_of nat_eq world (location_of place)) }
+    ensures memory { IfErr result (λ deny. deny ≡ denial S5) }
+{
+    mounts.are_ascending();
+    let parent = mounts.get(place.mount).unwrap();
+    let receivers = receivers_of(alloc, groups, parent.propagation)?;
+    let Ok(parts) = with_receivers(alloc, mounts, directories, place, parent, &receivers) else {
+        return Err(Rule::S5.denial());
+    };
+    Ok(parts)
+}
+
+/// The mounts that receive what happens on a mount of this type, in order of attachment.
+pub(crate) fn receivers_of(
+    alloc: Global,
+    groups: &Groups,
+    propagation: Propagation,
+) -> Result<Vec<MountId>, Deny>
+    ensures ok { IfOk result (λ ids. (world : World ℕ) (mount : meant.Mount ℕ) → Has world groups.now → GroupsLive world
+        → mount.propagation ≡ propagation_of propagation
+        → map (λ id. counted id.count) ids.items ≡ numbers_of (receivers_of nat_eq world mount)) }
+    ensures memory { IfErr result (λ deny. deny ≡ denial S5) }
+{
+    match propagation {
+        Propagation::Shared(group) => groups.receivers(alloc, group),
+        Propagation::Slave(_) | Propagation::Private | Propagation::Unbindable => {
+            Ok(Vec::new(alloc))
+        }
+    }
+}
+
+// A mount, and those of its receivers that take part.
+fn with_receivers<R: Reach>(
+    alloc: Global,
+    mounts: &Mounts,
+    directories: &R,
+    place: Location,
+    parent: Mount,
+    receivers: &[MountId],
+) -> Result<Vec<Mount>, AllocError>
+    ensures { IfOk result (λ parts. map mount_of parts.items
+        ≡ mount_of parent ∷ filter (joins (R.under directories.now) (location_of place) (mount_of parent))
+        (mounts_numbered (mounts_in mounts.now) (map (λ id. counted id.count) receivers.now))) }
+{
+    let mut parts = Vec::new(alloc);
+    parts.push(parent)?;
+    for id in receivers {
+        if let Some(mount) = mounts.get(*id) {
+            if takes_part(directories, place, &parent, &mount) {
+                parts.push(mount)?;
+            }
+        }
+    }
+    Ok(parts)
+}
+
+// Whether a receiver takes part: it is attached, shows the same filesystem, and its root is the destination or above it.
+fn takes_part<R: Reach>(directories: &R, place: Location, parent: &Mount, mount: &Mount) -> bool
+    ensures { result ≡ joins (R.under directories.now) (location_of place) (mount_of parent.now) (mount_of mount.now) }
+{
+    mount.number != place.mount
+        && mount.namespace.is_some()
+        && mount.root.filesystem == parent.root.filesystem
+        && directories.is_under(mount.root, place.node)
+}
