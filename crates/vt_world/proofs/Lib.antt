@@ -62,6 +62,7 @@ pub mod UnmountedLazily
 pub mod RemainingTasks
 pub mod CountingLemmas
 pub mod CopyLemmas
+pub mod FirstPlaces
 pub mod ForkedTasks
 pub mod LostUses
 pub mod Midway
