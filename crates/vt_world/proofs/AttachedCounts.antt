@@ -1,11 +1,10 @@
 -- Mounts, filesystems and namespaces count what is in a world in which mounts were attached, and tasks stay where they are.
-use Rattle.std.proofs.Common.{◌≡◌, ◌⊎◌, refl, sym, ap, subst, ◌∙◌, inl, inr, ⊎_elim, ℕ, ◌+◌, ◌<◌, ◌%◌, ◌/◌, ◌*◌, ◌==◌, nat_eq, eqb-true, nat_lt, Bool, true, false, true≢false, cond, ◌&&◌, ◌||◌, List, [], ◌∷◌, ◌++◌, map, flat_map, if◌then◌else◌, arith}
-use Rattle.std.specs.Prelude.{All}
+use Rattle.std.proofs.Common.{◌≡◌, ◌⊎◌, refl, sym, ap, subst, ◌∙◌, inl, inr, ⊎_elim, ℕ, ◌+◌, ◌<◌, ◌%◌, ◌/◌, ◌==◌, nat_eq, eqb-true, nat_lt, Bool, true, false, true≢false, ◌&&◌, ◌||◌, List, [], ◌∷◌, ◌++◌, map, flat_map, if◌then◌else◌, arith}
 use Rattle.std.specs.List.{list_all}
 use Rattle.std.proofs.lemmas.Bool.{ltb-true, ne_eqb}
 use Rattle.vt_spec.specs.Lists.{is_among}
 use Rattle.vt_spec.specs.Machine.Mounts as meant
-use Rattle.vt_spec.specs.Machine.World.{Descriptor, Task, World, all_locations, locations_of}
+use Rattle.vt_spec.specs.Machine.World.{Descriptor, Task, all_locations, locations_of}
 use Rattle.vt_count_laws.proofs.MountRoots as Roots
 use Rattle.vt_fs.specs.FilesystemsValue.{FilesystemEntry, Filesystems, Shown}
 use Rattle.vt_letting_go.specs.Counts.{mounts_showing, times}

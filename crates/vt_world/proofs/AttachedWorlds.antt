@@ -1,21 +1,18 @@
 -- A world in which mounts were attached: what they use is counted, and nothing else changed.
-use Rattle.std.proofs.Common.{◌≡◌, refl, sym, ap, subst, ◌∙◌, inl, inr, ⊎_elim, ℕ, ◌+◌, ◌<◌, nat_eq, eq-eqb, eqb-true, Bool, true, false, true≢false, not, ◌&&◌, ◌||◌, List, [], ◌∷◌, ◌++◌, map, find, Option, Some, None, option_map, is_some, if◌then◌else◌, arith}
+use Rattle.std.proofs.Common.{◌≡◌, refl, sym, ap, subst, ◌∙◌, inl, inr, ℕ, ◌<◌, nat_eq, eqb-true, Bool, true, false, true≢false, not, ◌&&◌, ◌||◌, List, [], ◌∷◌, ◌++◌, map, find, Option, Some, None, option_map, is_some}
 use Rattle.std.specs.Prelude.{All, nat_lt, option_to_list, unwrap_or}
 use Rattle.std.specs.List.{list_all}
-use Rattle.std.proofs.lemmas.Bool.{and_parts, ltb-true, ne_eqb}
-use Rattle.vt_spec.specs.Lists.{any_pair, folded, is_among}
+use Rattle.std.proofs.lemmas.Bool.{and_parts, ltb-true}
 use Rattle.vt_spec.specs.Machine.Mounts as meant
 use Rattle.vt_spec.specs.Machine.Mounts.{mount_in, root_of}
-use Rattle.vt_spec.specs.Machine.World.{Filesystem, World, all_locations, filesystem_numbered, is_directory_at, mount_at, no_filesystem, node_at}
+use Rattle.vt_spec.specs.Machine.World.{Filesystem, World, filesystem_numbered, is_directory_at, mount_at, no_filesystem, node_at}
 use Rattle.vt_spec.specs.Machine.WorldLaws.{IsWorld, has_its_root}
-use Rattle.vt_spec.specs.OneTree.Inodes.{Inode as Counted, Inodes, node_in}
+use Rattle.vt_spec.specs.OneTree.Inodes.{Inode as Counted, node_in}
 use Rattle.vt_spec.specs.Tree.{Node, is_directory_node}
 use Rattle.vt_count_laws.specs.Counted.{IsCounted, IsPlain}
-use Rattle.vt_count_laws.specs.Using.{AreThere, Exchanges, exchanged, pinned_if}
+use Rattle.vt_count_laws.specs.Using.{AreThere, Exchanges}
 use Rattle.vt_count_laws.proofs.Exchanged.{uses_are_exchanged}
 use Rattle.vt_fs.specs.FilesystemsValue.{FilesystemEntry, Filesystems, Shown, filesystem_seen, filesystems_seen, inodes_seen, shown, shown_entry}
-use Rattle.vt_letting_go.specs.Counts.{mounts_showing, times}
-use Rattle.vt_letting_go.specs.Mounting.{inode_at}
 use Rattle.vt_letting_go.specs.OneByOne.{Inode}
 use Rattle.vt_letting_go.proofs.Lists.{Among, among-append_right, among-from_map, among-map, among_from_all, map_twice, passes}
 use Rattle.vt_letting_go.proofs.OfWorlds.{worlds_have_trees}
@@ -25,15 +22,15 @@ use Rattle.vt_location.specs.declared.locations.NodeRef.{NodeRef}
 use Rattle.vt_location.specs.declared.mounts.Mount.{Mount}
 use Rattle.vt_location.specs.Locations.{location_of, number_of}
 use Rattle.vt_location.specs.MountValue.{mount_of}
-use Rattle.vt_location.specs.Numbers.{counted, is_inode_of}
-use Rattle.vt_location.proofs.NumberLemmas.{counted_same, inode_same, slot_of}
-use Rattle.vt_mount.specs.MountsValue.{MountEntry, mounts_in}
+use Rattle.vt_location.specs.Numbers.{counted}
+use Rattle.vt_location.proofs.NumberLemmas.{inode_same, slot_of}
+use Rattle.vt_mount.specs.MountsValue.{MountEntry}
 use Rattle.vt_world_laws.proofs.RaisedInUse.{worlds_are_in_use}
 use Rattle.vt_world.specs.Held.{CountsItsMounts, HasOwnInodes, IsHeld}
 use Rattle.vt_world.specs.Room.{has_small_slots, point_is_small}
-use Rattle.vt_world.specs.Uses.{inode_of, kept, shown_by, with_attached}
+use Rattle.vt_world.specs.Uses.{kept, with_attached}
 use Rattle.vt_world.specs.WorldValue.{WorldValue, world_of}
-use Rattle.vt_world.proofs.AddedUses.{IsFoundIn, gained_by, point_inodes, showing, shown_by_all, with_mounts_on}
+use Rattle.vt_world.proofs.AddedUses.{IsFoundIn, gained_by, point_inodes, shown_by_all, with_mounts_on}
 use Rattle.vt_world.proofs.FilesSeen.{seen_in}
 use Rattle.vt_world.proofs.Showing.{found_filesystem}
 
