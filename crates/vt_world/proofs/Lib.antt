@@ -60,6 +60,7 @@ pub mod UnmountedAlone
 pub mod LazilyUnmounted
 pub mod UnmountedLazily
 pub mod RemainingTasks
+pub mod NamespaceEntries
 pub mod CountingLemmas
 pub mod CopyLemmas
 pub mod FirstPlaces
@@ -78,6 +79,7 @@ pub mod FileRenaming
 pub mod ChangedWithMounts
 pub mod Entered
 pub mod RootMounts
+pub mod MountsOn
 pub mod DirectoryRemoved
 pub mod AddedBegins
 pub mod UnsharedTasks
