@@ -5,7 +5,7 @@ use Rattle.vt_location.specs.Numbers.{counted}
 use Rattle.vt_mount.specs.MountsValue.{mounts_in}
 use Rattle.vt_spec.specs.Machine.Mounts.{Mount}
 use Rattle.vt_world.specs.BoundCopies.{bound_copies, bound_copy, namespace_in}
-use Rattle.vt_world.proofs.CopyLemmas.{all_taken, next_copied, next_missing}
+use Rattle.vt_world.proofs.CopyLemmas.{all_taken, next_made, none_made}
 use Rattle.vt_world.proofs.FirstPlaces.{numbers_fit, places_in_tree}
 use Rattle.vt_world.proofs.mount_binds.copies.Goals as goal
 use Rattle.vt_world.proofs.mount_binds.copies.Goals.{in-Some+in_ok-push, in_default}
@@ -21,7 +21,7 @@ loop-id-preserved c = λ tree are.
       | in-Some+in_ok-push w ↦
           ap (λ copies. map mount_of copies.items) w.copies-is
           ∙ ap (map mount_of) (let pushed = w.in_ok-push.ensures in search rules)
-          ∙ next_copied (λ id. option_map change (find (λ mount. nat_eq (counted id.count) mount.number) mounts))
+          ∙ next_made mount_of (λ id. option_map change (find (λ mount. nat_eq (counted id.count) mount.number) mounts))
           c.loop-id.id-index _ c.args.origins.now (let more = c.loop-id-test.true in search rules)
           c.loop-id.copies.items (c.loop-id.invariant tree are) w.copied.result
           (ap (option_map change) (sym c.get.ensures ∙ ap (option_map mount_of) w.in-Some.is)
@@ -29,7 +29,7 @@ loop-id-preserved c = λ tree are.
           ∙ ap (λ namespace. bound_copy c.args.next tree c.args.source (location_of c.args.place) namespace (mount_of w.in-Some.mount)) c.namespace_at-namespace.ensures)))
       | in_default w ↦
           ap (λ copies. map mount_of copies.items) w.copies-is
-          ∙ next_missing (λ id. option_map change (find (λ mount. nat_eq (counted id.count) mount.number) mounts))
+          ∙ none_made mount_of (λ id. option_map change (find (λ mount. nat_eq (counted id.count) mount.number) mounts))
           c.loop-id.id-index _ c.args.origins.now (let more = c.loop-id-test.true in search rules)
           c.loop-id.copies.items (c.loop-id.invariant tree are)
           (ap (option_map change) (sym c.get.ensures ∙ ap (option_map mount_of) w.in_default.is))
