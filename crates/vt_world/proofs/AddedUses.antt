@@ -21,6 +21,7 @@ use Rattle.vt_location.specs.declared.mounts.Mount.{Mount}
 use Rattle.vt_location.specs.Locations.{location_of}
 use Rattle.vt_location.specs.MountValue.{mount_of}
 use Rattle.vt_location.specs.Numbers.{counted}
+use Rattle.vt_letting_go.proofs.UpperUses.{times_append}
 use Rattle.vt_world.specs.Uses.{inode_of, mounted_if, pinned_at, pinned_in, shown_by}
 use Rattle.vt_world.proofs.Shown.{counted_eq, counted_eq_back}
 
@@ -114,10 +115,6 @@ shown_by_all (mount ∷ new) all =
         }
 
 -- The same as an exchange of inodes between two worlds
-
-pub times_append : {A : Type 0} (test : A → Bool) (xs ys : List A) → times test (xs ++ ys) ≡ times test xs + times test ys
-times_append test [] ys = omega arith
-times_append test (x ∷ xs) ys = let rest = times_append test xs ys in omega (arith, rest)
 
 module _ (after : World ℕ) where
   -- the inodes of its root and of its mount point are those that the world finds

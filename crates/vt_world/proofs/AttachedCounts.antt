@@ -14,10 +14,11 @@ use Rattle.vt_location.specs.MountValue.{mount_of}
 use Rattle.vt_location.specs.Numbers.{counted}
 use Rattle.vt_mount.specs.MountsValue.{MountEntry, are_ascending, mounts_in}
 use Rattle.vt_run_laws.specs.Handed.{is_counted_before}
+use Rattle.vt_letting_go.proofs.UpperUses.{times_append}
 use Rattle.vt_world.specs.Held.{CountsItsUses, CountsWhatIsInIt, IsHeld, is_ungrouped, writes_of, writes_on}
 use Rattle.vt_world.specs.Uses.{kept, unused_entry, with_attached}
 use Rattle.vt_world.specs.WorldValue.{WorldValue, world_of}
-use Rattle.vt_world.proofs.AddedUses.{showing, times_append}
+use Rattle.vt_world.proofs.AddedUses.{showing}
 use Rattle.vt_world.proofs.AttachedWorlds.{shown_was}
 use Rattle.vt_world.proofs.EnteringLemmas.{apart, mounts_entered}
 use Rattle.vt_world.proofs.FilesSeen.{mount_named}

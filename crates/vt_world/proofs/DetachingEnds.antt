@@ -14,7 +14,7 @@ use Rattle.vt_spec.specs.Machine.SameWorlds.{without_changes}
 use Rattle.vt_spec.specs.Machine.Settled.{settled}
 use Rattle.vt_spec.specs.Machine.World.{Filesystem, Task, World, filesystem_numbered, is_directory_at, mount_at, node_at, with_mounts}
 use Rattle.vt_spec.specs.Machine.WorldLaws.{has_its_root, is_located_well, is_there}
-use Rattle.vt_spec.specs.Tree.{Node, is_directory_node}
+use Rattle.vt_spec.specs.Tree.{is_directory_node}
 use Rattle.vt_count_laws.specs.Counted.{IsPlain}
 use Rattle.vt_count_laws.specs.Sweeping.{living}
 use Rattle.vt_count_laws.specs.Using.{Exchanges}
@@ -31,6 +31,7 @@ use Rattle.vt_location.specs.Locations.{location_of}
 use Rattle.vt_location.specs.Numbers.{counted}
 use Rattle.vt_mount.specs.MountsValue.{MountEntry, mounts_in}
 use Rattle.vt_world_laws.proofs.RaisedInUse.{worlds_are_in_use}
+use Rattle.vt_world_laws.proofs.Roots.{directory_there}
 use Rattle.vt_world.specs.Held.{CountsItsMounts, CountsItsUses, CountsWhatIsInIt, IsHeld, is_ungrouped, writes_of}
 use Rattle.vt_world.specs.Uses.{kept}
 use Rattle.vt_world.specs.WorldValue.{WorldValue, world_of}
@@ -45,10 +46,6 @@ use Rattle.vt_world.proofs.Remaining.{remade}
 use Rattle.vt_world.proofs.Staying.{IsDone, world_is_plain}
 
 -- What is kept of a world with its invariants
-
-directory_there : (o : Option (Node ℕ)) → is_directory_node o ≡ true → is_some o ≡ true
-directory_there None e = absurd (true≢false (sym e))
-directory_there (Some node) e = refl
 
 module _ (value : WorldValue) (whole : IsHeld value) where
   abbrev world : World ℕ

@@ -1,7 +1,8 @@
 -- Lists of what is counted: what a step takes from them.
-use Rattle.std.proofs.Common.{◌≡◌, refl, sym, ap, ◌∙◌, ⊎_elim, inl, inr, ℕ, ◌+◌, nat_eq, eqb-true, eq-eqb, Bool, true, false, true≢false, cond, ◌||◌, List, [], ◌∷◌, ◌++◌, filter, find, flat_map, Some, option_map, unwrap_or, arith}
+use Rattle.std.proofs.Common.{◌≡◌, ◌≢◌, not, refl, sym, ap, ◌∙◌, ⊎_elim, inl, inr, ℕ, ◌+◌, nat_eq, eqb-true, eq-eqb, Bool, true, false, true≢false, cond, ◌||◌, List, [], ◌∷◌, ◌++◌, filter, find, flat_map, Some, option_map, unwrap_or, arith}
 use Rattle.std.specs.List.{list_any}
-use Rattle.std.proofs.lemmas.Bool.{or_parts}
+use Rattle.std.specs.Prelude.{nat_lt}
+use Rattle.std.proofs.lemmas.Bool.{eqb-false, lt-ltb, or_parts}
 use Rattle.vt_spec.specs.Lists.{any_pair, folded}
 use Rattle.vt_spec.specs.Machine.Mounts.{Mount}
 use Rattle.vt_spec.specs.Machine.World.{Filesystem, World, filesystem_numbered, no_filesystem}
@@ -18,9 +19,12 @@ pub folded_append : {A B : Type 0} (f : A → B → A) (z : A) (xs ys : List B) 
 folded_append f z [] ys = refl
 folded_append f z (x ∷ xs) ys = folded_append f (f z x) xs ys
 
-pub times_together : {A : Type 0} (test : A → Bool) (one other : List A) → times test (one ++ other) ≡ times test one + times test other
-times_together test [] other = omega arith
-times_together test (first ∷ rest) other = let later = times_together test rest other in omega arith
+pub positive : (a : ℕ) → nat_lt 0 a ≡ not (nat_eq a 0)
+positive a = by (nat_eq a 0) refl
+  where
+    by : (b : Bool) → nat_eq a 0 ≡ b → nat_lt 0 a ≡ not b
+    by true e = ap (nat_lt 0) (eqb-true a 0 e)
+    by false e = let some : a ≢ 0 = eqb-false a 0 e in lt-ltb 0 a (omega (arith, some))
 
 -- what is lost may stand in another order
 pub lost_alike : (gained lost other : List Inode) (k : ℕ) (one two : World ℕ)

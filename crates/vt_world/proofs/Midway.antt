@@ -23,12 +23,13 @@ use Rattle.vt_location.specs.declared.locations.Location.{Location as Place}
 use Rattle.vt_location.specs.Locations.{location_of, number_of}
 use Rattle.vt_location.specs.Numbers.{counted}
 use Rattle.vt_mount.specs.MountsValue.{MountEntry, changed, entry_numbered, mounts_in, released}
+use Rattle.vt_letting_go.proofs.UpperUses.{times_append}
 use Rattle.vt_world.specs.Held.{IsHeld, is_ungrouped, writes_of}
 use Rattle.vt_world.specs.Uses as meant
 use Rattle.vt_world.specs.Uses.{Kept, detached_entry, inode_of, is_unused, let_go_entry, let_go_filesystem, mounts_shown, released_if, released_in, unpinned_at, unpinned_in, without_filesystem}
 use Rattle.vt_world.specs.WorldValue.{WorldValue, world_of}
 use Rattle.vt_world.proofs.LocationsSeen.{seen_where_located}
-use Rattle.vt_world.proofs.LostUses.{OneNumber, entry_itself, folded_append, lost_alike, mounts_unchanged, times_together}
+use Rattle.vt_world.proofs.LostUses.{OneNumber, entry_itself, folded_append, lost_alike, mounts_unchanged}
 use Rattle.vt_world.proofs.Moving.{Use, inodes_of_uses, is_use_on, lose, release_if, released_counts, writes_on_mount}
 
 -- a mount that is still to be detached, as it is afterwards
@@ -268,12 +269,12 @@ module _ (value : WorldValue) (whole : IsHeld value) (start : World ℕ) (gained
           (ap (λ n. nat_eq n y.mount.number) (eqb-true number x.mount.number t)
           ∙ fails (λ b. nat_eq x.mount.number b.number) (mounts_in xs) others y.mount (among-map (λ (one : MountEntry). one.mount) xs y m))) in
           (λ i. times test (here i ++ points_left world goes xs))
-          ∙ times_together test (inodes_of_point world entry.mount) (points_left world goes xs)
+          ∙ times_append test (inodes_of_point world entry.mount) (points_left world goes xs)
           ∙ (λ i. times test (inodes_of_point world entry.mount) + times test (sym gone i ++ points_left world goes (sym still i)))
       by others false t h next =
           let later = next h in
-          let one = times_together test (point_left world goes x.mount) (points_left world goes xs) in
-          let two = times_together test (point_left world goes x.mount) (points_left world goes (changed number detached_entry xs)) in
+          let one = times_append test (point_left world goes x.mount) (points_left world goes xs) in
+          let two = times_append test (point_left world goes x.mount) (points_left world goes (changed number detached_entry xs)) in
           omega (arith, later, one, two)
 
   module _ (left : List Use) (now : World ℕ) (k : Kept) (lost : List Inode) (mid : Midway value start gained goes left now k lost)
@@ -351,11 +352,11 @@ module _ (value : WorldValue) (whole : IsHeld value) (start : World ℕ) (gained
         → times test (lost ++ (inodes_of_uses world left ++ points_left world goes k.mounts))
         ≡ times test ((lost ++ lost_here) ++ (inodes_of_uses world left ++ points_left world goes taken.mounts))
     same_lost test =
-        let a = times_together test lost (inodes_of_uses world left ++ points_left world goes k.mounts) in
-        let b = times_together test (inodes_of_uses world left) (points_left world goes k.mounts) in
-        let c = times_together test (lost ++ lost_here) (inodes_of_uses world left ++ points_left world goes taken.mounts) in
-        let d = times_together test lost lost_here in
-        let e = times_together test (inodes_of_uses world left) (points_left world goes taken.mounts) in
+        let a = times_append test lost (inodes_of_uses world left ++ points_left world goes k.mounts) in
+        let b = times_append test (inodes_of_uses world left) (points_left world goes k.mounts) in
+        let c = times_append test (lost ++ lost_here) (inodes_of_uses world left ++ points_left world goes taken.mounts) in
+        let d = times_append test lost lost_here in
+        let e = times_append test (inodes_of_uses world left) (points_left world goes taken.mounts) in
         let p = points_are number k.mounts one_number entry going.0 going.1 test in
         omega (arith, a, b, c, d, e, p)
 

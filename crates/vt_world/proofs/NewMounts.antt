@@ -38,14 +38,16 @@ use Rattle.vt_mount.specs.MountsValue.{MountEntry, are_ascending, mounts_in}
 use Rattle.vt_permit_laws.proofs.TakenAttached.{copy_by, destination, twigs}
 use Rattle.vt_run_laws.specs.Handed.{handed_from}
 use Rattle.vt_world_laws.proofs.RaisedInUse.{worlds_are_in_use}
+use Rattle.vt_letting_go.proofs.UpperUses.{times_append}
+use Rattle.vt_world_laws.proofs.Roots.{directory_there}
 use Rattle.vt_world.specs.Events.{Permits, left_by}
 use Rattle.vt_world.specs.Held.{CountsItsMounts, HasOwnInodes, IsHeld}
 use Rattle.vt_world.specs.Room.{has_small_slots}
 use Rattle.vt_world.specs.Uses.{inode_of, kept, with_attached}
 use Rattle.vt_world.specs.WorldValue.{WorldValue, world_of}
-use Rattle.vt_world.proofs.AddedUses.{IsFoundIn, gained_by, mounts_are_gained, times_append, with_mounts_on}
+use Rattle.vt_world.proofs.AddedUses.{IsFoundIn, gained_by, mounts_are_gained, with_mounts_on}
 use Rattle.vt_world.proofs.AttachedCounts.{attached_counts, attached_value, lower_numbers, mounts_are, times_none}
-use Rattle.vt_world.proofs.AttachedWorlds.{directory_is_there, new_found, new_uses_there, old_is_counted, same_numbers, shown_was}
+use Rattle.vt_world.proofs.AttachedWorlds.{new_found, new_uses_there, old_is_counted, same_numbers, shown_was}
 use Rattle.vt_world.proofs.Binding.{only_index}
 use Rattle.vt_world.proofs.EnteringLemmas.{ascending_joined}
 use Rattle.vt_world.proofs.FileEvents.{permit_fits}
@@ -169,7 +171,7 @@ module _ (value : WorldValue) (whole : IsHeld value) (name : TaskName) (place : 
   others_elsewhere other m =
       let root = (and_parts _ _ (passes (has_its_root nat_eq world) world.mounts whole.in_world.roots other m)).0 in
       let seen = seen_in value.filesystems whole.own_inodes other.filesystem other.root
-      (directory_is_there ((filesystem_numbered nat_eq world other.filesystem).files.tree.node other.root) root) in
+      (directory_there ((filesystem_numbered nat_eq world other.filesystem).files.tree.node other.root) root) in
       let low = filesystem_counted value whole seen.entry seen.among in
       let is = seen.number_is in
       ne_eqb (counted value.next) other.filesystem (λ same. absurd (omega (arith, low, is, same)))
