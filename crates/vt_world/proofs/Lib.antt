@@ -25,6 +25,7 @@ pub mod EnteringLemmas
 pub mod AddedUses
 pub mod AttachedWorlds
 pub mod AttachedCounts
+pub mod Ungrouped
 pub mod Grafting
 pub mod Binding
 pub mod TreeBinding

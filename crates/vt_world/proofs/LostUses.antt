@@ -3,6 +3,7 @@ use Rattle.std.proofs.Common.{◌≡◌, ◌≢◌, not, refl, sym, ap, ◌∙�
 use Rattle.std.specs.List.{list_any}
 use Rattle.std.specs.Prelude.{nat_lt}
 use Rattle.std.proofs.lemmas.Bool.{eqb-false, lt-ltb, or_parts}
+use Rattle.std.proofs.lemmas.Option.{same_Some}
 use Rattle.vt_spec.specs.Lists.{any_pair, folded}
 use Rattle.vt_spec.specs.Machine.Mounts.{Mount}
 use Rattle.vt_spec.specs.Machine.World.{Filesystem, World, filesystem_numbered, no_filesystem}
@@ -130,3 +131,16 @@ mounts_unchanged number change entries same =
     by : (entry : MountEntry) (b : Bool) → (cond b (change entry) entry).mount ≡ entry.mount
     by entry true = same entry
     by entry false = refl
+
+-- an entry that is found is there, and has the number
+pub entry_found_at : (entries : List MountEntry) (number : ℕ) (entry : MountEntry) → entry_numbered entries number ≡ Some entry
+    → Among entry entries × (number ≡ entry.mount.number)
+entry_found_at [] number entry e = absurd cc
+entry_found_at (x ∷ xs) number entry e = by (nat_eq number x.mount.number) refl e (entry_found_at xs number entry)
+  where
+    by : (b : Bool) → nat_eq number x.mount.number ≡ b → cond b (Some x) (entry_numbered xs number) ≡ Some entry
+        → (entry_numbered xs number ≡ Some entry → Among entry xs × (number ≡ entry.mount.number)) → Among entry (x ∷ xs) × (number ≡ entry.mount.number)
+    by true t e next =
+        let same : x ≡ entry = same_Some x entry e in
+        (inl (sym same), eqb-true number x.mount.number t ∙ ap (λ (y : MountEntry). y.mount.number) same)
+    by false t e next = let later = next e in (inr later.0, later.1)

@@ -35,7 +35,7 @@ use Rattle.vt_world.specs.Uses.{Kept, is_unused, kept}
 use Rattle.vt_world.specs.WorldValue.{WorldValue, world_of}
 use Rattle.vt_world.proofs.LostUses.{OneNumber, positive}
 use Rattle.vt_world.proofs.Midway.{IsShown, Midway, NoneUnused, Reached, gone_if, gone_number, inodes_of_point, point_left, points_left}
-use Rattle.vt_world.proofs.Moving.{Moves, Use, filesystems_gained, gain, gained_there, held_counts, hold_if, inodes_of_uses, is_use_on, locations, mounts_gained, same_moved_mounts, uses_moved, writes_on_mount}
+use Rattle.vt_world.proofs.Moving.{Moves, Use, filesystems_gained, gain, gained_there, held_counts, hold_if, inodes_of_uses, is_use_on, locations, mounts_gained, same_moved_mounts, times_mapped, uses_moved, writes_on_mount}
 use Rattle.vt_world.proofs.Staying.{after, world_is_plain}
 
 -- Mounts that are detached at once, in a world
@@ -137,10 +137,6 @@ parent_inside world one stands mount m place p = by (stands mount m) (found_itse
         let it : at ≡ place = same_Some at place (sym e ∙ ap (λ (x : Mount ℕ). x.mount_point) itself ∙ p) in
         ap (λ (x : Mount ℕ). x.namespace) (sym itself) ∙ same ∙ ap (λ (l : Location ℕ). (mount_numbered nat_eq world l.mount).namespace) it
 
-times_on : (mount : ℕ) (uses : List Use) → times (λ location. nat_eq mount location.mount) (locations uses) ≡ times (is_use_on mount) uses
-times_on mount [] = refl
-times_on mount (one ∷ uses) = ap (λ rest. cond (is_use_on mount one) 1 0 + rest) (times_on mount uses)
-
 module _ (value : WorldValue) (whole : IsHeld value) (tasks : Tasks) (more less : List Use) (moves : Moves value tasks more less)
     (inside : Option ℕ → Bool) (nowhere_stays : inside None ≡ false) (namespaces : List (Namespace ℕ)) where
   abbrev world : World ℕ
@@ -193,8 +189,8 @@ module _ (value : WorldValue) (whole : IsHeld value) (tasks : Tasks) (more less 
       let had = (among_from_all (CountsItsUses world) value.mounts whole.mounts was m).uses in
       let held = (held_counts more was).uses in
       let moved = locations_use_mounts world next (locations more) (locations less) moves.front moves.back moves.was moves.is n in
-      let a = times_on n more in
-      let b = times_on n less in
+      let a = times_mapped n more in
+      let b = times_mapped n less in
       let one : (folded hold_if was more).uses ≡ mount_uses next n + times (is_use_on n) less = omega (arith, had, held, moved, a, b) in
       one ∙ ap (λ (x : Mount ℕ). mount_uses next x.number + times (is_use_on x.number) less) (sym (same_mount was))
 

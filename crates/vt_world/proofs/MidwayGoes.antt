@@ -33,8 +33,8 @@ use Rattle.vt_world.specs.Held.{IsHeld}
 use Rattle.vt_world.specs.Uses as meant
 use Rattle.vt_world.specs.Uses.{Kept, is_unused, let_go_entry, mounts_shown, released_if}
 use Rattle.vt_world.specs.WorldValue.{WorldValue, world_of}
-use Rattle.vt_world.proofs.LostUses.{OneNumber, entry_itself, filter_less, flat_map_less, folded_append, found_unless, lost_alike, one_number_less, shown_by_rule}
-use Rattle.vt_world.proofs.Midway.{IsShown, Midway, NoneUnused, Reached, UnusedOnly, found_entry_at, gone_if, gone_number, one_number_kept, point_left, points_left, unused_parts}
+use Rattle.vt_world.proofs.LostUses.{OneNumber, entry_found_at, entry_itself, filter_less, flat_map_less, folded_append, found_unless, lost_alike, one_number_less, shown_by_rule}
+use Rattle.vt_world.proofs.Midway.{IsShown, Midway, NoneUnused, Reached, UnusedOnly, gone_if, gone_number, one_number_kept, point_left, points_left, unused_parts}
 use Rattle.vt_world.proofs.Moving.{Use, inodes_of_uses, swap_eq}
 
 -- What the sweep leaves when a dead mount and filesystems that no mount shows are gone already
@@ -104,7 +104,7 @@ module _ (value : WorldValue) (whole : IsHeld value) (start : World ℕ) (gained
     mount = entry.mount
 
     among : Among entry k.mounts × (number ≡ mount.number)
-    among = found_entry_at value whole start gained goes attached k.mounts number entry found
+    among = entry_found_at k.mounts number entry found
 
     nowhere : is_some mount.namespace ≡ false
     nowhere = (unused_parts entry unused).0
