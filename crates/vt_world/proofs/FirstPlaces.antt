@@ -22,10 +22,8 @@ module _ {A : Type 0} (test : A → Bool) where
       ∙ ap (λ n. option_or (place_from test (k + 1) xs) (cond (test x) (Some n) None))
       (let same : k + 1 + length xs ≡ k + length (first ∷ xs) = omega arith in same))
     where
-      last : Option ℕ
-      last = cond (test x) (Some (k + length (first ∷ xs))) None
-
-      by : (b : Bool) → place_from test (k + 1) (xs ++ x ∷ []) ≡ option_or (place_from test (k + 1) xs) (cond (test x) (Some (k + length (first ∷ xs))) None)
+      by : (b : Bool)
+          → place_from test (k + 1) (xs ++ x ∷ []) ≡ option_or (place_from test (k + 1) xs) (cond (test x) (Some (k + length (first ∷ xs))) None)
           → cond b (Some k) (place_from test (k + 1) (xs ++ x ∷ []))
           ≡ option_or (cond b (Some k) (place_from test (k + 1) xs)) (cond (test x) (Some (k + length (first ∷ xs))) None)
       by true rest = refl

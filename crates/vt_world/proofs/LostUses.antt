@@ -139,7 +139,8 @@ entry_found_at [] number entry e = absurd cc
 entry_found_at (x ∷ xs) number entry e = by (nat_eq number x.mount.number) refl e (entry_found_at xs number entry)
   where
     by : (b : Bool) → nat_eq number x.mount.number ≡ b → cond b (Some x) (entry_numbered xs number) ≡ Some entry
-        → (entry_numbered xs number ≡ Some entry → Among entry xs × (number ≡ entry.mount.number)) → Among entry (x ∷ xs) × (number ≡ entry.mount.number)
+        → (entry_numbered xs number ≡ Some entry → Among entry xs × (number ≡ entry.mount.number))
+        → Among entry (x ∷ xs) × (number ≡ entry.mount.number)
     by true t e next =
         let same : x ≡ entry = same_Some x entry e in
         (inl (sym same), eqb-true number x.mount.number t ∙ ap (λ (y : MountEntry). y.mount.number) same)

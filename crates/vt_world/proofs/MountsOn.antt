@@ -42,7 +42,8 @@ trees_are_some (suc depth) mounts top rest e = absurd cc
 
 pub none_on : (world : World ℕ) (all : List (Mount ℕ)) → trees_numbers world all ≡ [] → all ≡ []
 none_on world [] e = refl
-none_on world (top ∷ rest) e = absurd (trees_are_some (length world.mounts) world.mounts top (flat_map (mount_tree nat_eq world.mounts) rest) e)
+none_on world (top ∷ rest) e =
+    absurd (trees_are_some (length world.mounts) world.mounts top (flat_map (mount_tree nat_eq world.mounts) rest) e)
 
 pub none_counted : (ids : List MountId) → length ids ≡ 0 → map (λ id. counted id.count) ids ≡ []
 none_counted [] none = refl
@@ -83,9 +84,11 @@ module _ (value : WorldValue) (held : IsHeld value) (at : Location) (small : IsS
       (sym (filter_alike stands_there (stands_over (number_of at.node)) (mounts_in value.mounts)
       (λ mount m. point_seen value held at small mount (to_spec mount (mounts_in value.mounts) m)
       ∙ ap (λ b. b && stands_over (number_of at.node) mount)
-      (eq-eqb (mount_at nat_eq world (location_of at)).filesystem (counted at.node.filesystem.count) (seen_where_located value held at small there)))))
+      (eq-eqb (mount_at nat_eq world (location_of at)).filesystem (counted at.node.filesystem.count)
+      (seen_where_located value held at small there)))))
       ∙ tree_by_numbers (mounts_in value.mounts) (tops_on value at) (λ top m.
-      found_itself (mounts_in value.mounts) held.in_world.mounts.one_number top (among-from_filter stands_there (mounts_in value.mounts) top m).0)
+      found_itself (mounts_in value.mounts) held.in_world.mounts.one_number top
+      (among-from_filter stands_there (mounts_in value.mounts) top m).0)
 
   pub one_on : tops_on value at ≢ [] → IsOn value at
   one_on = among_tops (tops_on value at) refl

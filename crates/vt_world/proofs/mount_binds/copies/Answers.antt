@@ -25,7 +25,8 @@ loop-id-preserved c = λ tree are.
           c.loop-id.id-index _ c.args.origins.now (let more = c.loop-id-test.true in search rules)
           c.loop-id.copies.items (c.loop-id.invariant tree are) w.copied.result
           (ap (option_map change) (sym c.get.ensures ∙ ap (option_map mount_of) w.in-Some.is)
-          ∙ ap Some (sym (w.copied.ensures tree (places_in_tree c.args.origins.now tree c.in_ok-places.places.entries c.in_ok-places.ensures.found are)
+          ∙ ap Some (sym (w.copied.ensures tree
+          (places_in_tree c.args.origins.now tree c.in_ok-places.places.entries c.in_ok-places.ensures.found are)
           ∙ ap (λ namespace. bound_copy c.args.next tree c.args.source (location_of c.args.place) namespace (mount_of w.in-Some.mount)) c.namespace_at-namespace.ensures)))
       | in_default w ↦
           ap (λ copies. map mount_of copies.items) w.copies-is

@@ -19,7 +19,8 @@ loop-place-preserved c =
     ]
 
 pub returns-clause-found : goal.returns-clause-found
-returns-clause-found c = all_found c.args.origins.now c.loop-place.place c.loop-place.places.entries c.loop-place-test.false c.loop-place.invariant
+returns-clause-found c =
+    all_found c.args.origins.now c.loop-place.place c.loop-place.places.entries c.loop-place-test.false c.loop-place.invariant
 
 pub returns-clause-within : goal.returns-clause-within
 returns-clause-within c =
