@@ -1,6 +1,6 @@
 -- Mounts were added and tasks went from locations to others of the same inodes, and mounts are to be detached: what code counts
 -- before it detaches them. So does unshare(2), where a namespace ends with it.
-use Rattle.std.proofs.Common.{◌≡◌, refl, sym, ap, subst, ◌∙◌, ◌⊎◌, ⊎_elim, inl, inr, ℕ, ◌+◌, nat_eq, eqb-true, eq-eqb, Bool, true, false, true≢false, cond, not, ◌&&◌, ◌||◌, List, [], ◌∷◌, ◌++◌, map, find, flat_map, Option, Some, None, is_some, arith}
+use Rattle.std.proofs.Common.{◌≡◌, refl, sym, ap, subst, ◌∙◌, ◌⊎◌, ⊎_elim, inl, inr, ℕ, ◌+◌, nat_eq, eqb-true, eq-eqb, Bool, true, false, true≢false, cond, not, ◌&&◌, ◌||◌, List, [], ◌∷◌, ◌++◌, map, flat_map, Option, Some, None, is_some, arith}
 use Rattle.std.specs.Prelude.{option_to_list}
 use Rattle.std.specs.List.{list_all, list_any}
 use Rattle.std.proofs.lemmas.Bool.{and_parts}
@@ -8,13 +8,13 @@ use Rattle.std.proofs.lemmas.List.{append-nil, map-append}
 use Rattle.vt_spec.specs.Lists.{any_pair, folded, is_among}
 use Rattle.vt_spec.specs.Machine.Mounts.{Location, Mount, detached, mount_in}
 use Rattle.vt_spec.specs.Machine.Settled.{is_located, mount_lives}
-use Rattle.vt_spec.specs.Machine.World.{Filesystem, Namespace, World, all_locations, filesystem_numbered, mount_at}
-use Rattle.vt_spec.specs.Machine.WorldLaws.{is_located_well, is_nowhere_or_attached, is_private}
-use Rattle.vt_count_laws.specs.Using.{AreThere, Exchanges, exchanged, is_inode, is_on, pinned_if, places_of}
+use Rattle.vt_spec.specs.Machine.World.{Filesystem, Namespace, World, all_locations, mount_at}
+use Rattle.vt_spec.specs.Machine.WorldLaws.{is_nowhere_or_attached, is_private}
+use Rattle.vt_count_laws.specs.Using.{AreThere, Exchanges, is_inode, is_on, pinned_if, places_of}
 use Rattle.vt_count_laws.proofs.MountRoots as Roots
 use Rattle.vt_count_laws.proofs.Places.{exchanges_follow, locations_are_uses, locations_use_mounts, mounts_are_uses}
 use Rattle.vt_fs.specs.FilesystemsValue.{FilesystemEntry, Shown, filesystem_seen, inodes_seen, shown, shown_entry}
-use Rattle.vt_letting_go.specs.Counts.{inode_uses, mount_uses, mounts_showing, times}
+use Rattle.vt_letting_go.specs.Counts.{mount_uses, times}
 use Rattle.vt_letting_go.specs.Keeping.{LocationsStand}
 use Rattle.vt_letting_go.specs.Leaving.{MountsStand, stands_on_attached}
 use Rattle.vt_letting_go.specs.Mounting.{inode_at}
@@ -27,14 +27,15 @@ use Rattle.vt_location.specs.Numbers.{counted}
 use Rattle.vt_mount.specs.MountsValue.{MountEntry, mounts_in}
 use Rattle.vt_task.specs.TasksValue.{Tasks}
 use Rattle.vt_world_laws.proofs.RaisedInUse.{worlds_are_in_use}
-use Rattle.vt_world.specs.Held.{CountsItsMounts, CountsItsUses, IsHeld, is_ungrouped, writes_of}
+use Rattle.vt_letting_go.proofs.UpperUses.{times_append}
+use Rattle.vt_world.specs.Held.{CountsItsMounts, IsHeld, is_ungrouped, writes_of}
 use Rattle.vt_world.specs.Uses.{Kept, is_unused}
 use Rattle.vt_world.specs.WorldValue.{WorldValue, world_of}
-use Rattle.vt_world.proofs.LostUses.{OneNumber, times_together}
+use Rattle.vt_world.proofs.LostUses.{OneNumber}
 use Rattle.vt_world.proofs.Midway.{IsShown, Midway, NoneUnused, Reached, gone_if, gone_number, inodes_of_point, point_left, points_left}
 use Rattle.vt_world.proofs.MidwayBegins as Begins
 use Rattle.vt_world.proofs.Moving.{Moves}
-use Rattle.vt_world.proofs.Staying.{after, world_is_plain}
+use Rattle.vt_world.proofs.Staying.{world_is_plain}
 
 flat_alike : {A B : Type 0} (f g : A → List B) (xs : List A) → ((x : A) → Among x xs → f x ≡ g x) → flat_map f xs ≡ flat_map g xs
 flat_alike f g [] same = refl
@@ -227,7 +228,7 @@ module _ (value : WorldValue) (whole : IsHeld value) (added : List (Mount ℕ)) 
   shown_is : (was : FilesystemEntry) → Among was value.filesystems → IsShown value ended gained [] (shown_so (shown_entry was))
   shown_is was m =
       let counts = (among_from_all (CountsItsMounts world) value.filesystems whole.filesystems was m).mounts in
-      let all = times_together (λ (x : Mount ℕ). nat_eq (counted was.count) x.filesystem) world.mounts added in
+      let all = times_append (λ (x : Mount ℕ). nat_eq (counted was.count) x.filesystem) world.mounts added in
       let gone = shows_still (counted was.count) base.mounts in
       record {
         was = was;
@@ -284,9 +285,9 @@ module _ (value : WorldValue) (whole : IsHeld value) (added : List (Mount ℕ)) 
         uses = λ n.
             let test = is_inode c n in
             let sum = all.uses n in
-            let a = times_together test (come ++ map (inode_at base) more) [] in
-            let b = times_together test come (map (inode_at base) more) in
-            let d = times_together test (map (inode_at base) less) (flat_map (point_left base goes) base.mounts) in
+            let a = times_append test (come ++ map (inode_at base) more) [] in
+            let b = times_append test come (map (inode_at base) more) in
+            let d = times_append test (map (inode_at base) less) (flat_map (point_left base goes) base.mounts) in
             let same = ap (times test) is.same_inodes in
             let own = uses_gained test in
             let lost = ap (times test) points_alike in

@@ -1,5 +1,5 @@
 -- What mounts that are attached use: their roots and their mount points, and the filesystems that they show.
-use Rattle.std.proofs.Common.{◌≡◌, refl, sym, ap, subst, ◌∙◌, inl, inr, ℕ, ◌+◌, nat_eq, Bool, true, false, cond, List, [], ◌∷◌, ◌++◌, map, Option, Some, None, option_map, if◌then◌else◌, arith}
+use Rattle.std.proofs.Common.{◌≡◌, refl, sym, ap, ◌∙◌, inl, inr, ℕ, ◌+◌, nat_eq, Bool, true, false, cond, List, [], ◌∷◌, ◌++◌, map, Option, Some, None, option_map, if◌then◌else◌, arith}
 use Rattle.std.specs.List.{cons_option}
 use Rattle.std.specs.Prelude.{filter_map}
 use Rattle.std.proofs.lemmas.List.{append-nil, map-append}
@@ -7,7 +7,7 @@ use Rattle.std.specs.List.{list_all}
 use Rattle.vt_spec.specs.Lists.{any_pair, folded}
 use Rattle.vt_spec.specs.Machine.Mounts as meant
 use Rattle.vt_spec.specs.Machine.Mounts.{root_of}
-use Rattle.vt_spec.specs.Machine.World.{World, all_locations, mount_at}
+use Rattle.vt_spec.specs.Machine.World.{World, all_locations}
 use Rattle.vt_spec.specs.OneTree.Inodes.{Inodes}
 use Rattle.vt_count_laws.specs.Using.{Exchanges, is_inode, is_on, pinned_if, places_of}
 use Rattle.vt_count_laws.proofs.Places.{mounts_are_uses}
@@ -21,7 +21,8 @@ use Rattle.vt_location.specs.declared.mounts.Mount.{Mount}
 use Rattle.vt_location.specs.Locations.{location_of}
 use Rattle.vt_location.specs.MountValue.{mount_of}
 use Rattle.vt_location.specs.Numbers.{counted}
-use Rattle.vt_world.specs.Uses.{inode_of, mounted_if, mounted_in, pinned_at, pinned_in, shown_by}
+use Rattle.vt_letting_go.proofs.UpperUses.{times_append}
+use Rattle.vt_world.specs.Uses.{inode_of, mounted_if, pinned_at, pinned_in, shown_by}
 use Rattle.vt_world.proofs.Shown.{counted_eq, counted_eq_back}
 
 -- the inodes that a mount uses, and those that mounts use
@@ -114,10 +115,6 @@ shown_by_all (mount ∷ new) all =
         }
 
 -- The same as an exchange of inodes between two worlds
-
-pub times_append : {A : Type 0} (test : A → Bool) (xs ys : List A) → times test (xs ++ ys) ≡ times test xs + times test ys
-times_append test [] ys = omega arith
-times_append test (x ∷ xs) ys = let rest = times_append test xs ys in omega (arith, rest)
 
 module _ (after : World ℕ) where
   -- the inodes of its root and of its mount point are those that the world finds

@@ -1,11 +1,10 @@
 -- Mounts, filesystems and namespaces count what is in a world in which mounts were attached, and tasks stay where they are.
-use Rattle.std.proofs.Common.{◌≡◌, ◌⊎◌, refl, sym, ap, subst, ◌∙◌, inl, inr, ⊎_elim, ℕ, ◌+◌, ◌<◌, ◌%◌, ◌/◌, ◌*◌, ◌==◌, nat_eq, eqb-true, nat_lt, Bool, true, false, true≢false, cond, ◌&&◌, ◌||◌, List, [], ◌∷◌, ◌++◌, map, flat_map, if◌then◌else◌, arith}
-use Rattle.std.specs.Prelude.{All}
+use Rattle.std.proofs.Common.{◌≡◌, ◌⊎◌, refl, sym, ap, subst, ◌∙◌, inl, inr, ⊎_elim, ℕ, ◌+◌, ◌<◌, ◌%◌, ◌/◌, ◌==◌, nat_eq, eqb-true, nat_lt, Bool, true, false, true≢false, ◌&&◌, ◌||◌, List, [], ◌∷◌, ◌++◌, map, flat_map, if◌then◌else◌, arith}
 use Rattle.std.specs.List.{list_all}
 use Rattle.std.proofs.lemmas.Bool.{ltb-true, ne_eqb}
 use Rattle.vt_spec.specs.Lists.{is_among}
 use Rattle.vt_spec.specs.Machine.Mounts as meant
-use Rattle.vt_spec.specs.Machine.World.{Descriptor, Task, World, all_locations, locations_of}
+use Rattle.vt_spec.specs.Machine.World.{Descriptor, Task, all_locations, locations_of}
 use Rattle.vt_count_laws.proofs.MountRoots as Roots
 use Rattle.vt_fs.specs.FilesystemsValue.{FilesystemEntry, Filesystems, Shown}
 use Rattle.vt_letting_go.specs.Counts.{mounts_showing, times}
@@ -15,10 +14,11 @@ use Rattle.vt_location.specs.MountValue.{mount_of}
 use Rattle.vt_location.specs.Numbers.{counted}
 use Rattle.vt_mount.specs.MountsValue.{MountEntry, are_ascending, mounts_in}
 use Rattle.vt_run_laws.specs.Handed.{is_counted_before}
+use Rattle.vt_letting_go.proofs.UpperUses.{times_append}
 use Rattle.vt_world.specs.Held.{CountsItsUses, CountsWhatIsInIt, IsHeld, is_ungrouped, writes_of, writes_on}
 use Rattle.vt_world.specs.Uses.{kept, unused_entry, with_attached}
 use Rattle.vt_world.specs.WorldValue.{WorldValue, world_of}
-use Rattle.vt_world.proofs.AddedUses.{showing, times_append}
+use Rattle.vt_world.proofs.AddedUses.{showing}
 use Rattle.vt_world.proofs.AttachedWorlds.{shown_was}
 use Rattle.vt_world.proofs.EnteringLemmas.{apart, mounts_entered}
 use Rattle.vt_world.proofs.FilesSeen.{mount_named}

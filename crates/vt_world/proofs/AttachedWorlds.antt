@@ -1,21 +1,18 @@
 -- A world in which mounts were attached: what they use is counted, and nothing else changed.
-use Rattle.std.proofs.Common.{◌≡◌, refl, sym, ap, subst, ◌∙◌, inl, inr, ⊎_elim, ℕ, ◌+◌, ◌<◌, nat_eq, eq-eqb, eqb-true, Bool, true, false, true≢false, not, ◌&&◌, ◌||◌, List, [], ◌∷◌, ◌++◌, map, find, Option, Some, None, option_map, is_some, if◌then◌else◌, arith}
+use Rattle.std.proofs.Common.{◌≡◌, refl, sym, ap, subst, ◌∙◌, inl, inr, ℕ, ◌<◌, nat_eq, eqb-true, Bool, true, false, not, ◌&&◌, ◌||◌, List, [], ◌∷◌, ◌++◌, map, find, Option, Some, None, option_map, is_some}
 use Rattle.std.specs.Prelude.{All, nat_lt, option_to_list, unwrap_or}
 use Rattle.std.specs.List.{list_all}
-use Rattle.std.proofs.lemmas.Bool.{and_parts, ltb-true, ne_eqb}
-use Rattle.vt_spec.specs.Lists.{any_pair, folded, is_among}
+use Rattle.std.proofs.lemmas.Bool.{and_parts, ltb-true}
 use Rattle.vt_spec.specs.Machine.Mounts as meant
 use Rattle.vt_spec.specs.Machine.Mounts.{mount_in, root_of}
-use Rattle.vt_spec.specs.Machine.World.{Filesystem, World, all_locations, filesystem_numbered, is_directory_at, mount_at, no_filesystem, node_at}
+use Rattle.vt_spec.specs.Machine.World.{Filesystem, World, filesystem_numbered, is_directory_at, mount_at, no_filesystem, node_at}
 use Rattle.vt_spec.specs.Machine.WorldLaws.{IsWorld, has_its_root}
-use Rattle.vt_spec.specs.OneTree.Inodes.{Inode as Counted, Inodes, node_in}
-use Rattle.vt_spec.specs.Tree.{Node, is_directory_node}
+use Rattle.vt_spec.specs.OneTree.Inodes.{Inode as Counted, node_in}
+use Rattle.vt_spec.specs.Tree.{is_directory_node}
 use Rattle.vt_count_laws.specs.Counted.{IsCounted, IsPlain}
-use Rattle.vt_count_laws.specs.Using.{AreThere, Exchanges, exchanged, pinned_if}
+use Rattle.vt_count_laws.specs.Using.{AreThere, Exchanges}
 use Rattle.vt_count_laws.proofs.Exchanged.{uses_are_exchanged}
 use Rattle.vt_fs.specs.FilesystemsValue.{FilesystemEntry, Filesystems, Shown, filesystem_seen, filesystems_seen, inodes_seen, shown, shown_entry}
-use Rattle.vt_letting_go.specs.Counts.{mounts_showing, times}
-use Rattle.vt_letting_go.specs.Mounting.{inode_at}
 use Rattle.vt_letting_go.specs.OneByOne.{Inode}
 use Rattle.vt_letting_go.proofs.Lists.{Among, among-append_right, among-from_map, among-map, among_from_all, map_twice, passes}
 use Rattle.vt_letting_go.proofs.OfWorlds.{worlds_have_trees}
@@ -25,15 +22,16 @@ use Rattle.vt_location.specs.declared.locations.NodeRef.{NodeRef}
 use Rattle.vt_location.specs.declared.mounts.Mount.{Mount}
 use Rattle.vt_location.specs.Locations.{location_of, number_of}
 use Rattle.vt_location.specs.MountValue.{mount_of}
-use Rattle.vt_location.specs.Numbers.{counted, is_inode_of}
-use Rattle.vt_location.proofs.NumberLemmas.{counted_same, inode_same, slot_of}
-use Rattle.vt_mount.specs.MountsValue.{MountEntry, mounts_in}
+use Rattle.vt_location.specs.Numbers.{counted}
+use Rattle.vt_location.proofs.NumberLemmas.{inode_same, slot_of}
+use Rattle.vt_mount.specs.MountsValue.{MountEntry}
 use Rattle.vt_world_laws.proofs.RaisedInUse.{worlds_are_in_use}
+use Rattle.vt_world_laws.proofs.Roots.{directory_there}
 use Rattle.vt_world.specs.Held.{CountsItsMounts, HasOwnInodes, IsHeld}
 use Rattle.vt_world.specs.Room.{has_small_slots, point_is_small}
-use Rattle.vt_world.specs.Uses.{inode_of, kept, shown_by, with_attached}
+use Rattle.vt_world.specs.Uses.{kept, with_attached}
 use Rattle.vt_world.specs.WorldValue.{WorldValue, world_of}
-use Rattle.vt_world.proofs.AddedUses.{IsFoundIn, gained_by, point_inodes, showing, shown_by_all, with_mounts_on}
+use Rattle.vt_world.proofs.AddedUses.{IsFoundIn, gained_by, point_inodes, shown_by_all, with_mounts_on}
 use Rattle.vt_world.proofs.FilesSeen.{seen_in}
 use Rattle.vt_world.proofs.Showing.{found_filesystem}
 
@@ -41,10 +39,6 @@ use Rattle.vt_world.proofs.Showing.{found_filesystem}
 inode_is_there : (o : Option (Counted ℕ)) → is_some (node_in o) ≡ true → is_some o ≡ true
 inode_is_there None e = e
 inode_is_there (Some inode) e = refl
-
-pub directory_is_there : (o : Option (Node ℕ)) → is_directory_node o ≡ true → is_some o ≡ true
-directory_is_there None e = absurd (true≢false (sym e))
-directory_is_there (Some node) e = refl
 
 -- Mounts that were attached in a world, with these filesystems
 module _ (after : World ℕ) (is_world : IsWorld nat_eq after) (front : List (meant.Mount ℕ)) (new : List Mount)
@@ -67,7 +61,7 @@ module _ (after : World ℕ) (is_world : IsWorld nat_eq after) (front : List (me
       (and_parts _ _ (subst (λ o. list_all (is_directory_at nat_eq after) (option_to_list (option_map location_of o)) ≡ true) is (roots mount m).1)).0 in
       let seen = seen_in base own (mount_at nat_eq after (location_of point)).filesystem (number_of point.node)
       (subst (λ files. is_some ((unwrap_or (find (λ (f : Filesystem ℕ). nat_eq (mount_at nat_eq after (location_of point)).filesystem f.number) files) (no_filesystem (mount_at nat_eq after (location_of point)).filesystem)).files.tree.node (number_of point.node)) ≡ true)
-      after_files (directory_is_there (node_at nat_eq after (location_of point)) directory)) in
+      after_files (directory_there (node_at nat_eq after (location_of point)) directory)) in
       let slot = slot_of seen.entry.count (number_of point.node) seen.own in
       let small : point.node.slot < 18446744073709551616 =
       ltb-true point.node.slot 18446744073709551616
@@ -95,7 +89,7 @@ module _ (after : World ℕ) (is_world : IsWorld nat_eq after) (front : List (me
       by false e = refl
       by true e =
           inode_is_there ((inodes_seen entry).inode (number_of node))
-          (directory_is_there (node_in ((inodes_seen entry).inode (number_of node)))
+          (directory_there (node_in ((inodes_seen entry).inode (number_of node)))
           (ap (λ (f : Filesystem ℕ). is_directory_node (f.files.tree.node (number_of node)))
           (sym found ∙ ap (filesystem_numbered nat_eq after) (eqb-true _ _ e)) ∙ directory))
 

@@ -1,50 +1,42 @@
 -- The events that attach copies of mounts: mount(2) with MS_BIND.
-use Rattle.std.proofs.Common.{◌≡◌, refl, sym, ap, subst, ◌∙◌, inl, inr, ⊎_elim, ℕ, ◌+◌, ◌*◌, ◌<◌, ◌%◌, ◌==◌, nat_eq, eq-eqb, Bool, true, false, true≢false, cond, ◌&&◌, ◌||◌, List, [], ◌∷◌, ◌++◌, map, find, length, Option, Some, None, option_map, is_some, arith}
+use Rattle.std.proofs.Common.{◌≡◌, refl, sym, ap, subst, ◌∙◌, ℕ, ◌+◌, nat_eq, Bool, true, false, true≢false, cond, ◌||◌, List, [], ◌∷◌, ◌++◌, map, find, Option, Some, None, option_map, is_some}
 use Rattle.std.specs.Prelude.{unwrap_or}
 use Rattle.std.specs.List.{list_all}
 use Rattle.std.proofs.lemmas.Bool.{and_parts}
 use Rattle.vt_spec.specs.Language.Calls.{TaskName}
-use Rattle.vt_spec.specs.Lists.{is_among, place_from}
-use Rattle.vt_spec.specs.Machine.Apply.{apply}
-use Rattle.vt_spec.specs.Machine.Attach.{attach, bind_tree, bound, copies_from}
+use Rattle.vt_spec.specs.Lists.{is_among}
+use Rattle.vt_spec.specs.Machine.Attach.{attach, bind_tree}
 use Rattle.vt_spec.specs.Machine.Mounts as meant
 use Rattle.vt_spec.specs.Machine.Permits.{Permit}
 use Rattle.vt_spec.specs.Machine.Permits.Permit.{ToBind}
-use Rattle.vt_spec.specs.Machine.World.{Filesystem, World, mount_at, mount_numbered}
+use Rattle.vt_spec.specs.Machine.World.{World, mount_at}
 use Rattle.vt_spec.specs.Machine.WorldLaws.{IsWorld, is_located_well}
-use Rattle.vt_count_laws.specs.Counted.{IsPlain}
 use Rattle.vt_count_laws.specs.Using.{Exchanges}
 use Rattle.vt_count_laws.proofs.MountRoots as Roots
 use Rattle.vt_count_laws.proofs.MountRoots.{places_stand}
-use Rattle.vt_fs.specs.FilesystemsValue.{FilesystemEntry, Filesystems, Shown, inodes_seen}
-use Rattle.vt_letting_go.specs.Attaching.{is_attached}
+use Rattle.vt_fs.specs.FilesystemsValue.{Filesystems, Shown, inodes_seen}
 use Rattle.vt_letting_go.proofs.AttachedSwept.{binds_keep_all}
-use Rattle.vt_letting_go.proofs.Lists.{Among, among_from_all}
+use Rattle.vt_letting_go.proofs.Lists.{among_from_all}
 use Rattle.vt_letting_go.proofs.OfWorlds.{mounts_of_worlds_stand}
-use Rattle.vt_letting_go.proofs.PlacesLeft.{number_found}
 use Rattle.vt_location.specs.declared.locations.Location.{Location}
 use Rattle.vt_location.specs.declared.mounts.Mount.{Mount}
-use Rattle.vt_location.specs.Locations.{location_of, number_of}
+use Rattle.vt_location.specs.Locations.{location_of}
 use Rattle.vt_location.specs.MountValue.{mount_of}
 use Rattle.vt_location.specs.Numbers.{counted}
 use Rattle.vt_mount.specs.MountsValue.{MountEntry, are_ascending, mounts_in}
 use Rattle.vt_permit_laws.specs.Taken.{counts_taken}
-use Rattle.vt_permit_laws.proofs.TakenAttached.{copy_by, destination, twigs}
 use Rattle.vt_run_laws.specs.Handed.{counts_from}
 use Rattle.vt_world_laws.proofs.RaisedInUse.{worlds_are_in_use}
-use Rattle.vt_world.specs.Events.{Permits, left_by, supply_of}
+use Rattle.vt_world.specs.Events.{Permits, left_by}
 use Rattle.vt_world.specs.Held.{CountsItsMounts, HasOwnInodes, IsHeld, is_ungrouped}
 use Rattle.vt_world.specs.Room.{has_small_slots}
 use Rattle.vt_world.specs.Uses.{kept, with_attached}
 use Rattle.vt_world.specs.WorldValue.{WorldValue, world_of}
 use Rattle.vt_world.proofs.AddedUses.{gained_by, mounts_are_gained}
-use Rattle.vt_world.proofs.AttachedCounts.{attached_counts, attached_value, lower_numbers, mounts_are}
+use Rattle.vt_world.proofs.AttachedCounts.{attached_counts, attached_value, mounts_are}
 use Rattle.vt_world.proofs.AttachedWorlds.{new_found, new_uses_there, old_is_counted, same_numbers, shown_was}
-use Rattle.vt_world.proofs.EnteringLemmas.{ascending_joined}
 use Rattle.vt_world.proofs.FileEvents.{permit_fits}
-use Rattle.vt_world.proofs.FilesSeen.{IsLocated, located}
 use Rattle.vt_world.proofs.Finishing.{own_exchanged}
-use Rattle.vt_world.proofs.Grafting.{all_ungrouped, found_ungrouped, plainly_attached}
 use Rattle.vt_world.proofs.OwnInodesKept.{IsOwn}
 use Rattle.vt_world.proofs.Showing.{ShowsAs}
 use Rattle.vt_world.proofs.Shown.{is_some_mapped}
@@ -127,85 +119,6 @@ only_index mount number = by (nat_eq number mount.number)
     by true = refl
     by false = refl
 
--- the copy of a mount that code attaches
-abbrev pub copied : ℕ → Mount → Mount → Location → Location → Mount
-copied next origin parent source place = record origin {
-  number = record { count = next };
-  namespace = parent.namespace;
-  mount_point = Some place;
-  root = source.node;
-}
-
-module _ (value : WorldValue) (whole : IsHeld value) (name : TaskName) (source place : Location) (small : source.node.slot < 18446744073709551616)
-    (permits : Permits value name (ToBind (location_of source) (location_of place) false))
-    (origin parent : Mount)
-    (origin_is : mount_at nat_eq (world_of value) (location_of source) ≡ mount_of origin)
-    (parent_is : mount_at nat_eq (world_of value) (location_of place) ≡ mount_of parent) where
-  abbrev world_now : World ℕ
-  world_now = world_of value
-
-  abbrev copy : Mount
-  copy = copied value.next origin parent source place
-
-  abbrev tree : List (meant.Mount ℕ)
-  tree = bound nat_eq world_now (location_of source) ∷ []
-
-  source_seen : IsLocated value source
-  source_seen =
-      located value whole source small (permit_fits value whole name (ToBind (location_of source) (location_of place) false) permits).names.0.reached.there
-
-  number_is : (part number : ℕ) → (copies_from nat_eq (counts_from value.next) (destination world_now (location_of place) tree ∷ []) tree).copy part number ≡ counted value.next
-  number_is part number =
-      (λ i. counts_from value.next (2 * (only_index (destination world_now (location_of place) tree) part i * 1 + only_index (bound nat_eq world_now (location_of source)) number i)))
-      ∙ omega arith
-
-  copy_is : map (copy_by world_now (location_of place) tree true false (copies_from nat_eq (counts_from value.next) (destination world_now (location_of place) tree ∷ []) tree)) (twigs world_now (location_of place) tree)
-      ≡ mount_of copy ∷ []
-  copy_is = λ i. record {
-    number = number_is (destination world_now (location_of place) tree).number (mount_at nat_eq world_now (location_of source)).number i;
-    namespace = (parent_is i).namespace;
-    mount_point = Some (point_is i);
-    filesystem = (source_seen.shows ∙ ap counted source_seen.count_is) i;
-    root = number_of source.node;
-    flags = (origin_is i).flags;
-    propagation = (origin_is i).propagation;
-  } ∷ []
-    where
-      point_is : cond (nat_eq (mount_at nat_eq world_now (location_of source)).number (mount_at nat_eq world_now (location_of source)).number)
-          (record { mount = (destination world_now (location_of place) tree).number; node = number_of place.node })
-          (unwrap_or (option_map (λ (at : meant.Location ℕ). record { mount = (copies_from nat_eq (counts_from value.next) (destination world_now (location_of place) tree ∷ []) tree).copy (destination world_now (location_of place) tree).number at.mount; node = at.node })
-          (mount_at nat_eq world_now (location_of source)).mount_point) (location_of place))
-          ≡ location_of place
-      point_is =
-          ap (λ b. cond b (record { mount = (destination world_now (location_of place) tree).number; node = number_of place.node })
-          (unwrap_or (option_map (λ (at : meant.Location ℕ). record { mount = (copies_from nat_eq (counts_from value.next) (destination world_now (location_of place) tree ∷ []) tree).copy (destination world_now (location_of place) tree).number at.mount; node = at.node })
-          (mount_at nat_eq world_now (location_of source)).mount_point) (location_of place)))
-          (eq-eqb (mount_at nat_eq world_now (location_of source)).number (mount_at nat_eq world_now (location_of source)).number refl)
-          ∙ ap (λ number. record { mount = number; node = number_of place.node }) (number_found (mounts_in value.mounts) (counted place.mount.count))
-
-  source_ungrouped : is_ungrouped (mount_at nat_eq world_now (location_of source)).propagation ≡ true
-  source_ungrouped = found_ungrouped (mounts_in value.mounts) (all_ungrouped value whole) (counted source.mount.count)
-
-  pub copy_ascends : are_ascending (mounts_in value.mounts) ≡ true → list_all (λ mount. mount.number % 4 == 1) (mounts_in value.mounts) ≡ true
-      → are_ascending (mounts_in value.mounts ++ mount_of copy ∷ []) ≡ true
-  copy_ascends ascending counts =
-      ascending_joined (mounts_in value.mounts) (mount_of copy ∷ []) ascending refl
-      (λ a b m n. ⊎_elim (λ same. subst (λ (x : meant.Mount ℕ). a.number < x.number) (sym same) (lower_numbers value whole counts a m)) (λ none. absurd none) n)
-
-  pub one_is_bound : (mounts : List MountEntry) (filesystems : Filesystems) (next : ℕ)
-      → kept mounts filesystems ≡ with_attached (copy ∷ []) (kept value.mounts value.filesystems)
-      → list_all has_small_slots (copy ∷ []) ≡ true
-      → are_ascending (mounts_in value.mounts ++ mount_of copy ∷ []) ≡ true → next ≡ value.next + 2
-      → IsDone value name (ToBind (location_of source) (location_of place) false) (attached_value value mounts filesystems next)
-  one_is_bound mounts filesystems next is_kept slots ascending grows =
-      bind_is_done value whole name source place false permits (copy ∷ []) mounts filesystems next is_kept slots ascending
-      (λ i. (ap (λ (mount : meant.Mount ℕ). is_ungrouped mount.propagation) (sym origin_is) ∙ source_ungrouped) i && true)
-      (plainly_attached world_now (location_of place) tree (counts_from value.next)
-      (found_ungrouped (mounts_in value.mounts) (all_ungrouped value whole) (counted place.mount.count))
-      (λ i. source_ungrouped i && true)
-      ∙ ap (λ added. record world_now { mounts = mounts_in value.mounts ++ added }) copy_is)
-      grows
-
 -- Mounts that are looked up
 
 pub found_some : (number : ℕ) (mounts : List (meant.Mount ℕ)) → is_among nat_eq number (map (λ (mount : meant.Mount ℕ). mount.number) mounts) ≡ true
@@ -240,6 +153,3 @@ module _ (value : WorldValue) (whole : IsHeld value) (name : TaskName) (source p
     (permits : Permits value name (ToBind (location_of source) (location_of place) recursive)) where
   pub source_there : is_located_well nat_eq (world_of value) (location_of source) ≡ true
   source_there = (permit_fits value whole name (ToBind (location_of source) (location_of place) recursive) permits).names.0.reached.there
-
-  pub place_there : is_located_well nat_eq (world_of value) (location_of place) ≡ true
-  place_there = (permit_fits value whole name (ToBind (location_of source) (location_of place) recursive) permits).names.2.directory.reached.there

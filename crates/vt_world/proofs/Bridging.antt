@@ -1,6 +1,6 @@
 -- From what code counts to what the sweep leaves: where inodes got uses and lost uses, and mounts and filesystems went as the
 -- sweep says, the code's world is the one that the sweep leaves, and counts what is in it.
-use Rattle.std.proofs.Common.{◌≡◌, refl, sym, subst, ◌∙◌, ap, ℕ, nat_eq, Bool, true, false, cond, not, List, map, Option, None}
+use Rattle.std.proofs.Common.{◌≡◌, refl, sym, subst, ◌∙◌, ℕ, nat_eq, Bool, true, false, cond, not, List, map, None}
 use Rattle.vt_spec.specs.Machine.Receives.{has_members}
 use Rattle.vt_spec.specs.Machine.SameWorlds.{SameWorlds, without_changes}
 use Rattle.vt_spec.specs.Machine.Settled.{only_used, settled, without_dead_in}

@@ -9,6 +9,7 @@ use Rattle.vt_mount_laws.proofs.MountsFound.{found_or_none, number_found}
 use Rattle.vt_mount_laws.proofs.MountsReplaced.{found_itself}
 use Rattle.vt_world.proofs.LookLemmas.{turned}
 use Rattle.vt_world.proofs.TreesLookedAt.{or_nothing}
+use Rattle.vt_world.proofs.NumbersBeside.{one_test}
 
 -- going up from a mount meets another, in at most so many steps
 abbrev pub meets : List (Mount ℕ) → ℕ → ℕ → ℕ → Bool
@@ -62,17 +63,12 @@ any_never : {A : Type 0} (list : List A) → list_any (λ a. false) list ≡ fal
 any_never [] = refl
 any_never (a ∷ rest) = any_never rest
 
-pub either_way : (a b : Bool) → (a ≡ true → b ≡ true) → (b ≡ true → a ≡ true) → a ≡ b
-either_way true b there back = sym (there refl)
-either_way false true there back = back refl
-either_way false false there back = refl
-
 module _ (mounts : List (Mount ℕ)) (one : any_pair (λ (a b : Mount ℕ). nat_eq a.number b.number) mounts ≡ false) where
   -- a mount is a child just where its mount point is on that mount
   child_stands : (top number : ℕ)
       → list_any (λ child. nat_eq number child.number) (children nat_eq mounts top)
       ≡ holds_of (λ place. nat_eq place.mount top) (mount_in nat_eq mounts number).mount_point
-  child_stands top number = either_way _ _ there back
+  child_stands top number = one_test _ _ there back
     where
       on : (mount : Mount ℕ) (o : Option (Location ℕ)) → holds_of (λ place. nat_eq top place.mount) o ≡ holds_of (λ place. nat_eq place.mount top) o
       on mount None = refl

@@ -10,9 +10,7 @@ use Rattle.std.proofs.lemmas.Bool.Decides.{nat_tests}
 use Rattle.std.proofs.lemmas.Cmp.{ranked}
 use Rattle.std.proofs.lemmas.List.{append-nil, map-append}
 use Rattle.std.proofs.lemmas.List.Sorted.{IsNonDecreasingBy-from_default}
-use Rattle.vt_location.specs.declared.mounts.Mount.{Mount as Attached}
 use Rattle.vt_location.specs.declared.numbers.MountId.{MountId}
-use Rattle.vt_location.specs.MountValue.{mount_of}
 use Rattle.vt_location.specs.Numbers.{counted}
 use Rattle.vt_fs.proofs.Exchanged.{counted_test}
 use Rattle.vt_letting_go.proofs.Lists.{Among, all_pass, among-from_filter, none_passes, passes}
@@ -200,18 +198,18 @@ picked_next {A} {B} h (suc i) d (x ∷ xs) within = by (h x) (picked_next h i d 
     by None rest = rest
     by (Some y) rest = ap (λ list. y ∷ list) rest
 
--- the copies so far, with the next one
-module _ (h : MountId → Option (Mount ℕ)) (i : ℕ) (d : MountId) (xs : List MountId) (within : i < length xs)
-    (items : List Attached) (so_far : map mount_of items ≡ filter_map h (take i xs)) where
-  pub next_copied : (copy : Attached) → h (get_or xs i d) ≡ Some (mount_of copy) → map mount_of (items ++ (copy ∷ [])) ≡ filter_map h (take (i + 1) xs)
-  next_copied copy is =
-      map-append mount_of items (copy ∷ [])
+-- what is made of a list so far, with the next one
+module _ {A B C : Type 0} (view : C → B) (h : A → Option B) (i : ℕ) (d : A) (xs : List A) (within : i < length xs)
+    (items : List C) (so_far : map view items ≡ filter_map h (take i xs)) where
+  pub next_made : (made : C) → h (get_or xs i d) ≡ Some (view made) → map view (items ++ (made ∷ [])) ≡ filter_map h (take (i + 1) xs)
+  next_made made is =
+      map-append view items (made ∷ [])
       ∙ (λ j. so_far j ++ cons_option (sym is j) [])
       ∙ sym (picked_next h i d xs within)
       ∙ ap (λ k. filter_map h (take k xs)) (let same : suc i ≡ i + 1 = omega arith in same)
 
-  pub next_missing : h (get_or xs i d) ≡ None → map mount_of items ≡ filter_map h (take (i + 1) xs)
-  next_missing is =
+  pub none_made : h (get_or xs i d) ≡ None → map view items ≡ filter_map h (take (i + 1) xs)
+  none_made is =
       so_far ∙ sym (append-nil (filter_map h (take i xs)))
       ∙ (λ j. filter_map h (take i xs) ++ cons_option (sym is j) [])
       ∙ sym (picked_next h i d xs within)

@@ -1,13 +1,11 @@
 -- Room for further uses, and the counts of tasks beside namespaces.
 use Rattle.std.proofs.Common.{◌≡◌, ◌≤◌, refl, sym, ap, subst, ◌∙◌, ℕ, ◌+◌, Bool, true, false, cond, nat_eq, eqb-true, List, [], ◌∷◌, find, Option, Some, None, option_map, unwrap_or, arith}
-use Rattle.std.specs.List.{AllByRecursion, IsDistinct}
+use Rattle.std.specs.List.{IsDistinct}
 use Rattle.std.specs.Map.{keys_of, lookup, set_value}
-use Rattle.std.proofs.lemmas.Map.Keys.{IsDistinct-head, IsDistinct-tail}
 use Rattle.vt_count_laws.specs.Using.{pinned_if}
 use Rattle.vt_fs.specs.FilesystemsValue.{Filesystems, inodes_at, inodes_seen, no_entry, shown, shown_entry}
 use Rattle.vt_letting_go.specs.OneByOne.{Inode}
 use Rattle.vt_location.specs.declared.locations.Location.{Location}
-use Rattle.vt_location.specs.declared.numbers.NamespaceId.{NamespaceId}
 use Rattle.vt_location.specs.Locations.{number_of}
 use Rattle.vt_location.specs.Numbers.{counted}
 use Rattle.vt_mount.specs.MountsValue.{MountEntry, changed, entry_numbered, held, uses_of, writers_of}
@@ -16,7 +14,8 @@ use Rattle.vt_spec.specs.OneTree.Inodes.{Inodes, pinned, used_once_more, uses_in
 use Rattle.vt_world.specs.declared.namespaces.Namespace.{Namespace}
 use Rattle.vt_world.specs.Forking.{HasRoom, more_tasks, with_task_more}
 use Rattle.vt_world.specs.Uses.{kept, pinned_in, with_location}
-use Rattle.vt_world.specs.WorldValue.{entries_of, entry_of}
+use Rattle.vt_world.specs.WorldValue.{entries_of}
+use Rattle.vt_world.proofs.NamespaceEntries.{Entries, entries_written, is_id, none_written, same_namespace}
 
 -- Uses
 
@@ -106,75 +105,13 @@ room_left other at mounts news filesystems new_filesystems room is =
       inode = (let most = room.inode in omega (arith, most, inode));
     })
 
-pub room_for_one : (at : Location) (mounts : List MountEntry) (filesystems : Filesystems) → HasRoom 2 at mounts filesystems → HasRoom 1 at mounts filesystems
-room_for_one at mounts filesystems room = record {
-  uses = (let most = room.uses in omega (arith, most));
-  writers = room.writers;
-  inode = (let most = room.inode in omega (arith, most));
-}
-
 -- Tasks of namespaces
 
-abbrev key_eq : NamespaceId → NamespaceId → Bool
-key_eq a b = nat_eq a.count b.count
+pub nothing_counted : (count : ℕ) (es : Entries) → lookup (is_id count) es ≡ None → entries_of es ≡ with_task_more count (entries_of es)
+nothing_counted count es absent = sym (none_written count more_tasks es absent)
 
-abbrev is_key : ℕ → NamespaceId → Bool
-is_key count id = nat_eq count id.count
-
-pub entry_found : (count : ℕ) (es : List (NamespaceId × Namespace)) (o : Option Namespace) → lookup (is_key count) es ≡ o
-    → find (λ entry. nat_eq count entry.count) (entries_of es) ≡ option_map (λ (one : Namespace). record { count = count; tasks = one.tasks }) o
-entry_found count [] None e = refl
-entry_found count [] (Some x) e = absurd cc
-entry_found count (e ∷ es) o is = by (nat_eq count e.0.count) refl is (entry_found count es o)
-  where
-    by : (b : Bool) → nat_eq count e.0.count ≡ b → cond b (Some e.1) (lookup (is_key count) es) ≡ o
-        → (lookup (is_key count) es ≡ o
-        → find (λ entry. nat_eq count entry.count) (entries_of es) ≡ option_map (λ (one : Namespace). record { count = count; tasks = one.tasks }) o)
-        → cond b (Some (entry_of e)) (find (λ entry. nat_eq count entry.count) (entries_of es))
-        ≡ option_map (λ (one : Namespace). record { count = count; tasks = one.tasks }) o
-    by true here found later =
-        (λ i. Some (record { count = sym (eqb-true count e.0.count here) i; tasks = e.1.tasks }))
-        ∙ ap (option_map (λ (one : Namespace). record { count = count; tasks = one.tasks })) found
-    by false here found later = later found
-
-none_counted : (count : ℕ) (es : List (NamespaceId × Namespace)) → AllByRecursion (λ id. nat_eq count id.count ≡ false) (keys_of es)
-    → entries_of es ≡ with_task_more count (entries_of es)
-none_counted count [] apart = refl
-none_counted count (e ∷ es) apart =
-    λ i. cond (sym apart.0 i) (more_tasks (entry_of e)) (entry_of e) ∷ none_counted count es apart.1 i
-
-pub nothing_counted : (count : ℕ) (es : List (NamespaceId × Namespace)) → lookup (is_key count) es ≡ None
-    → entries_of es ≡ with_task_more count (entries_of es)
-nothing_counted count [] absent = refl
-nothing_counted count (e ∷ es) absent = by (nat_eq count e.0.count) absent (nothing_counted count es)
-  where
-    by : (b : Bool) → cond b (Some e.1) (lookup (is_key count) es) ≡ None
-        → (lookup (is_key count) es ≡ None → entries_of es ≡ with_task_more count (entries_of es))
-        → entry_of e ∷ entries_of es ≡ cond b (more_tasks (entry_of e)) (entry_of e) ∷ with_task_more count (entries_of es)
-    by true here later = absurd cc
-    by false here later = ap (λ rest. entry_of e ∷ rest) (later here)
-
-pub task_counted : (count : ℕ) (es new : List (NamespaceId × Namespace)) (was now : Namespace) → IsDistinct key_eq (keys_of es)
-    → lookup (is_key count) es ≡ Some was → new ≡ set_value (is_key count) es now → now.tasks ≡ was.tasks + 1
+pub task_counted : (count : ℕ) (es new : Entries) (was now : Namespace) → IsDistinct same_namespace (keys_of es)
+    → lookup (is_id count) es ≡ Some was → new ≡ set_value (is_id count) es now → now.tasks ≡ was.tasks + 1
     → entries_of new ≡ with_task_more count (entries_of es)
-task_counted count es new was now apart found is more = ap entries_of is ∙ written es apart found
-  where
-    apart_from : (k : ℕ) (es : List (NamespaceId × Namespace)) → count ≡ k → AllByRecursion (λ id. nat_eq k id.count ≡ false) (keys_of es)
-        → AllByRecursion (λ id. nat_eq count id.count ≡ false) (keys_of es)
-    apart_from k es same others = subst (λ n. AllByRecursion (λ id. nat_eq n id.count ≡ false) (keys_of es)) (sym same) others
-
-    written : (es : List (NamespaceId × Namespace)) → IsDistinct key_eq (keys_of es) → lookup (is_key count) es ≡ Some was
-        → entries_of (set_value (is_key count) es now) ≡ with_task_more count (entries_of es)
-    written [] distinct found = absurd cc
-    written (e ∷ es) distinct found =
-        by (nat_eq count e.0.count) refl found (written es (IsDistinct-tail key_eq e.0 (keys_of es) distinct))
-      where
-        by : (b : Bool) → nat_eq count e.0.count ≡ b → cond b (Some e.1) (lookup (is_key count) es) ≡ Some was
-            → (lookup (is_key count) es ≡ Some was → entries_of (set_value (is_key count) es now) ≡ with_task_more count (entries_of es))
-            → entries_of (cond b ((e.0, now) ∷ es) (e ∷ set_value (is_key count) es now))
-            ≡ cond b (more_tasks (entry_of e)) (entry_of e) ∷ with_task_more count (entries_of es)
-        by true here found later =
-            let same : e.1 ≡ was = cc in
-            λ i. record { count = e.0.count; tasks = (more ∙ ap (λ (one : Namespace). one.tasks + 1) (sym same)) i }
-            ∷ none_counted count es (apart_from e.0.count es (eqb-true count e.0.count here) (IsDistinct-head key_eq e.0 (keys_of es) distinct)) i
-        by false here found later = ap (λ rest. entry_of e ∷ rest) (later found)
+task_counted count es new was now apart found is more =
+    ap entries_of is ∙ entries_written count more_tasks es was now apart found (λ id i. record { count = id.count; tasks = more i })

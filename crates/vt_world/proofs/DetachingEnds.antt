@@ -6,15 +6,14 @@ use Rattle.std.proofs.lemmas.Bool.{and_parts}
 use Rattle.vt_spec.specs.Language.Calls.{TaskName}
 use Rattle.vt_spec.specs.Lists.{is_among}
 use Rattle.vt_spec.specs.Machine.Detach.{after_going, mount_point_left, taken_away}
-use Rattle.vt_spec.specs.Machine.Mounts.{Location as Place, Mount, Propagation, detached, mount_in}
-use Rattle.vt_spec.specs.Machine.Mounts.Propagation.{Private, Shared, Slave, Unbindable}
+use Rattle.vt_spec.specs.Machine.Mounts.{Location as Place, Mount, detached, mount_in}
 use Rattle.vt_spec.specs.Machine.Permits.{Permit}
-use Rattle.vt_spec.specs.Machine.Receives.{lost_a_group, regrouped, regrouped_by}
+use Rattle.vt_spec.specs.Machine.Receives.{regrouped}
 use Rattle.vt_spec.specs.Machine.SameWorlds.{without_changes}
 use Rattle.vt_spec.specs.Machine.Settled.{settled}
 use Rattle.vt_spec.specs.Machine.World.{Filesystem, Task, World, filesystem_numbered, is_directory_at, mount_at, node_at, with_mounts}
 use Rattle.vt_spec.specs.Machine.WorldLaws.{has_its_root, is_located_well, is_there}
-use Rattle.vt_spec.specs.Tree.{Node, is_directory_node}
+use Rattle.vt_spec.specs.Tree.{is_directory_node}
 use Rattle.vt_count_laws.specs.Counted.{IsPlain}
 use Rattle.vt_count_laws.specs.Sweeping.{living}
 use Rattle.vt_count_laws.specs.Using.{Exchanges}
@@ -23,7 +22,7 @@ use Rattle.vt_fs.specs.FilesystemsValue.{Filesystems, Shown, filesystem_seen, sh
 use Rattle.vt_letting_go.specs.Counts.{mount_uses, mounts_showing, times}
 use Rattle.vt_letting_go.specs.Leaving.{stands_on_attached}
 use Rattle.vt_letting_go.specs.OneByOne.{Inode}
-use Rattle.vt_letting_go.proofs.Lists.{Among, all_from_among, all_pass, among-from_map, among-map, among_from_all, is_among_numbers, map_alike, map_twice, none_passes, passes}
+use Rattle.vt_letting_go.proofs.Lists.{Among, all_from_among, all_pass, among-from_map, among-map, among_from_all, is_among_numbers, map_alike, map_twice, passes}
 use Rattle.vt_letting_go.proofs.MountingTaken as Taken
 use Rattle.vt_letting_go.proofs.OfWorlds.{mounts_of_worlds_stand}
 use Rattle.vt_letting_go.proofs.PlacesLeft.{found_is_there, number_found}
@@ -31,6 +30,7 @@ use Rattle.vt_location.specs.Locations.{location_of}
 use Rattle.vt_location.specs.Numbers.{counted}
 use Rattle.vt_mount.specs.MountsValue.{MountEntry, mounts_in}
 use Rattle.vt_world_laws.proofs.RaisedInUse.{worlds_are_in_use}
+use Rattle.vt_world_laws.proofs.Roots.{directory_there}
 use Rattle.vt_world.specs.Held.{CountsItsMounts, CountsItsUses, CountsWhatIsInIt, IsHeld, is_ungrouped, writes_of}
 use Rattle.vt_world.specs.Uses.{kept}
 use Rattle.vt_world.specs.WorldValue.{WorldValue, world_of}
@@ -43,12 +43,9 @@ use Rattle.vt_world.proofs.LocationsSeen.{seen_where_located}
 use Rattle.vt_world.proofs.Moving.{map_itself}
 use Rattle.vt_world.proofs.Remaining.{remade}
 use Rattle.vt_world.proofs.Staying.{IsDone, world_is_plain}
+use Rattle.vt_world.proofs.Ungrouped.{nothing_regrouped}
 
 -- What is kept of a world with its invariants
-
-directory_there : (o : Option (Node ℕ)) → is_directory_node o ≡ true → is_some o ≡ true
-directory_there None e = absurd (true≢false (sym e))
-directory_there (Some node) e = refl
 
 module _ (value : WorldValue) (whole : IsHeld value) where
   abbrev world : World ℕ
@@ -157,22 +154,6 @@ module _ (old : WorldValue) (after : World ℕ) (gained lost : List Inode) (new 
   }
 
 -- Mounts that are taken away with all on them are detached.
-
-ungrouped_loses_nothing : (world : World ℕ) (mount : Mount ℕ) → is_ungrouped mount.propagation ≡ true → lost_a_group nat_eq world mount ≡ false
-ungrouped_loses_nothing world mount e = by mount.propagation e
-  where
-    by : (propagation : Propagation ℕ) → is_ungrouped propagation ≡ true → lost_a_group nat_eq world (record mount { propagation = propagation }) ≡ false
-    by (Shared group) h = absurd (true≢false (sym h))
-    by (Slave master) h = absurd (true≢false (sym h))
-    by Private h = refl
-    by Unbindable h = refl
-
--- where no mount is in a group, none is handed on
-pub nothing_regrouped : (world : World ℕ) → list_all (λ (mount : Mount ℕ). is_ungrouped mount.propagation) world.mounts ≡ true → regrouped nat_eq world ≡ world
-nothing_regrouped world ungrouped =
-    ap (λ b. regrouped_by nat_eq b world)
-    (none_passes (lost_a_group nat_eq world) world.mounts (λ mount m.
-    ungrouped_loses_nothing world mount (passes (λ (x : Mount ℕ). is_ungrouped x.propagation) world.mounts ungrouped mount m)))
 
 pub still_ungrouped : (gone : List ℕ) (mounts : List (Mount ℕ)) → list_all (λ (mount : Mount ℕ). is_ungrouped mount.propagation) mounts ≡ true
     → list_all (λ (mount : Mount ℕ). is_ungrouped mount.propagation) (map (detached_in gone) mounts) ≡ true

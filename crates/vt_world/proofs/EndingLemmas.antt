@@ -1,10 +1,9 @@
--- Mounts of a namespace that are detached one after the other, and the entries of namespaces.
+-- Mounts of a namespace that are detached one after the other, and what is left where a task leaves one.
 use Rattle.std.proofs.Common.{◌≡◌, ◌≢◌, ◌<◌, ◌≤◌, refl, sym, ap, subst, ◌∙◌, ⊎_elim, inl, inr, ℕ, ◌+◌, ◌-◌, nat_eq, nat_lt, eqb-true, eq-eqb, Bool, true, false, true≢false, cond, not, ◌&&◌, ◌||◌, List, [], ◌∷◌, ◌++◌, length, map, filter, find, Option, Some, None, option_map, arith}
 use Rattle.std.specs.Prelude.{IfSome, nat_le, slice_get}
-use Rattle.std.specs.List.{AllByRecursion, IsDistinct, list_all, list_any}
+use Rattle.std.specs.List.{IsDistinct, list_all, list_any}
 use Rattle.std.specs.Map.{keys_of, lookup, remove_entry, set_value}
 use Rattle.std.specs.Option.{option_and_then}
-use Rattle.std.proofs.lemmas.Map.Keys.{IsDistinct-head, IsDistinct-tail}
 use Rattle.std.proofs.lemmas.Bool.{and_parts}
 use Rattle.std.proofs.lemmas.Option.{same_Some}
 use Rattle.vt_spec.specs.Lists.{holds_of}
@@ -13,14 +12,14 @@ use Rattle.vt_fs.specs.FilesystemsValue.{Filesystems}
 use Rattle.vt_letting_go.proofs.Lists.{Among, among-from_filter, among-from_map, among-map, filter-map, none_passes, passes}
 use Rattle.vt_location.specs.declared.locations.Location.{Location}
 use Rattle.vt_location.specs.declared.numbers.MountId.{MountId}
-use Rattle.vt_location.specs.declared.numbers.NamespaceId.{NamespaceId}
 use Rattle.vt_location.specs.Locations.{location_of}
 use Rattle.vt_location.specs.Numbers.{counted}
 use Rattle.vt_mount.specs.MountsValue.{MountEntry, are_ascending, changed, entry_numbered, mounts_in, without}
 use Rattle.vt_world.specs.declared.namespaces.Namespace.{Namespace}
 use Rattle.vt_world.specs.NamespacesLeft.{AreDetached, Detached, EndsIf, IsAttached, MountsAreLeft, NamespaceEnds, entries_left, has_one_task, is_attached_in, left_if, namespace_entry, one_task_less, with_one_task_less}
 use Rattle.vt_world.specs.Uses.{Kept, detached_entry, is_unused, kept, let_go_entry, let_go_mount, point_of, without_attachment}
-use Rattle.vt_world.specs.WorldValue.{NamespaceEntry, entries_of, entry_of}
+use Rattle.vt_world.specs.WorldValue.{NamespaceEntry, entries_of}
+use Rattle.vt_world.proofs.NamespaceEntries.{Entries, entries_removed, entries_written, entry_found, is_id, same_namespace}
 
 pub one_more_detached : (namespace : ℕ) (gone : List Detached) (one : Detached) (old now : Kept) → AreDetached namespace gone old now → IsAttached namespace now one
     → AreDetached namespace (gone ++ (one ∷ [])) old (without_attachment one.number one.point now)
@@ -188,114 +187,18 @@ attached_so namespace mounts filesystems ids last point rising listed found is s
       slot = slot;
     }
 
--- Entries of namespaces, as they are kept
-
-abbrev pub is_id : ℕ → NamespaceId → Bool
-is_id count id = nat_eq count id.count
-
-abbrev pub Entries : Type 0
-Entries = List (NamespaceId × Namespace)
-
-pub entry_found : (count : ℕ) (es : Entries) (namespace : Namespace) → lookup (is_id count) es ≡ Some namespace
-    → (entry : NamespaceEntry) × (namespace_entry count (entries_of es) ≡ Some entry) × (entry.tasks ≡ namespace.tasks)
-entry_found count [] namespace e = absurd cc
-entry_found count (first ∷ rest) namespace e = by (nat_eq count first.0.count) refl e (entry_found count rest namespace)
-  where
-    by : (b : Bool) → nat_eq count first.0.count ≡ b → cond b (Some first.1) (lookup (is_id count) rest) ≡ Some namespace
-        → (lookup (is_id count) rest ≡ Some namespace → (entry : NamespaceEntry) × (namespace_entry count (entries_of rest) ≡ Some entry) × (entry.tasks ≡ namespace.tasks))
-        → (entry : NamespaceEntry) × (cond b (Some (entry_of first)) (namespace_entry count (entries_of rest)) ≡ Some entry) × (entry.tasks ≡ namespace.tasks)
-    by true t f later = (entry_of first, refl, ap (λ (n : Namespace). n.tasks) (same_Some first.1 namespace f))
-    by false t f later = later f
-
-pub entry_absent : (count : ℕ) (es : Entries) → lookup (is_id count) es ≡ None → namespace_entry count (entries_of es) ≡ None
-entry_absent count [] e = refl
-entry_absent count (first ∷ rest) e = by (nat_eq count first.0.count) e (entry_absent count rest)
-  where
-    by : (b : Bool) → cond b (Some first.1) (lookup (is_id count) rest) ≡ None
-        → (lookup (is_id count) rest ≡ None → namespace_entry count (entries_of rest) ≡ None)
-        → cond b (Some (entry_of first)) (namespace_entry count (entries_of rest)) ≡ None
-    by true f later = absurd cc
-    by false f later = later f
-
-abbrev same_namespace : NamespaceId → NamespaceId → Bool
-same_namespace a b = nat_eq a.count b.count
-
--- the entries of the others stay
-others_stay : (count : ℕ) (change : NamespaceEntry → NamespaceEntry) (first : NamespaceId) (es : Entries) → nat_eq count first.count ≡ true
-    → AllByRecursion (λ other. same_namespace first other ≡ false) (keys_of es)
-    → map (λ (entry : NamespaceEntry). cond (nat_eq count entry.count) (change entry) entry) (entries_of es) ≡ entries_of es
-others_stay count change first [] here apart = refl
-others_stay count change first (e ∷ es) here apart =
-    λ i. cond ((ap (λ n. nat_eq n e.0.count) (eqb-true count first.count here) ∙ apart.0) i) (change (entry_of e)) (entry_of e) ∷ others_stay count change first es here apart.1 i
-
-pub entries_written : (count : ℕ) (change : NamespaceEntry → NamespaceEntry) (es : Entries) (old new : Namespace) → IsDistinct same_namespace (keys_of es)
-    → lookup (is_id count) es ≡ Some old → ((id : NamespaceId) → entry_of (id, new) ≡ change (entry_of (id, old)))
-    → entries_of (set_value (is_id count) es new) ≡ map (λ (entry : NamespaceEntry). cond (nat_eq count entry.count) (change entry) entry) (entries_of es)
-entries_written count change [] old new distinct found same = absurd cc
-entries_written count change (e ∷ es) old new distinct found same =
-    by (nat_eq count e.0.count) refl found (λ f. entries_written count change es old new (IsDistinct-tail same_namespace e.0 (keys_of es) distinct) f same)
-  where
-    by : (b : Bool) → nat_eq count e.0.count ≡ b → cond b (Some e.1) (lookup (is_id count) es) ≡ Some old
-        → (lookup (is_id count) es ≡ Some old
-        → entries_of (set_value (is_id count) es new) ≡ map (λ (entry : NamespaceEntry). cond (nat_eq count entry.count) (change entry) entry) (entries_of es))
-        → entries_of (cond b ((e.0, new) ∷ es) (e ∷ set_value (is_id count) es new))
-        ≡ cond b (change (entry_of e)) (entry_of e) ∷ map (λ (entry : NamespaceEntry). cond (nat_eq count entry.count) (change entry) entry) (entries_of es)
-    by true t f later =
-        (λ i. (same e.0 ∙ ap (λ n. change (entry_of (e.0, n))) (sym (same_Some e.1 old f))) i
-        ∷ sym (others_stay count change e.0 es t (IsDistinct-head same_namespace e.0 (keys_of es) distinct)) i)
-    by false t f later = ap (λ rest. entry_of e ∷ rest) (later f)
-
--- an entry that is written back as it was
-pub written_back : (count : ℕ) (es : Entries) (namespace : Namespace) → lookup (is_id count) es ≡ Some namespace → set_value (is_id count) es namespace ≡ es
-written_back count [] namespace found = refl
-written_back count (e ∷ es) namespace found = by (nat_eq count e.0.count) found (written_back count es namespace)
-  where
-    by : (b : Bool) → cond b (Some e.1) (lookup (is_id count) es) ≡ Some namespace
-        → (lookup (is_id count) es ≡ Some namespace → set_value (is_id count) es namespace ≡ es)
-        → cond b ((e.0, namespace) ∷ es) (e ∷ set_value (is_id count) es namespace) ≡ e ∷ es
-    by true f later = λ i. (e.0, sym (same_Some e.1 namespace f) i) ∷ es
-    by false f later = ap (λ rest. e ∷ rest) (later f)
-
-none_filtered : (count : ℕ) (es : Entries) → lookup (is_id count) es ≡ None
-    → filter (λ (other : NamespaceEntry). not (nat_eq count other.count)) (entries_of es) ≡ entries_of es
-none_filtered count [] none = refl
-none_filtered count (e ∷ es) none = by (nat_eq count e.0.count) none (none_filtered count es)
-  where
-    by : (b : Bool) → cond b (Some e.1) (lookup (is_id count) es) ≡ None
-        → (lookup (is_id count) es ≡ None → filter (λ (other : NamespaceEntry). not (nat_eq count other.count)) (entries_of es) ≡ entries_of es)
-        → cond (not b) (entry_of e ∷ filter (λ (other : NamespaceEntry). not (nat_eq count other.count)) (entries_of es))
-        (filter (λ (other : NamespaceEntry). not (nat_eq count other.count)) (entries_of es)) ≡ entries_of (e ∷ es)
-    by true f later = absurd cc
-    by false f later = ap (λ rest. entry_of e ∷ rest) (later f)
-
-pub entries_removed : (count : ℕ) (es : Entries) → lookup (is_id count) (remove_entry (is_id count) es) ≡ None
-    → entries_of (remove_entry (is_id count) es) ≡ filter (λ (other : NamespaceEntry). not (nat_eq count other.count)) (entries_of es)
-entries_removed count [] absent = refl
-entries_removed count (e ∷ es) absent = by (nat_eq count e.0.count) refl absent (none_filtered count es) (entries_removed count es)
-  where
-    by : (b : Bool) → nat_eq count e.0.count ≡ b → lookup (is_id count) (cond b es (e ∷ remove_entry (is_id count) es)) ≡ None
-        → (lookup (is_id count) es ≡ None → filter (λ (other : NamespaceEntry). not (nat_eq count other.count)) (entries_of es) ≡ entries_of es)
-        → (lookup (is_id count) (remove_entry (is_id count) es) ≡ None
-        → entries_of (remove_entry (is_id count) es) ≡ filter (λ (other : NamespaceEntry). not (nat_eq count other.count)) (entries_of es))
-        → entries_of (cond b es (e ∷ remove_entry (is_id count) es))
-        ≡ cond (not b) (entry_of e ∷ filter (λ (other : NamespaceEntry). not (nat_eq count other.count)) (entries_of es))
-        (filter (λ (other : NamespaceEntry). not (nat_eq count other.count)) (entries_of es))
-    by true t f none later = sym (none f)
-    by false t f none later =
-        ap (λ rest. entry_of e ∷ rest) (later (sym (ap (λ b. cond b (Some e.1) (lookup (is_id count) (remove_entry (is_id count) es))) t) ∙ f))
-
 -- What `leave_namespace` leaves
 
 module _ (count : ℕ) (es : Entries) where
   pub absent_left : (new : Entries) → lookup (is_id count) es ≡ None → new ≡ es → entries_of new ≡ with_one_task_less count (entries_of es)
-  absent_left new none same = ap entries_of same ∙ sym (ap (entries_left count (entries_of es)) (entry_absent count es none))
+  absent_left new none same = ap entries_of same ∙ sym (ap (entries_left count (entries_of es)) (entry_found count es None none))
 
   pub absent_mounts : (namespace : ℕ) (k : Kept) → lookup (is_id count) es ≡ None → MountsAreLeft namespace (namespace_entry count (entries_of es)) k k
-  absent_mounts namespace k none = subst (λ o. MountsAreLeft namespace o k k) (sym (entry_absent count es none)) refl
+  absent_mounts namespace k none = subst (λ o. MountsAreLeft namespace o k k) (sym (entry_found count es None none)) refl
 
   last_or_not : (namespace : Namespace) (b : Bool) → lookup (is_id count) es ≡ Some namespace → nat_le namespace.tasks 1 ≡ b
       → (entry : NamespaceEntry) × (namespace_entry count (entries_of es) ≡ Some entry) × (has_one_task entry ≡ b)
-  last_or_not namespace b found is = let entry = entry_found count es namespace found in (entry.0, entry.1, ap (λ n. nat_le n 1) entry.2 ∙ is)
+  last_or_not namespace b found is = (record { count = count; tasks = namespace.tasks }, entry_found count es (Some namespace) found, is)
 
   pub fewer_left : (old new : Namespace) (entries : Entries) → IsDistinct same_namespace (keys_of es) → lookup (is_id count) es ≡ Some old
       → nat_le old.tasks 1 ≡ false → new.tasks ≡ old.tasks - 1 → entries ≡ set_value (is_id count) es new

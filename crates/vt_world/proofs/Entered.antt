@@ -27,6 +27,7 @@ use Rattle.vt_task.specs.Counts.{locations_in, one_if}
 use Rattle.vt_task.specs.declared.task.Left.{Left}
 use Rattle.vt_task.specs.TasksValue.{Tasks, called, changed_by, changed_called, left_by, left_of, replaced}
 use Rattle.vt_world_laws.proofs.Reached.{topmost_found}
+use Rattle.vt_world_laws.proofs.Roots.{directory_there}
 use Rattle.vt_world.specs.Events.{Permits}
 use Rattle.vt_world.specs.Forking.{more_tasks, with_task_more}
 use Rattle.vt_world.specs.Held.{CountsWhatIsInIt, IsHeld}
@@ -83,15 +84,11 @@ root_is_located value whole task namespace root is = by (root_mount nat_eq (worl
             ap (λ (x : Mount ℕ). list_all (nat_eq namespace) (option_to_list x.namespace)) itself ∙ held mount.namespace among.1,
           ),
           ap (λ (x : Mount ℕ). is_some ((Rattle.vt_spec.specs.Machine.World.filesystem_numbered nat_eq world x.filesystem).files.tree.node mount.root)) itself
-              ∙ some_node _ directory,
+              ∙ directory_there _ directory,
         ) in
         let same : topmost nat_eq world.mounts (root_of mount) ≡ root = same_Some _ _ f in
         subst (λ l. is_located_well nat_eq world l ≡ true) same
         (λ i. there.0.0 i && there.1 i)
-      where
-        some_node : (o : Option (Rattle.vt_spec.specs.Tree.Node ℕ)) → Rattle.vt_spec.specs.Tree.is_directory_node o ≡ true → is_some o ≡ true
-        some_node None g = absurd (true≢false (sym g))
-        some_node (Some node) g = refl
 
 -- there is one
 

@@ -1,5 +1,5 @@
 -- The event that removes a directory on which no mount stands: rmdir(2).
-use Rattle.std.proofs.Common.{◌≡◌, refl, sym, ap, subst, ◌∙◌, true≢false, ℕ, ◌&&◌, ◌||◌, true, false, nat_eq, List, [], ◌∷◌, is_some, OnErr, OnOk}
+use Rattle.std.proofs.Common.{◌≡◌, refl, sym, ap, subst, ◌∙◌, ℕ, ◌&&◌, ◌||◌, true, false, nat_eq, List, [], ◌∷◌, is_some, OnErr, OnOk}
 use Rattle.std.specs.Prelude.{Result}
 use Rattle.std.proofs.lemmas.Bool.{and_parts}
 use Rattle.std.specs.List.{list_all, list_any}
@@ -35,18 +35,9 @@ use Rattle.vt_world.proofs.ChangedFiles.{files_are_changed, with_filesystems}
 use Rattle.vt_world.proofs.FileAnswers.{IsAnswered, answered, by_ruling, if_ok, unlink_passes}
 use Rattle.vt_world.proofs.FileEvents.{IsSmall, permit_fits}
 use Rattle.vt_world.proofs.FilesSeen.{IsLocated, also_there, files_are_plain, located, located_filesystem, located_inodes, tree_of_entry}
+use Rattle.vt_world.proofs.Ungrouped.{not_lost}
 
 -- Where no mount stands nothing is detached
-
-not_lost : (world : World ℕ) (mount : Mount ℕ) → is_ungrouped mount.propagation ≡ true → lost_a_group nat_eq world mount ≡ false
-not_lost world mount e = by mount.propagation e
-  where
-    by : (propagation : Propagation ℕ) → is_ungrouped propagation ≡ true
-        → lost_a_group nat_eq world (record mount { propagation = propagation }) ≡ false
-    by (Shared group) e = absurd (true≢false (sym e))
-    by (Slave master) e = absurd (true≢false (sym e))
-    by Private e = refl
-    by Unbindable e = refl
 
 none_lost : (world : World ℕ) (entries : List MountEntry) → list_all (λ entry. is_ungrouped entry.mount.propagation) entries ≡ true
     → list_any (lost_a_group nat_eq world) (mounts_in entries) ≡ false

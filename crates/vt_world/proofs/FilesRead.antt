@@ -1,24 +1,20 @@
 -- The events that only look: readdir(3), pread(2).
-use Rattle.std.proofs.Common.{◌≡◌, refl, ℕ, true, nat_eq, Option, Some, None, is_some}
+use Rattle.std.proofs.Common.{◌≡◌, ℕ, nat_eq}
 use Rattle.std.proofs.lemmas.Bool.{and_parts}
 use Rattle.vt_spec.specs.Language.Calls.{TaskName}
 use Rattle.vt_spec.specs.Machine.Permits.Permit.{ToList, ToReadPart}
 use Rattle.vt_spec.specs.Machine.World.{node_at}
-use Rattle.vt_spec.specs.Tree.{Node, is_directory_node}
 use Rattle.vt_fs.specs.FilesystemsValue.{files_at}
 use Rattle.vt_location.specs.declared.locations.Location.{Location}
 use Rattle.vt_location.specs.Locations.{location_of, number_of}
 use Rattle.vt_permit_laws.proofs.SeesTasks.{given_permits_are_seen_to}
+use Rattle.vt_world_laws.proofs.Roots.{directory_there}
 use Rattle.vt_world.specs.Events.{Permits, supply_of}
 use Rattle.vt_world.specs.Held.{IsHeld}
 use Rattle.vt_world.specs.WorldValue.{WorldValue, world_of}
 use Rattle.vt_world.proofs.FileEvents.{IsSmall}
 use Rattle.vt_world.proofs.FileParts.{open_there}
 use Rattle.vt_world.proofs.FilesSeen.{files_are_plain, looked_node}
-
-directory_there : (o : Option (Node ℕ)) → is_directory_node o ≡ true → is_some o ≡ true
-directory_there None e = e
-directory_there (Some node) e = refl
 
 pub listed_node : (value : WorldValue) → IsHeld value → (name : TaskName) (directory : Location) → IsSmall directory
     → Permits value name (ToList (location_of directory))

@@ -31,6 +31,7 @@ use Rattle.vt_task.specs.declared.task.Task.{Task as Own}
 use Rattle.vt_task.specs.TaskValue.{task_of}
 use Rattle.vt_task.specs.TasksValue.{Tasks, called, fork_refusal, forked, forked_by, forked_once, replaced, with_child_behind}
 use Rattle.vt_world_laws.proofs.RaisedInUse.{worlds_are_in_use}
+use Rattle.vt_letting_go.proofs.UpperUses.{times_append}
 use Rattle.vt_world.specs.Events.{Permits, supply_of}
 use Rattle.vt_world.specs.Forking.{more_tasks, with_task_more}
 use Rattle.vt_world.specs.Held.{CountsWhatIsInIt, IsHeld, writes_of, writes_of_task}
@@ -43,10 +44,6 @@ use Rattle.vt_world.proofs.Places.{standing}
 use Rattle.vt_world.proofs.RemainingTasks.{CountsTasks, remade_in, remains_done_in}
 use Rattle.vt_world.proofs.Splits.{IsSplit, locations_around, locations_stay, replaced_split, times_replaced, writes_replaced}
 use Rattle.vt_world.proofs.Staying.{IsDone, after}
-
-times_append : {A : Type 0} (test : A → Bool) (xs ys : List A) → times test (xs ++ ys) ≡ times test xs + times test ys
-times_append test [] ys = omega arith
-times_append test (x ∷ xs) ys = let rest = times_append test xs ys in omega (arith, rest)
 
 writes_append : (mount : ℕ) (xs ys : Tasks) → writes_of mount (xs ++ ys) ≡ writes_of mount xs + writes_of mount ys
 writes_append mount [] ys = omega arith

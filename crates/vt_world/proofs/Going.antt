@@ -1,13 +1,14 @@
 -- Events of tasks after which the mount of a location that was left goes, and its filesystem with its last mount.
-use Rattle.std.proofs.Common.{◌≡◌, ◌≢◌, refl, sym, ap, subst, ◌∙◌, ⊎_elim, inl, inr, ℕ, ◌+◌, ◌-◌, nat_eq, eqb-true, eq-eqb, Bool, true, false, true≢false, cond, not, ◌||◌, List, [], ◌∷◌, ◌++◌, map, filter, find, Option, Some, None, option_map, is_some, unwrap_or, arith}
+use Rattle.std.proofs.Common.{◌≡◌, refl, sym, ap, subst, ◌∙◌, ⊎_elim, ℕ, ◌+◌, ◌-◌, nat_eq, eqb-true, Bool, true, false, true≢false, cond, not, ◌||◌, List, [], ◌∷◌, ◌++◌, map, filter, Option, Some, None, is_some, arith}
 use Rattle.std.specs.Prelude.{nat_lt}
-use Rattle.std.proofs.lemmas.Bool.{and_parts, eqb-false, lt-ltb}
+use Rattle.std.proofs.lemmas.Bool.{and_parts}
+use Rattle.std.proofs.lemmas.List.{append-nil}
 use Rattle.vt_spec.specs.Language.Calls.{TaskName}
 use Rattle.vt_spec.specs.Lists.{folded, holds_of, is_among}
 use Rattle.vt_spec.specs.Machine.Mounts.{Location, Mount, mount_in}
 use Rattle.vt_spec.specs.Machine.Permits.{Permit}
 use Rattle.vt_spec.specs.Machine.Settled.{filesystem_lives, is_located, is_mounted, settled, without_dead_filesystems, without_dead_mounts}
-use Rattle.vt_spec.specs.Machine.World.{Filesystem, Task, World, all_locations, is_overlay, mount_numbered, no_filesystem}
+use Rattle.vt_spec.specs.Machine.World.{Filesystem, Task, World, all_locations, is_overlay, mount_numbered}
 use Rattle.vt_spec.specs.Machine.WorldLaws.{is_located_well}
 use Rattle.vt_count_laws.specs.Counted.{IsPlain}
 use Rattle.vt_count_laws.specs.Sweeping.{living}
@@ -39,33 +40,10 @@ use Rattle.vt_world.proofs.Finishing.{CountsBeside, IsApplied, finished, is_left
 use Rattle.vt_world.proofs.Moving.{Moves, Use, entry_counts, exchanged_shown, filesystems_moved, gained_there, held_counts, hold_if, inodes_of_uses, locations, mounts_moved, moved_kept, release_if, released_counts, swap_eq, uses_moved}
 use Rattle.vt_world.proofs.Remaining.{remade}
 use Rattle.vt_world.proofs.Staying.{IsDone, after, world_is_plain}
+use Rattle.vt_world.proofs.LostUses.{filter_less, found_unless, positive, shown_by_rule}
+use Rattle.vt_world.proofs.TreesLookedAt.{or_nothing}
 
 -- Lists
-
-filter_dropped : {A : Type 0} (p q : A → Bool) (xs : List A) → ((x : A) → Among x xs → q x ≡ false → p x ≡ false) → filter p (filter q xs) ≡ filter p xs
-filter_dropped p q [] none = refl
-filter_dropped p q (x ∷ xs) none = by (q x) refl (p x) refl (filter_dropped p q xs (λ y m. none y (inr m)))
-  where
-    by : (b : Bool) → q x ≡ b → (c : Bool) → p x ≡ c → filter p (filter q xs) ≡ filter p xs
-        → filter p (cond b (x ∷ filter q xs) (filter q xs)) ≡ cond c (x ∷ filter p xs) (filter p xs)
-    by true e c f later = ap (λ d. cond d (x ∷ filter p (filter q xs)) (filter p (filter q xs))) f ∙ ap (λ rest. cond c (x ∷ rest) rest) later
-    by false e true f later = absurd (true≢false (sym f ∙ none x (inl refl) e))
-    by false e false f later = later
-
-pub found_kept : (p : Filesystem ℕ → Bool) (filesystems : List (Filesystem ℕ)) (k : ℕ)
-    → ((x : Filesystem ℕ) → Among x filesystems → x.number ≡ k → p x ≡ true)
-    → unwrap_or (find (λ x. nat_eq k x.number) (filter p filesystems)) (no_filesystem k) ≡ unwrap_or (find (λ x. nat_eq k x.number) filesystems) (no_filesystem k)
-found_kept p [] k stays = refl
-found_kept p (x ∷ xs) k stays = by (nat_eq k x.number) refl (p x) refl (found_kept p xs k (λ y m. stays y (inr m)))
-  where
-    by : (b : Bool) → nat_eq k x.number ≡ b → (c : Bool) → p x ≡ c
-        → unwrap_or (find (λ x. nat_eq k x.number) (filter p xs)) (no_filesystem k) ≡ unwrap_or (find (λ x. nat_eq k x.number) xs) (no_filesystem k)
-        → unwrap_or (find (λ x. nat_eq k x.number) (cond c (x ∷ filter p xs) (filter p xs))) (no_filesystem k)
-        ≡ unwrap_or (cond b (Some x) (find (λ x. nat_eq k x.number) xs)) (no_filesystem k)
-    by true e true f later = ap (λ d. unwrap_or (cond d (Some x) (find (λ x. nat_eq k x.number) (filter p xs))) (no_filesystem k)) e
-    by true e false f later = absurd (true≢false (sym (stays x (inl refl) (sym (eqb-true k x.number e))) ∙ f))
-    by false e true f later = ap (λ d. unwrap_or (cond d (Some x) (find (λ x. nat_eq k x.number) (filter p xs))) (no_filesystem k)) e ∙ later
-    by false e false f later = later
 
 pub map_filtered : {A B : Type 0} (f : A → B) (p : A → Bool) (q : B → Bool) → ((a : A) → q (f a) ≡ p a) → (xs : List A) → map f (filter p xs) ≡ filter q (map f xs)
 map_filtered f p q same [] = refl
@@ -76,32 +54,6 @@ map_filtered f p q same (x ∷ xs) =
         → map f (cond b (x ∷ filter p xs) (filter p xs)) ≡ cond b (f x ∷ filter q (map f xs)) (filter q (map f xs))
     by true later = ap (λ rest. f x ∷ rest) later
     by false later = later
-
--- where each counts what a rule says, so does what is found
-pub shown_counts : (f : ℕ) (counts : ℕ → ℕ) (all : List Shown) → ((one : Shown) → Among one all → one.mounts ≡ counts (counted one.count))
-    → (one : Shown) → Among one all → f ≡ counted one.count → mounts_shown f all ≡ counts f
-shown_counts f counts [] each one m same = absurd m
-shown_counts f counts (first ∷ rest) each one m same =
-    by (nat_eq f (counted first.count)) refl (λ later. shown_counts f counts rest (λ x n. each x (inr n)) one later same)
-  where
-    by : (b : Bool) → nat_eq f (counted first.count) ≡ b → (Among one rest → mounts_shown f rest ≡ counts f)
-        → unwrap_or (option_map (λ (x : Shown). x.mounts) (cond b (Some first) (find (λ x. nat_eq f (counted x.count)) rest))) 0 ≡ counts f
-    by true e next = each first (inl refl) ∙ ap counts (sym (eqb-true f (counted first.count) e))
-    by false e next =
-        ⊎_elim
-        (λ here. absurd (true≢false (sym (eq-eqb f (counted first.count) (same ∙ ap (λ (x : Shown). counted x.count) here)) ∙ e)))
-        next m
-
-pub positive : (a : ℕ) → nat_lt 0 a ≡ not (nat_eq a 0)
-positive a = by (nat_eq a 0) refl
-  where
-    by : (b : Bool) → nat_eq a 0 ≡ b → nat_lt 0 a ≡ not b
-    by true e = ap (nat_lt 0) (eqb-true a 0 e)
-    by false e = let some : a ≢ 0 = eqb-false a 0 e in lt-ltb 0 a (omega (arith, some))
-
-pub or_nothing : (b : Bool) → (b || false) ≡ b
-or_nothing true = refl
-or_nothing false = refl
 
 pub or_all : (b : Bool) → (b || true) ≡ true
 or_all true = refl
@@ -246,7 +198,7 @@ module _ (value : WorldValue) (whole : IsHeld value) (tasks : Tasks) (more : Lis
           → not (nat_eq (mounts_showing mounted (counted was.count)) 0) ≡ stays_numbered (counted was.count)
       by was n true e =
           let same : mount.filesystem ≡ counted was.count = eqb-true mount.filesystem (counted was.count) e in
-          let counts = shown_counts mount.filesystem (mounts_showing mounted) stepped
+          let counts = shown_by_rule mount.filesystem (mounts_showing mounted) stepped
           (λ one o. let from = among-from_map step (shown value.filesystems) one o in
           let first = among-from_map shown_entry value.filesystems from.0 from.1 in
           let is = step_is first.0 first.1 in
@@ -318,15 +270,11 @@ module _ (value : WorldValue) (whole : IsHeld value) (tasks : Tasks) (more : Lis
       let second = subst (λ (x : Mount ℕ). Exchanges [] ((x.filesystem, x.root) ∷ []) k next mounted) found_so
       (Roots.mounts_leave_their_roots next number stand located there unused_so k) in
       let third = others_use_nothing mounted remaining k plain_mounted plain_remaining refl refl
-      (found_kept (λ (f : Filesystem ℕ). stays_numbered f.number) world.filesystems k (λ x m e. ap stays_numbered e ∙ stays)) in
+      (found_unless (λ (f : Filesystem ℕ). stays_numbered f.number) world.filesystems k (λ x m e. ap stays_numbered e ∙ stays)) in
       let all = exchanges_follow world mounted remaining (gained ++ []) lost [] [] k
       (exchanges_follow world next mounted gained (inode_at world left_use.location ∷ []) [] ((mount.filesystem, mount.root) ∷ []) k first second) third in
       subst (Exchanges gained lost k world) (sym living_is)
-      (subst (λ all_gained. Exchanges all_gained lost k world remaining) (nothing_behind (gained ++ []) ∙ nothing_behind gained) all)
-    where
-      nothing_behind : (list : List Inode) → list ++ [] ≡ list
-      nothing_behind [] = refl
-      nothing_behind (x ∷ xs) = ap (λ rest. x ∷ rest) (nothing_behind xs)
+      (subst (λ all_gained. Exchanges all_gained lost k world remaining) (append-nil (gained ++ []) ∙ append-nil gained) all)
 
   numbers_are : map (λ (f : Filesystem ℕ). f.number) remaining.filesystems ≡ map (λ (entry : FilesystemEntry). counted entry.count) filesystems
   numbers_are =
@@ -365,7 +313,7 @@ module _ (value : WorldValue) (whole : IsHeld value) (tasks : Tasks) (more : Lis
 
   same_in_namespace : (n : ℕ) → filter (λ (x : Mount ℕ). holds_of (nat_eq n) x.namespace) mounted.mounts ≡ filter (λ (x : Mount ℕ). holds_of (nat_eq n) x.namespace) world.mounts
   same_in_namespace n =
-      filter_dropped (λ (x : Mount ℕ). holds_of (nat_eq n) x.namespace) (λ x. not (nat_eq x.number number)) world.mounts (λ x m gone.
+      filter_less (λ (x : Mount ℕ). holds_of (nat_eq n) x.namespace) (λ x. not (nat_eq x.number number)) world.mounts (λ x m gone.
       none x.namespace
       (ap (λ (y : Mount ℕ). is_some y.namespace)
       (sym (found_itself world.mounts whole.in_world.mounts.one_number x m)

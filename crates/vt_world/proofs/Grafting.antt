@@ -1,13 +1,12 @@
 -- Copies of mounts that are attached in a world in which no mount is in a peer group: what code attaches.
-use Rattle.std.proofs.Common.{◌≡◌, refl, sym, ap, subst, ◌∙◌, inl, inr, ℕ, nat_eq, Bool, true, false, cond, ◌&&◌, List, [], ◌∷◌, ◌++◌, map, find, Option, Some, None, option_map, is_some}
+use Rattle.std.proofs.Common.{◌≡◌, refl, ap, ◌∙◌, ℕ, nat_eq, Bool, true, false, cond, List, [], ◌∷◌, ◌++◌, map, find, Option, Some, None, option_map, is_some}
 use Rattle.std.specs.Prelude.{filter_map, unwrap_or}
 use Rattle.std.specs.List.{cons_option, list_all}
 use Rattle.std.proofs.lemmas.Bool.{and_parts}
 use Rattle.std.proofs.lemmas.List.{append-nil, map-id}
 use Rattle.vt_spec.specs.Lists.{Fresh, folded}
 use Rattle.vt_spec.specs.Machine.Attach.{Copies, attach, copies_from, masters_with}
-use Rattle.vt_spec.specs.Machine.Mounts.{Location, Mount, Propagation, group_of, mount_in, no_mount}
-use Rattle.vt_spec.specs.Machine.Mounts.Propagation.{Private, Shared, Slave, Unbindable}
+use Rattle.vt_spec.specs.Machine.Mounts.{Location, Mount, Propagation, mount_in, no_mount}
 use Rattle.vt_spec.specs.Machine.Types.{master_after}
 use Rattle.vt_spec.specs.Machine.World.{World, mount_at}
 use Rattle.vt_letting_go.proofs.Lists.{all_pass, among-from_map, passes}
@@ -15,12 +14,7 @@ use Rattle.vt_mount.specs.MountsValue.{MountEntry, mounts_in}
 use Rattle.vt_permit_laws.proofs.TakenAttached.{at_destination, copy_by, destination, group_by, twigs}
 use Rattle.vt_world.specs.Held.{IsHeld, is_ungrouped}
 use Rattle.vt_world.specs.WorldValue.{WorldValue}
-
-pub no_group : (kind : Propagation ℕ) → is_ungrouped kind ≡ true → group_of kind ≡ None
-no_group (Shared group) is = absurd cc
-no_group (Slave master) is = refl
-no_group Private is = refl
-no_group Unbindable is = refl
+use Rattle.vt_world.proofs.Ungrouped.{no_group}
 
 pub all_ungrouped : (value : WorldValue) → IsHeld value → list_all (λ mount. is_ungrouped mount.propagation) (mounts_in value.mounts) ≡ true
 all_ungrouped value whole =

@@ -28,8 +28,8 @@ use Rattle.vt_mount.specs.MountsValue.{mounts_in}
 use Rattle.vt_world.specs.Held.{CountsItsUses, is_ungrouped}
 use Rattle.vt_world.specs.Uses.{Kept}
 use Rattle.vt_world.specs.WorldValue.{WorldValue, world_of}
-use Rattle.vt_world.proofs.Going.{or_nothing}
 use Rattle.vt_world.proofs.Moving.{swap_eq}
+use Rattle.vt_world.proofs.TreesLookedAt.{or_nothing}
 
 -- Mounts that are still to be detached
 

@@ -17,11 +17,11 @@ use Rattle.vt_mount_laws.proofs.Standing.{standing_is_computed}
 use Rattle.vt_mount_laws.proofs.UnmountingTrees.{trees_closed}
 use Rattle.vt_world.specs.Held.{is_ungrouped}
 use Rattle.vt_world.proofs.DetachingBegins.{HasChildrenOf, detached_world}
-use Rattle.vt_world.proofs.DetachingEnds.{nothing_regrouped}
 use Rattle.vt_world.proofs.Keeping.{detached_in}
 use Rattle.vt_world.proofs.MountsGone.{found_mapped}
 use Rattle.vt_world.proofs.Moving.{map_itself}
 use Rattle.vt_world.proofs.UnmountedAlone.{goes_alone}
+use Rattle.vt_world.proofs.Ungrouped.{nothing_regrouped}
 
 -- Mounts ordered by their depth are the same mounts
 

@@ -25,6 +25,7 @@ pub mod EnteringLemmas
 pub mod AddedUses
 pub mod AttachedWorlds
 pub mod AttachedCounts
+pub mod Ungrouped
 pub mod Grafting
 pub mod Binding
 pub mod TreeBinding
@@ -60,8 +61,10 @@ pub mod UnmountedAlone
 pub mod LazilyUnmounted
 pub mod UnmountedLazily
 pub mod RemainingTasks
+pub mod NamespaceEntries
 pub mod CountingLemmas
 pub mod CopyLemmas
+pub mod FirstPlaces
 pub mod ForkedTasks
 pub mod LostUses
 pub mod Midway
@@ -77,6 +80,7 @@ pub mod FileRenaming
 pub mod ChangedWithMounts
 pub mod Entered
 pub mod RootMounts
+pub mod MountsOn
 pub mod DirectoryRemoved
 pub mod AddedBegins
 pub mod UnsharedTasks

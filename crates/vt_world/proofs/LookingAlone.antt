@@ -1,9 +1,8 @@
 -- The events that only look leave the world as it was.
-use Rattle.std.proofs.Common.{◌≡◌, sym, subst, true≢false, ℕ, true, nat_eq}
+use Rattle.std.proofs.Common.{◌≡◌, sym, subst, true≢false, ℕ, true}
 use Rattle.vt_spec.specs.Machine.Permits.{Permit}
 use Rattle.vt_spec.specs.Machine.Permits.Permit.{Allowed, ToBind, ToChange, ToClose, ToEnterNamespace, ToExit, ToFork, ToList, ToListMounts, ToMake, ToMountOverlay, ToMountPlain, ToMove, ToOpen, ToOpenNew, ToPivot, ToRead, ToReadPart, ToRemoveDirectory, ToRename, ToSetCredentials, ToSetDirectory, ToSetFlags, ToSetRoot, ToSetType, ToSetUmask, ToStat, ToUnmount, ToUnmountLazily, ToUnshare, ToWritePart}
 use Rattle.vt_spec.specs.Machine.SameWorlds.{SameWorlds}
-use Rattle.vt_spec.specs.Machine.World.{Task}
 use Rattle.vt_run_laws.proofs.AlikeWorlds.{sameness_is_an_equivalence}
 use Rattle.vt_world.specs.Events.{left_by}
 use Rattle.vt_world.specs.Held.{IsHeld}

@@ -1,7 +1,9 @@
 -- Lists of what is counted: what a step takes from them.
-use Rattle.std.proofs.Common.{◌≡◌, refl, sym, ap, ◌∙◌, ⊎_elim, inl, inr, ℕ, ◌+◌, nat_eq, eqb-true, eq-eqb, Bool, true, false, true≢false, cond, ◌||◌, List, [], ◌∷◌, ◌++◌, filter, find, flat_map, Some, option_map, unwrap_or, arith}
+use Rattle.std.proofs.Common.{◌≡◌, ◌≢◌, not, refl, sym, ap, ◌∙◌, ⊎_elim, inl, inr, ℕ, ◌+◌, nat_eq, eqb-true, eq-eqb, Bool, true, false, true≢false, cond, ◌||◌, List, [], ◌∷◌, ◌++◌, filter, find, flat_map, Some, option_map, unwrap_or, arith}
 use Rattle.std.specs.List.{list_any}
-use Rattle.std.proofs.lemmas.Bool.{or_parts}
+use Rattle.std.specs.Prelude.{nat_lt}
+use Rattle.std.proofs.lemmas.Bool.{eqb-false, lt-ltb, or_parts}
+use Rattle.std.proofs.lemmas.Option.{same_Some}
 use Rattle.vt_spec.specs.Lists.{any_pair, folded}
 use Rattle.vt_spec.specs.Machine.Mounts.{Mount}
 use Rattle.vt_spec.specs.Machine.World.{Filesystem, World, filesystem_numbered, no_filesystem}
@@ -18,9 +20,12 @@ pub folded_append : {A B : Type 0} (f : A → B → A) (z : A) (xs ys : List B) 
 folded_append f z [] ys = refl
 folded_append f z (x ∷ xs) ys = folded_append f (f z x) xs ys
 
-pub times_together : {A : Type 0} (test : A → Bool) (one other : List A) → times test (one ++ other) ≡ times test one + times test other
-times_together test [] other = omega arith
-times_together test (first ∷ rest) other = let later = times_together test rest other in omega arith
+pub positive : (a : ℕ) → nat_lt 0 a ≡ not (nat_eq a 0)
+positive a = by (nat_eq a 0) refl
+  where
+    by : (b : Bool) → nat_eq a 0 ≡ b → nat_lt 0 a ≡ not b
+    by true e = ap (nat_lt 0) (eqb-true a 0 e)
+    by false e = let some : a ≢ 0 = eqb-false a 0 e in lt-ltb 0 a (omega (arith, some))
 
 -- what is lost may stand in another order
 pub lost_alike : (gained lost other : List Inode) (k : ℕ) (one two : World ℕ)
@@ -126,3 +131,17 @@ mounts_unchanged number change entries same =
     by : (entry : MountEntry) (b : Bool) → (cond b (change entry) entry).mount ≡ entry.mount
     by entry true = same entry
     by entry false = refl
+
+-- an entry that is found is there, and has the number
+pub entry_found_at : (entries : List MountEntry) (number : ℕ) (entry : MountEntry) → entry_numbered entries number ≡ Some entry
+    → Among entry entries × (number ≡ entry.mount.number)
+entry_found_at [] number entry e = absurd cc
+entry_found_at (x ∷ xs) number entry e = by (nat_eq number x.mount.number) refl e (entry_found_at xs number entry)
+  where
+    by : (b : Bool) → nat_eq number x.mount.number ≡ b → cond b (Some x) (entry_numbered xs number) ≡ Some entry
+        → (entry_numbered xs number ≡ Some entry → Among entry xs × (number ≡ entry.mount.number))
+        → Among entry (x ∷ xs) × (number ≡ entry.mount.number)
+    by true t e next =
+        let same : x ≡ entry = same_Some x entry e in
+        (inl (sym same), eqb-true number x.mount.number t ∙ ap (λ (y : MountEntry). y.mount.number) same)
+    by false t e next = let later = next e in (inr later.0, later.1)

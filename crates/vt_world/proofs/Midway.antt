@@ -1,6 +1,6 @@
 -- Between the first and the last use that a task leaves: what code counts then. Uses are left and mounts are detached in
 -- whatever order; what is no longer used goes at once, and at the end that is gone which the sweep takes.
-use Rattle.std.proofs.Common.{◌≡◌, refl, sym, ap, subst, ◌∙◌, inl, inr, ℕ, ◌+◌, nat_eq, eqb-true, Bool, true, false, true≢false, cond, not, ◌||◌, List, [], ◌∷◌, ◌++◌, map, flat_map, Option, Some, None, option_map, is_some, append_assoc, arith}
+use Rattle.std.proofs.Common.{◌≡◌, refl, sym, ap, subst, ◌∙◌, ℕ, ◌+◌, nat_eq, eqb-true, Bool, true, false, true≢false, cond, not, ◌||◌, List, [], ◌∷◌, ◌++◌, map, flat_map, Option, Some, None, option_map, is_some, append_assoc, arith}
 use Rattle.std.specs.Prelude.{IfSome, option_to_list, ◌<◌}
 use Rattle.std.specs.List.{list_all, list_any}
 use Rattle.std.proofs.lemmas.Bool.{and_parts, or_parts}
@@ -23,12 +23,13 @@ use Rattle.vt_location.specs.declared.locations.Location.{Location as Place}
 use Rattle.vt_location.specs.Locations.{location_of, number_of}
 use Rattle.vt_location.specs.Numbers.{counted}
 use Rattle.vt_mount.specs.MountsValue.{MountEntry, changed, entry_numbered, mounts_in, released}
+use Rattle.vt_letting_go.proofs.UpperUses.{times_append}
 use Rattle.vt_world.specs.Held.{IsHeld, is_ungrouped, writes_of}
 use Rattle.vt_world.specs.Uses as meant
 use Rattle.vt_world.specs.Uses.{Kept, detached_entry, inode_of, is_unused, let_go_entry, let_go_filesystem, mounts_shown, released_if, released_in, unpinned_at, unpinned_in, without_filesystem}
 use Rattle.vt_world.specs.WorldValue.{WorldValue, world_of}
 use Rattle.vt_world.proofs.LocationsSeen.{seen_where_located}
-use Rattle.vt_world.proofs.LostUses.{OneNumber, entry_itself, folded_append, lost_alike, mounts_unchanged, times_together}
+use Rattle.vt_world.proofs.LostUses.{OneNumber, entry_found_at, entry_itself, folded_append, lost_alike, mounts_unchanged}
 use Rattle.vt_world.proofs.Moving.{Use, inodes_of_uses, is_use_on, lose, release_if, released_counts, writes_on_mount}
 
 -- a mount that is still to be detached, as it is afterwards
@@ -223,16 +224,6 @@ module _ (value : WorldValue) (whole : IsHeld value) (start : World ℕ) (gained
       (entry_numbered k.mounts number ≡ Some entry) × (goes entry.mount ≡ true) × (option_map location_of point ≡ entry.mount.mount_point)
       × IfSome point (λ place. place.node.slot < 18446744073709551616)
 
-  pub found_entry_at : (entries : List MountEntry) (number : ℕ) (entry : MountEntry) → entry_numbered entries number ≡ Some entry
-      → Among entry entries × (number ≡ entry.mount.number)
-  found_entry_at [] number entry e = absurd cc
-  found_entry_at (x ∷ xs) number entry e = by (nat_eq number x.mount.number) refl e (found_entry_at xs number entry)
-    where
-      by : (b : Bool) → nat_eq number x.mount.number ≡ b → cond b (Some x) (entry_numbered xs number) ≡ Some entry
-          → (entry_numbered xs number ≡ Some entry → Among entry xs × (number ≡ entry.mount.number)) → Among entry (x ∷ xs) × (number ≡ entry.mount.number)
-      by true t e next = let same : x ≡ entry = same_Some x entry e in (inl (sym same), eqb-true number x.mount.number t ∙ ap (λ (y : MountEntry). y.mount.number) same)
-      by false t e next = let later = next e in (inr later.0, later.1)
-
   not_going_detached : (mount : Mount ℕ) → goes (detached mount) ≡ false
   not_going_detached mount = by (goes (detached mount)) refl
     where
@@ -268,12 +259,12 @@ module _ (value : WorldValue) (whole : IsHeld value) (start : World ℕ) (gained
           (ap (λ n. nat_eq n y.mount.number) (eqb-true number x.mount.number t)
           ∙ fails (λ b. nat_eq x.mount.number b.number) (mounts_in xs) others y.mount (among-map (λ (one : MountEntry). one.mount) xs y m))) in
           (λ i. times test (here i ++ points_left world goes xs))
-          ∙ times_together test (inodes_of_point world entry.mount) (points_left world goes xs)
+          ∙ times_append test (inodes_of_point world entry.mount) (points_left world goes xs)
           ∙ (λ i. times test (inodes_of_point world entry.mount) + times test (sym gone i ++ points_left world goes (sym still i)))
       by others false t h next =
           let later = next h in
-          let one = times_together test (point_left world goes x.mount) (points_left world goes xs) in
-          let two = times_together test (point_left world goes x.mount) (points_left world goes (changed number detached_entry xs)) in
+          let one = times_append test (point_left world goes x.mount) (points_left world goes xs) in
+          let two = times_append test (point_left world goes x.mount) (points_left world goes (changed number detached_entry xs)) in
           omega (arith, later, one, two)
 
   module _ (left : List Use) (now : World ℕ) (k : Kept) (lost : List Inode) (mid : Midway value start gained goes left now k lost)
@@ -324,7 +315,7 @@ module _ (value : WorldValue) (whole : IsHeld value) (start : World ℕ) (gained
             sym (map_same (λ (one : Shown). one) k.filesystems (λ one m. refl))
             ∙ (λ i. map (λ (one : Shown). record one { inodes = folded (unpinned_if (counted one.count)) one.inodes (map (inode_at world) (option_to_list (is i))) }) k.filesystems)
         by (Some place) is few =
-            let well = ap (λ o. list_all (is_located_well nat_eq world) (option_to_list o)) is ∙ mid.well entry (found_entry_at k.mounts number entry going.0).0 going.1 in
+            let well = ap (λ o. list_all (is_located_well nat_eq world) (option_to_list o)) is ∙ mid.well entry (entry_found_at k.mounts number entry going.0).0 going.1 in
             (λ i. unpinned_in (sym (seen_where_located value whole place few (and_parts _ _ well).0) i, number_of place.node) k.filesystems)
             ∙ (λ i. map (λ (one : Shown). record one { inodes = folded (unpinned_if (counted one.count)) one.inodes (map (inode_at world) (option_to_list (is i))) }) k.filesystems)
 
@@ -351,11 +342,11 @@ module _ (value : WorldValue) (whole : IsHeld value) (start : World ℕ) (gained
         → times test (lost ++ (inodes_of_uses world left ++ points_left world goes k.mounts))
         ≡ times test ((lost ++ lost_here) ++ (inodes_of_uses world left ++ points_left world goes taken.mounts))
     same_lost test =
-        let a = times_together test lost (inodes_of_uses world left ++ points_left world goes k.mounts) in
-        let b = times_together test (inodes_of_uses world left) (points_left world goes k.mounts) in
-        let c = times_together test (lost ++ lost_here) (inodes_of_uses world left ++ points_left world goes taken.mounts) in
-        let d = times_together test lost lost_here in
-        let e = times_together test (inodes_of_uses world left) (points_left world goes taken.mounts) in
+        let a = times_append test lost (inodes_of_uses world left ++ points_left world goes k.mounts) in
+        let b = times_append test (inodes_of_uses world left) (points_left world goes k.mounts) in
+        let c = times_append test (lost ++ lost_here) (inodes_of_uses world left ++ points_left world goes taken.mounts) in
+        let d = times_append test lost lost_here in
+        let e = times_append test (inodes_of_uses world left) (points_left world goes taken.mounts) in
         let p = points_are number k.mounts one_number entry going.0 going.1 test in
         omega (arith, a, b, c, d, e, p)
 

@@ -1,16 +1,16 @@
 -- Where tasks have left uses and a namespace, before code has taken anything away.
-use Rattle.std.proofs.Common.{◌≡◌, ◌≢◌, refl, sym, ap, subst, ◌∙◌, ⊎_elim, ℕ, ◌+◌, nat_eq, eqb-true, Bool, true, false, true≢false, cond, not, ◌&&◌, ◌||◌, List, [], ◌∷◌, ◌++◌, map, find, flat_map, Option, Some, None, is_some, unwrap_or, append_assoc, arith}
-use Rattle.std.specs.Prelude.{nat_lt, option_to_list}
+use Rattle.std.proofs.Common.{◌≡◌, refl, sym, ap, subst, ◌∙◌, ⊎_elim, ℕ, ◌+◌, nat_eq, eqb-true, Bool, true, false, true≢false, cond, not, ◌&&◌, ◌||◌, List, [], ◌∷◌, ◌++◌, map, find, flat_map, Option, Some, None, is_some, unwrap_or, append_assoc, arith}
+use Rattle.std.specs.Prelude.{option_to_list}
 use Rattle.std.specs.List.{list_all, list_any}
-use Rattle.std.proofs.lemmas.Bool.{and_parts, eqb-false, lt-ltb}
+use Rattle.std.proofs.lemmas.Bool.{and_parts}
 use Rattle.std.proofs.lemmas.Option.{same_Some}
+use Rattle.std.proofs.lemmas.List.{append-nil}
 use Rattle.vt_spec.specs.Lists.{any_pair, folded, is_among}
 use Rattle.vt_spec.specs.Machine.Mounts.{Location, Mount, detached, mount_in, no_mount, root_of}
 use Rattle.vt_spec.specs.Machine.Settled.{is_located, is_mounted, mount_lives, filesystem_lives}
 use Rattle.vt_spec.specs.Machine.World.{Filesystem, Namespace, World, all_locations, is_directory_at, mount_at, mount_numbered, node_at}
 use Rattle.vt_spec.specs.Machine.WorldLaws.{Stands, has_its_root, is_located_well, is_nowhere_or_attached}
 use Rattle.vt_spec.specs.Machine.WorldLaws.Stands.{at_root, on_parent}
-use Rattle.vt_spec.specs.Tree.{Node, is_directory_node}
 use Rattle.vt_count_laws.specs.Using.{Exchanges, exchanged, is_inode, pinned_if, places_of}
 use Rattle.vt_count_laws.proofs.MountRoots as Roots
 use Rattle.vt_count_laws.proofs.Places.{exchanges_follow, locations_use_mounts, mount_is_placed}
@@ -29,12 +29,13 @@ use Rattle.vt_location.specs.Numbers.{counted}
 use Rattle.vt_mount.specs.MountsValue.{MountEntry, mounts_in}
 use Rattle.vt_task.specs.TasksValue.{Tasks}
 use Rattle.vt_world_laws.proofs.RaisedInUse.{worlds_are_in_use}
+use Rattle.vt_world_laws.proofs.Roots.{directory_there}
 use Rattle.vt_world.specs.Held.{CountsItsMounts, CountsItsUses, IsHeld, is_ungrouped, writes_of}
 use Rattle.vt_world.specs.Uses.{Kept, is_unused, kept}
 use Rattle.vt_world.specs.WorldValue.{WorldValue, world_of}
-use Rattle.vt_world.proofs.LostUses.{OneNumber}
+use Rattle.vt_world.proofs.LostUses.{OneNumber, positive}
 use Rattle.vt_world.proofs.Midway.{IsShown, Midway, NoneUnused, Reached, gone_if, gone_number, inodes_of_point, point_left, points_left}
-use Rattle.vt_world.proofs.Moving.{Moves, Use, filesystems_gained, gain, gained_there, held_counts, hold_if, inodes_of_uses, is_use_on, locations, mounts_gained, same_moved_mounts, uses_moved, writes_on_mount}
+use Rattle.vt_world.proofs.Moving.{Moves, Use, filesystems_gained, gain, gained_there, held_counts, hold_if, inodes_of_uses, is_use_on, locations, mounts_gained, same_moved_mounts, times_mapped, uses_moved, writes_on_mount}
 use Rattle.vt_world.proofs.Staying.{after, world_is_plain}
 
 -- Mounts that are detached at once, in a world
@@ -136,17 +137,6 @@ parent_inside world one stands mount m place p = by (stands mount m) (found_itse
         let it : at ≡ place = same_Some at place (sym e ∙ ap (λ (x : Mount ℕ). x.mount_point) itself ∙ p) in
         ap (λ (x : Mount ℕ). x.namespace) (sym itself) ∙ same ∙ ap (λ (l : Location ℕ). (mount_numbered nat_eq world l.mount).namespace) it
 
-positive : (a : ℕ) → nat_lt 0 a ≡ not (nat_eq a 0)
-positive a = by (nat_eq a 0) refl
-  where
-    by : (b : Bool) → nat_eq a 0 ≡ b → nat_lt 0 a ≡ not b
-    by true e = ap (nat_lt 0) (eqb-true a 0 e)
-    by false e = let some : a ≢ 0 = eqb-false a 0 e in lt-ltb 0 a (omega (arith, some))
-
-times_on : (mount : ℕ) (uses : List Use) → times (λ location. nat_eq mount location.mount) (locations uses) ≡ times (is_use_on mount) uses
-times_on mount [] = refl
-times_on mount (one ∷ uses) = ap (λ rest. cond (is_use_on mount one) 1 0 + rest) (times_on mount uses)
-
 module _ (value : WorldValue) (whole : IsHeld value) (tasks : Tasks) (more less : List Use) (moves : Moves value tasks more less)
     (inside : Option ℕ → Bool) (nowhere_stays : inside None ≡ false) (namespaces : List (Namespace ℕ)) where
   abbrev world : World ℕ
@@ -199,8 +189,8 @@ module _ (value : WorldValue) (whole : IsHeld value) (tasks : Tasks) (more less 
       let had = (among_from_all (CountsItsUses world) value.mounts whole.mounts was m).uses in
       let held = (held_counts more was).uses in
       let moved = locations_use_mounts world next (locations more) (locations less) moves.front moves.back moves.was moves.is n in
-      let a = times_on n more in
-      let b = times_on n less in
+      let a = times_mapped n more in
+      let b = times_mapped n less in
       let one : (folded hold_if was more).uses ≡ mount_uses next n + times (is_use_on n) less = omega (arith, had, held, moved, a, b) in
       one ∙ ap (λ (x : Mount ℕ). mount_uses next x.number + times (is_use_on x.number) less) (sym (same_mount was))
 
@@ -228,11 +218,7 @@ module _ (value : WorldValue) (whole : IsHeld value) (tasks : Tasks) (more less 
       let root = passes (has_its_root nat_eq world) world.mounts whole.in_world.roots mount m in
       let directory : is_directory_at nat_eq world place ≡ true =
       (and_parts _ true (ap (λ o. list_all (is_directory_at nat_eq world) (option_to_list o)) (sym e) ∙ (and_parts _ _ root).1)).0 in
-      (λ i. (standing i && some_node (node_at nat_eq world place) directory i) && true)
-    where
-      some_node : (o : Option (Node ℕ)) → is_directory_node o ≡ true → is_some o ≡ true
-      some_node None f = absurd (true≢false (sym f))
-      some_node (Some node) f = refl
+      (λ i. (standing i && directory_there (node_at nat_eq world place) directory i) && true)
 
   -- what mounts stand on stays with them
   pub parent_stays : (mount : Mount ℕ) → Among mount world.mounts → goes mount ≡ false → (place : Location ℕ) → mount.mount_point ≡ Some place
@@ -355,11 +341,7 @@ module _ (value : WorldValue) (whole : IsHeld value) (tasks : Tasks) (more less 
       exchanges_follow world next ended gained (inodes_of_uses world less) [] (flat_map (point_left world goes) world.mounts) c
       (uses_moved value whole tasks more less moves c) (record { same = points.same; uses = points.uses }) in
       subst (λ mounts. Exchanges gained (inodes_of_uses world less ++ flat_map (point_left world goes) mounts) c world ended) (sym same_entries)
-      (subst (λ all. Exchanges all (inodes_of_uses world less ++ flat_map (point_left world goes) world.mounts) c world ended) (nothing_behind gained) moved)
-    where
-      nothing_behind : (list : List Inode) → list ++ [] ≡ list
-      nothing_behind [] = refl
-      nothing_behind (x ∷ xs) = ap (λ rest. x ∷ rest) (nothing_behind xs)
+      (subst (λ all. Exchanges all (inodes_of_uses world less ++ flat_map (point_left world goes) world.mounts) c world ended) (append-nil gained) moved)
 
   begins_midway : Midway value ended gained goes less ended k_begins []
   begins_midway = record {

@@ -1,7 +1,7 @@
 -- The steps by which tasks leave uses and namespaces, and the world after the last of them.
-use Rattle.std.proofs.Common.{◌≡◌, ◌≢◌, refl, sym, ap, subst, ◌∙◌, ℕ, ◌+◌, nat_eq, Bool, true, false, true≢false, cond, not, ◌&&◌, ◌||◌, List, [], ◌∷◌, ◌++◌, map, filter, flat_map, Option, Some, None, is_some, arith}
-use Rattle.std.specs.Prelude.{All, nat_lt}
-use Rattle.std.proofs.lemmas.Bool.{eqb-false, lt-ltb}
+use Rattle.std.proofs.Common.{◌≡◌, refl, sym, ap, subst, ◌∙◌, ℕ, nat_eq, Bool, true, false, true≢false, cond, not, ◌&&◌, ◌||◌, List, [], ◌∷◌, ◌++◌, map, flat_map, Option, Some, None, is_some, arith}
+use Rattle.std.specs.Prelude.{All}
+use Rattle.std.proofs.lemmas.List.{append-nil}
 use Rattle.vt_spec.specs.Lists.{folded}
 use Rattle.vt_spec.specs.Machine.Mounts.{Location, Mount, detached}
 use Rattle.vt_spec.specs.Machine.SameWorlds.{without_changes}
@@ -30,6 +30,7 @@ use Rattle.vt_world.proofs.Finishing.{CountsBeside}
 use Rattle.vt_world.proofs.Midway.{IsGoing, IsShown, Midway, NoneUnused, Reached, gone_if, left_alone, mount_taken, point_left, points_left, taken_alone, use_left}
 use Rattle.vt_world.proofs.MidwayGoes.{mount_looked_at}
 use Rattle.vt_world.proofs.Moving.{Use, inodes_of_uses}
+use Rattle.vt_world.proofs.LostUses.{positive}
 
 -- one use less of a location of a world, as code leaves it
 abbrev pub leave_use : World ℕ → Kept → Use → Kept
@@ -72,13 +73,6 @@ module _ (value : WorldValue) (whole : IsHeld value) (start : World ℕ) (gained
 
 -- When nothing is left to do, code has what the sweep leaves
 
-positive : (a : ℕ) → nat_lt 0 a ≡ not (nat_eq a 0)
-positive a = by (nat_eq a 0) refl
-  where
-    by : (b : Bool) → nat_eq a 0 ≡ b → nat_lt 0 a ≡ not b
-    by true e = ap (nat_lt 0) (Rattle.std.proofs.Common.eqb-true a 0 e)
-    by false e = let some : a ≢ 0 = eqb-false a 0 e in lt-ltb 0 a (omega (arith, some))
-
 or_none : (b : Bool) → (b || false) ≡ b
 or_none true = refl
 or_none false = refl
@@ -110,11 +104,7 @@ module _ (value : WorldValue) (start : World ℕ) (gained : List Inode) (goes : 
       ap (λ points. at.lost ++ points)
       (flat_map_none (point_left (world_of value) goes) (mounts_in k.mounts) (λ x m. let from = among-from_map (λ (e : MountEntry). e.mount) k.mounts x m in
       ap (λ b. cond b (Rattle.vt_world.proofs.Midway.inodes_of_point (world_of value) x) []) (ap goes from.2 ∙ all_gone from.0 from.1)))
-      ∙ nothing_behind at.lost
-    where
-      nothing_behind : (list : List Inode) → list ++ [] ≡ list
-      nothing_behind [] = refl
-      nothing_behind (x ∷ xs) = ap (λ rest. x ∷ rest) (nothing_behind xs)
+      ∙ append-nil at.lost
 
   -- all is in use
   mount_is_used : (x : Mount ℕ) → Among x now.mounts → mount_lives nat_eq now x ≡ true

@@ -1,10 +1,11 @@
 -- A mount that nothing uses any more goes, and its filesystem with its last mount, between the first and the last use that a
 -- task leaves.
-use Rattle.std.proofs.Common.{◌≡◌, ◌≢◌, refl, sym, ap, subst, ◌∙◌, ℕ, ◌+◌, ◌-◌, nat_eq, eqb-true, eq-eqb, Bool, true, false, true≢false, cond, not, ◌&&◌, ◌||◌, List, [], ◌∷◌, ◌++◌, map, filter, find, flat_map, Option, Some, None, is_some, arith}
+use Rattle.std.proofs.Common.{◌≡◌, refl, sym, ap, subst, ◌∙◌, ℕ, ◌+◌, ◌-◌, nat_eq, eqb-true, eq-eqb, Bool, true, false, true≢false, cond, not, ◌&&◌, ◌||◌, List, [], ◌∷◌, ◌++◌, map, filter, find, flat_map, Option, Some, None, is_some, arith}
 use Rattle.std.specs.Prelude.{nat_lt, option_to_list}
 use Rattle.std.specs.List.{list_all, list_any}
-use Rattle.std.proofs.lemmas.Bool.{and_parts, eqb-false, lt-ltb}
+use Rattle.std.proofs.lemmas.Bool.{and_parts}
 use Rattle.std.proofs.lemmas.Option.{same_Some}
+use Rattle.std.proofs.lemmas.List.{append-nil}
 use Rattle.vt_spec.specs.Lists.{folded, is_among}
 use Rattle.vt_spec.specs.Machine.Mounts.{Location, Mount, detached, mount_in}
 use Rattle.vt_spec.specs.Machine.Settled.{filesystem_lives, is_located, is_mounted, mount_lives, without_dead_mounts}
@@ -27,12 +28,13 @@ use Rattle.vt_letting_go.proofs.PlacesLeft.{found_itself, no_layers}
 use Rattle.vt_letting_go.proofs.UsesCounted.{located_while_counted, mounted_while_counted}
 use Rattle.vt_location.specs.Numbers.{counted}
 use Rattle.vt_mount.specs.MountsValue.{MountEntry, entry_numbered, mounts_in, without}
+use Rattle.vt_letting_go.proofs.UpperUses.{times_append}
 use Rattle.vt_world.specs.Held.{IsHeld}
 use Rattle.vt_world.specs.Uses as meant
 use Rattle.vt_world.specs.Uses.{Kept, is_unused, let_go_entry, mounts_shown, released_if}
 use Rattle.vt_world.specs.WorldValue.{WorldValue, world_of}
-use Rattle.vt_world.proofs.LostUses.{OneNumber, entry_itself, filter_less, flat_map_less, folded_append, found_unless, lost_alike, one_number_less, shown_by_rule, times_together}
-use Rattle.vt_world.proofs.Midway.{IsShown, Midway, NoneUnused, Reached, UnusedOnly, found_entry_at, gone_if, gone_number, one_number_kept, point_left, points_left, unused_parts}
+use Rattle.vt_world.proofs.LostUses.{OneNumber, entry_found_at, entry_itself, filter_less, flat_map_less, folded_append, found_unless, lost_alike, one_number_less, shown_by_rule}
+use Rattle.vt_world.proofs.Midway.{IsShown, Midway, NoneUnused, Reached, UnusedOnly, gone_if, gone_number, one_number_kept, point_left, points_left, unused_parts}
 use Rattle.vt_world.proofs.Moving.{Use, inodes_of_uses, swap_eq}
 
 -- What the sweep leaves when a dead mount and filesystems that no mount shows are gone already
@@ -88,13 +90,6 @@ module _ (now : World ℕ) (number : ℕ) (stays : ℕ → Bool) (plain : IsPlai
   pub second_is_plain : IsPlain second
   second_is_plain = plain_second
 
-positive : (a : ℕ) → nat_lt 0 a ≡ not (nat_eq a 0)
-positive a = by (nat_eq a 0) refl
-  where
-    by : (b : Bool) → nat_eq a 0 ≡ b → nat_lt 0 a ≡ not b
-    by true e = ap (nat_lt 0) (eqb-true a 0 e)
-    by false e = let some : a ≢ 0 = eqb-false a 0 e in lt-ltb 0 a (omega (arith, some))
-
 module _ (value : WorldValue) (whole : IsHeld value) (start : World ℕ) (gained : List Inode) (goes : Mount ℕ → Bool)
     (attached : (mount : Mount ℕ) → goes mount ≡ true → is_some mount.namespace ≡ true)
     (number : ℕ) (left : List Use) (now : World ℕ) (k : Kept) (lost : List Inode) (mid : Midway value start gained goes left now k lost) where
@@ -109,7 +104,7 @@ module _ (value : WorldValue) (whole : IsHeld value) (start : World ℕ) (gained
     mount = entry.mount
 
     among : Among entry k.mounts × (number ≡ mount.number)
-    among = found_entry_at value whole start gained goes attached k.mounts number entry found
+    among = entry_found_at k.mounts number entry found
 
     nowhere : is_some mount.namespace ≡ false
     nowhere = (unused_parts entry unused).0
@@ -384,19 +379,15 @@ module _ (value : WorldValue) (whole : IsHeld value) (start : World ℕ) (gained
         subst (λ points. Exchanges gained (lost_now ++ (inodes_of_uses world left ++ points)) c world after) (sym same_points)
         (lost_alike gained (((lost ++ rest) ++ (root ∷ [])) ++ []) (lost_now ++ rest) c world after
         (λ n. counts_alike (is_inode c n) rest)
-        (subst (λ all_gained. Exchanges all_gained (((lost ++ rest) ++ (root ∷ [])) ++ []) c world after) (nothing_behind (gained ++ []) ∙ nothing_behind gained) all))
+        (subst (λ all_gained. Exchanges all_gained (((lost ++ rest) ++ (root ∷ [])) ++ []) c world after) (append-nil (gained ++ []) ∙ append-nil gained) all))
       where
-        nothing_behind : (list : List Inode) → list ++ [] ≡ list
-        nothing_behind [] = refl
-        nothing_behind (x ∷ xs) = ap (λ rest. x ∷ rest) (nothing_behind xs)
-
         counts_alike : (test : Inode → Bool) (rest : List Inode) → times test (((lost ++ rest) ++ (root ∷ [])) ++ []) ≡ times test (lost_now ++ rest)
         counts_alike test rest =
-            let a = times_together test ((lost ++ rest) ++ (root ∷ [])) [] in
-            let b = times_together test (lost ++ rest) (root ∷ []) in
-            let c = times_together test lost rest in
-            let d = times_together test lost_now rest in
-            let e = times_together test lost (root ∷ []) in
+            let a = times_append test ((lost ++ rest) ++ (root ∷ [])) [] in
+            let b = times_append test (lost ++ rest) (root ∷ []) in
+            let c = times_append test lost rest in
+            let d = times_append test lost_now rest in
+            let e = times_append test lost (root ∷ []) in
             omega (arith, a, b, c, d, e)
 
     numbers_are : map (λ (g : Filesystem ℕ). g.number) after.filesystems ≡ map (λ (one : Shown). counted one.count) kept_left.filesystems

@@ -1,5 +1,5 @@
 -- The list of a namespace's mounts: places in it, and the filesystems that it shows, each once.
-use Rattle.std.proofs.Common.{◌≡◌, ◌<◌, true≢false, refl, sym, ap, ◌∙◌, ℕ, zero, suc, ◌+◌, Bool, true, false, not, cond, ◌||◌, nat_eq, eqb-true, eq-eqb, ne_eqb, List, [], ◌∷◌, ◌++◌, map, filter, find, length, take, get_or, position, Option, Some, None, option_map, unwrap_or, Result, Ok, Err, arith}
+use Rattle.std.proofs.Common.{◌≡◌, ◌<◌, true≢false, refl, sym, ap, ◌∙◌, ℕ, suc, ◌+◌, Bool, true, false, not, cond, ◌||◌, nat_eq, eqb-true, eq-eqb, ne_eqb, List, [], ◌∷◌, ◌++◌, map, filter, find, length, take, get_or, position, Option, Some, None, option_map, unwrap_or, arith}
 use Rattle.std.specs.Prelude.{filter_map, nat_lt}
 use Rattle.std.specs.List.{cons_option, list_all, list_any, position_or_len}
 use Rattle.std.proofs.lemmas.Bool.{lt-ltb, ltb-false, ltb-true}
@@ -153,23 +153,6 @@ pub numbered_mount : (id : MountId) (ids : List MountId) (all : List (Mount ℕ)
     → unwrap_or (place_of id.count 1 ids) 0 ≡ number_among nat_eq (map (λ (mount : Mount ℕ). mount.number) all) (counted id.count)
 numbered_mount id ids all are =
     ap (λ place. unwrap_or place 0) (places_alike id.count 1 ids all are ∙ mapped_places (counted id.count) 1 all)
-
--- the lines so far, with the next one
-module _ {A B C : Type 0} (view : C → B) (h : A → Option B) (i : ℕ) (d : A) (xs : List A) (within : i < length xs)
-    (items : List C) (so_far : map view items ≡ filter_map h (take i xs)) where
-  pub next_line : (line : C) → h (get_or xs i d) ≡ Some (view line) → map view (items ++ (line ∷ [])) ≡ filter_map h (take (i + 1) xs)
-  next_line line is =
-      map-append view items (line ∷ [])
-      ∙ (λ j. so_far j ++ cons_option (sym is j) [])
-      ∙ sym (picked_next h i d xs within)
-      ∙ ap (λ k. filter_map h (take k xs)) (let same : suc i ≡ i + 1 = omega arith in same)
-
-  pub no_line : h (get_or xs i d) ≡ None → map view items ≡ filter_map h (take (i + 1) xs)
-  no_line is =
-      so_far ∙ sym (append-nil (filter_map h (take i xs)))
-      ∙ (λ j. filter_map h (take i xs) ++ cons_option (sym is j) [])
-      ∙ sym (picked_next h i d xs within)
-      ∙ ap (λ k. filter_map h (take k xs)) (let same : suc i ≡ i + 1 = omega arith in same)
 
 -- a mount that is found is in no group
 pub one_ungrouped : (mounts : List (Mount ℕ)) → list_all (λ mount. is_ungrouped mount.propagation) mounts ≡ true → (number : ℕ) (mount : Mount ℕ)

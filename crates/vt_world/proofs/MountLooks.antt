@@ -1,5 +1,5 @@
 -- What the rules of mount calls look at, by what is counted beside the mounts.
-use Rattle.std.proofs.Common.{◌≡◌, refl, sym, ap, ◌∙◌, ⊎_elim, inl, inr, ℕ, zero, suc, ◌+◌, nat_eq, nat_lt, eqb-true, Bool, true, false, cond, ◌||◌, ◌&&◌, List, [], ◌∷◌, map, Option, Some, None, option_map, unwrap_or, arith}
+use Rattle.std.proofs.Common.{◌≡◌, refl, sym, ap, ◌∙◌, ⊎_elim, inr, ℕ, zero, suc, ◌+◌, nat_eq, nat_lt, eqb-true, Bool, true, false, cond, ◌||◌, ◌&&◌, List, [], ◌∷◌, map, Option, Some, None, option_map, unwrap_or, arith}
 use Rattle.std.specs.List.{list_any}
 use Rattle.std.proofs.lemmas.Bool.{and_parts}
 use Rattle.std.proofs.lemmas.Bool.Decides.{nat_tests}
@@ -20,6 +20,7 @@ use Rattle.vt_world.specs.Held.{CountsItsUses, IsHeld, is_ungrouped, writes_of, 
 use Rattle.vt_world.specs.WorldValue.{WorldValue, world_of}
 use Rattle.vt_world.proofs.LookLemmas.{turned}
 use Rattle.vt_world.proofs.TreesLookedAt.{or_nothing}
+use Rattle.vt_world.proofs.LostUses.{entry_found_at}
 
 either_counted : (a b : ℕ) → (nat_lt 0 a || nat_lt 0 b) ≡ nat_lt 0 (a + b)
 either_counted zero b = ap (nat_lt 0) (omega arith)
@@ -39,20 +40,7 @@ any_written mount (task ∷ rest) =
     (λ i. any_counted (writes_on mount) task.descriptors i || any_written mount rest i)
     ∙ either_counted (times (writes_on mount) task.descriptors) (writes_of mount rest)
 
--- the entry that is found by a number, or that there is none
-entry_found : (entries : List MountEntry) (number : ℕ) (entry : MountEntry) → entry_numbered entries number ≡ Some entry
-    → Among entry entries × (number ≡ entry.mount.number)
-entry_found [] number entry e = absurd cc
-entry_found (x ∷ entries) number entry e = by (nat_eq number x.mount.number) refl e (entry_found entries number entry)
-  where
-    by : (b : Bool) → nat_eq number x.mount.number ≡ b → cond b (Some x) (entry_numbered entries number) ≡ Some entry
-        → (entry_numbered entries number ≡ Some entry → Among entry entries × (number ≡ entry.mount.number))
-        → Among entry (x ∷ entries) × (number ≡ entry.mount.number)
-    by true t e rest =
-        let same : x ≡ entry = cc in
-        (inl (sym same), eqb-true number x.mount.number t ∙ ap (λ (y : MountEntry). y.mount.number) same)
-    by false t e rest = let later = rest e in (inr later.0, later.1)
-
+-- where no entry is found by a number, none has it
 entry_missing : (entries : List MountEntry) (number : ℕ) → entry_numbered entries number ≡ None
     → is_among nat_eq number (map (λ mount. mount.number) (mounts_in entries)) ≡ false
 entry_missing [] number e = refl
@@ -94,7 +82,7 @@ module _ (value : WorldValue) (held : IsHeld value) (number : ℕ) where
           → nat_lt 0 (uses_of value.mounts number) ≡ is_located nat_eq (world_of value) number
       by None e = ap (λ o. nat_lt 0 (unwrap_or (option_map (λ (entry : MountEntry). entry.uses) o) 0)) e ∙ sym (none_located e)
       by (Some entry) e =
-          let found = entry_found value.mounts number entry e in
+          let found = entry_found_at value.mounts number entry e in
           let counts = among_from_all (CountsItsUses (world_of value)) value.mounts held.mounts entry found.0 in
           ap (λ o. nat_lt 0 (unwrap_or (option_map (λ (entry : MountEntry). entry.uses) o) 0)) e
           ∙ ap (nat_lt 0) (counts.uses ∙ ap (mount_uses (world_of value)) (sym found.1))
@@ -121,7 +109,7 @@ module _ (value : WorldValue) (held : IsHeld value) (number : ℕ) where
           → nat_lt 0 (writers_of value.mounts number) ≡ is_written_through nat_eq (world_of value) number
       by None e = ap (λ o. nat_lt 0 (unwrap_or (option_map (λ (entry : MountEntry). entry.writers) o) 0)) e ∙ sym (none_written e)
       by (Some entry) e =
-          let found = entry_found value.mounts number entry e in
+          let found = entry_found_at value.mounts number entry e in
           let counts = among_from_all (CountsItsUses (world_of value)) value.mounts held.mounts entry found.0 in
           ap (λ o. nat_lt 0 (unwrap_or (option_map (λ (entry : MountEntry). entry.writers) o) 0)) e
           ∙ ap (nat_lt 0) (counts.writers ∙ ap (λ n. writes_of n value.tasks) (sym found.1))

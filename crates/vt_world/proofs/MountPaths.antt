@@ -1,5 +1,5 @@
 -- Where mounts stand, and where the trees begin that they show.
-use Rattle.std.proofs.Common.{◌≡◌, sym, ap, subst, ◌∙◌, true≢false, ℕ, ◌<◌, nat_eq, false, [], Option, Some, None, is_some, option_map, reverse, map}
+use Rattle.std.proofs.Common.{◌≡◌, sym, ap, subst, ◌∙◌, true≢false, ℕ, ◌<◌, nat_eq, false, Option, Some, None, is_some, option_map, reverse, map}
 use Rattle.std.specs.Prelude.{find}
 use Rattle.vt_spec.specs.FileTree.{ancestors, is_directory_under, own_name, path_down}
 use Rattle.vt_spec.specs.Lists.{before_first, when}
@@ -8,7 +8,7 @@ use Rattle.vt_spec.specs.Machine.Listing.{place_spot, root_spot, spot_of}
 use Rattle.vt_spec.specs.Machine.Mounts as meant
 use Rattle.vt_spec.specs.Machine.World.{Filesystem, filesystem_at, filesystem_numbered, mount_at}
 use Rattle.vt_spec.specs.TreeLaws.{IsTree}
-use Rattle.vt_letting_go.proofs.Lists.{Among, all_from_among, among_from_all}
+use Rattle.vt_letting_go.proofs.Lists.{all_from_among, among_from_all}
 use Rattle.vt_location.specs.declared.locations.Location.{Location}
 use Rattle.vt_location.specs.declared.mounts.Mount.{Mount}
 use Rattle.vt_location.specs.Locations.{location_of, number_of}

@@ -29,11 +29,13 @@ use Rattle.vt_world.specs.Held.{CountsItsUses, is_ungrouped}
 use Rattle.vt_world.specs.Uses as meant
 use Rattle.vt_world.specs.Uses.{Kept, mounts_shown, released_if}
 use Rattle.vt_world.specs.WorldValue.{WorldValue, world_of}
-use Rattle.vt_world.proofs.Going.{found_kept, map_filtered, or_all, or_nothing, positive, shown_counts}
+use Rattle.vt_world.proofs.Going.{map_filtered, or_all}
 use Rattle.vt_world.proofs.Keeping.{IsKeptBut, IsShownIn, detached_in, folded_append, lives_plainly, looked_at, pair_in_filter, points_lost, points_without}
 use Rattle.vt_world.proofs.Leaving.{found_it}
 use Rattle.vt_world.proofs.Moving.{swap_eq}
 use Rattle.vt_world.proofs.Shown.{found_entry}
+use Rattle.vt_world.proofs.LostUses.{found_unless, positive, shown_by_rule}
+use Rattle.vt_world.proofs.TreesLookedAt.{or_nothing}
 
 -- Mounts that are changed, by their numbers
 
@@ -272,7 +274,7 @@ module _ (old : WorldValue) (number : ℕ) (pending : List ℕ) (gained lost : L
           by : (b : Bool) → nat_eq mount.filesystem f.number ≡ b → not (nat_eq (mounts_showing mounted f.number) 0) ≡ stays_numbered f.number
           by true h =
               let same : mount.filesystem ≡ f.number = eqb-true mount.filesystem f.number h in
-              let counts = shown_counts mount.filesystem (mounts_showing mounted) stepped
+              let counts = shown_by_rule mount.filesystem (mounts_showing mounted) stepped
               (λ one o. let from = among-from_map step k.filesystems one o in
               let s = step_is from.0 from.1 in
               ap (λ (x : Shown). x.mounts) from.2 ∙ s.2
@@ -319,7 +321,7 @@ module _ (old : WorldValue) (number : ℕ) (pending : List ℕ) (gained lost : L
           let first = subst (λ inode. Exchanges [] (inode ∷ []) n world mounted) root_is
           (Roots.mounts_leave_their_roots world number is.stand is.located there unused_so n) in
           let second = others_use_nothing mounted remaining n is.plain plain_remaining refl refl
-          (found_kept (λ (f : Filesystem ℕ). stays_numbered f.number) world.filesystems n (λ x m f. ap stays_numbered f ∙ stays)) in
+          (found_unless (λ (f : Filesystem ℕ). stays_numbered f.number) world.filesystems n (λ x m f. ap stays_numbered f ∙ stays)) in
           record {
             same = second.same ∙ first.same;
             uses = λ one. let a = first.uses one in let b = second.uses one in omega (arith, a, b);

@@ -7,7 +7,7 @@ use Rattle.std.proofs.lemmas.List.{append-nil}
 use Rattle.vt_spec.specs.Language.Calls.{TaskName}
 use Rattle.vt_spec.specs.Lists.{Fresh, any_pair, folded}
 use Rattle.vt_spec.specs.Machine.Attach.{Copies, Twig, attach, copies_from, masters_with, twig_master}
-use Rattle.vt_spec.specs.Machine.Mounts.{Location, Mount, Propagation, children, group_of, mount_tree, no_mount, replaced_if_same, tree_from, with_mount}
+use Rattle.vt_spec.specs.Machine.Mounts.{Location, Mount, Propagation, children, mount_tree, no_mount, replaced_if_same, tree_from, with_mount}
 use Rattle.vt_spec.specs.Machine.Mounts.Propagation.{Private, Shared, Slave, Unbindable}
 use Rattle.vt_spec.specs.Machine.Permits.Permit.{ToMove}
 use Rattle.vt_spec.specs.Machine.World.{Filesystem, World, filesystem_numbered, is_directory_at, mount_at, mount_numbered, node_at}
@@ -50,6 +50,7 @@ use Rattle.vt_world.proofs.Remaining.{remade}
 use Rattle.vt_world.proofs.Staying.{IsDone}
 use Rattle.vt_world.proofs.TypesSet.{attached_free, attached_named}
 use Rattle.vt_world.proofs.UnbindableBelow.{in_tree}
+use Rattle.vt_world.proofs.Ungrouped.{no_group}
 
 -- the mount of a location stands at another mount point
 abbrev pub placed_at : Location ℕ → Mount ℕ → Mount ℕ
@@ -63,13 +64,6 @@ places_keep place = record {
   root = λ mount. refl;
   ungrouped = λ mount free. free;
 }
-
--- no mount of a world is in a group
-pub alone : (kind : Propagation ℕ) → is_ungrouped kind ≡ true → group_of kind ≡ None
-alone (Shared group) e = absurd (true≢false (sym e))
-alone (Slave master) e = refl
-alone Private e = refl
-alone Unbindable e = refl
 
 tree_begins : (fuel : ℕ) (mounts : List (Mount ℕ)) (top : Mount ℕ) → (rest : List (Mount ℕ)) × (tree_from nat_eq fuel mounts top ≡ top ∷ rest)
 tree_begins zero mounts top = ([], refl)
@@ -219,7 +213,7 @@ module _ (value : WorldValue) (held : IsHeld value) (number namespace : ℕ) (pl
       ≡ next_of value held number (placed_at place) (places_keep place)
   tree_moved fresh =
       let begins = tree_begins (length mounts) mounts top in
-      let free_dest = alone (mount_at nat_eq world place).propagation (attached_free value held place.mount namespace there) in
+      let free_dest = no_group (mount_at nat_eq world place).propagation (attached_free value held place.mount namespace there) in
       let new = copies_from nat_eq fresh (mount_at nat_eq world place ∷ []) (top ∷ begins.0) in
       ap (λ list. attach nat_eq world fresh place true list) begins.1
       ∙ at_destination world place (top ∷ begins.0) free_dest true fresh

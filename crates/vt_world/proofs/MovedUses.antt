@@ -1,11 +1,11 @@
 -- What code counts once mounts are attached and a task's root and working directory have gone to them.
-use Rattle.std.proofs.Common.{◌≡◌, ◌≤◌, refl, sym, ap, subst, ◌∙◌, ⊎_elim, inl, inr, ℕ, ◌+◌, ◌-◌, nat_eq, eqb-true, eq-eqb, Bool, true, false, true≢false, cond, ◌&&◌, ◌||◌, List, [], ◌∷◌, ◌++◌, map, flat_map, arith}
-use Rattle.std.specs.List.{list_all, list_any}
+use Rattle.std.proofs.Common.{◌≡◌, ◌≤◌, refl, sym, ap, subst, ◌∙◌, ⊎_elim, inl, inr, ℕ, ◌+◌, nat_eq, eqb-true, Bool, true, false, cond, ◌&&◌, List, [], ◌∷◌, ◌++◌, map, arith}
+use Rattle.std.specs.List.{list_any}
 use Rattle.std.proofs.lemmas.Bool.{or_parts}
 use Rattle.std.proofs.lemmas.List.{map-append}
 use Rattle.vt_spec.specs.Lists.{any_pair, is_among}
 use Rattle.vt_spec.specs.Machine.Mounts.{Location, Mount}
-use Rattle.vt_spec.specs.Machine.World.{Descriptor, Task, World, all_locations, locations_of}
+use Rattle.vt_spec.specs.Machine.World.{Descriptor, World, all_locations, locations_of}
 use Rattle.vt_count_laws.proofs.MountRoots as Roots
 use Rattle.vt_letting_go.specs.Counts.{mount_uses, times}
 use Rattle.vt_letting_go.proofs.Lists.{Among, among-append, among-append_right, among-from_map, among-map, among_from_all, among_numbers, fails, map_alike, map_twice, passes}
@@ -14,12 +14,13 @@ use Rattle.vt_location.specs.MountValue.{mount_of}
 use Rattle.vt_mount.specs.MountsValue.{MountEntry, changed, held, mounts_in, released}
 use Rattle.vt_task.specs.Counts.{locations_in, one_if}
 use Rattle.vt_task.specs.TasksValue.{Tasks}
+use Rattle.vt_letting_go.proofs.UpperUses.{times_append}
 use Rattle.vt_world.specs.Copying.{with_use_moved}
 use Rattle.vt_world.specs.Held.{CountsItsUses, IsHeld, writes_of, writes_on}
 use Rattle.vt_world.specs.Uses.{unused_entry}
 use Rattle.vt_world.specs.WorldValue.{WorldValue, world_of}
 use Rattle.vt_world.proofs.AddedBegins.{IsAdded}
-use Rattle.vt_world.proofs.LostUses.{OneNumber, times_together}
+use Rattle.vt_world.proofs.LostUses.{OneNumber}
 use Rattle.vt_world.proofs.Moving.{swap_eq}
 
 -- One use goes from a mount to another
@@ -106,7 +107,7 @@ writes_below : (n : ℕ) (tasks : Tasks) → writes_of n tasks ≤ times (λ loc
 writes_below n [] = omega arith
 writes_below n (task ∷ tasks) =
     let rest = writes_below n tasks in
-    let all = times_together (λ (location : Location ℕ). nat_eq n location.mount) (locations_of task) (locations_in tasks) in
+    let all = times_append (λ (location : Location ℕ). nat_eq n location.mount) (locations_of task) (locations_in tasks) in
     let own = files task.descriptors in
     omega (arith, rest, all, own)
   where
@@ -160,7 +161,7 @@ module _ (value : WorldValue) (whole : IsHeld value) (copies : List Attached) (t
   enough : (n : ℕ) → one_if (nat_eq n root.mount) + one_if (nat_eq n directory.mount) ≤ mount_uses world n
   enough n =
       let all = ap (times (λ (l : Location ℕ). nat_eq n l.mount)) is.was in
-      let a = times_together (λ (l : Location ℕ). nat_eq n l.mount) is.front ((root ∷ directory ∷ []) ++ is.back) in
+      let a = times_append (λ (l : Location ℕ). nat_eq n l.mount) is.front ((root ∷ directory ∷ []) ++ is.back) in
       omega (arith, all, a)
 
   pub record EndsAs (was entry : MountEntry) : Type 0 where

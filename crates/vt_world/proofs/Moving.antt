@@ -186,6 +186,10 @@ pub record Moves (value : WorldValue) (tasks : Tasks) (more less : List Use) : T
   pub there : list_all (is_located_well nat_eq (world_of value)) (locations more) ≡ true
   pub writes : (mount : ℕ) → writes_of mount value.tasks + times (writes_on_mount mount) more ≡ writes_of mount tasks + times (writes_on_mount mount) less
 
+pub times_mapped : (mount : ℕ) (uses : List Use) → times (λ location. nat_eq mount location.mount) (locations uses) ≡ times (is_use_on mount) uses
+times_mapped mount [] = refl
+times_mapped mount (held_use ∷ uses) = ap (λ rest. cond (is_use_on mount held_use) 1 0 + rest) (times_mapped mount uses)
+
 module _ (value : WorldValue) (whole : IsHeld value) (tasks : Tasks) (more less : List Use) (moves : Moves value tasks more less) where
   abbrev world : World ℕ
   world = world_of value
@@ -213,10 +217,6 @@ module _ (value : WorldValue) (whole : IsHeld value) (tasks : Tasks) (more less 
       still : (location : Location ℕ) → Among location (moves.front ++ (locations more ++ moves.back))
           → (is_location_among (all_locations next) location || is_location_among (locations less) location) ≡ true
       still location m = or_first _ _ (found (all_locations next) location (subst (λ all. Among location all) (sym moves.is) m))
-
-  times_mapped : (mount : ℕ) (uses : List Use) → times (λ location. nat_eq mount location.mount) (locations uses) ≡ times (is_use_on mount) uses
-  times_mapped mount [] = refl
-  times_mapped mount (held_use ∷ uses) = ap (λ rest. cond (is_use_on mount held_use) 1 0 + rest) (times_mapped mount uses)
 
   -- the counts of an entry once the tasks are there
   pub entry_counts : (entry : MountEntry) → Among entry value.mounts → CountsItsUses next (folded release_if (folded hold_if entry more) less)

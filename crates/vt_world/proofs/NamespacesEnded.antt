@@ -2,13 +2,13 @@
 use Rattle.std.proofs.Common.{◌≡◌, ◌≢◌, refl, sym, ap, subst, ◌∙◌, ⊎_elim, inl, inr, ℕ, ◌+◌, ◌-◌, nat_eq, nat_lt, eqb-true, eq-eqb, Bool, true, false, true≢false, cond, not, ◌&&◌, ◌||◌, List, [], ◌∷◌, map, filter, find, Option, Some, None, is_some, arith}
 use Rattle.std.specs.Prelude.{All, nat_le, option_map, option_to_list}
 use Rattle.std.specs.List.{list_all, list_any}
-use Rattle.std.proofs.lemmas.Bool.{and_parts, eqb-false, leb-false, leb-true, lt-ltb}
+use Rattle.std.proofs.lemmas.Bool.{and_parts, leb-false, leb-true, lt-ltb}
 use Rattle.std.proofs.lemmas.Option.{same_Some}
 use Rattle.vt_spec.specs.Lists.{chain, holds_of, is_among, last_or}
 use Rattle.vt_spec.specs.Machine.Detach.{after_going, is_going, mount_point_left, mount_point_of_parent, taken_away}
 use Rattle.vt_spec.specs.Machine.Mounts.{Location, Mount, Propagation, detached, mount_in, source_of}
 use Rattle.vt_spec.specs.Machine.Mounts.Propagation.{Private, Shared, Slave, Unbindable}
-use Rattle.vt_spec.specs.Machine.Namespaces.{has_tasks, is_in_ended, namespaces_ended}
+use Rattle.vt_spec.specs.Machine.Namespaces.{has_tasks, is_in_ended}
 use Rattle.vt_spec.specs.Machine.Receives.{is_lost_group, lost_a_group, regrouped, regrouped_by}
 use Rattle.vt_spec.specs.Machine.World.{Namespace, Task, World, mount_at, mount_numbered, with_mounts}
 use Rattle.vt_spec.specs.Machine.WorldLaws.{is_listed}
@@ -16,15 +16,13 @@ use Rattle.vt_letting_go.specs.Counts.{times}
 use Rattle.vt_letting_go.proofs.Lists.{Among, all_from_among, among-append, among-from_filter, among-from_map, among-map, among_numbers, any_passes, filter-map, filter_alike, filter_all, is_among_numbers, map_alike, none_passes, passes}
 use Rattle.vt_letting_go.proofs.PlacesLeft.{found_itself}
 use Rattle.vt_location.specs.Numbers.{counted}
-use Rattle.vt_mount.specs.MountsValue.{MountEntry, mounts_in}
 use Rattle.vt_task.specs.TasksValue.{Tasks}
-use Rattle.vt_world.specs.Held.{CountsWhatIsInIt, IsHeld, is_ungrouped}
+use Rattle.vt_world.specs.Held.{CountsWhatIsInIt, is_ungrouped}
 use Rattle.vt_world.specs.NamespacesLeft.{entries_left, has_one_task, left_if, namespace_entry, one_task_less, with_one_task_less}
-use Rattle.vt_world.specs.WorldValue.{NamespaceEntry, WorldValue, namespace_of, world_of}
-use Rattle.vt_world.proofs.LostUses.{OneNumber}
+use Rattle.vt_world.specs.WorldValue.{NamespaceEntry, namespace_of}
+use Rattle.vt_world.proofs.LostUses.{OneNumber, positive}
 use Rattle.vt_world.proofs.Midway.{gone_if}
 use Rattle.vt_world.proofs.Shown.{counted_eq}
-use Rattle.vt_world.proofs.Staying.{after}
 
 -- Where no mount is grouped, no group is lost
 
@@ -143,13 +141,6 @@ module _ (count : ℕ) (tasks : Tasks) (entries : List NamespaceEntry) (counts :
 
   abbrev pub ends : Bool
   ends = ends_by (namespace_entry count entries)
-
-  positive : (a : ℕ) → nat_lt 0 a ≡ not (nat_eq a 0)
-  positive a = by (nat_eq a 0) refl
-    where
-      by : (b : Bool) → nat_eq a 0 ≡ b → nat_lt 0 a ≡ not b
-      by true e = ap (nat_lt 0) (eqb-true a 0 e)
-      by false e = let some : a ≢ 0 = eqb-false a 0 e in lt-ltb 0 a (omega (arith, some))
 
   -- where it is found or not
   found_in : (all : List NamespaceEntry) (o : Option NamespaceEntry) → namespace_entry count all ≡ o

@@ -1,21 +1,19 @@
 -- A filesystem that is new: one empty directory, with a number that no other has.
-use Rattle.std.proofs.Common.{◌≡◌, refl, sym, ap, subst, ◌∙◌, inl, inr, ⊎_elim, ℕ, ◌+◌, ◌<◌, ◌%◌, ◌/◌, ◌==◌, nat_eq, eq-eqb, eqb-true, nat_lt, Bool, true, false, true≢false, cond, not, ◌&&◌, ◌||◌, List, [], ◌∷◌, ◌++◌, map, flat_map, find, Option, Some, None, if◌then◌else◌, arith}
-use Rattle.std.specs.Prelude.{All, filter}
+use Rattle.std.proofs.Common.{◌≡◌, refl, sym, ap, subst, ◌∙◌, inl, inr, ⊎_elim, ℕ, ◌<◌, ◌%◌, ◌/◌, ◌==◌, nat_eq, eq-eqb, eqb-true, nat_lt, Bool, true, false, true≢false, cond, not, ◌&&◌, ◌||◌, List, [], ◌∷◌, ◌++◌, map, flat_map, Some, None, arith}
+use Rattle.std.specs.Prelude.{All}
 use Rattle.std.proofs.lemmas.Bool.{ltb-true, ne_eqb}
-use Rattle.vt_spec.specs.declared.attributes.Attr.{Attr}
-use Rattle.vt_spec.specs.Machine.Mounts as meant
 use Rattle.vt_spec.specs.Machine.Run.{used_by_filesystem, used_by_mount}
-use Rattle.vt_spec.specs.Machine.World.{Filesystem, Namespace, root_attr}
-use Rattle.vt_spec.specs.OneTree.Inodes.{Inodes, one_directory}
+use Rattle.vt_spec.specs.Machine.World.{Namespace, root_attr}
+use Rattle.vt_spec.specs.OneTree.Inodes.{Inodes}
 use Rattle.vt_count_laws.specs.Using.{root_counted}
-use Rattle.vt_fs.specs.FilesystemsValue.{FilesystemEntry, Filesystems, IsNew, entry_of, filesystem_seen, filesystems_seen, inodes_seen, without}
+use Rattle.vt_fs.specs.FilesystemsValue.{FilesystemEntry, Filesystems, IsNew, entry_of, filesystem_seen, inodes_seen, without}
 use Rattle.vt_laws.proofs.Supports.{used_numbers_are_named}
-use Rattle.vt_letting_go.proofs.Lists.{Among, all_from_among, among-append, among-append_left, among-append_right, among-flat_map, among-map, among_from_all, filter_all, filter_here, filter_skip, is_among_numbers}
+use Rattle.vt_letting_go.proofs.Lists.{Among, all_from_among, among-append, among-append_left, among-append_right, among-flat_map, among-map, among_from_all, filter_here, filter_skip, is_among_numbers}
 use Rattle.vt_location.specs.Numbers.{counted, inode_number, is_inode_of}
 use Rattle.vt_location.proofs.NumberLemmas.{is_inode}
 use Rattle.vt_run_laws.specs.Handed.{is_counted_before}
 use Rattle.vt_world.specs.Held.{HasOwnInodes, IsHeld}
-use Rattle.vt_world.specs.WorldValue.{WorldValue, namespace_of, world_of}
+use Rattle.vt_world.specs.WorldValue.{WorldValue, world_of}
 use Rattle.vt_world.proofs.FilesSeen.{two_left_out}
 use Rattle.vt_world.proofs.OwnInodesKept.{IsOwn}
 

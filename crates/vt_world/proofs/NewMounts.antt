@@ -1,27 +1,27 @@
 -- The event that mounts a new filesystem: mount(2) of a tmpfs.
-use Rattle.std.proofs.Common.{◌≡◌, ◌⊎◌, refl, sym, ap, subst, ◌∙◌, inl, inr, ⊎_elim, ℕ, ◌+◌, ◌*◌, ◌<◌, ◌%◌, ◌==◌, nat_eq, eq-eqb, Bool, true, false, cond, not, ◌&&◌, ◌||◌, List, [], ◌∷◌, ◌++◌, map, find, Option, Some, None, option_map, is_some, arith}
-use Rattle.std.specs.Prelude.{All, filter_map, unwrap_or}
+use Rattle.std.proofs.Common.{◌≡◌, ◌⊎◌, refl, sym, ap, subst, ◌∙◌, inl, inr, ⊎_elim, ℕ, ◌+◌, ◌*◌, ◌<◌, ◌%◌, ◌==◌, nat_eq, eq-eqb, true, false, cond, not, ◌||◌, List, [], ◌∷◌, ◌++◌, map, Some, is_some, arith}
+use Rattle.std.specs.Prelude.{filter_map}
 use Rattle.std.specs.List.{list_all}
 use Rattle.std.proofs.lemmas.Bool.{and_parts, ne_eqb}
 use Rattle.std.proofs.lemmas.List.{map-append}
 use Rattle.vt_spec.specs.Language.Calls.{TaskName}
-use Rattle.vt_spec.specs.Lists.{Fresh, evens, is_among, odds}
+use Rattle.vt_spec.specs.Lists.{Fresh, is_among, odds}
 use Rattle.vt_spec.specs.Machine.Attach.{copies_from}
 use Rattle.vt_spec.specs.Machine.Mounts as meant
 use Rattle.vt_spec.specs.Machine.Mounts.Propagation.{Private as MeansPrivate}
 use Rattle.vt_spec.specs.Machine.Outcome.Mounting.{mounted, new_mount, plain_filesystem, with_new_filesystem}
 use Rattle.vt_spec.specs.Machine.Permits.{Permit}
 use Rattle.vt_spec.specs.Machine.Permits.Permit.{ToMountPlain}
-use Rattle.vt_spec.specs.Machine.World.{Filesystem, World, all_locations, filesystem_numbered, mount_at, new_plain, node_at, root_attr}
+use Rattle.vt_spec.specs.Machine.World.{Filesystem, World, all_locations, filesystem_numbered, mount_at, new_plain, root_attr}
 use Rattle.vt_spec.specs.Machine.WorldLaws.{IsWorld, has_its_root, is_located_well}
-use Rattle.vt_spec.specs.OneTree.Inodes.{Inodes, pinned}
+use Rattle.vt_spec.specs.OneTree.Inodes.{pinned}
 use Rattle.vt_count_laws.specs.Counted.{IsCounted, IsPlain}
 use Rattle.vt_count_laws.specs.Using.{Exchanges, is_on, is_outside, one_counted, pinned_if, places_of}
 use Rattle.vt_count_laws.proofs.MountRoots as Roots
 use Rattle.vt_count_laws.proofs.MountRoots.{places_stand}
 use Rattle.vt_count_laws.proofs.Places.{exchanges_follow, new_tree_is_counted, others_use_nothing}
 use Rattle.vt_fs.specs.FilesystemsValue.{FilesystemEntry, Filesystems, IsNew, Shown, filesystem_seen, filesystems_seen, inodes_seen, shown_entry}
-use Rattle.vt_letting_go.specs.Counts.{mounts_showing, times}
+use Rattle.vt_letting_go.specs.Counts.{mounts_showing}
 use Rattle.vt_letting_go.proofs.AttachedSwept.{new_mounts_of_trees_keep_all}
 use Rattle.vt_letting_go.proofs.Lists.{Among, all_pass, among-append, among-append_left, among-append_right, among-filter_map, among-from_filter_map, among-from_map, among-map, among_from_all, among_numbers, passes}
 use Rattle.vt_letting_go.proofs.OfWorlds.{mounts_of_worlds_stand}
@@ -38,14 +38,16 @@ use Rattle.vt_mount.specs.MountsValue.{MountEntry, are_ascending, mounts_in}
 use Rattle.vt_permit_laws.proofs.TakenAttached.{copy_by, destination, twigs}
 use Rattle.vt_run_laws.specs.Handed.{handed_from}
 use Rattle.vt_world_laws.proofs.RaisedInUse.{worlds_are_in_use}
+use Rattle.vt_letting_go.proofs.UpperUses.{times_append}
+use Rattle.vt_world_laws.proofs.Roots.{directory_there}
 use Rattle.vt_world.specs.Events.{Permits, left_by}
-use Rattle.vt_world.specs.Held.{CountsItsMounts, HasOwnInodes, IsHeld, is_ungrouped}
+use Rattle.vt_world.specs.Held.{CountsItsMounts, HasOwnInodes, IsHeld}
 use Rattle.vt_world.specs.Room.{has_small_slots}
 use Rattle.vt_world.specs.Uses.{inode_of, kept, with_attached}
 use Rattle.vt_world.specs.WorldValue.{WorldValue, world_of}
-use Rattle.vt_world.proofs.AddedUses.{IsFoundIn, gained_by, mounts_are_gained, times_append, with_mounts_on}
+use Rattle.vt_world.proofs.AddedUses.{IsFoundIn, gained_by, mounts_are_gained, with_mounts_on}
 use Rattle.vt_world.proofs.AttachedCounts.{attached_counts, attached_value, lower_numbers, mounts_are, times_none}
-use Rattle.vt_world.proofs.AttachedWorlds.{directory_is_there, new_found, new_uses_there, old_is_counted, same_numbers, shown_was}
+use Rattle.vt_world.proofs.AttachedWorlds.{new_found, new_uses_there, old_is_counted, same_numbers, shown_was}
 use Rattle.vt_world.proofs.Binding.{only_index}
 use Rattle.vt_world.proofs.EnteringLemmas.{ascending_joined}
 use Rattle.vt_world.proofs.FileEvents.{permit_fits}
@@ -169,7 +171,7 @@ module _ (value : WorldValue) (whole : IsHeld value) (name : TaskName) (place : 
   others_elsewhere other m =
       let root = (and_parts _ _ (passes (has_its_root nat_eq world) world.mounts whole.in_world.roots other m)).0 in
       let seen = seen_in value.filesystems whole.own_inodes other.filesystem other.root
-      (directory_is_there ((filesystem_numbered nat_eq world other.filesystem).files.tree.node other.root) root) in
+      (directory_there ((filesystem_numbered nat_eq world other.filesystem).files.tree.node other.root) root) in
       let low = filesystem_counted value whole seen.entry seen.among in
       let is = seen.number_is in
       ne_eqb (counted value.next) other.filesystem (λ same. absurd (omega (arith, low, is, same)))

@@ -10,7 +10,7 @@ use Rattle.vt_fs.specs.FilesystemsValue.{Filesystems, entry_of, filesystem_seen,
 use Rattle.vt_fs.specs.Laws.{FilesystemsAreFound, NumbersAreApart, NumbersAreListed}
 use Rattle.vt_location.proofs.NumberLemmas.{counted_test, exchanged_back}
 
-one_test : (a b : Bool) → (a ≡ true → b ≡ true) → (b ≡ true → a ≡ true) → a ≡ b
+pub one_test : (a b : Bool) → (a ≡ true → b ≡ true) → (b ≡ true → a ≡ true) → a ≡ b
 one_test true b there back = sym (there refl)
 one_test false true there back = back refl
 one_test false false there back = refl

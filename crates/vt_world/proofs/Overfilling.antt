@@ -24,7 +24,7 @@ use Rattle.vt_world_laws.proofs.FewMounts.{count, is_in, none_counted, shrinks_f
 use Rattle.vt_world.specs.Held.{IsHeld, is_ungrouped}
 use Rattle.vt_world.specs.Looking.{has_too_many_with, overfills_of}
 use Rattle.vt_world.specs.WorldValue.{WorldValue, world_of}
-use Rattle.vt_world.proofs.MountsMoved.{alone}
+use Rattle.vt_world.proofs.Ungrouped.{no_group}
 
 pub map_itself : (list : List (Mount ℕ)) → map (λ (mount : Mount ℕ). mount) list ≡ list
 map_itself [] = refl
@@ -62,7 +62,7 @@ module _ (value : WorldValue) (held : IsHeld value) where
       ⊎_elim
       (λ m.
       let from = among-from_map (λ (entry : MountEntry). entry.mount) value.mounts (mount_numbered nat_eq world number) m in
-      alone (mount_numbered nat_eq world number).propagation
+      no_group (mount_numbered nat_eq world number).propagation
       (ap (λ (mount : Mount ℕ). is_ungrouped mount.propagation) from.2
       ∙ among_from_list_all (λ (entry : MountEntry). is_ungrouped entry.mount.propagation) value.mounts held.ungrouped from.0 from.1))
       (λ none. ap (λ (mount : Mount ℕ). group_of mount.propagation) none)
@@ -79,7 +79,7 @@ module _ (value : WorldValue) (held : IsHeld value) where
       ∙ among_from_list_all (λ (x : Mount ℕ). list_all (is_listed nat_eq world) (option_to_list x.namespace)) mounts held.in_world.namespaces.mounts_listed
       (mount_numbered nat_eq world number) m)).0
 
-  -- Where the counts of namespaces rise in one alone, and by so many
+  -- Where the counts of namespaces rise in one no_group, and by so many
 
   pub rises : (after : World ℕ) → after.namespaces ≡ (world_of value).namespaces → (number more : ℕ)
       → ((namespace : ℕ) → count after.mounts namespace

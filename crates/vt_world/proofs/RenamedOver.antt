@@ -1,15 +1,13 @@
 -- The event that renames, with the mounts on what is replaced: rename(2).
-use Rattle.std.proofs.Common.{◌≡◌, ◌≢◌, refl, sym, ap, subst, ◌∙◌, inl, true, true≢false, ℕ, nat_eq, eq-eqb, eqb-true, ◌&&◌, List, [], ◌∷◌, map, flat_map, length, Option, None, Some, option_map}
+use Rattle.std.proofs.Common.{◌≡◌, ◌≢◌, refl, sym, ap, subst, ◌∙◌, true, ℕ, nat_eq, ◌&&◌, List, [], ◌∷◌, Option, None, Some, option_map}
 use Rattle.std.specs.Prelude.{IfSome, option_to_list}
-use Rattle.std.specs.List.{list_any}
-use Rattle.std.proofs.lemmas.Bool.{and_parts}
 use Rattle.std.proofs.lemmas.Option.{same_Some}
 use Rattle.vt_spec.specs.Language.Calls.{TaskName}
 use Rattle.vt_spec.specs.Language.Changes.{Change}
 use Rattle.vt_spec.specs.Language.Changes.Change.{Move}
-use Rattle.vt_spec.specs.Lists.{Fresh, holds_of}
+use Rattle.vt_spec.specs.Lists.{Fresh}
 use Rattle.vt_spec.specs.Machine.Apply.{apply}
-use Rattle.vt_spec.specs.Machine.Detach.{is_point, mounts_on, points_of}
+use Rattle.vt_spec.specs.Machine.Detach.{mounts_on}
 use Rattle.vt_spec.specs.Machine.Filesystems.{with_change}
 use Rattle.vt_spec.specs.Machine.Mounts as meant
 use Rattle.vt_spec.specs.Machine.Mounts.{Mount, mount_tree}
@@ -21,17 +19,15 @@ use Rattle.vt_spec.specs.TreeLaws.{entry_at}
 use Rattle.vt_fs.specs.FilesystemsValue.{ChangesInodes, Filesystems, inodes_seen}
 use Rattle.vt_spec.specs.OneTree.Inodes.{changed}
 use Rattle.vt_letting_go.specs.FileChanges.{names_lost}
-use Rattle.vt_letting_go.proofs.Lists.{Among, among-from_filter, filter_alike}
-use Rattle.vt_letting_go.proofs.PlacesLeft.{found_itself}
+use Rattle.vt_letting_go.proofs.Lists.{Among}
 use Rattle.vt_location.specs.declared.locations.Location.{Location}
 use Rattle.vt_location.specs.Locations.{location_of, number_of}
-use Rattle.vt_location.specs.Numbers.{counted}
-use Rattle.vt_mount.specs.MountsValue.{MountEntry, mounts_in, stands_over}
+use Rattle.vt_mount.specs.MountsValue.{MountEntry, mounts_in}
 use Rattle.vt_permit_laws.specs.Named.{permit_named}
 use Rattle.vt_permit_laws.specs.Sees.{MayBeRenamed}
 use Rattle.vt_run_laws.specs.Handed.{is_counted_before}
 use Rattle.vt_world_laws.specs.Worlds.Permits.{IsReached, NamesWhatIsThere}
-use Rattle.vt_world.specs.Detached.{LeaveInTurn, tree_numbers, trees_of_replaced}
+use Rattle.vt_world.specs.Detached.{LeaveInTurn, trees_of_replaced}
 use Rattle.vt_world.specs.Events.{Permits}
 use Rattle.vt_world.specs.Held.{IsHeld}
 use Rattle.vt_world.specs.Uses.{kept}
@@ -40,21 +36,18 @@ use Rattle.vt_world.proofs.ChangedFiles.{ChangesFiles}
 use Rattle.vt_world.proofs.ChangedWithMounts.{changed_then_detached, nothing_goes}
 use Rattle.vt_world.proofs.DetachingBegins.{HasChildrenOf, detached_world}
 use Rattle.vt_world.proofs.DetachingEnds.{held_is_kept, taken_is_detached}
-use Rattle.vt_world.proofs.DirectoryRemoved.{tree_by_numbers, trees_are_some}
 use Rattle.vt_world.proofs.FileEvents.{IsSmall}
 use Rattle.vt_world.proofs.FileRenaming as Renaming
 use Rattle.vt_world.proofs.FilesSeen.{inodes_named}
-use Rattle.vt_world.proofs.Going.{or_nothing}
-use Rattle.vt_world.proofs.LazilyUnmounted.{to_spec, trees_have_children, trees_numbers}
-use Rattle.vt_world.proofs.LocationsSeen.{seen_where_located}
-use Rattle.vt_world.proofs.LookLemmas.{point_seen, points_are}
+use Rattle.vt_world.proofs.LazilyUnmounted.{trees_have_children, trees_numbers}
+use Rattle.vt_world.proofs.MountsOn.{none_on, one_on, tops_on, trees_collected}
 use Rattle.vt_world.proofs.Moving.{map_itself}
 use Rattle.vt_world.proofs.Remaining.{remade}
 use Rattle.vt_world.proofs.Staying.{IsDone}
 
-abbrev pub tops_on : WorldValue → Option Location → List (Mount ℕ)
-tops_on value None = []
-tops_on value (Some other) = mounts_on nat_eq (world_of value) (location_of other)
+abbrev pub tops_on_replaced : WorldValue → Option Location → List (Mount ℕ)
+tops_on_replaced value None = []
+tops_on_replaced value (Some other) = tops_on value other
 
 module _ (value : WorldValue) (held : IsHeld value) (name : TaskName) (from : Location) (old : List ℕ) (to : Location) (new : List ℕ)
     (object : Location) (replaced : Option Location) (small : IsSmall from) (small_to : IsSmall to) (small_object : IsSmall object)
@@ -70,7 +63,7 @@ module _ (value : WorldValue) (held : IsHeld value) (name : TaskName) (from : Lo
   change = Move (number_of from.node) old (number_of to.node) new (number_of object.node)
 
   abbrev gone : List ℕ
-  gone = trees_numbers world (tops_on value replaced)
+  gone = trees_numbers world (tops_on_replaced value replaced)
 
   names : NamesWhatIsThere world permits.task permit
   names = Renaming.names value held name from old to new object replaced small small_to small_object permits
@@ -83,40 +76,25 @@ module _ (value : WorldValue) (held : IsHeld value) (name : TaskName) (from : Lo
     where
       by : (o : Option Location) → IfSome o IsSmall
           → ((other : meant.Location ℕ) → option_map location_of o ≡ Some other → IsReached (world_of value) permits.task other)
-          → trees_of_replaced (mounts_in value.mounts) o ≡ trees_numbers (world_of value) (tops_on value o)
+          → trees_of_replaced (mounts_in value.mounts) o ≡ trees_numbers (world_of value) (tops_on_replaced value o)
       by None few there = refl
-      by (Some other) few there =
-          ap (λ all. flat_map (tree_numbers (mounts_in value.mounts)) (map (λ (mount : Mount ℕ). mount.number) all))
-          (sym (filter_alike (λ mount. list_any (λ (point : ℕ × ℕ). is_point nat_eq (world_of value) point.0 point.1 mount) (points_of nat_eq (world_of value) (location_of other)))
-          (stands_over (number_of other.node)) (mounts_in value.mounts)
-          (λ mount m. point_seen value held other few mount (to_spec mount (mounts_in value.mounts) m)
-          ∙ ap (λ b. b && stands_over (number_of other.node) mount)
-          (eq-eqb (mount_at nat_eq (world_of value) (location_of other)).filesystem (counted other.node.filesystem.count)
-          (seen_where_located value held other few (there (location_of other) refl).there)))))
-          ∙ tree_by_numbers (mounts_in value.mounts) (mounts_on nat_eq (world_of value) (location_of other)) (λ top m.
-          found_itself (mounts_in value.mounts) held.in_world.mounts.one_number top
-          (among-from_filter (λ mount. list_any (λ (point : ℕ × ℕ). is_point nat_eq (world_of value) point.0 point.1 mount) (points_of nat_eq (world_of value) (location_of other))) (mounts_in value.mounts) top m).0)
-
-  none_on : (all : List (Mount ℕ)) → trees_numbers world all ≡ [] → all ≡ []
-  none_on [] e = refl
-  none_on (top ∷ rest) e =
-      absurd (trees_are_some (length world.mounts) world.mounts top (flat_map (mount_tree nat_eq world.mounts) rest) e)
+      by (Some other) few there = trees_collected value held other few (there (location_of other) refl).there
 
   pub nothing_on_replaced : gone ≡ [] → IfSome replaced (λ other. mounts_on nat_eq (world_of value) (location_of other) ≡ [])
   nothing_on_replaced none = by replaced none
     where
-      by : (o : Option Location) → trees_numbers (world_of value) (tops_on value o) ≡ [] → IfSome o (λ other. mounts_on nat_eq (world_of value) (location_of other) ≡ [])
+      by : (o : Option Location) → trees_numbers (world_of value) (tops_on_replaced value o) ≡ [] → IfSome o (λ other. mounts_on nat_eq (world_of value) (location_of other) ≡ [])
       by None e = tt
-      by (Some other) e = none_on (mounts_on nat_eq (world_of value) (location_of other)) e
+      by (Some other) e = none_on world (tops_on value other) e
 
   closed : HasChildrenOf gone world.mounts
-  closed = trees_have_children world held.in_world.mounts (tops_on value replaced)
+  closed = trees_have_children world held.in_world.mounts (tops_on_replaced value replaced)
 
-  taken : (o : Option Location) → without_replaced nat_eq world (option_map location_of o) ≡ detached_world (trees_numbers world (tops_on value o)) world
+  taken : (o : Option Location) → without_replaced nat_eq world (option_map location_of o) ≡ detached_world (trees_numbers world (tops_on_replaced value o)) world
   taken None = ap (with_mounts world) (map_itself world.mounts)
   taken (Some other) =
-      taken_is_detached world (trees_numbers world (tops_on value (Some other))) (held_is_kept value held).ungrouped
-      (trees_have_children world held.in_world.mounts (tops_on value (Some other)))
+      taken_is_detached world (trees_numbers world (tops_on value other)) (held_is_kept value held).ungrouped
+      (trees_have_children world held.in_world.mounts (tops_on value other))
 
   applied : (supply : Fresh ℕ) → (apply nat_eq supply world permits.task permit).world ≡ with_change nat_eq supply (detached_world gone world) (location_of from) change
   applied supply = ap (λ w. with_change nat_eq supply w (location_of from) change) (taken replaced)
@@ -149,41 +127,19 @@ module _ (value : WorldValue) (held : IsHeld value) (name : TaskName) (from : Lo
             ap (λ (l : meant.Location ℕ). l.mount) same ∙ sees.to_mount,
           )
 
-  one_on : (other : Location) → replaced ≡ Some other → IsSmall other → (all : List (Mount ℕ)) → mounts_on nat_eq world (location_of other) ≡ all → all ≢ [] → IsOnReplaced
-  one_on other is few [] these some = absurd (some refl)
-  one_on other is few (top ∷ rest) these some =
-      let one = among-from_filter (λ mount. list_any (λ (point : ℕ × ℕ). is_point nat_eq world point.0 point.1 mount) (points_of nat_eq world (location_of other)))
-      world.mounts top (subst (λ all. Among top all) (sym these) (inl refl)) in
-      by top one.0 top.mount_point refl
-      (sym (or_nothing (is_point nat_eq world (mount_at nat_eq world (location_of other)).filesystem (number_of other.node) top))
-      ∙ ap (list_any (λ (point : ℕ × ℕ). is_point nat_eq world point.0 point.1 top)) (sym (points_are value held other few)) ∙ one.1)
-    where
-      by : (mount : Mount ℕ) → Among mount world.mounts → (o : Option (meant.Location ℕ)) → mount.mount_point ≡ o
-          → is_point nat_eq world (mount_at nat_eq world (location_of other)).filesystem (number_of other.node) mount ≡ true → IsOnReplaced
-      by mount m None p on =
-          absurd (true≢false (sym on ∙ ap (holds_of (λ (place : meant.Location ℕ). nat_eq place.node (number_of other.node)
-          && nat_eq (mount_at nat_eq world place).filesystem (mount_at nat_eq world (location_of other)).filesystem)) p))
-      by mount m (Some place) p on =
-          let parts = and_parts (nat_eq place.node (number_of other.node))
-          (nat_eq (mount_at nat_eq world place).filesystem (mount_at nat_eq world (location_of other)).filesystem)
-          (sym (ap (holds_of (λ (place : meant.Location ℕ). nat_eq place.node (number_of other.node)
-          && nat_eq (mount_at nat_eq world place).filesystem (mount_at nat_eq world (location_of other)).filesystem)) p) ∙ on) in
-          record {
-            inode = number_of other.node;
-            lost = (facts other is).0;
-            mount = mount;
-            among = m;
-            place = place;
-            placed = p;
-            at = eqb-true place.node (number_of other.node) parts.0;
-            shows = eqb-true (mount_at nat_eq world place).filesystem (mount_at nat_eq world (location_of other)).filesystem parts.1
-                ∙ ap (λ n. (mount_numbered nat_eq world n).filesystem) (facts other is).1;
-          }
-
-  some_on : (o : Option Location) → replaced ≡ o → IfSome o IsSmall → trees_numbers world (tops_on value o) ≢ [] → IsOnReplaced
+  some_on : (o : Option Location) → replaced ≡ o → IfSome o IsSmall → trees_numbers world (tops_on_replaced value o) ≢ [] → IsOnReplaced
   some_on None is few some = absurd (some refl)
   some_on (Some other) is few some =
-      one_on other is few (mounts_on nat_eq world (location_of other)) refl (λ none. some (ap (trees_numbers world) none))
+      let on = one_on value held other few (λ none. some (ap (trees_numbers world) none)) in record {
+        inode = number_of other.node;
+        lost = (facts other is).0;
+        mount = on.mount;
+        among = on.among;
+        place = on.place;
+        placed = on.placed;
+        at = on.at_inode;
+        shows = on.shows ∙ ap (λ n. (mount_numbered nat_eq world n).filesystem) (facts other is).1;
+      }
 
   pub rename_is_done : (filesystems others : Filesystems) (mounts : List MountEntry) → gone ≢ []
       → ChangesInodes from.node.filesystem.count (λ inodes. changed nat_eq inodes change) value.filesystems filesystems

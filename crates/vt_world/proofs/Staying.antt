@@ -1,6 +1,6 @@
 -- Events of tasks in which no location is left: umask(2), capset(2).
-use Rattle.std.proofs.Common.{◌≡◌, refl, sym, ap, subst, ◌∙◌, ℕ, ◌||◌, ◌&&◌, nat_eq, eq-eqb, true, false, [], ◌∷◌, ◌++◌, map, filter, flat_map, Some, arith}
-use Rattle.std.specs.Prelude.{All, filter_map, option_map, unwrap_or}
+use Rattle.std.proofs.Common.{◌≡◌, refl, sym, ap, subst, ◌∙◌, ℕ, ◌||◌, ◌&&◌, nat_eq, eq-eqb, true, [], ◌∷◌, ◌++◌, map, filter, flat_map, Some, arith}
+use Rattle.std.specs.Prelude.{filter_map, option_map, unwrap_or}
 use Rattle.vt_spec.specs.Language.Calls.{TaskName}
 use Rattle.vt_spec.specs.Lists.{Fresh}
 use Rattle.vt_spec.specs.Machine.Apply.{apply}
@@ -12,13 +12,13 @@ use Rattle.vt_spec.specs.Rights.{Credentials}
 use Rattle.std.proofs.lemmas.Option.{same_Some}
 use Rattle.vt_spec.specs.Machine.SameWorlds.{SameWorlds}
 use Rattle.vt_spec.specs.Machine.Settled.{layers_in, located_in, named_in, objects_of_overlay, settled}
-use Rattle.vt_spec.specs.Machine.World.{Filesystem, Task, all_locations, first_credentials, is_overlay, locations_of, mount_at, task_called, with_task}
+use Rattle.vt_spec.specs.Machine.World.{Filesystem, Task, all_locations, first_credentials, locations_of, mount_at, task_called, with_task}
 use Rattle.vt_spec.specs.Machine.WorldLaws.{IsWorld}
-use Rattle.vt_fs.specs.FilesystemsValue.{Filesystems, filesystem_seen, filesystems_seen}
+use Rattle.vt_fs.specs.FilesystemsValue.{filesystem_seen}
 use Rattle.vt_laws.specs.Numbers.{KeepsTo}
 use Rattle.vt_letting_go.specs.Counts.{inode_uses, times}
 use Rattle.vt_letting_go.specs.Leaving.{IsSettledPlain, is_location_among, only_these_are_left}
-use Rattle.vt_letting_go.proofs.Lists.{Among, all_from_among, all_pass, among_from_all, among-from_map, any_passes, or_first}
+use Rattle.vt_letting_go.proofs.Lists.{Among, all_from_among, all_pass, among_from_all, any_passes, or_first}
 use Rattle.vt_location.specs.Numbers.{counted}
 use Rattle.vt_run_laws.proofs.AlikeWorlds.{sameness_is_an_equivalence}
 use Rattle.vt_task.specs.Counts.{one_if}
@@ -37,19 +37,15 @@ use Rattle.vt_world.specs.Events.{Becomes, Permits, credentials_called, left_by,
 use Rattle.vt_world.specs.Held.{CountsItsMounts, CountsItsUses, CountsWhatIsInIt, IsHeld, writes_of, writes_of_task, writes_on}
 use Rattle.vt_world.specs.WorldValue.{WorldValue, world_of}
 use Rattle.vt_world.proofs.Splits.{locations_stay, replaced_split, times_replaced, writes_replaced}
+use Rattle.vt_world.proofs.FilesSeen.{files_are_plain}
 
 abbrev pub after : WorldValue → Tasks → WorldValue
 after value tasks = record value { tasks = tasks }
 
 -- The world of the code
 
-pub plain_seen : (filesystems : Filesystems) → All (λ filesystem. is_overlay filesystem ≡ false) (filesystems_seen filesystems)
-plain_seen filesystems =
-    all_from_among (λ filesystem. is_overlay filesystem ≡ false) (filesystems_seen filesystems) (λ filesystem m.
-    ap is_overlay (among-from_map filesystem_seen filesystems filesystem m).2)
-
 pub world_is_plain : (value : WorldValue) → IsPlain (world_of value)
-world_is_plain value = plain_seen value.filesystems
+world_is_plain value = files_are_plain value.filesystems
 
 pub held_is_settled : (value : WorldValue) → IsWorld nat_eq (world_of value) → IsSettledPlain (world_of value)
 held_is_settled value is = record {

@@ -1,11 +1,10 @@
 -- The end of an event that takes numbers: mount(2), unshare(2). What is counted next grows by as many counts as it takes.
-use Rattle.std.proofs.Common.{◌≡◌, refl, sym, ap, subst, ◌∙◌, ℕ, ◌+◌, ◌%◌, Bool, true, nat_eq, Some}
-use Rattle.std.specs.List.{list_all}
+use Rattle.std.proofs.Common.{◌≡◌, refl, sym, ap, subst, ◌∙◌, ℕ, ◌+◌, ◌%◌, nat_eq, Some}
 use Rattle.vt_spec.specs.Language.Calls.{TaskName}
 use Rattle.vt_spec.specs.Machine.Mounts.{Mount, Propagation}
 use Rattle.vt_spec.specs.Machine.Mounts.Propagation.{Private, Shared, Slave, Unbindable}
 use Rattle.vt_spec.specs.Machine.Permits.{Permit}
-use Rattle.vt_spec.specs.Machine.World.{Task, World, task_called}
+use Rattle.vt_spec.specs.Machine.World.{Task, task_called}
 use Rattle.vt_spec.specs.Machine.WorldLaws.{IsWorld}
 use Rattle.vt_count_laws.specs.Counted.{IsPlain}
 use Rattle.vt_fs.specs.FilesystemsValue.{FilesystemEntry, inodes_seen}

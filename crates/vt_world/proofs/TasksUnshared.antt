@@ -1,9 +1,8 @@
 -- A task gets a namespace of its own, as code does it: unshare(2) with CLONE_NEWNS.
-use Rattle.std.proofs.Common.{◌≡◌, refl, sym, ap, subst, ◌∙◌, ℕ, ◌+◌, ◌*◌, true, List, [], ◌∷◌, ◌++◌, length, map, Some}
+use Rattle.std.proofs.Common.{◌≡◌, ap, subst, ◌∙◌, ℕ, ◌+◌, ◌*◌, true, List, [], ◌∷◌, ◌++◌, length, map, Some}
 use Rattle.std.specs.List.{list_all}
 use Rattle.std.proofs.lemmas.Option.{same_Some}
 use Rattle.vt_spec.specs.Language.Calls.{TaskName}
-use Rattle.vt_spec.specs.Machine.Mounts as meant
 use Rattle.vt_spec.specs.Machine.Permits.Permit.{ToUnshare}
 use Rattle.vt_spec.specs.Machine.World.{Task}
 use Rattle.vt_fs.specs.FilesystemsValue.{Filesystems}
@@ -23,7 +22,7 @@ use Rattle.vt_world.specs.Held.{IsHeld}
 use Rattle.vt_world.specs.NamespacesLeft.{MountsAreLeft, namespace_entry, with_one_task_less}
 use Rattle.vt_world.specs.Room.{has_small_slots}
 use Rattle.vt_world.specs.Uses.{kept, with_attached}
-use Rattle.vt_world.specs.WorldValue.{NamespaceEntry, WorldValue, world_of}
+use Rattle.vt_world.specs.WorldValue.{NamespaceEntry, WorldValue}
 use Rattle.vt_world.proofs.Staying.{IsDone}
 use Rattle.vt_world.proofs.UnsharedDone as Done
 use Rattle.vt_world.proofs.UnsharedInodes.{copies_gain, copies_there}

@@ -1,12 +1,12 @@
 -- Copies of the mounts of a tree: what code makes of them is what the policy attaches.
-use Rattle.std.proofs.Common.{◌≡◌, ◌<◌, ◌≤◌, refl, sym, ap, subst, ◌∙◌, ⊎_elim, inl, inr, ℕ, ◌+◌, ◌*◌, ◌%◌, ◌==◌, nat_eq, eq-eqb, eqb-true, ne_eqb, Bool, true, false, true≢false, cond, ◌&&◌, List, [], ◌∷◌, ◌++◌, map, find, length, Option, Some, None, option_map, is_some, unwrap_or, arith}
+use Rattle.std.proofs.Common.{◌≡◌, ◌<◌, ◌≤◌, refl, sym, ap, subst, ◌∙◌, ⊎_elim, inl, inr, ℕ, ◌+◌, ◌*◌, ◌%◌, ◌==◌, nat_eq, eq-eqb, ne_eqb, Bool, true, false, true≢false, cond, ◌&&◌, List, [], ◌∷◌, ◌++◌, map, find, length, Option, Some, None, option_map, is_some, unwrap_or, arith}
 use Rattle.std.specs.Option.{option_and_then}
-use Rattle.std.specs.Prelude.{filter_map, flat_map, filter, nat_lt}
-use Rattle.std.specs.List.{cons_option, list_all, list_any, position_from}
+use Rattle.std.specs.Prelude.{flat_map, filter, nat_lt}
+use Rattle.std.specs.List.{cons_option, list_all, list_any}
 use Rattle.std.proofs.lemmas.Bool.{and_parts, lt-ltb, or_parts}
 use Rattle.vt_spec.specs.Language.Calls.{TaskName}
 use Rattle.vt_spec.specs.Lists.{any_pair, place_from}
-use Rattle.vt_spec.specs.Machine.Attach.{Copies, Twig, bind_tree, bindable_children, bindable_tree, bound, copies_from, is_top, stands_under}
+use Rattle.vt_spec.specs.Machine.Attach.{Copies, bind_tree, bindable_children, bindable_tree, bound, copies_from, is_top, stands_under}
 use Rattle.vt_spec.specs.Machine.Mounts.{Location, Mount, index_of, no_mount}
 use Rattle.vt_spec.specs.Machine.Permits.Permit.{ToBind}
 use Rattle.vt_spec.specs.Machine.World.{World, mount_at}
@@ -33,16 +33,12 @@ use Rattle.vt_world.specs.Room.{has_small_slots}
 use Rattle.vt_world.specs.Uses.{kept, with_attached}
 use Rattle.vt_world.specs.WorldValue.{WorldValue, world_of}
 use Rattle.vt_world.proofs.AttachedCounts.{attached_value, lower_numbers}
-use Rattle.vt_world.proofs.Binding.{bind_is_done, found_some, only_index, place_there, source_there}
+use Rattle.vt_world.proofs.Binding.{bind_is_done, found_some, only_index, source_there}
 use Rattle.vt_world.proofs.CopyLemmas.{as_many, ascending_found, picked}
 use Rattle.vt_world.proofs.EnteringLemmas.{ascending_joined}
 use Rattle.vt_world.proofs.FilesSeen.{IsLocated, located}
 use Rattle.vt_world.proofs.Grafting.{all_ungrouped, found_ungrouped, plainly_attached}
 use Rattle.vt_world.proofs.Staying.{IsDone}
-
-pub placed_alike : {A : Type 0} (test : A → Bool) (k : ℕ) (all : List A) → position_from test k all ≡ place_from test k all
-placed_alike test k [] = refl
-placed_alike test k (first ∷ rest) = ap (cond (test first) (Some k)) (placed_alike test (k + 1) rest)
 
 as_spec : {A : Type 0} (x : A) (all : List A) → Among x all → spec.Among x all
 as_spec x [] m = m

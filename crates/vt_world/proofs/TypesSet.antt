@@ -1,7 +1,7 @@
 -- The flags or the propagation type of a mount are set: mount(2) with MS_REMOUNT, MS_PRIVATE, MS_UNBINDABLE.
 use Rattle.std.proofs.Common.{◌≡◌, refl, sym, ap, subst, ◌∙◌, ℕ, nat_eq, Bool, true, false, true≢false, cond, List, [], ◌∷◌, map, Option, Some, None, is_some, arith}
 use Rattle.std.specs.Prelude.{option_to_list}
-use Rattle.std.specs.List.{list_all, list_any}
+use Rattle.std.specs.List.{list_any}
 use Rattle.vt_spec.specs.Language.Calls.{MountFlags, TaskName, TypeWord}
 use Rattle.vt_spec.specs.Lists.{Fresh}
 use Rattle.vt_spec.specs.Machine.Apply.{apply}
@@ -9,7 +9,7 @@ use Rattle.vt_spec.specs.Machine.Mounts.{Mount, Propagation, numbers_by}
 use Rattle.vt_spec.specs.Machine.Mounts.Propagation.{Private, Shared, Slave, Unbindable}
 use Rattle.vt_spec.specs.Machine.Permits.{Permit}
 use Rattle.vt_spec.specs.Machine.Permits.Permit.{ToSetFlags, ToSetType}
-use Rattle.vt_spec.specs.Machine.Receives.{lost_a_group, regrouped, regrouped_by}
+use Rattle.vt_spec.specs.Machine.Receives.{regrouped}
 use Rattle.vt_spec.specs.Machine.Types.{master_after, retyped, retyped_mount, type_after}
 use Rattle.vt_spec.specs.Machine.World.{World, mount_numbered, with_mounts}
 use Rattle.vt_count_laws.specs.Using.{Exchanges, is_inode}
@@ -17,7 +17,7 @@ use Rattle.vt_fs.specs.FilesystemsValue.{Shown, shown}
 use Rattle.vt_letting_go.specs.Counts.{times}
 use Rattle.vt_letting_go.specs.Keeping.{flags_if}
 use Rattle.vt_letting_go.specs.Mounting.{inode_at}
-use Rattle.vt_letting_go.proofs.Lists.{Among, among-from_map, is_among_numbers, among-map, map_alike, none_passes, passes}
+use Rattle.vt_letting_go.proofs.Lists.{Among, among-from_map, is_among_numbers, among-map, map_alike, passes}
 use Rattle.vt_letting_go.proofs.PlacesLeft.{found_is_there, number_found}
 use Rattle.vt_letting_go.proofs.UsesKept.{flags_are_of_one}
 use Rattle.vt_mount.specs.MountsValue.{MountEntry, changed, mounts_in}
@@ -34,6 +34,7 @@ use Rattle.vt_world.proofs.MountsChanged.{KeepsWhatItShows, attached_entry, moun
 use Rattle.vt_world.proofs.Remaining.{remade}
 use Rattle.vt_world.proofs.Staying.{IsDone}
 use Rattle.vt_world.proofs.TreesLookedAt.{or_nothing}
+use Rattle.vt_world.proofs.Ungrouped.{nothing_regrouped}
 
 -- A mount that keeps its mount point too
 
@@ -131,23 +132,6 @@ kinds_keep kind free = record {
   ungrouped = λ mount e. free;
 }
 
--- where no mount is in a group, none is handed on
-lost_none : (world : World ℕ) (mount : Mount ℕ) (kind : Propagation ℕ) → mount.propagation ≡ kind → is_ungrouped kind ≡ true
-    → lost_a_group nat_eq world mount ≡ false
-lost_none world mount (Shared group) is e = absurd (true≢false (sym e))
-lost_none world mount (Slave master) is e = absurd (true≢false (sym e))
-lost_none world mount Private is e =
-    ap (λ kind. lost_a_group nat_eq world (record mount { propagation = kind })) is
-lost_none world mount Unbindable is e =
-    ap (λ kind. lost_a_group nat_eq world (record mount { propagation = kind })) is
-
-pub regrouped_alone : (world : World ℕ) → list_all (λ (mount : Mount ℕ). is_ungrouped mount.propagation) world.mounts ≡ true
-    → regrouped nat_eq world ≡ world
-regrouped_alone world free =
-    ap (λ b. regrouped_by nat_eq b world)
-    (none_passes (lost_a_group nat_eq world) world.mounts (λ mount m.
-    lost_none world mount mount.propagation refl (passes (λ (one : Mount ℕ). is_ungrouped one.propagation) world.mounts free mount m)))
-
 no_master_above : (kind : Propagation ℕ) → is_ungrouped kind ≡ true → master_after kind ≡ None
 no_master_above (Shared group) e = refl
 no_master_above (Slave master) e = absurd (true≢false (sym e))
@@ -183,7 +167,7 @@ module _ (value : WorldValue) (whole : IsHeld value) (name : TaskName) (number :
         master = λ other. (ap (λ above. cond (nat_eq other (group named.number)) above None) (no_master_above named.propagation (attached_free value whole number permits.task.namespace own))
             ∙ no_master_either (nat_eq other (group named.number))) i;
       })
-      ∙ regrouped_alone next (next_ungrouped value whole number (with_propagation kind) (kinds_keep kind free))
+      ∙ nothing_regrouped next (next_ungrouped value whole number (with_propagation kind) (kinds_keep kind free))
     where
       is_named : (mount : Mount ℕ) → list_any (λ (other : Mount ℕ). nat_eq mount.number other.number) (named ∷ []) ≡ nat_eq number mount.number
       is_named mount =

@@ -20,7 +20,7 @@ use Rattle.vt_mount_laws.proofs.Standing.{LiesIn, lies_in_tree, stand}
 use Rattle.vt_mount_laws.proofs.Standing.LiesIn.{itself, under}
 use Rattle.vt_world.specs.Held.{IsHeld}
 use Rattle.vt_world.specs.WorldValue.{WorldValue, world_of}
-use Rattle.vt_world.proofs.Climbing.{either_way}
+use Rattle.vt_world.proofs.NumbersBeside.{one_test}
 
 attached_private : (kind : Propagation ℕ) → is_private kind ≡ true → is_unbindable kind ≡ false
 attached_private (Shared group) e = refl
@@ -78,7 +78,7 @@ module _ (value : WorldValue) (held : IsHeld value) where
         && list_any (λ other. nat_eq other.number number) (tree top))
         (map (λ mount. mount.number) (filter (λ mount. holds_of (nat_eq namespace) mount.namespace) (mounts_in value.mounts)))
         ≡ list_any (λ mount. is_unbindable mount.propagation) (tree top)
-    unbindable_met = either_way _ _ there back
+    unbindable_met = one_test _ _ there back
       where
         test : ℕ → Bool
         test number = is_unbindable (mount_numbered nat_eq (world_of value) number).propagation

@@ -1,9 +1,9 @@
 -- The end of an unshare, where the inodes that the copies use are found: unshare(2) with CLONE_NEWNS.
-use Rattle.std.proofs.Common.{◌≡◌, refl, sym, ap, subst, ◌∙◌, ℕ, ◌+◌, ◌*◌, nat_eq, Bool, true, false, List, [], ◌∷◌, ◌++◌, length, map, Option, Some, None}
+use Rattle.std.proofs.Common.{◌≡◌, refl, sym, ap, subst, ◌∙◌, ℕ, ◌+◌, ◌*◌, nat_eq, Bool, false, List, [], ◌∷◌, ◌++◌, length, map, Option, Some}
 use Rattle.std.specs.Prelude.{All}
 use Rattle.vt_spec.specs.Language.Calls.{TaskName}
 use Rattle.vt_spec.specs.Machine.Mounts.{Location, Mount}
-use Rattle.vt_spec.specs.Machine.Namespaces.{copied_mount, namespaces_ended}
+use Rattle.vt_spec.specs.Machine.Namespaces.{copied_mount}
 use Rattle.vt_spec.specs.Machine.Permits.Permit.{ToUnshare}
 use Rattle.vt_spec.specs.Machine.SameWorlds.{SameWorlds}
 use Rattle.vt_spec.specs.Machine.Settled.{settled}
@@ -29,7 +29,7 @@ use Rattle.vt_world.specs.Copying.{attached_in, copies_of}
 use Rattle.vt_world.specs.Events.{Permits, left_by}
 use Rattle.vt_world.specs.Held.{CountsItsMounts, CountsWhatIsInIt, HasOwnInodes, IsHeld}
 use Rattle.vt_world.specs.NamespacesLeft.{MountsAreLeft, namespace_entry, with_one_task_less}
-use Rattle.vt_world.specs.Uses.{Kept, kept, with_attached}
+use Rattle.vt_world.specs.Uses.{kept, with_attached}
 use Rattle.vt_world.specs.WorldValue.{NamespaceEntry, WorldValue, namespace_of, world_of}
 use Rattle.vt_world.proofs.AddedBegins as Begins
 use Rattle.vt_world.proofs.AddedBegins.{IsAdded, KeepsAdded, with_added}

@@ -1,6 +1,6 @@
 -- The inodes that the copies of an unshare use are there, and are found through the copies as through the originals.
-use Rattle.std.proofs.Common.{◌≡◌, ◌<◌, refl, sym, ap, subst, ◌∙◌, inl, inr, ℕ, nat_eq, eqb-true, Bool, true, false, true≢false, not, ◌&&◌, ◌||◌, List, [], ◌∷◌, ◌++◌, map, Option, Some, None, option_map, is_some}
-use Rattle.std.specs.Prelude.{nat_lt, option_to_list}
+use Rattle.std.proofs.Common.{◌≡◌, ◌<◌, refl, sym, ap, subst, ◌∙◌, inl, inr, ℕ, nat_eq, eqb-true, Bool, true, false, not, ◌&&◌, ◌||◌, List, [], ◌∷◌, ◌++◌, map, Option, Some, None, option_map, is_some}
+use Rattle.std.specs.Prelude.{nat_lt}
 use Rattle.std.specs.List.{list_all}
 use Rattle.std.proofs.lemmas.Bool.{and_parts, ltb-true}
 use Rattle.std.proofs.lemmas.Option.{same_Some}
@@ -14,7 +14,6 @@ use Rattle.vt_spec.specs.Machine.World.{Filesystem, Task, World, filesystem_numb
 use Rattle.vt_spec.specs.Machine.WorldLaws.{has_its_root, is_located_well, is_there}
 use Rattle.vt_spec.specs.OneTree.Inodes.{node_in}
 use Rattle.vt_spec.specs.OneTree.Inodes as Trees
-use Rattle.vt_spec.specs.Tree.{Node, is_directory_node}
 use Rattle.vt_count_laws.specs.Using.{AreThere, places_of}
 use Rattle.vt_fs.specs.FilesystemsValue.{FilesystemEntry, filesystem_seen, inodes_seen}
 use Rattle.vt_letting_go.specs.Counts.{times}
@@ -30,9 +29,9 @@ use Rattle.vt_location.specs.MountValue.{mount_of}
 use Rattle.vt_location.specs.Numbers.{counted}
 use Rattle.vt_location.proofs.NumberLemmas.{inode_same, slot_of}
 use Rattle.vt_mount_laws.proofs.Unsharing.{parent_of}
+use Rattle.vt_world_laws.proofs.Roots.{directory_there}
 use Rattle.vt_world.specs.Held.{IsHeld}
 use Rattle.vt_world.specs.Room.{has_small_slots, point_is_small}
-use Rattle.vt_world.specs.Uses.{inode_of}
 use Rattle.vt_world.specs.WorldValue.{WorldValue, world_of}
 use Rattle.vt_world.proofs.AddedBegins.{nothing_moves, with_added}
 use Rattle.vt_world.proofs.AddedUses.{IsFoundIn, gained_by, gained_uses, point_inodes}
@@ -69,10 +68,6 @@ module _ (value : WorldValue) (whole : IsHeld value) (name : TaskName) (task : T
   was_there : (x : meant.Mount ℕ) → Among x originals → Among x world.mounts × (holds_of (nat_eq task.namespace) x.namespace ≡ true)
   was_there x m = among-from_filter (λ (y : meant.Mount ℕ). holds_of (nat_eq task.namespace) y.namespace) world.mounts x m
 
-  node_there : (o : Option (Node ℕ)) → is_directory_node o ≡ true → is_some o ≡ true
-  node_there None e = absurd (true≢false (sym e))
-  node_there (Some node) e = refl
-
   -- roots
 
   root_there : (mount : Mount) → Among mount copies → is_there nat_eq world (counted mount.root.filesystem.count) (number_of mount.root) ≡ true
@@ -80,7 +75,7 @@ module _ (value : WorldValue) (whole : IsHeld value) (name : TaskName) (task : T
       let from = original mount m in
       let root = (and_parts _ _ (passes (has_its_root nat_eq world) world.mounts whole.in_world.roots from.0 (was_there from.0 from.1).0)).0 in
       ap (λ (x : meant.Mount ℕ). is_some ((filesystem_numbered nat_eq world x.filesystem).files.tree.node x.root)) from.2
-      ∙ node_there ((filesystem_numbered nat_eq world from.0.filesystem).files.tree.node from.0.root) root
+      ∙ directory_there ((filesystem_numbered nat_eq world from.0.filesystem).files.tree.node from.0.root) root
 
   -- mount points
 

@@ -5,11 +5,10 @@ use Rattle.vt_spec.specs.Machine.Mounts.{Mount}
 use Rattle.vt_spec.specs.Machine.World.{World}
 use Rattle.vt_letting_go.specs.OneByOne.{Inode}
 use Rattle.vt_letting_go.proofs.Lists.{Among, fails}
-use Rattle.vt_location.specs.Numbers.{counted}
 use Rattle.vt_mount.specs.MountsValue.{MountEntry}
 use Rattle.vt_task.specs.TasksValue.{Tasks}
 use Rattle.vt_world.specs.Held.{IsHeld}
-use Rattle.vt_world.specs.NamespacesLeft.{EndsIf, MountsAreLeft, has_one_task, is_attached_in, namespace_entry}
+use Rattle.vt_world.specs.NamespacesLeft.{EndsIf, MountsAreLeft, has_one_task, is_attached_in}
 use Rattle.vt_world.specs.Uses.{Kept}
 use Rattle.vt_world.specs.WorldValue.{NamespaceEntry, WorldValue}
 use Rattle.vt_world.proofs.Midway.{Reached}

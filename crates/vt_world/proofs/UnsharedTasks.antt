@@ -1,7 +1,5 @@
 -- A task gets copies of its namespace's mounts: where its root and its working directory are then, and what the copies stand on.
-use Rattle.std.proofs.Common.{◌≡◌, refl, sym, ap, subst, ◌∙◌, ◌⊎◌, ⊎_elim, inl, inr, ℕ, ◌+◌, nat_eq, eqb-true, eq-eqb, Bool, true, false, true≢false, cond, ◌&&◌, List, [], ◌∷◌, ◌++◌, map, filter, flat_map, Option, Some, None, option_map, is_some, arith}
-use Rattle.std.specs.Prelude.{option_to_list}
-use Rattle.std.specs.List.{list_all}
+use Rattle.std.proofs.Common.{◌≡◌, refl, sym, ap, subst, ◌∙◌, ◌⊎◌, ⊎_elim, inl, inr, ℕ, nat_eq, eqb-true, Bool, true, false, true≢false, cond, ◌&&◌, List, [], ◌∷◌, ◌++◌, map, flat_map, Option, Some, None, option_map, is_some, arith}
 use Rattle.std.proofs.lemmas.Bool.{and_parts}
 use Rattle.std.proofs.lemmas.List.{map-append}
 use Rattle.std.proofs.lemmas.Option.{same_Some}
@@ -9,11 +7,10 @@ use Rattle.vt_spec.proofs.Lists as spec
 use Rattle.vt_spec.specs.Language.Calls.{TaskName}
 use Rattle.vt_spec.specs.Lists.{Fresh, evens, holds_of, is_among, odds}
 use Rattle.vt_spec.specs.Machine.Mounts.{Location, Mount, mount_in, numbers_by}
-use Rattle.vt_spec.specs.Machine.Namespaces.{copied_mount, is_copied, location_on_copy, moved_location, unshared, unshared_task}
+use Rattle.vt_spec.specs.Machine.Namespaces.{copied_mount, is_copied, location_on_copy, moved_location, unshared_task}
 use Rattle.vt_spec.specs.Machine.Run.{Serves, numbers_in_use, used_by_filesystem, used_by_mount}
 use Rattle.vt_spec.specs.Machine.World.{Namespace, Task, World, all_locations, locations_of, mount_at, mount_numbered, mounts_of, task_called}
 use Rattle.vt_spec.specs.Machine.WorldLaws.{is_listed, is_located_well}
-use Rattle.vt_letting_go.specs.Counts.{times}
 use Rattle.vt_letting_go.specs.Mounting.{inode_at}
 use Rattle.vt_letting_go.proofs.Lists.{Among, among-append_left, among-append_right, among-filter, among-from_filter, among-from_map, among-map, among_numbers, is_among_left, is_among_numbers, one_passes, passes}
 use Rattle.vt_letting_go.proofs.PlacesLeft.{found_itself}
@@ -23,7 +20,7 @@ use Rattle.vt_mount_laws.proofs.Unsharing.{parent_of}
 use Rattle.vt_task.specs.Counts.{locations_in}
 use Rattle.vt_task.specs.TasksValue.{Tasks, replaced}
 use Rattle.vt_world_laws.proofs.Roots.{found_copy}
-use Rattle.vt_world.specs.Held.{IsHeld, is_ungrouped, writes_of, writes_of_task}
+use Rattle.vt_world.specs.Held.{IsHeld, is_ungrouped, writes_of_task}
 use Rattle.vt_world.specs.WorldValue.{WorldValue, world_of}
 use Rattle.vt_world.proofs.AddedBegins.{IsAdded, with_added}
 use Rattle.vt_world.proofs.Splits.{IsSplit, locations_around, replaced_split, writes_replaced}

@@ -1,11 +1,11 @@
 -- The world of an unshare: the namespaces count their tasks, and the old one ends with its last.
-use Rattle.std.proofs.Common.{◌≡◌, refl, sym, ap, subst, ◌∙◌, ⊎_elim, inl, inr, ℕ, ◌+◌, ◌*◌, nat_eq, eqb-true, eq-eqb, Bool, true, false, true≢false, ◌&&◌, ◌||◌, List, [], ◌∷◌, ◌++◌, map, filter, flat_map, Option, Some, None, arith}
+use Rattle.std.proofs.Common.{◌≡◌, refl, sym, ap, subst, ◌∙◌, ⊎_elim, inl, inr, ℕ, nat_eq, eqb-true, eq-eqb, Bool, true, false, true≢false, ◌&&◌, ◌||◌, List, [], ◌∷◌, ◌++◌, map, filter, flat_map, Option, Some, None, arith}
 use Rattle.std.specs.Prelude.{option_to_list}
-use Rattle.std.specs.List.{list_all, list_any}
+use Rattle.std.specs.List.{list_all}
 use Rattle.std.proofs.lemmas.Bool.{and_parts}
 use Rattle.std.proofs.lemmas.List.{map-append}
 use Rattle.vt_spec.specs.Language.Calls.{TaskName}
-use Rattle.vt_spec.specs.Lists.{evens, holds_of, is_among}
+use Rattle.vt_spec.specs.Lists.{holds_of, is_among}
 use Rattle.vt_spec.specs.Machine.Detach.{taken_away}
 use Rattle.vt_spec.specs.Machine.Mounts.{Location, Mount}
 use Rattle.vt_spec.specs.Machine.Namespaces.{has_tasks, is_in_ended, namespaces_ended, unshared}
@@ -14,7 +14,7 @@ use Rattle.vt_spec.specs.Machine.World.{Namespace, Task, World, mount_at, task_c
 use Rattle.vt_spec.specs.Machine.WorldLaws.{is_listed}
 use Rattle.vt_fs.proofs.Exchanged.{counted_test}
 use Rattle.vt_letting_go.specs.Counts.{times}
-use Rattle.vt_letting_go.proofs.Lists.{Among, among-append, among-append_left, among-append_right, among-from_map, among-map, among_from_all, among_numbers, filter_alike, is_among_left, is_among_right, is_among_numbers, passes}
+use Rattle.vt_letting_go.proofs.Lists.{Among, among-append, among-append_right, among-from_map, among-map, among_from_all, among_numbers, filter_alike, is_among_left, is_among_right, is_among_numbers, passes}
 use Rattle.vt_location.specs.Numbers.{counted}
 use Rattle.vt_run_laws.specs.Handed.{counts_from}
 use Rattle.vt_task.specs.Counts.{one_if}
@@ -27,7 +27,7 @@ use Rattle.vt_world.proofs.Midway.{gone_if}
 use Rattle.vt_world.proofs.Moving.{swap_eq}
 use Rattle.vt_world.proofs.NamespacesEnded.{CountsOneMore, ends, in_ended_is, namespaces_are, taken_alone_away, tasks_counted}
 use Rattle.vt_world.proofs.Splits.{times_replaced}
-use Rattle.vt_world.proofs.UnsharedTasks.{added, another, come_to, copied, copy, gone_from, moved_task, new_namespace, task_is_moved, tasks_moved}
+use Rattle.vt_world.proofs.UnsharedTasks.{added, another, come_to, copied, gone_from, moved_task, new_namespace, task_is_moved, tasks_moved}
 
 module _ (value : WorldValue) (whole : IsHeld value) (name : TaskName) (task : Task ℕ) (found : task_called (world_of value) name ≡ Some task)
     (serves : Serves nat_eq (world_of value) (counts_from value.next)) (count : ℕ) (in_namespace : counted count ≡ task.namespace) where

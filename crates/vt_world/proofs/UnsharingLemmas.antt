@@ -26,6 +26,7 @@ use Rattle.vt_world.specs.Uses.{kept, unused_entry, with_attached}
 use Rattle.vt_world.specs.WorldValue.{NamespaceEntry, WorldValue, entries_of, entry_of, namespace_of, world_of}
 use Rattle.vt_world.proofs.AttachedCounts.{lower_numbers}
 use Rattle.vt_world.proofs.EnteringLemmas.{ascending_joined}
+use Rattle.vt_world.proofs.NamespaceEntries.{same_namespace}
 
 -- Places in an ascending list
 
@@ -201,20 +202,17 @@ few_writers = moved_grow (λ entry. entry.writers) (λ entry. omega arith) (λ e
 
 -- The new namespace
 
-abbrev key_eq : NamespaceId → NamespaceId → Bool
-key_eq a b = nat_eq a.count b.count
-
 inserted_last : (id : NamespaceId) (new : Namespace) (entries : List (NamespaceId × Namespace))
     → ((entry : NamespaceEntry) → Among entry (entries_of entries) → nat_eq id.count entry.count ≡ false)
-    → entries_of (insert_entry key_eq entries id new) ≡ entries_of entries ++ record { count = id.count; tasks = new.tasks } ∷ []
+    → entries_of (insert_entry same_namespace entries id new) ≡ entries_of entries ++ record { count = id.count; tasks = new.tasks } ∷ []
 inserted_last id new [] none = refl
 inserted_last id new (first ∷ rest) none =
-    ap (λ b. entries_of (cond b ((first.0, new) ∷ rest) (first ∷ insert_entry key_eq rest id new))) (none (entry_of first) (inl refl))
+    ap (λ b. entries_of (cond b ((first.0, new) ∷ rest) (first ∷ insert_entry same_namespace rest id new))) (none (entry_of first) (inl refl))
     ∙ ap (λ others. entry_of first ∷ others) (inserted_last id new rest (λ entry m. none entry (inr m)))
 
 pub namespace_added : (value : WorldValue) → Serves nat_eq (world_of value) (counts_from value.next) → (entries : List (NamespaceId × Namespace))
     → entries_of entries ≡ value.namespaces → (id : NamespaceId) → id.count ≡ value.next → (new : Namespace)
-    → entries_of (insert_entry key_eq entries id new) ≡ value.namespaces ++ record { count = value.next; tasks = new.tasks } ∷ []
+    → entries_of (insert_entry same_namespace entries id new) ≡ value.namespaces ++ record { count = value.next; tasks = new.tasks } ∷ []
 namespace_added value serves entries are id is new =
     inserted_last id new entries (λ entry m. absent entry (subst (Among entry) are m) (nat_eq id.count entry.count) refl)
     ∙ (λ i. are i ++ record { count = is i; tasks = new.tasks } ∷ [])

@@ -1,11 +1,25 @@
 -- Copies of the mounts of a tree, as they are attached: mount(2) with MS_BIND.
+use Rattle.std.specs.Map.{lookup}
 use Rattle.std.specs.Option.{option_and_then}
-use Rattle.std.specs.Prelude.{List, Option, Some, filter_map, find, if◌then◌else◌, nat_eq, option_map, unwrap_or, ℕ, ◌*◌, ◌+◌}
+use Rattle.std.specs.Prelude.{List, Option, Some, filter_map, find, if◌then◌else◌, nat_eq, option_map, unwrap_or, ℕ, ◌*◌, ◌+◌, ◌<◌, ◌≡◌}
 use Rattle.vt_location.specs.declared.locations.Location.{Location as Place}
 use Rattle.vt_location.specs.declared.numbers.MountId.{MountId}
 use Rattle.vt_location.specs.Locations.{number_of}
 use Rattle.vt_location.specs.Numbers.{counted}
+use Rattle.vt_mount.specs.Listed.{same_id}
 use Rattle.vt_spec.specs.Machine.Mounts.{Location, Mount, index_of}
+
+-- the place that is kept of a mount, 0 if none is
+abbrev pub place_in : List (MountId × ℕ) → MountId → ℕ
+place_in places id = unwrap_or (lookup (same_id id) places) 0
+
+-- the places that are kept are those of the mounts of a tree
+abbrev pub ArePlacesIn : List (Mount ℕ) → List (MountId × ℕ) → Type 0
+ArePlacesIn tree places = (id : MountId) → place_in places id ≡ index_of nat_eq tree (counted id.count)
+
+-- the copy of each mount has a number of 64 bits
+abbrev pub HasNumbers : ℕ → List (MountId × ℕ) → Type 0
+HasNumbers next places = (id : MountId) → next + 2 * place_in places id < 18446744073709551616
 
 -- the numbers of the copies, which are counted from the next count on, by the places of the mounts in the tree
 abbrev pub numbers_bound : ℕ → List (Mount ℕ) → ℕ → ℕ

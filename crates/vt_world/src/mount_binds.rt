@@ -1,22 +1,23 @@
 //! The event that attaches copies of mounts: mount(2) with `MS_BIND`, also with `MS_REC`.
-ghost use Rattle.std.specs.Prelude.{List, ℕ, ◌+◌, ◌*◌, ◌<◌, ◌≡◌, IfErr, IfOk, None, OnErr, OnOk, find, length, map, nat_eq, option_map, unwrap_or};
-ghost use Rattle.std.specs.Option.{option_and_then};
+ghost use Rattle.std.specs.Map.{lookup};
+ghost use Rattle.std.specs.Prelude.{List, ℕ, ◌+◌, ◌*◌, ◌<◌, ◌≡◌, IfErr, IfOk, IfSome, OnErr, OnOk, length, map, nat_eq, option_map};
 ghost use Rattle.vt_location.specs.Locations.{location_of};
 ghost use Rattle.vt_location.specs.MountValue.{mount_of};
 ghost use Rattle.vt_location.specs.Numbers.{counted};
+ghost use Rattle.vt_mount.specs.Listed.{same_id};
 ghost use Rattle.vt_mount.specs.MountsValue.{mounts_in};
 ghost use Rattle.vt_spec.specs.declared.errors.Rule.TheVariants.{S5};
 ghost use Rattle.vt_spec.specs.Errors.{denial};
 ghost use Rattle.vt_spec.specs.Lists.{place_from};
 ghost use Rattle.vt_spec.specs.Machine.Mounts as meant;
 ghost use Rattle.vt_spec.specs.Machine.Permits.Permit.{ToBind};
-ghost use Rattle.vt_spec.specs.Machine.World.{mount_numbered};
-ghost use Rattle.vt_world.specs.BoundCopies.{bound_copies, bound_copy, namespace_in, numbers_bound, point_on_copy};
+ghost use Rattle.vt_world.specs.BoundCopies.{ArePlacesIn, HasNumbers, bound_copies, bound_copy, namespace_in, numbers_bound, point_on_copy};
 ghost use Rattle.vt_world.specs.Copying.{AreOf};
 ghost use Rattle.vt_world.specs.Events.{Becomes, Permits};
 
 use crate::attaching::attach_all;
 use crate::world::World;
+use indexmap::IndexMap;
 use std::alloc::{AllocError, Global};
 use vt_location::{Location, Mount, MountId, NamespaceId};
 use vt_mount::Mounts;
@@ -71,13 +72,30 @@ fn copies(
         ≡ bound_copies next tree source (location_of place) (mounts_in mounts.now) origins.now) }
 {
     let namespace = namespace_at(mounts, place.mount);
+    let places = places(alloc, origins)?;
     let mut copies = Vec::with_capacity(alloc, origins.len())?;
     for id in origins {
         if let Some(mount) = mounts.get(*id) {
-            copies.push(copied(mount, origins, next, source, place, namespace))?;
+            copies.push(copied(mount, &places, next, source, place, namespace))?;
         }
     }
     Ok(copies)
+}
+
+// The first place, from 0, of each mount in a list.
+fn places(alloc: Global, origins: &[MountId]) -> Result<IndexMap<MountId, usize>, AllocError>
+    ensures found { IfOk result (λ places. (id : MountId)
+        → lookup (same_id id) places.entries ≡ place_from (λ other. nat_eq id.count other.count) 0 origins.now) }
+    ensures within { IfOk result (λ places. (id : MountId)
+        → IfSome (lookup (same_id id) places.entries) (λ place. place < length origins.now)) }
+{
+    let mut places = IndexMap::with_capacity(alloc, origins.len())?;
+    for (place, id) in origins.iter().enumerate() {
+        if !places.contains_key(id) {
+            places.insert(*id, place)?;
+        }
+    }
+    Ok(places)
 }
 
 // The namespace that a mount is attached in.
@@ -90,17 +108,17 @@ fn namespace_at(mounts: &Mounts, id: MountId) -> Option<NamespaceId>
 // The copy of a mount of a tree.
 fn copied(
     mount: Mount,
-    origins: &[MountId],
+    places: &IndexMap<MountId, usize>,
     next: u64,
     source: Location,
     place: Location,
     namespace: Option<NamespaceId>,
 ) -> Mount
-    requires { next + 2 * length origins.now < u64.MAX + 1 }
-    ensures { (tree : List (meant.Mount ℕ)) → AreOf origins.now tree → mount_of result
+    requires { HasNumbers next places.now.entries }
+    ensures { (tree : List (meant.Mount ℕ)) → ArePlacesIn tree places.now.entries → mount_of result
         ≡ bound_copy next tree source (location_of place) (option_map (λ namespace. counted namespace.count) namespace) (mount_of mount) }
 {
-    let number = copy_number(mount.number, origins, next);
+    let number = copy_number(mount.number, places, next);
     if mount.number == source.mount {
         return Mount {
             number,
@@ -113,43 +131,39 @@ fn copied(
     Mount {
         number,
         namespace,
-        mount_point: Some(on_copy(mount.mount_point, place, origins, next)),
+        mount_point: Some(on_copy(mount.mount_point, place, places, next)),
         ..mount
     }
 }
 
 // The mount point of the copy of a mount that is not the source's.
-fn on_copy(point: Option<Location>, place: Location, origins: &[MountId], next: u64) -> Location
-    requires { next + 2 * length origins.now < u64.MAX + 1 }
-    ensures { (tree : List (meant.Mount ℕ)) → AreOf origins.now tree
+fn on_copy(
+    point: Option<Location>,
+    place: Location,
+    places: &IndexMap<MountId, usize>,
+    next: u64,
+) -> Location
+    requires { HasNumbers next places.now.entries }
+    ensures { (tree : List (meant.Mount ℕ)) → ArePlacesIn tree places.now.entries
         → location_of result ≡ point_on_copy next tree (location_of place) (option_map location_of point) }
 {
     match point {
         Some(point) => Location {
-            mount: copy_number(point.mount, origins, next),
+            mount: copy_number(point.mount, places, next),
             node: point.node,
         },
         None => place,
     }
 }
 
-// The number of the copy of a mount.
-fn copy_number(id: MountId, origins: &[MountId], next: u64) -> MountId
-    requires { next + 2 * length origins.now < u64.MAX + 1 }
-    ensures { (tree : List (meant.Mount ℕ)) → AreOf origins.now tree → counted result.count ≡ numbers_bound next tree (counted id.count) }
+// The number of the copy of a mount; one that has no place is copied as the first.
+fn copy_number(id: MountId, places: &IndexMap<MountId, usize>, next: u64) -> MountId
+    requires { HasNumbers next places.now.entries }
+    ensures { (tree : List (meant.Mount ℕ)) → ArePlacesIn tree places.now.entries
+        → counted result.count ≡ numbers_bound next tree (counted id.count) }
 {
+    let place = places.get(&id).copied().unwrap_or(0);
     MountId {
-        count: next + 2 * place_of(origins, id) as u64,
+        count: next + 2 * place as u64,
     }
-}
-
-// The place of a mount in a list, 0 if it is not there.
-fn place_of(origins: &[MountId], id: MountId) -> usize
-    ensures place { result ≡ unwrap_or (place_from (λ other. nat_eq id.count other.count) 0 origins.now) 0 }
-    ensures bound { result < length origins.now + 1 }
-{
-    origins
-        .iter()
-        .position(|other| id.count == other.count)
-        .unwrap_or(0)
 }

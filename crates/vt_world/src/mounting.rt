@@ -1,5 +1,5 @@
-//! Events that attach mounts: mount(2), also with `MS_BIND`.
-ghost use Rattle.std.specs.Prelude.{◌≡◌, ◌++◌, ◌∷◌, [], IfErr, None, OnErr, OnOk, false, true};
+//! The event that mounts a new filesystem: mount(2).
+ghost use Rattle.std.specs.Prelude.{◌≡◌, ◌++◌, ◌∷◌, [], IfErr, None, OnErr, OnOk, true};
 ghost use Rattle.std.specs.List.{list_all};
 ghost use Rattle.vt_fs.specs.FilesystemsValue.{FilesystemEntry, IsNew, entry_of};
 ghost use Rattle.vt_location.specs.Flags.{flags_of};
@@ -8,7 +8,7 @@ ghost use Rattle.vt_location.specs.MountValue.{mount_of};
 ghost use Rattle.vt_mount.specs.MountsValue.{are_ascending, mounts_in};
 ghost use Rattle.vt_spec.specs.declared.errors.Rule.TheVariants.{S5};
 ghost use Rattle.vt_spec.specs.Errors.{denial};
-ghost use Rattle.vt_spec.specs.Machine.Permits.Permit.{ToBind, ToMountPlain};
+ghost use Rattle.vt_spec.specs.Machine.Permits.Permit.{ToMountPlain};
 ghost use Rattle.vt_spec.specs.Machine.World as meant;
 ghost use Rattle.vt_world.specs.Events.{Becomes, Permits};
 ghost use Rattle.vt_world.specs.Room.{has_small_slots};
@@ -64,39 +64,6 @@ impl World {
         self.next += 2;
         Ok(())
     }
-
-    /// Attaches a copy of the mount of a source, from that directory on: mount(2) with `MS_BIND`.
-    ///
-    /// S5 (ENOMEM): memory was refused, no number is left, or an inode or a filesystem would have more than 2^64 - 1 uses.
-    pub(crate) fn bind_one(
-        &mut self,
-        name: &TaskName,
-        source: Location,
-        place: Location,
-    ) -> Result<(), Deny>
-        requires { Permits self.old name.now (ToBind (location_of source) (location_of place) false) }
-        ensures ok { OnOk result (Becomes self.old name.now (ToBind (location_of source) (location_of place) false) self.new) }
-        ensures memory { IfErr result (λ deny. deny ≡ denial S5) }
-        ensures err { OnErr result (self.new ≡ self.old) }
-    {
-        self.mounts.are_ascending();
-        self.mounts.are_counted();
-        if self.next > u64::MAX - 2 {
-            return Err(Rule::S5.denial());
-        }
-        let origin = self.mounts.get(source.mount).unwrap();
-        let parent = self.mounts.get(place.mount).unwrap();
-        let copy = Mount {
-            number: MountId { count: self.next },
-            namespace: parent.namespace,
-            mount_point: Some(place),
-            root: source.node,
-            ..origin
-        };
-        attach_all(&mut self.mounts, &mut self.filesystems, &[copy])?;
-        self.next += 2;
-        Ok(())
-    }
 }
 
 // Makes a filesystem, which is one empty directory, with a mount of it; or nothing.
@@ -121,7 +88,7 @@ fn mount_new(mounts: &mut Mounts, filesystems: &mut Filesystems, mount: Mount) -
 }
 
 // The attributes of the root directory of a new filesystem.
-fn root_attr() -> Attr
+pub(crate) fn root_attr() -> Attr
     ensures { result ≡ meant.root_attr }
 {
     Attr {

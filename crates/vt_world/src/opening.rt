@@ -8,6 +8,7 @@ ghost use Rattle.vt_location.specs.MountValue.{mount_of};
 ghost use Rattle.vt_world.specs.Opening.{first_shown, opening_numbers};
 ghost use Rattle.vt_world.specs.WorldValue.{entries_of, world_of};
 
+use crate::mounting::root_attr;
 use crate::namespaces::Namespace;
 use crate::world::World;
 use indexmap::IndexMap;
@@ -17,12 +18,8 @@ use vt_location::{
     FilesystemId, Location, Mount, MountFlags, MountId, NamespaceId, NodeRef, Propagation,
 };
 use vt_mount::Mounts;
-use vt_node::{Attr, Mode};
 use vt_spec::errors::{Deny, Rule};
 use vt_task::Tasks;
-
-// The mode of the root directory.
-const ROOT_MODE: u16 = 0o755;
 
 impl World {
     /// The opening world: a namespace with a root mount of an empty filesystem, and the first task, which may do all.
@@ -83,12 +80,7 @@ fn first_filesystems(alloc: Global, filesystem: FilesystemId) -> Result<Filesyst
     ensures memory { IfErr result (λ deny. deny ≡ denial S5) }
 {
     let mut filesystems = Filesystems::new(alloc);
-    let attr = Attr {
-        uid: 0,
-        gid: 0,
-        mode: Mode::new(ROOT_MODE).unwrap(),
-    };
-    filesystems.add(filesystem, attr)?;
+    filesystems.add(filesystem, root_attr())?;
     filesystems.hold_mount(filesystem)?;
     let root = NodeRef {
         filesystem,

@@ -7,7 +7,7 @@ use Rattle.vt_mount.specs.MountsValue.{mounts_in}
 use Rattle.vt_spec.specs.Lists.{holds_of}
 use Rattle.vt_spec.specs.Machine.Mounts.{Mount}
 use Rattle.vt_world.specs.Copying.{attached_in, copied_by}
-use Rattle.vt_world.proofs.CopyLemmas.{all_taken, as_many, ascending_filter, ascending_found, next_copied, next_missing, picked, rising_ids}
+use Rattle.vt_world.proofs.CopyLemmas.{all_taken, as_many, ascending_filter, ascending_found, next_made, none_made, picked, rising_ids}
 use Rattle.vt_world.proofs.copying.copies.Goals as goal
 use Rattle.vt_world.proofs.copying.copies.Goals.{in-Some+in_ok-push, in_default}
 
@@ -30,14 +30,14 @@ loop-id-preserved c =
       | in-Some+in_ok-push w ↦
           ap (λ copies. map mount_of copies.items) w.copies-is
           ∙ ap (map mount_of) (let pushed = w.in_ok-push.ensures in search rules)
-          ∙ next_copied (λ id. option_map change (find (λ mount. nat_eq (counted id.count) mount.number) (mounts_in c.args.mounts.now)))
+          ∙ next_made mount_of (λ id. option_map change (find (λ mount. nat_eq (counted id.count) mount.number) (mounts_in c.args.mounts.now)))
           c.loop-id.id-index _ c.attached_in-originals.result.now (let more = c.loop-id-test.true in search rules)
           c.loop-id.copies.items c.loop-id.invariant w.copied.result
           (ap (option_map change) (sym c.get.ensures ∙ ap (option_map mount_of) w.in-Some.is)
           ∙ ap Some (sym (w.copied.ensures all c.attached_in-originals.ensures)))
       | in_default w ↦
           ap (λ copies. map mount_of copies.items) w.copies-is
-          ∙ next_missing (λ id. option_map change (find (λ mount. nat_eq (counted id.count) mount.number) (mounts_in c.args.mounts.now)))
+          ∙ none_made mount_of (λ id. option_map change (find (λ mount. nat_eq (counted id.count) mount.number) (mounts_in c.args.mounts.now)))
           c.loop-id.id-index _ c.attached_in-originals.result.now (let more = c.loop-id-test.true in search rules)
           c.loop-id.copies.items c.loop-id.invariant
           (ap (option_map change) (sym c.get.ensures ∙ ap (option_map mount_of) w.in_default.is))

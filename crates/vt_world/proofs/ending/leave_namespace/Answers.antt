@@ -4,7 +4,8 @@ use Rattle.std.specs.Map.{remove_entry}
 use Rattle.std.specs.Option.{option_copied_mut}
 use Rattle.vt_location.specs.Numbers.{counted}
 use Rattle.vt_world.specs.Uses.{kept}
-use Rattle.vt_world.proofs.EndingLemmas.{absent_left, absent_mounts, fewer_left, fewer_mounts, is_id, last_left, last_mounts, written_back}
+use Rattle.vt_world.proofs.EndingLemmas.{absent_left, absent_mounts, fewer_left, fewer_mounts, last_left, last_mounts}
+use Rattle.vt_world.proofs.NamespaceEntries.{is_id, written_back}
 use Rattle.vt_world.proofs.ending.leave_namespace.Goals as goal
 
 pub returns-in_default-clause-namespaces : goal.returns-in_default-clause-namespaces

@@ -1,7 +1,8 @@
 use Rattle.std.proofs.Common.{ap, arith, refl, subst, sym, ◌∙◌, ◌<◌, IfSome}
 use Rattle.std.specs.Option.{option_copied_mut}
 use Rattle.vt_world.specs.WorldValue.{NamespaceEntry, entries_of}
-use Rattle.vt_world.proofs.CountingLemmas.{entry_found, nothing_counted, task_counted}
+use Rattle.vt_world.proofs.CountingLemmas.{nothing_counted, task_counted}
+use Rattle.vt_world.proofs.NamespaceEntries.{entry_found}
 use Rattle.vt_world.proofs.forking.count_task.Goals as goal
 
 pub overflow_add-namespace : goal.overflow_add-namespace

@@ -2,7 +2,7 @@ use Rattle.std.proofs.Common.{None, Some, ap, subst, sym, ◌∙◌, ◌<◌, If
 use Rattle.std.specs.Prelude.{option_copied}
 use Rattle.std.proofs.lemmas.Bool.{ltb-true}
 use Rattle.vt_world.specs.WorldValue.{NamespaceEntry}
-use Rattle.vt_world.proofs.CountingLemmas.{entry_found}
+use Rattle.vt_world.proofs.NamespaceEntries.{entry_found}
 use Rattle.vt_world.proofs.forking.has_room_for_task.Goals as goal
 
 pub returns-in-Some : goal.returns-in-Some

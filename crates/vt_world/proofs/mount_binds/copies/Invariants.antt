@@ -1,5 +1,4 @@
-use Rattle.std.proofs.Common.{◌≡◌, map, nat_eq, option_map, take, List, ℕ}
-use Rattle.std.specs.Prelude.{find, filter_map}
+use Rattle.std.proofs.Common.{◌≡◌, map, take, List, ℕ}
 use Rattle.vt_location.specs.Locations.{location_of}
 use Rattle.vt_location.specs.MountValue.{mount_of}
 use Rattle.vt_mount.specs.MountsValue.{mounts_in}

@@ -1,4 +1,4 @@
-use Rattle.std.proofs.Common.{Err, None, Ok, Option, Result, Some, ap, arith, rules, sym, unwrap_or, ℕ, ◌∙◌, ◌+◌, ◌≡◌}
+use Rattle.std.proofs.Common.{Err, None, Ok, Result, Some, ap, arith, rules, sym, unwrap_or, ℕ, ◌∙◌, ◌+◌, ◌≡◌}
 use Rattle.std.proofs.lemmas.List.Sorted.{answers_always}
 use Rattle.vt_world.proofs.CopyLemmas.{found_from}
 use Rattle.vt_world.proofs.MountLines.{numbered_mount}

@@ -1,4 +1,4 @@
-use Rattle.std.proofs.Common.{List, Ok, ap, arith, length, map, nat_eq, subst, sym, ◌≡◌, ◌+◌, ◌*◌, ◌∙◌}
+use Rattle.std.proofs.Common.{ap, arith, length, map, nat_eq, subst, sym, ◌≡◌, ◌+◌, ◌*◌, ◌∙◌}
 use Rattle.std.specs.Prelude.{IfOk}
 use Rattle.vt_location.specs.Locations.{location_of}
 use Rattle.vt_location.specs.MountValue.{mount_of}

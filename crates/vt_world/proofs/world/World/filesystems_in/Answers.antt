@@ -1,4 +1,4 @@
-use Rattle.std.proofs.Common.{ap, find, map, nat_eq, option_map, rules, sym, ◌∙◌, ℕ}
+use Rattle.std.proofs.Common.{ap, find, nat_eq, option_map, rules, sym, ◌∙◌, ℕ}
 use Rattle.std.specs.Prelude.{filter_map}
 use Rattle.vt_letting_go.proofs.Lists.{among-from_filter}
 use Rattle.vt_location.specs.MountValue.{mount_of}

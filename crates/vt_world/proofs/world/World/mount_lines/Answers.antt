@@ -11,9 +11,9 @@ use Rattle.vt_spec.specs.Machine.Listing.{filesystems_seen, mount_line}
 use Rattle.vt_spec.specs.Machine.Mounts.{Mount}
 use Rattle.vt_world.specs.Copying.{attached_in}
 use Rattle.vt_world.specs.WorldValue.{WorldValue, world_of}
-use Rattle.vt_world.proofs.CopyLemmas.{all_taken, ascending_filter, ascending_found, picked, rising_ids}
+use Rattle.vt_world.proofs.CopyLemmas.{all_taken, ascending_filter, ascending_found, next_made, none_made, picked, rising_ids}
 use Rattle.vt_world.proofs.Grafting.{all_ungrouped}
-use Rattle.vt_world.proofs.MountLines.{next_line, no_line, one_ungrouped}
+use Rattle.vt_world.proofs.MountLines.{one_ungrouped}
 use Rattle.vt_world.proofs.world.World.mount_lines.Goals as goal
 use Rattle.vt_world.proofs.world.World.mount_lines.Goals.{in-Some+in_ok-line+in-Ok, in_default}
 
@@ -37,14 +37,14 @@ loop-id-preserved c =
       | in-Some+in_ok-line+in-Ok w ↦
           ap (λ lines. map mount_line_of lines.items) w.lines-is
           ∙ ap (map mount_line_of) (let pushed = w.in-Ok.ensures in search rules)
-          ∙ next_line mount_line_of (λ id. option_map change (find (λ mount. nat_eq (counted id.count) mount.number) (mounts_in c.self.inside.mounts)))
+          ∙ next_made mount_line_of (λ id. option_map change (find (λ mount. nat_eq (counted id.count) mount.number) (mounts_in c.self.inside.mounts)))
           c.loop-id.id-index _ c.attached_in-listed.result.now (let more = c.loop-id-test.true in search rules)
           c.loop-id.lines.items c.loop-id.invariant w.in_ok-line.line
           (ap (option_map change) (sym c.get.ensures ∙ ap (option_map mount_of) w.in-Some.is)
           ∙ ap Some (sym (w.in_ok-line.ensures.ok all c.attached_in-listed.ensures seen)))
       | in_default w ↦
           ap (λ lines. map mount_line_of lines.items) w.lines-is
-          ∙ no_line mount_line_of (λ id. option_map change (find (λ mount. nat_eq (counted id.count) mount.number) (mounts_in c.self.inside.mounts)))
+          ∙ none_made mount_line_of (λ id. option_map change (find (λ mount. nat_eq (counted id.count) mount.number) (mounts_in c.self.inside.mounts)))
           c.loop-id.id-index _ c.attached_in-listed.result.now (let more = c.loop-id-test.true in search rules)
           c.loop-id.lines.items c.loop-id.invariant
           (ap (option_map change) (sym c.get.ensures ∙ ap (option_map mount_of) w.in_default.is))

@@ -8,7 +8,8 @@ use Rattle.vt_world.specs.Detached.{LeaveInTurn}
 use Rattle.vt_world.specs.Events.{Becomes, Permits}
 use Rattle.vt_world.specs.Uses.{kept}
 use Rattle.vt_world.proofs.ChangedFiles.{with_filesystems}
-use Rattle.vt_world.proofs.DirectoryRemoved.{alone_is_removed, collected_are, directory_is_removed, none_counted, some_counted, unlink_fits}
+use Rattle.vt_world.proofs.DirectoryRemoved.{alone_is_removed, collected_are, directory_is_removed, unlink_fits}
+use Rattle.vt_world.proofs.MountsOn.{none_counted, some_counted}
 use Rattle.vt_world.proofs.FileRemoving.{removed_in}
 use Rattle.vt_world.proofs.Remaining.{remade}
 use Rattle.vt_world.proofs.world.World.remove_directory.Goals as goal

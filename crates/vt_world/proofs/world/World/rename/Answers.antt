@@ -9,7 +9,7 @@ use Rattle.vt_world.specs.Detached.{LeaveInTurn}
 use Rattle.vt_world.specs.Events.{Becomes, Permits}
 use Rattle.vt_world.specs.Uses.{kept}
 use Rattle.vt_world.proofs.ChangedFiles.{with_filesystems}
-use Rattle.vt_world.proofs.DirectoryRemoved.{none_counted, some_counted}
+use Rattle.vt_world.proofs.MountsOn.{none_counted, some_counted}
 use Rattle.vt_world.proofs.FileRenaming.{rename_fits, rename_is_answered, renamed_object, renamed_to}
 use Rattle.vt_world.proofs.RenamedOver.{nothing_on_replaced, rename_is_done, replaced_collected}
 use Rattle.vt_world.proofs.Remaining.{remade}
