@@ -16,24 +16,9 @@ use Rattle.vt_spec.specs.Machine.WorldLaws.{is_nowhere_or_attached}
 use Rattle.vt_letting_go.specs.InUse.{AllInUse, GroupsInUse}
 use Rattle.vt_letting_go.specs.Keeping.{LocationsStand}
 use Rattle.vt_letting_go.specs.Leaving.{MountsStand}
-use Rattle.vt_letting_go.proofs.Lists.{Among, all_pass, among-append, among-append_left, among-append_right, among-flat_map, among-from_filter, among-from_filter_map, among-from_flat_map, among-from_map, among-map, any_passes, map_twice, none_passes, or_first, passes}
+use Rattle.vt_letting_go.proofs.Lists.{Among, all_pass, among-append, among-append_left, among-append_right, among-flat_map, among-from_filter, among-from_filter_map, among-from_flat_map, among-from_map, among-map, any_passes, found_in, map_twice, none_passes, or_first, passes}
 use Rattle.vt_letting_go.proofs.MountingLosers.{Loses, StillAPlace, places_of, places_stand}
 use Rattle.vt_letting_go.proofs.PlacesLeft.{found_itself, nowhere_parts, number_found, one_location}
-
--- what is found is there and passes
-found_in : (test : Mount ℕ → Bool) (mounts : List (Mount ℕ)) (found : Mount ℕ) → find test mounts ≡ Some found
-    → Among found mounts × (test found ≡ true)
-found_in test [] found e = absurd (true≢false (sym (ap is_some e)))
-found_in test (first ∷ rest) found e = by (test first) refl (found_in test rest found)
-  where
-    by : (b : Bool) → test first ≡ b → (find test rest ≡ Some found → Among found rest × (test found ≡ true))
-        → Among found (first ∷ rest) × (test found ≡ true)
-    by true f later =
-        let same : first ≡ found = same_Some first found (ap (λ c. cond c (Some first) (find test rest)) (sym f) ∙ e) in
-        (inl (sym same), ap test (sym same) ∙ f)
-    by false f later =
-        let t : Among found rest × (test found ≡ true) = later (ap (λ c. cond c (Some first) (find test rest)) (sym f) ∙ e) in
-        (inr t.0, t.1)
 
 -- Mounts that are replaced by those of their numbers
 abbrev swapped : List (Mount ℕ) → Mount ℕ → Mount ℕ

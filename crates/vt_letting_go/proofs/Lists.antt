@@ -1,10 +1,11 @@
 -- What stands in a list: tests over lists that are shortened or changed.
-use Rattle.std.proofs.Common.{◌≡◌, refl, sym, ap, subst, ◌∙◌, ◌⊎◌, inl, inr, ⊎_elim, ℕ, nat_eq, eqb-true, eq-eqb, Bool, true, false, cond, ◌||◌, ◌&&◌, List, [], ◌∷◌, filter, map, true≢false, flat_map, ◌++◌}
+use Rattle.std.proofs.Common.{◌≡◌, refl, sym, ap, subst, ◌∙◌, ◌⊎◌, inl, inr, ⊎_elim, ℕ, nat_eq, eqb-true, eq-eqb, Bool, true, false, cond, ◌||◌, ◌&&◌, List, [], ◌∷◌, filter, find, map, true≢false, flat_map, ◌++◌, is_some}
 use Rattle.std.specs.Prelude.{All, Option, None, Some}
 use Rattle.std.specs.List.{cons_option, filter_map, list_all, list_any}
 use Rattle.std.proofs.lemmas.Bool.{and_parts, or_cases, or_parts}
 use Rattle.std.proofs.lemmas.List.Elements.{All-nil, All-cons, All-head, All-tail}
 use Rattle.std.proofs.lemmas.List.Folds.{list_any-append}
+use Rattle.std.proofs.lemmas.Option.{same_Some}
 use Rattle.vt_spec.specs.Lists.{is_among}
 
 -- x stands in a list
@@ -67,6 +68,16 @@ module _ {A : Type 0} where
   any_passes p (y ∷ ys) x m e =
       ⊎_elim (λ same. or_first (p y) (list_any p ys) (ap p (sym same) ∙ e))
       (λ l. or_second (p y) (list_any p ys) (any_passes p ys x l e)) m
+
+  -- what is found is there and passes
+  pub found_in : (test : A → Bool) (xs : List A) (found : A) → find test xs ≡ Some found → Among found xs × (test found ≡ true)
+  found_in test [] found e = absurd (true≢false (sym (ap is_some e)))
+  found_in test (first ∷ rest) found e = by (test first) refl e (found_in test rest found)
+    where
+      by : (b : Bool) → test first ≡ b → cond b (Some first) (find test rest) ≡ Some found
+          → (find test rest ≡ Some found → Among found rest × (test found ≡ true)) → Among found (first ∷ rest) × (test found ≡ true)
+      by true f h later = let same : first ≡ found = same_Some first found h in (inl (sym same), ap test (sym same) ∙ f)
+      by false f h later = let t : Among found rest × (test found ≡ true) = later h in (inr t.0, t.1)
 
   pub filter_here : (p : A → Bool) (y : A) (ys : List A) → p y ≡ true → filter p (y ∷ ys) ≡ y ∷ filter p ys
   filter_here p y ys e = ap (λ b. cond b (y ∷ filter p ys) (filter p ys)) e

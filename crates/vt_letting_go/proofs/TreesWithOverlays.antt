@@ -300,7 +300,7 @@ pub changed_trees_keep_all : ChangedTreesKeepAll
 changed_trees_keep_all world change settles trees uppers reals changes = trees_change world change [] settles trees uppers reals changes
 
 -- a plain filesystem has no real objects
-no_real : (f : Filesystem ℕ) → is_overlay f ≡ false → (number : ℕ) → real_in f number ≡ None
+pub no_real : (f : Filesystem ℕ) → is_overlay f ≡ false → (number : ℕ) → real_in f number ≡ None
 no_real f plain number = by f.overlay plain
   where
     by : (o : Option (Overlay ℕ)) → is_some o ≡ false → overlay_or None (λ overlay. overlay.real number) o ≡ None
@@ -308,7 +308,7 @@ no_real f plain number = by f.overlay plain
     by (Some overlay) e = absurd (true≢false e)
 
 -- a filesystem that does not change
-unchanged : (after : World ℕ) (lost : List Inode) (f : Filesystem ℕ) → ChangesFilesystem after lost f f
+pub unchanged : (after : World ℕ) (lost : List Inode) (f : Filesystem ℕ) → ChangesFilesystem after lost f f
 unchanged after lost f = record {
   number = refl;
   root = refl;

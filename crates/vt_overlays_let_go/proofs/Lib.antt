@@ -1,1 +1,4 @@
 pub mod NewOverlays
+pub mod Copied
+pub mod Added
+pub mod OverlaysChanged

@@ -65,7 +65,8 @@ module _ (layers : List (OpenLayer ℕ)) (are_open : AreOpen layers) (longest : 
       by (Some inode) e h =
           let is = is_of_object layers are_open longest bounded fresh distinct has_upper n inode e in (
             is.object.path,
-            arrives_at is.object.path is.object.seen (object_is layers are_open longest bounded is.object is.among) ∙ ap Some (sym is.numbered),
+            arrives_at is.object.path is.object.seen (object_is layers are_open longest bounded is.object is.among) ∙ ap Some
+                (sym is.numbered),
           )
 
 pub new_overlays_are_named : NewOverlaysAreNamed

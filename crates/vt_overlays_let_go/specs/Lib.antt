@@ -1,1 +1,2 @@
 pub mod NewOverlays
+pub mod OverlayChanges

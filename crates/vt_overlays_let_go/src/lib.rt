@@ -2,4 +2,5 @@
 //! public function is a theorem of the written policy, and does nothing.
 #![tactic(auto)]
 
+pub mod changing;
 pub mod mounting;
