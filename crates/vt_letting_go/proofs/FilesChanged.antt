@@ -211,7 +211,7 @@ with_descriptor_keeps task file access location (inr (inr l)) =
     (among-map (λ (d : Descriptor ℕ). d.location) (with_descriptor task file access).descriptors from.0
     (inserted_keeps _ task.descriptors from.0 from.1))))
 
-none_left : (world : World ℕ) (task : Task ℕ) (file : Location ℕ) (access : Access) → any_pair (λ (a b : Task ℕ). same_name a.name b.name) world.tasks ≡ false
+pub none_left : (world : World ℕ) (task : Task ℕ) (file : Location ℕ) (access : Access) → any_pair (λ (a b : Task ℕ). same_name a.name b.name) world.tasks ≡ false
     → Among task world.tasks → only_these_are_left world (with_task world (with_descriptor task file access)).tasks [] ≡ true
 none_left world task file access one there =
     all_pass (λ location. is_location_among (flat_map locations_of tasks) location || is_location_among [] location) (all_locations world) (λ location m.

@@ -7,8 +7,8 @@ use Rattle.std.specs.Prelude.{All}
 use Rattle.vt_spec.specs.FileTree.{FileTree}
 use Rattle.vt_spec.specs.Language.Changes.{Change}
 use Rattle.vt_spec.specs.Lists.{Fresh, holds_of, is_among}
-use Rattle.vt_spec.specs.Machine.CopyUp.{Merge}
-use Rattle.vt_spec.specs.Machine.Filesystems.{filesystem_changed, overlay_changed, stack_of, with_change, with_files}
+use Rattle.vt_spec.specs.Machine.CopyUp.{Merge, merge_changed}
+use Rattle.vt_spec.specs.Machine.Filesystems.{filesystem_changed, merge_of, overlay_changed, stack_of, with_change, with_files, with_merge}
 use Rattle.vt_spec.specs.Machine.Locked.{overlay_or}
 use Rattle.vt_spec.specs.Machine.Mounts.{Location}
 use Rattle.vt_spec.specs.Machine.Settled.{named_in, objects_of_overlay, settled}
@@ -68,10 +68,10 @@ objects_stay filesystem numbers more overlay real stay grows object =
 
 module _ (fresh : Fresh ℕ) (world : World ℕ) (location : Location ℕ) (change : Change ℕ) (overlay : Overlay ℕ) (upper : Layer ℕ)
     (conditions : IsWorld nat_eq world) (can : CanChange fresh world location change overlay upper) where
-  abbrev number : ℕ
+  abbrev pub number : ℕ
   number = (mount_at nat_eq world location).filesystem
 
-  abbrev merged : Filesystem ℕ
+  abbrev pub merged : Filesystem ℕ
   merged = filesystem_at nat_eq world location
 
   abbrev layer : Filesystem ℕ
@@ -83,7 +83,7 @@ module _ (fresh : Fresh ℕ) (world : World ℕ) (location : Location ℕ) (chan
   abbrev later : Merge ℕ
   later = merge_after fresh world location overlay upper change
 
-  settles : IsSettled world
+  pub settles : IsSettled world
   settles = worlds_are_settled world conditions
 
   fit : IsFitToChange fresh before
@@ -100,7 +100,7 @@ module _ (fresh : Fresh ℕ) (world : World ℕ) (location : Location ℕ) (chan
   added = adds fresh (stack_of nat_eq world overlay upper) before fit reals_there change can.may can.named
 
   -- both filesystems are there
-  merged_there : Among merged world.filesystems
+  pub merged_there : Among merged world.filesystems
   merged_there =
       (found_in (λ f. nat_eq number f.number) world.filesystems merged (overlay_found world number overlay can.overlay_there)).0
 
@@ -129,7 +129,7 @@ module _ (fresh : Fresh ℕ) (world : World ℕ) (location : Location ℕ) (chan
       by None h = absurd (true≢false (sym h))
       by (Some f) h = refl
 
-  abbrev new_merged : Filesystem ℕ
+  abbrev pub new_merged : Filesystem ℕ
   new_merged = record merged { files = later.files; overlay = Some (record overlay { real = later.real }) }
 
   abbrev new_layer : Filesystem ℕ
@@ -229,7 +229,7 @@ module _ (fresh : Fresh ℕ) (world : World ℕ) (location : Location ℕ) (chan
   abbrev lost_above : List ℕ
   lost_above = unnamed_by layer.files later.upper
 
-  abbrev lost : List Inode
+  abbrev pub lost : List Inode
   lost = inodes_lost_with_upper fresh world location overlay upper change
 
   names_tree : ChangesTree merged.files later.files lost_names
@@ -341,25 +341,35 @@ module _ (fresh : Fresh ℕ) (world : World ℕ) (location : Location ℕ) (chan
             subst (λ x. ChangesFilesystem last lost x (swap_both f)) (sym e) (subst (ChangesFilesystem last lost layer) (sym s) of_layer)
         by f (is_other s) = subst (ChangesFilesystem last lost f) (sym s) (unchanged last lost f)
 
-  merged_then : Among new_merged then_.filesystems
-  merged_then = by (which merged merged_there)
-    where
-      by : Is merged → Among new_merged then_.filesystems
-      by (is_merged e s) = subst (λ f. Among f then_.filesystems) s (among-map swap_both world.filesystems merged merged_there)
-      by (is_layer e s) = absurd (true≢false (sym (ap is_some can.overlay_there) ∙ ap is_overlay e ∙ layer_plain))
-      by (is_other s) = subst (λ f. Among f then_.filesystems) swapped (among-map swap_both world.filesystems merged merged_there)
-        where
-          swapped : swap_both merged ≡ new_merged
-          swapped =
-              ap (λ c. replaced_if_numbered nat_eq new_layer (cond c new_merged merged)) (eq-eqb merged.number merged.number refl)
-              ∙ ap (λ c. cond c new_layer new_merged) apart
+  pub becomes : swap_both merged ≡ new_merged
+  becomes =
+      ap (λ c. replaced_if_numbered nat_eq new_layer (cond c new_merged merged)) (eq-eqb merged.number merged.number refl)
+      ∙ ap (λ c. cond c new_layer new_merged) apart
 
-  pub is_swap : with_change nat_eq fresh world location change ≡ then_
-  is_swap =
-      ap (λ o. filesystem_changed nat_eq fresh world merged o change) can.overlay_there
-      ∙ ap (λ u. overlay_changed nat_eq fresh world merged overlay u change) can.upper_there
-      ∙ ap (λ fs. record world { filesystems = fs })
-      (map_twice (replaced_if_numbered nat_eq new_layer) (replaced_if_numbered nat_eq new_merged) world.filesystems)
+  merged_then : Among new_merged then_.filesystems
+  merged_then = subst (λ f. Among f then_.filesystems) becomes (among-map swap_both world.filesystems merged merged_there)
+
+  -- so it is in every world that has these filesystems, and shows this one at the location
+  pub is_swap : (other : World ℕ) → other.filesystems ≡ world.filesystems → (mount_at nat_eq other location).filesystem ≡ number
+      → with_change nat_eq fresh other location change ≡ with_filesystems other swap_both
+  is_swap other same shows =
+      ap (λ f. filesystem_changed nat_eq fresh other f f.overlay change)
+      (ap (filesystem_numbered nat_eq other) shows ∙ ap (λ fs. filesystem_numbered nat_eq (record other { filesystems = fs }) number) same)
+      ∙ ap (λ o. filesystem_changed nat_eq fresh other merged o change) can.overlay_there
+      ∙ ap (λ u. overlay_changed nat_eq fresh other merged overlay u change) can.upper_there
+      ∙ ap (λ fs. record other { filesystems = merged_in fs }) same
+      ∙ ap (λ fs. record other { filesystems = fs })
+      (map_twice (replaced_if_numbered nat_eq new_layer) (replaced_if_numbered nat_eq new_merged) world.filesystems
+      ∙ ap (map swap_both) (sym same))
+    where
+      of : List (Filesystem ℕ) → World ℕ
+      of fs = record world { filesystems = fs }
+
+      merged_in : List (Filesystem ℕ) → List (Filesystem ℕ)
+      merged_in fs =
+          (with_merge nat_eq (of fs) merged overlay upper
+          (merge_changed nat_eq fresh (stack_of nat_eq (of fs) overlay upper)
+          (merge_of nat_eq (of fs) merged overlay upper) change)).filesystems
 
   goes : settled nat_eq then_ ≡ let_go_all_inodes then_ lost
   goes = changed_trees_let_go world swap_both lost settles trees_then uppers_then reals_then (all_changed then_ merged_then)
@@ -367,5 +377,5 @@ module _ (fresh : Fresh ℕ) (world : World ℕ) (location : Location ℕ) (chan
 pub overlay_changes_let_go : OverlayChangesLetGo
 overlay_changes_let_go fresh world location change overlay upper conditions can =
     subst (λ w. settled nat_eq w ≡ let_go_all_inodes w (inodes_lost_with_upper fresh world location overlay upper change))
-    (sym (is_swap fresh world location change overlay upper conditions can))
+    (sym (is_swap fresh world location change overlay upper conditions can world refl refl))
     (goes fresh world location change overlay upper conditions can)

@@ -1,2 +1,3 @@
 pub mod NewOverlays
 pub mod OverlayChanges
+pub mod OverlayCalls
