@@ -85,6 +85,16 @@ module _ (used : List ℕ) (filesystem : Filesystem ℕ) where
       by None = refl
       by (Some overlay) = refl
 
+  pub upper-left : (number : ℕ) (all : Bool) → has_upper_in number (left_by all) ≡ has_upper_in number filesystem
+  upper-left number true = refl
+  upper-left number false = by filesystem.overlay
+    where
+      by : (o : Option (Overlay ℕ))
+          → overlay_or false (λ overlay. holds_of (λ layer. nat_eq number layer.filesystem) overlay.upper) (option_map (real_among nat_eq used) o)
+          ≡ overlay_or false (λ overlay. holds_of (λ layer. nat_eq number layer.filesystem) overlay.upper) o
+      by None = refl
+      by (Some overlay) = refl
+
   -- an inode that is used no more has no entries
   abbrev pub UnusedAreEmpty : Type 0
   UnusedAreEmpty = (number : ℕ) → is_among nat_eq number used ≡ false → targets_in (filesystem.files.tree.node number) ≡ []
@@ -139,34 +149,34 @@ module _ (world : World ℕ) where
   abbrev first : World ℕ
   first = without_dead_in nat_eq is_overlay living
 
-  abbrev after_first : Filesystem ℕ → Filesystem ℕ
+  abbrev pub after_first : Filesystem ℕ → Filesystem ℕ
   after_first filesystem = only_used nat_eq living (is_overlay filesystem) filesystem
 
-  abbrev after_second : Filesystem ℕ → Filesystem ℕ
+  abbrev pub after_second : Filesystem ℕ → Filesystem ℕ
   after_second filesystem = only_used nat_eq first (not (is_overlay filesystem)) filesystem
 
-  number-first : (filesystem : Filesystem ℕ) → (after_first filesystem).number ≡ filesystem.number
+  pub number-first : (filesystem : Filesystem ℕ) → (after_first filesystem).number ≡ filesystem.number
   number-first filesystem = by (is_overlay filesystem)
     where
       by : (b : Bool) → (only_used nat_eq living b filesystem).number ≡ filesystem.number
       by true = number-left (used_in nat_eq living filesystem) filesystem _
       by false = refl
 
-  number-second : (filesystem : Filesystem ℕ) → (after_second filesystem).number ≡ filesystem.number
+  pub number-second : (filesystem : Filesystem ℕ) → (after_second filesystem).number ≡ filesystem.number
   number-second filesystem = by (not (is_overlay filesystem))
     where
       by : (b : Bool) → (only_used nat_eq first b filesystem).number ≡ filesystem.number
       by true = number-left (used_in nat_eq first filesystem) filesystem _
       by false = refl
 
-  layers-first : (filesystem : Filesystem ℕ) → of_overlay [] layers_of (after_first filesystem) ≡ of_overlay [] layers_of filesystem
+  pub layers-first : (filesystem : Filesystem ℕ) → of_overlay [] layers_of (after_first filesystem) ≡ of_overlay [] layers_of filesystem
   layers-first filesystem = by (is_overlay filesystem)
     where
       by : (b : Bool) → of_overlay [] layers_of (only_used nat_eq living b filesystem) ≡ of_overlay [] layers_of filesystem
       by true = layers-left (used_in nat_eq living filesystem) filesystem _
       by false = refl
 
-  layers-second : (filesystem : Filesystem ℕ) → of_overlay [] layers_of (after_second filesystem) ≡ of_overlay [] layers_of filesystem
+  pub layers-second : (filesystem : Filesystem ℕ) → of_overlay [] layers_of (after_second filesystem) ≡ of_overlay [] layers_of filesystem
   layers-second filesystem = by (not (is_overlay filesystem))
     where
       by : (b : Bool) → of_overlay [] layers_of (only_used nat_eq first b filesystem) ≡ of_overlay [] layers_of filesystem
@@ -179,13 +189,13 @@ module _ (world : World ℕ) where
       (flat_map-map after_second (of_overlay [] layers_of) first.filesystems layers-second
       ∙ flat_map-map after_first (of_overlay [] layers_of) living.filesystems layers-first)
 
-  first_layers : (number : ℕ) → layers_in nat_eq first number ≡ layers_in nat_eq living number
+  pub first_layers : (number : ℕ) → layers_in nat_eq first number ≡ layers_in nat_eq living number
   first_layers number =
       ap (λ layers. map (λ layer. layer.directory) (filter (λ layer. nat_eq number layer.filesystem) layers))
       (flat_map-map after_first (of_overlay [] layers_of) living.filesystems layers-first)
 
   -- the second round leaves overlays
-  second_leaves : (filesystem : Filesystem ℕ) → is_overlay filesystem ≡ true → after_second filesystem ≡ filesystem
+  pub second_leaves : (filesystem : Filesystem ℕ) → is_overlay filesystem ≡ true → after_second filesystem ≡ filesystem
   second_leaves filesystem e = ap (λ b. only_used nat_eq first (not b) filesystem) e
 
   -- a plain tree has no objects

@@ -276,31 +276,6 @@ left_of_plain used filesystem numbers plain = by (list_all (λ number. is_among 
       overlay = no_real used filesystem.overlay plain i;
     }
 
--- without some, and then without more
-pub without_more : (some more : ℕ → Bool) (filesystem : Filesystem ℕ) → ((number : ℕ) → some number ≡ true → more number ≡ true)
-    → without_those more (without_those some filesystem) ≡ without_those more filesystem
-without_more some more filesystem within = λ i. record filesystem {
-  files = record {
-    tree = record {
-      root = filesystem.files.tree.root;
-      node = λ number. node number (some number) refl (more number) refl i;
-    };
-    numbers = filter_twice (λ number. not (more number)) (λ number. not (some number)) (λ number. not (more number))
-        (λ number. by number (some number) refl (more number) refl) filesystem.files.numbers i;
-  };
-}
-  where
-    node : (number : ℕ) (a : Bool) → some number ≡ a → (b : Bool) → more number ≡ b
-        → cond b None (cond a None (filesystem.files.tree.node number)) ≡ cond b None (filesystem.files.tree.node number)
-    node number a e true f = refl
-    node number true e false f = absurd (true≢false (sym (within number e) ∙ f))
-    node number false e false f = refl
-
-    by : (number : ℕ) (a : Bool) → some number ≡ a → (b : Bool) → more number ≡ b → not b ≡ (not a && not b)
-    by number true e true f = refl
-    by number true e false f = absurd (true≢false (sym (within number e) ∙ f))
-    by number false e b f = refl
-
 -- the numbers beside a tree without some
 pub numbers_without : (gone : ℕ → Bool) (filesystem : Filesystem ℕ) → ListsNumbers nat_eq filesystem.files
     → ListsNumbers nat_eq (without_those gone filesystem).files

@@ -224,9 +224,13 @@ module _ {A B : Type 0} where
       by false = refl
 
   -- lists put together out of what does not change
+  pub flat_map-step : (f : A → A) (g : A → List B) (xs : List A) → ((x : A) → Among x xs → g (f x) ≡ g x) → flat_map g (map f xs) ≡ flat_map g xs
+  flat_map-step f g [] h = refl
+  flat_map-step f g (y ∷ ys) h =
+      ap (λ l. l ++ flat_map g (map f ys)) (h y (inl refl)) ∙ ap (λ l. g y ++ l) (flat_map-step f g ys (λ x m. h x (inr m)))
+
   pub flat_map-map : (f : A → A) (g : A → List B) (xs : List A) → ((x : A) → g (f x) ≡ g x) → flat_map g (map f xs) ≡ flat_map g xs
-  flat_map-map f g [] h = refl
-  flat_map-map f g (y ∷ ys) h = ap (λ l. l ++ flat_map g (map f ys)) (h y) ∙ ap (λ l. g y ++ l) (flat_map-map f g ys h)
+  flat_map-map f g xs h = flat_map-step f g xs (λ x m. h x)
 
   pub flat_map_none : (g : A → List B) (xs : List A) → ((x : A) → Among x xs → g x ≡ []) → flat_map g xs ≡ []
   flat_map_none g [] h = refl
@@ -251,6 +255,10 @@ module _ {A B C : Type 0} where
   pub map_twice : (f : B → C) (g : A → B) (xs : List A) → map f (map g xs) ≡ map (λ x. f (g x)) xs
   map_twice f g [] = refl
   map_twice f g (y ∷ ys) = ap (λ rest. f (g y) ∷ rest) (map_twice f g ys)
+
+  pub flat_map-of_map : (g : B → List C) (f : A → B) (xs : List A) → flat_map g (map f xs) ≡ flat_map (λ x. g (f x)) xs
+  flat_map-of_map g f [] = refl
+  flat_map-of_map g f (y ∷ ys) = ap (λ l. g (f y) ++ l) (flat_map-of_map g f ys)
 
 -- a number among numbers
 pub among_numbers : (number : ℕ) (numbers : List ℕ) → is_among nat_eq number numbers ≡ true → Among number numbers

@@ -1,5 +1,5 @@
 -- Inodes of one kind of filesystem go one by one, overlays among them.
-use Rattle.std.proofs.Common.{◌≡◌, refl, sym, ap, subst, ◌∙◌, inl, inr, ⊎_elim, ℕ, nat_eq, eqb-true, Bool, true, false, cond, not, ◌||◌, ◌&&◌, List, [], ◌∷◌, filter, map, true≢false, flat_map, ◌++◌, Option, Some, None, option_map}
+use Rattle.std.proofs.Common.{◌≡◌, refl, sym, ap, subst, ◌∙◌, ⊎_elim, ℕ, nat_eq, eqb-true, Bool, true, false, cond, not, ◌||◌, ◌&&◌, List, [], ◌∷◌, filter, map, true≢false, flat_map, ◌++◌, Option, Some, None, option_map}
 use Rattle.std.specs.List.{list_all}
 use Rattle.std.proofs.lemmas.Bool.{and_parts, not-true}
 use Rattle.vt_spec.specs.FileTree.{targets_in}
@@ -12,14 +12,8 @@ use Rattle.vt_letting_go.specs.OneByOne.{Inode, is_inode_among, is_used_or_among
 use Rattle.vt_letting_go.specs.Overlays.{let_go_in, let_go_in_of, without_inode_of}
 use Rattle.vt_letting_go.proofs.InUse.{UnusedAreEmpty}
 use Rattle.vt_letting_go.proofs.Inodes.{goes_of, goes_on}
-use Rattle.vt_letting_go.proofs.Lists.{Among, among-from_map, among_numbers, decided, flat_map-filter, flat_map_alike, map_alike, map_same, map_twice, passes}
+use Rattle.vt_letting_go.proofs.Lists.{Among, among-from_map, among_numbers, decided, flat_map-filter, flat_map-step, flat_map_alike, map_alike, map_same, map_twice, passes}
 use Rattle.vt_letting_go.proofs.Merged.{HasReals, left_of, reals_without, same_without, without_all, without_both, without_nothing}
-
-pub flat_map-step : {A B : Type 0} (f : A → A) (g : A → List B) (xs : List A) → ((x : A) → Among x xs → g (f x) ≡ g x)
-    → flat_map g (map f xs) ≡ flat_map g xs
-flat_map-step f g [] h = refl
-flat_map-step f g (y ∷ ys) h =
-    ap (λ l. l ++ flat_map g (map f ys)) (h y (inl refl)) ∙ ap (λ l. g y ++ l) (flat_map-step f g ys (λ x m. h x (inr m)))
 
 -- What goes has no entries, so all names stay.
 pub named_without : (gone : ℕ → Bool) (filesystem : Filesystem ℕ)

@@ -3,7 +3,7 @@ ghost use Rattle.vt_letting_go.specs.Detaching.{DetachingLetsGo, UnmountIsOfOne}
 ghost use Rattle.vt_letting_go.specs.FileChanges.{ChangesKeepNames, FileChangesLetGo, MadeKeepsAll, OpenedNewKeepsAll, RemovedDirectoriesLetGo, ReplacingLetsGo, TakenAndFileChangesLetGo};
 ghost use Rattle.vt_letting_go.specs.Keeping.{FlagsAreOfOne, FlagsKeepAll, NewMountsKeepAll, TypesKeepAll};
 ghost use Rattle.vt_letting_go.specs.Leaving.{LeavingLetsGo, OneSweepForSeveral, StayingKeepsAll};
-ghost use Rattle.vt_letting_go.specs.LeavingOverlays.{LeavingOverlaysLetsGo, StayingKeepsOverlays};
+ghost use Rattle.vt_letting_go.specs.LeavingOverlays.{LeavingOverlaysLetsGo, OneSweepForSeveralWithOverlays, StayingKeepsOverlays};
 ghost use Rattle.vt_letting_go.specs.Retyping.{SetTypesLetGo};
 ghost use Rattle.vt_letting_go.specs.TreeChanges.{NamedStay, UnnamedGo};
 ghost use Rattle.vt_letting_go.specs.TreesOverlays.{ChangedTreesKeepAll, ChangedTreesLetGo, LeftAndChangedLetsGo, OpenedKeepsAll, TakenAndChangedLetsGo, UnnamedGoWithOverlays};
@@ -21,6 +21,7 @@ pub fn what_tasks_leave_goes()
 pub fn what_tasks_leave_goes_with_overlays()
     ensures left { LeavingOverlaysLetsGo }
     ensures stayed { StayingKeepsOverlays }
+    ensures several { OneSweepForSeveralWithOverlays }
 {}
 
 /// Where a plain tree changed, the inodes go that lost their last name and where nothing is, and nothing else.
