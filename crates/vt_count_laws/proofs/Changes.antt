@@ -17,6 +17,7 @@ use Rattle.vt_spec.specs.OneTree.Inodes.{Inodes, changed, node_in, tree_of, with
 use Rattle.vt_spec.specs.OneTree.Rules.{is_filled}
 use Rattle.vt_spec.specs.Tree.{Content, Entries, Node, entries_in, entries_of, entry_named, is_directory_node, node_with_bytes, node_with_entry, with_bytes}
 use Rattle.vt_spec.specs.Tree.Content.{Directory, Regular, Symlink, Whiteout}
+use Rattle.vt_letting_go.proofs.NamesKept.{same_entries_attr, same_entries_bytes, same_entries_mark}
 use Rattle.vt_letting_go.specs.InUse.{AllInUse, IsListedTree, is_inode_used}
 use Rattle.vt_letting_go.specs.OneByOne as LettingGo
 use Rattle.vt_letting_go.specs.TreeChanges.{with_tree}
@@ -32,32 +33,6 @@ use Rattle.vt_count_laws.proofs.NameCounts as Names
 use Rattle.vt_count_laws.proofs.Swept as Swept
 use Rattle.vt_count_laws.proofs.Swept.{base_of, counted_start, found_is, plain_of, there_if_counted}
 use Rattle.vt_count_laws.proofs.TreeCounts.{IsStart, IsTallied, linked, rewritten}
-
--- Changes of a node that keep its entries
-
-kept_by_attr : (attr : Rattle.vt_spec.specs.declared.attributes.Attr.Attr) (o : Option (Node ℕ)) → entries_in (node_with_attr attr o) ≡ entries_in o
-kept_by_attr attr None = refl
-kept_by_attr attr (Some node) = refl
-
-kept_by_bytes : (bytes : List ℕ) (o : Option (Node ℕ)) → entries_in (node_with_bytes bytes o) ≡ entries_in o
-kept_by_bytes bytes None = refl
-kept_by_bytes bytes (Some node) = by node.content
-  where
-    by : (content : Content ℕ) → entries_of (with_bytes content bytes) ≡ entries_of content
-    by (Directory parent entries opaque) = refl
-    by (Regular old) = refl
-    by (Symlink text) = refl
-    by Whiteout = refl
-
-kept_by_mark : (opaque : Bool) (o : Option (Node ℕ)) → entries_in (node_with_mark opaque o) ≡ entries_in o
-kept_by_mark opaque None = refl
-kept_by_mark opaque (Some node) = by node.content
-  where
-    by : (content : Content ℕ) → entries_of (content_with_mark opaque content) ≡ entries_of content
-    by (Directory parent entries old) = refl
-    by (Regular bytes) = refl
-    by (Symlink text) = refl
-    by Whiteout = refl
 
 no_entries : (entries : Entries ℕ) → not (is_empty_list entries) ≡ false → entries ≡ []
 no_entries [] e = refl
@@ -110,9 +85,9 @@ module _ (base : ℕ → ℕ) (files : FileTree ℕ) (inodes : Inodes ℕ) (root
     where
       same : entry_named new (entries_in (node_in (inodes.inode to))) ≡ entry_named new (entries_in (node to))
       same = ap (λ x. entry_named new (entries_in x)) (start.same to)
-  tallied (SetBytes file bytes) fits links = rewritten base node files.numbers inodes start file (node_with_bytes bytes) (kept_by_bytes bytes) refl (λ some. (_, refl))
-  tallied (SetAttr object attr) fits links = rewritten base node files.numbers inodes start object (node_with_attr attr) (kept_by_attr attr) refl (λ some. (_, refl))
-  tallied (SetMark directory opaque) fits links = rewritten base node files.numbers inodes start directory (node_with_mark opaque) (kept_by_mark opaque) refl (λ some. (_, refl))
+  tallied (SetBytes file bytes) fits links = rewritten base node files.numbers inodes start file (node_with_bytes bytes) (same_entries_bytes bytes) refl (λ some. (_, refl))
+  tallied (SetAttr object attr) fits links = rewritten base node files.numbers inodes start object (node_with_attr attr) (same_entries_attr attr) refl (λ some. (_, refl))
+  tallied (SetMark directory opaque) fits links = rewritten base node files.numbers inodes start directory (node_with_mark opaque) (same_entries_mark opaque) refl (λ some. (_, refl))
   tallied (CopyUp object) fits links = start.tallied
 
   -- the root stays

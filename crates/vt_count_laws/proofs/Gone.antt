@@ -13,6 +13,7 @@ use Rattle.vt_letting_go.proofs.LookedUp.{filesystem_is_looked_up, mount_is_look
 use Rattle.vt_letting_go.proofs.PlacesLeft.{no_layers}
 use Rattle.vt_letting_go.proofs.UsesCounted.{located_while_counted, mounted_while_counted}
 use Rattle.vt_count_laws.specs.Going.{FilesystemGoesAtZero, MountGoesAtZero, MountTakesItsCount}
+use Rattle.vt_count_laws.proofs.Listed.{turned}
 use Rattle.vt_count_laws.proofs.Swept.{plain_of}
 
 pub mount_goes_at_zero : MountGoesAtZero
@@ -43,14 +44,6 @@ one_taken test (first ∷ rest) number one there =
 
     left : List (Mount ℕ)
     left = filter (λ mount. not (nat_eq mount.number number)) rest
-
-    turned : (a b : ℕ) (c : Bool) → nat_eq a b ≡ c → nat_eq b a ≡ c
-    turned a b true e = eq-eqb b a (sym (eqb-true a b e))
-    turned a b false e = by (nat_eq b a) refl
-      where
-        by : (d : Bool) → nat_eq b a ≡ d → d ≡ false
-        by false f = refl
-        by true f = absurd (true≢false (sym (eq-eqb a b (sym (eqb-true b a f))) ∙ e))
 
     by : (b : Bool) → nat_eq number first.number ≡ b → (b || is_among nat_eq number (map (λ mount. mount.number) rest)) ≡ true
         → (is_among nat_eq number (map (λ mount. mount.number) rest) ≡ true → times test rest ≡ times test left + cond (test (mount_in nat_eq rest number)) 1 0)

@@ -16,6 +16,7 @@ use Rattle.vt_letting_go.proofs.PlacesLeft.{found_itself, nowhere_parts}
 use Rattle.vt_count_laws.specs.Using.{LocationsOfWorldsStand, MountsLeaveTheirRoots, PlacesStand, is_on, places_of}
 use Rattle.vt_count_laws.specs.Using.{Exchanges}
 use Rattle.vt_count_laws.proofs.Exchanged.{exchanges_turn}
+use Rattle.vt_count_laws.proofs.Listed.{turned}
 use Rattle.vt_count_laws.proofs.Places.{mounts_are_uses}
 
 pub locations_of_worlds_stand : LocationsOfWorldsStand
@@ -64,14 +65,6 @@ record IsAround (mounts : List (Mount ℕ)) (number : ℕ) : Type 0 where
   whole : mounts ≡ front ++ (mount ∷ back)
   left : filter (λ other. not (nat_eq other.number number)) mounts ≡ front ++ back
   numbered : mount.number ≡ number
-
-turned : (a b : ℕ) (c : Bool) → nat_eq a b ≡ c → nat_eq b a ≡ c
-turned a b true e = eq-eqb b a (sym (eqb-true a b e))
-turned a b false e = by (nat_eq b a) refl
-  where
-    by : (d : Bool) → nat_eq b a ≡ d → d ≡ false
-    by false f = refl
-    by true f = absurd (true≢false (sym (eq-eqb a b (sym (eqb-true b a f))) ∙ e))
 
 around : (mounts : List (Mount ℕ)) (number : ℕ) → any_pair (λ (a b : Mount ℕ). nat_eq a.number b.number) mounts ≡ false
     → is_among nat_eq number (map (λ mount. mount.number) mounts) ≡ true → IsAround mounts number

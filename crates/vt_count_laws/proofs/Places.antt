@@ -23,33 +23,8 @@ use Rattle.vt_count_laws.specs.Counted.{IsCounted}
 use Rattle.vt_count_laws.specs.Going.{LocationsUseMounts, MountsUseFilesystems}
 use Rattle.vt_count_laws.specs.Using.{ExchangesFollow, MountIsPlaced, OthersUseNothing, LocationsAreUses, MountsAreUses, NewTreeIsCounted, OpeningIsCounted, is_inode, is_on, one_counted, places_of, root_counted}
 use Rattle.vt_count_laws.proofs.Listed.{times_is}
-use Rattle.vt_count_laws.proofs.Swept.{base_of, found_number, plain_of, plain_uses_are}
+use Rattle.vt_count_laws.proofs.Swept.{base_of, found_number, plain_of, plain_uses_are, uses_split}
 use Rattle.vt_count_laws.proofs.TreeCounts.{uses_of}
-
--- What uses an inode
-
-pub uses_split : (world : World ℕ) (f : Filesystem ℕ) (n : ℕ)
-    → inode_uses world f n ≡ one_if n f.files.tree.root + (((times_in n (named_in f.files) + times_in n (located_in nat_eq world f.number))
-    + times_in n (layers_in nat_eq world f.number)) + times_in n (flat_map (objects_of_overlay nat_eq f.number) world.filesystems))
-uses_split world f n =
-    let all : times (nat_eq n) (used_in nat_eq world f) ≡ times_in n (used_in nat_eq world f) = times_is n (used_in nat_eq world f) in
-    let one : times_in n (((named ++ located) ++ layers) ++ objects) ≡ times_in n ((named ++ located) ++ layers) + times_in n objects = times_append n ((named ++ located) ++ layers) objects in
-    let two : times_in n ((named ++ located) ++ layers) ≡ times_in n (named ++ located) + times_in n layers = times_append n (named ++ located) layers in
-    let three : times_in n (named ++ located) ≡ times_in n named + times_in n located = times_append n named located in
-    let split : times_in n (used_in nat_eq world f) ≡ one_if n f.files.tree.root + times_in n (((named ++ located) ++ layers) ++ objects) = refl in
-    omega arith
-  where
-    named : List ℕ
-    named = named_in f.files
-
-    located : List ℕ
-    located = located_in nat_eq world f.number
-
-    layers : List ℕ
-    layers = layers_in nat_eq world f.number
-
-    objects : List ℕ
-    objects = flat_map (objects_of_overlay nat_eq f.number) world.filesystems
 
 -- how many of some locations are at an inode
 module _ (mounts : List (Mount ℕ)) (k n : ℕ) where

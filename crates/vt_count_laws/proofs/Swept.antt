@@ -28,6 +28,31 @@ use Rattle.vt_count_laws.proofs.TreeCounts.{IsStart, IsTallied, other_uses, own_
 pub plain_of : (world : World ℕ) → IsPlain world → LettingGo.IsPlain world
 plain_of world plain = none_passes is_overlay world.filesystems (λ f m. among_from_all (λ g. is_overlay g ≡ false) world.filesystems plain f m)
 
+-- What uses an inode
+
+pub uses_split : (world : World ℕ) (f : Filesystem ℕ) (n : ℕ)
+    → inode_uses world f n ≡ one_if n f.files.tree.root + (((times_in n (named_in f.files) + times_in n (located_in nat_eq world f.number))
+    + times_in n (layers_in nat_eq world f.number)) + times_in n (flat_map (objects_of_overlay nat_eq f.number) world.filesystems))
+uses_split world f n =
+    let all : times (nat_eq n) (used_in nat_eq world f) ≡ times_in n (used_in nat_eq world f) = times_is n (used_in nat_eq world f) in
+    let one : times_in n (((named ++ located) ++ layers) ++ objects) ≡ times_in n ((named ++ located) ++ layers) + times_in n objects = times_append n ((named ++ located) ++ layers) objects in
+    let two : times_in n ((named ++ located) ++ layers) ≡ times_in n (named ++ located) + times_in n layers = times_append n (named ++ located) layers in
+    let three : times_in n (named ++ located) ≡ times_in n named + times_in n located = times_append n named located in
+    let split : times_in n (used_in nat_eq world f) ≡ one_if n f.files.tree.root + times_in n (((named ++ located) ++ layers) ++ objects) = refl in
+    omega arith
+  where
+    named : List ℕ
+    named = named_in f.files
+
+    located : List ℕ
+    located = located_in nat_eq world f.number
+
+    layers : List ℕ
+    layers = layers_in nat_eq world f.number
+
+    objects : List ℕ
+    objects = flat_map (objects_of_overlay nat_eq f.number) world.filesystems
+
 -- In a world of plain filesystems an inode is used as the root, by names, and at locations.
 
 abbrev pub base_of : World ℕ → Filesystem ℕ → ℕ → ℕ
@@ -36,26 +61,11 @@ base_of world filesystem n = one_if n filesystem.files.tree.root + times_in n (l
 pub plain_uses_are : (world : World ℕ) → LettingGo.IsPlain world → (filesystem : Filesystem ℕ) (n : ℕ)
     → inode_uses world filesystem n ≡ uses_of (base_of world filesystem) filesystem.files.tree.node filesystem.files.numbers n
 plain_uses_are world plain filesystem n =
-    let all : times (nat_eq n) (used_in nat_eq world filesystem) ≡ times_in n (used_in nat_eq world filesystem) = times_is n (used_in nat_eq world filesystem) in
-    let one : times_in n (((named ++ located) ++ layers) ++ objects) ≡ times_in n ((named ++ located) ++ layers) + times_in n objects = times_append n ((named ++ located) ++ layers) objects in
-    let two : times_in n ((named ++ located) ++ layers) ≡ times_in n (named ++ located) + times_in n layers = times_append n (named ++ located) layers in
-    let three : times_in n (named ++ located) ≡ times_in n named + times_in n located = times_append n named located in
-    let none : times_in n layers ≡ 0 = ap (times_in n) (no_layers_of world plain filesystem.number) in
-    let nothing : times_in n objects ≡ 0 = ap (times_in n) (no_objects_of world plain filesystem.number) in
-    let split : times_in n (used_in nat_eq world filesystem) ≡ one_if n filesystem.files.tree.root + times_in n (((named ++ located) ++ layers) ++ objects) = refl in
+    let split = uses_split world filesystem n in
+    let none : times_in n (layers_in nat_eq world filesystem.number) ≡ 0 = ap (times_in n) (no_layers_of world plain filesystem.number) in
+    let nothing : times_in n (flat_map (objects_of_overlay nat_eq filesystem.number) world.filesystems) ≡ 0 =
+    ap (times_in n) (no_objects_of world plain filesystem.number) in
     omega arith
-  where
-    named : List ℕ
-    named = named_in filesystem.files
-
-    located : List ℕ
-    located = located_in nat_eq world filesystem.number
-
-    layers : List ℕ
-    layers = layers_in nat_eq world filesystem.number
-
-    objects : List ℕ
-    objects = flat_map (objects_of_overlay nat_eq filesystem.number) world.filesystems
 
 -- Filesystems by their numbers
 

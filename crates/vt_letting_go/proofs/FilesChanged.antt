@@ -12,7 +12,6 @@ use Rattle.vt_spec.specs.Machine.Detach.{mounts_on, taken_away}
 use Rattle.vt_spec.specs.Machine.Filesystems.{filesystem_changed, with_change, with_files}
 use Rattle.vt_spec.specs.Machine.Mounts.{Location, same_location}
 use Rattle.vt_spec.specs.Machine.Outcome.Descriptors.{inserted, with_descriptor}
-use Rattle.vt_spec.specs.Machine.Receives.{lost_a_group}
 use Rattle.vt_spec.specs.Machine.Settled.{settled}
 use Rattle.vt_spec.specs.Machine.World.{Descriptor, Filesystem, Overlay, Task, World, all_locations, filesystem_at, filesystem_numbered, files_at, is_overlay, locations_of, mount_at, replaced_if_called, replaced_if_numbered, with_task}
 use Rattle.vt_spec.specs.Language.Calls.{Access, same_name}
@@ -26,8 +25,7 @@ use Rattle.vt_letting_go.specs.TreeChanges.{ChangesTree}
 use Rattle.vt_letting_go.specs.TreesOverlays.{in_use_of, with_filesystems, with_lost}
 use Rattle.vt_letting_go.specs.Unmounting.{numbers_of_trees}
 use Rattle.vt_letting_go.proofs.Lists.{Among, all_pass, among-flat_map, among-from_flat_map, among-map, any_passes, fails, or_first, among-from_map, among_from_all, among_numbers}
-use Rattle.vt_letting_go.proofs.MountingTaken
-use Rattle.vt_letting_go.proofs.MountingTaken.{is_changed, same_namespaces, shows_the_same, without}
+use Rattle.vt_letting_go.proofs.MountingTaken.{hands_on, shows_the_same, taken_is}
 use Rattle.vt_letting_go.proofs.NamesKept.{changes_keep_names}
 use Rattle.vt_letting_go.proofs.OfWorlds.{found_filesystem}
 use Rattle.vt_letting_go.proofs.TreesWithOverlays.{all_change, opened_keeps_all, reals_after, taken_and_changed_lets_go, trees_after, unnamed_go_with_overlays, uppers_after}
@@ -86,25 +84,19 @@ module _ (world : World ℕ) (location : Location ℕ) (change : Change ℕ) (se
       (with_lost (used_by_gone_with_layers world gone) (inodes_lost world location change))
   goes_with_mounts fresh gone =
       subst (λ w. settled nat_eq w ≡ let_go_all w (with_lost (used_by_gone_with_layers world gone) (inodes_lost world location change)))
-      (sym (plainly fresh taken (ap (λ w. w.filesystems) event)
-      (ap (λ w. (mount_at nat_eq w location).filesystem) event ∙ shows_the_same world gone world.namespaces b location.mount)))
+      (sym (plainly fresh taken (ap (λ w. w.filesystems) (taken_is world gone))
+      (ap (λ w. (mount_at nat_eq w location).filesystem) (taken_is world gone) ∙ shows_the_same world gone world.namespaces (hands_on world gone) location.mount)))
       (taken_and_changed_lets_go world gone swap (inodes_lost world location change) settles
-      (subst (λ w. HasTrees (with_filesystems w swap)) (sym event)
+      (subst (λ w. HasTrees (with_filesystems w swap)) (sym (taken_is world gone))
       (trees_after world number then_ (names_lost tree change) settles one is_there plain changes))
-      (subst (λ w. UppersArePlain (with_filesystems w swap)) (sym event)
+      (subst (λ w. UppersArePlain (with_filesystems w swap)) (sym (taken_is world gone))
       (uppers_after world number then_ (names_lost tree change) settles one is_there plain changes))
-      (subst (λ w. RealsAreThere (with_filesystems w swap)) (sym event)
+      (subst (λ w. RealsAreThere (with_filesystems w swap)) (sym (taken_is world gone))
       (reals_after world number then_ (names_lost tree change) settles one is_there plain changes))
       (all_change world number then_ (names_lost tree change) settles one is_there plain changes (in_use_of (with_filesystems taken swap))))
     where
       taken : World ℕ
       taken = taken_away nat_eq world gone
-
-      b : Bool
-      b = list_any (lost_a_group nat_eq (without world gone world.namespaces)) (without world gone world.namespaces).mounts
-
-      event : taken ≡ MountingTaken.after world gone world.namespaces b
-      event = sym (same_namespaces (without world gone world.namespaces) b) ∙ is_changed world gone world.namespaces b
 
 pub file_changes_let_go : FileChangesLetGo
 file_changes_let_go fresh world location change settles one there plain after may =

@@ -1,15 +1,16 @@
 -- Where all is in use nothing goes, and what is left is in use.
-use Rattle.std.proofs.Common.{◌≡◌, refl, sym, ap, ◌∙◌, ⊎_elim, ℕ, nat_eq, eq-eqb, Bool, true, false, cond, not, ◌||◌, ◌&&◌, List, [], ◌∷◌, filter, map, true≢false, flat_map, ◌++◌, Option, Some, None, is_some, option_map}
+use Rattle.std.proofs.Common.{◌≡◌, refl, sym, ap, subst, ◌∙◌, ⊎_elim, ℕ, nat_eq, eq-eqb, Bool, true, false, cond, not, ◌||◌, ◌&&◌, List, [], ◌∷◌, filter, map, true≢false, flat_map, ◌++◌, Option, Some, None, is_some, option_map}
 use Rattle.std.specs.Prelude.{All, filter_map}
 use Rattle.std.specs.List.{list_all, list_any}
 use Rattle.vt_spec.specs.FileTree.{targets_in}
 use Rattle.vt_spec.specs.Lists.{holds_of, is_among}
 use Rattle.vt_spec.specs.Machine.Locked.{of_overlay, overlay_or}
+use Rattle.vt_spec.specs.Machine.Mounts.{Location, root_of}
 use Rattle.vt_spec.specs.Machine.Receives.{has_members}
 use Rattle.vt_spec.specs.Machine.Settled.{filesystem_lives, has_layer_on, is_mounted, layers_in, located_in, mount_lives, named_in, objects_of_overlay, only_used, only_used_by, real_among, settled, used_in, without_dead_filesystems, without_dead_groups, without_dead_in, without_dead_inodes, without_dead_mounts}
-use Rattle.vt_spec.specs.Machine.World.{Filesystem, Overlay, World, is_overlay, layers_of, upper_object, with_mounts}
+use Rattle.vt_spec.specs.Machine.World.{Filesystem, Layer, Overlay, World, all_locations, is_overlay, layers_of, mount_at, upper_object, with_mounts}
 use Rattle.vt_letting_go.specs.InUse.{AllInUse, FilesystemsInUse, GroupsInUse, HasTrees, InodesInUse, IsListedTree, MountsInUse, NothingGoes, OneSweepIsEnough, UppersArePlain, WhatIsLeftIsInUse, has_upper_in, is_inode_used}
-use Rattle.vt_letting_go.proofs.Lists.{Among, all_from_among, all_pass, among-filter, among-from_map, among-map, among_from_all, any_passes, flat_map_none, one_passes, or_first, decided, among-from_filter, filter_all, flat_map-filter, flat_map-map, flat_map_alike, is_among_left, map_same, or_second, passes}
+use Rattle.vt_letting_go.proofs.Lists.{Among, all_from_among, all_pass, among-filter, among-flat_map, among-from_flat_map, among-from_map, among-map, among_from_all, any_passes, flat_map_none, one_passes, or_first, decided, among-from_filter, filter_all, flat_map-filter, flat_map-map, flat_map_alike, is_among_left, is_among_numbers, is_among_right, map_same, or_second, passes}
 use Rattle.vt_letting_go.proofs.Trees.{unnamed_is_empty}
 use Rattle.std.proofs.lemmas.Bool.{and_parts, or_cases, or_parts}
 use Rattle.std.proofs.lemmas.List.Folds.{list_any-append}
@@ -137,6 +138,46 @@ unused_are_empty world filesystem conditions number unused =
     (is_among_left number (named_in filesystem.files) (located_in nat_eq world filesystem.number) named)))) ∙ unused)))
     (λ unnamed. unnamed)
     (decided (is_among nat_eq number (named_in filesystem.files))))
+
+-- a place that is there is in use
+pub used_at : (world : World ℕ) (filesystem : Filesystem ℕ) (location : Location ℕ)
+    → Among location (all_locations world ++ map root_of world.mounts ++ filter_map (λ mount. mount.mount_point) world.mounts)
+    → filesystem.number ≡ (mount_at nat_eq world location).filesystem → is_inode_used world filesystem location.node ≡ true
+used_at world filesystem location m e =
+    or_second (nat_eq location.node filesystem.files.tree.root) _
+    (is_among_left location.node (named_in filesystem.files ++ located_in nat_eq world filesystem.number ++ layers_in nat_eq world filesystem.number)
+    (flat_map (objects_of_overlay nat_eq filesystem.number) world.filesystems)
+    (is_among_left location.node (named_in filesystem.files ++ located_in nat_eq world filesystem.number) (layers_in nat_eq world filesystem.number)
+    (is_among_right location.node (named_in filesystem.files) (located_in nat_eq world filesystem.number)
+    (is_among_numbers location.node (located_in nat_eq world filesystem.number)
+    (among-map (λ l. l.node) (filter (λ l. nat_eq filesystem.number (mount_at nat_eq world l).filesystem) places) location
+    (among-filter (λ l. nat_eq filesystem.number (mount_at nat_eq world l).filesystem) places location m
+    (eq-eqb filesystem.number (mount_at nat_eq world location).filesystem e)))))))
+  where
+    places : List (Location ℕ)
+    places = all_locations world ++ map root_of world.mounts ++ filter_map (λ mount. mount.mount_point) world.mounts
+
+-- layers of filesystems that are there still are layers still
+pub layers_stay : (before after : World ℕ)
+    → ((f : Filesystem ℕ) → Among f before.filesystems → (g : Filesystem ℕ) × Among g after.filesystems × (of_overlay [] layers_of g ≡ of_overlay [] layers_of f))
+    → (filesystem number : ℕ) → Among number (layers_in nat_eq before filesystem) → Among number (layers_in nat_eq after filesystem)
+layers_stay before after still filesystem number m =
+    let one = among-from_map (λ (layer : Layer ℕ). layer.directory) (filter is_in (flat_map (of_overlay [] layers_of) before.filesystems)) number m in
+    let two = among-from_filter is_in (flat_map (of_overlay [] layers_of) before.filesystems) one.0 one.1 in
+    let three = among-from_flat_map (of_overlay [] layers_of) before.filesystems one.0 two.0 in
+    subst (λ n. Among n (layers_in nat_eq after filesystem)) (sym one.2)
+    (among-map (λ (layer : Layer ℕ). layer.directory) (filter is_in (flat_map (of_overlay [] layers_of) after.filesystems)) one.0
+    (among-filter is_in (flat_map (of_overlay [] layers_of) after.filesystems) one.0
+    (is_layer three.0 one.0 three.2 (still three.0 three.1)) two.1))
+  where
+    is_layer : (f : Filesystem ℕ) (layer : Layer ℕ) → Among layer (of_overlay [] layers_of f)
+        → ((g : Filesystem ℕ) × Among g after.filesystems × (of_overlay [] layers_of g ≡ of_overlay [] layers_of f))
+        → Among layer (flat_map (of_overlay [] layers_of) after.filesystems)
+    is_layer f layer among same =
+        among-flat_map (of_overlay [] layers_of) after.filesystems same.0 layer same.1 (subst (Among layer) (sym same.2) among)
+
+    is_in : Layer ℕ → Bool
+    is_in layer = nat_eq filesystem layer.filesystem
 
 module _ (world : World ℕ) where
   abbrev mounted : World ℕ

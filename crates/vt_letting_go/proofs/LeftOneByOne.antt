@@ -8,13 +8,13 @@ use Rattle.vt_spec.specs.Machine.Locked.{of_overlay, overlay_or}
 use Rattle.vt_spec.specs.Machine.Mounts.{Location, Mount, mount_in, root_of}
 use Rattle.vt_spec.specs.Machine.Receives.{has_members, is_member_of}
 use Rattle.vt_spec.specs.Machine.Settled.{filesystem_lives, has_layer_on, is_located, is_mounted, layers_in, located_in, mount_lives, named_in, objects_of_overlay, only_used, only_used_of, settled, used_in, without_dead_filesystems, without_dead_in, without_dead_mounts}
-use Rattle.vt_spec.specs.Machine.World.{Filesystem, Layer, Overlay, Task, World, all_locations, is_overlay, layers_of, mount_at, upper_object, with_mounts}
+use Rattle.vt_spec.specs.Machine.World.{Filesystem, Overlay, Task, World, all_locations, is_overlay, layers_of, mount_at, upper_object, with_mounts}
 use Rattle.vt_spec.specs.Machine.WorldLaws.{ListsNumbers}
 use Rattle.vt_letting_go.specs.InUse.{HasTrees, IsListedTree, UppersArePlain, has_upper_in, is_inode_used}
 use Rattle.vt_letting_go.specs.Leaving.{MountsStand, OneSweepForSeveral, comes_nowhere, is_location_among, stands_on_attached, with_tasks}
 use Rattle.vt_letting_go.specs.LeavingOverlays.{OneSweepForSeveralWithOverlays}
 use Rattle.vt_letting_go.specs.Overlays.{RealsAreThere}
-use Rattle.vt_letting_go.proofs.InUse.{UnusedAreEmpty, after_first, after_second, first_layers, layers-first, layers-second, layers_on, left_by, named-left, no_objects, no_upper_objects, number-first, number-left, number-second, overlay-left, root-left, second_leaves, unused_are_empty, upper-left}
+use Rattle.vt_letting_go.proofs.InUse.{layers_stay, UnusedAreEmpty, after_first, after_second, first_layers, layers-first, layers-second, layers_on, left_by, named-left, no_objects, no_upper_objects, number-first, number-left, number-second, overlay-left, root-left, second_leaves, unused_are_empty, upper-left}
 use Rattle.vt_letting_go.proofs.Inodes.{numbers_without}
 use Rattle.vt_letting_go.proofs.Lists.{Among, all_from_among, among-append, among-append_left, among-append_right, among-filter, among-filter_map, among-flat_map, among-from_filter, among-from_filter_map, among-from_flat_map, among-from_map, among-map, among_from_all, among_numbers, any-filter, any-map, any_passes, decided, fails, filter-map, filter_twice, flat_map-map, flat_map-of_map, flat_map_alike, flat_map_none, is_among_numbers, map_alike, map_twice, one_passes, or_first, or_second, passes}
 use Rattle.vt_letting_go.proofs.Merged.{HasReals, left_of, reals_without, without_all, without_both}
@@ -274,14 +274,7 @@ module _ (world : World ℕ) (tasks : List (Task ℕ)) (trees : HasTrees world) 
           ∙ passes (stands_on_attached world) world.mounts stand.on_attached mount n)).0
 
   was_layer : (filesystem number : ℕ) → Among number (layers_in nat_eq once_living filesystem) → Among number (layers_in nat_eq first_living filesystem)
-  was_layer filesystem number m =
-      let one = among-from_map (λ (layer : Layer ℕ). layer.directory) (filter (λ layer. nat_eq filesystem layer.filesystem) (flat_map (of_overlay [] layers_of) once_living.filesystems)) number m in
-      let two = among-from_filter (λ layer. nat_eq filesystem layer.filesystem) (flat_map (of_overlay [] layers_of) once_living.filesystems) one.0 one.1 in
-      let three = among-from_flat_map (of_overlay [] layers_of) once_living.filesystems one.0 two.0 in
-      subst (λ n. Among n (layers_in nat_eq first_living filesystem)) (sym one.2)
-      (among-map (λ (layer : Layer ℕ). layer.directory) (filter (λ layer. nat_eq filesystem layer.filesystem) (flat_map (of_overlay [] layers_of) first_living.filesystems)) one.0
-      (among-filter (λ layer. nat_eq filesystem layer.filesystem) (flat_map (of_overlay [] layers_of) first_living.filesystems) one.0
-      (among-flat_map (of_overlay [] layers_of) first_living.filesystems three.0 one.0 (was_living three.0 three.1) three.2) two.1))
+  was_layer = layers_stay once_living first_living (λ f m. (f, was_living f m, refl))
 
   -- what is used in the end is the same, with a sweep in between and without
   same_uses : (with_sweep without : List (Filesystem ℕ)) (used : List ℕ) (f : Filesystem ℕ) → UnusedAreEmpty used f → (all : Bool)

@@ -1,12 +1,12 @@
 -- What stands in a list: tests over lists that are shortened or changed.
-use Rattle.std.proofs.Common.{◌≡◌, refl, sym, ap, subst, ◌∙◌, ◌⊎◌, inl, inr, ⊎_elim, ℕ, nat_eq, eqb-true, eq-eqb, Bool, true, false, cond, ◌||◌, ◌&&◌, List, [], ◌∷◌, filter, find, map, true≢false, flat_map, ◌++◌, is_some}
+use Rattle.std.proofs.Common.{◌≡◌, refl, sym, ap, subst, ◌∙◌, ◌⊎◌, inl, inr, ⊎_elim, ℕ, nat_eq, eqb-true, eq-eqb, Bool, true, false, cond, ◌||◌, ◌&&◌, List, [], ◌∷◌, filter, find, map, true≢false, flat_map, ◌++◌, is_some, unwrap_or}
 use Rattle.std.specs.Prelude.{All, Option, None, Some}
 use Rattle.std.specs.List.{cons_option, filter_map, list_all, list_any}
 use Rattle.std.proofs.lemmas.Bool.{and_parts, or_cases, or_parts}
 use Rattle.std.proofs.lemmas.List.Elements.{All-nil, All-cons, All-head, All-tail}
 use Rattle.std.proofs.lemmas.List.Folds.{list_any-append}
 use Rattle.std.proofs.lemmas.Option.{same_Some}
-use Rattle.vt_spec.specs.Lists.{is_among}
+use Rattle.vt_spec.specs.Lists.{any_pair, is_among}
 
 -- x stands in a list
 abbrev pub Among : {A : Type 0} → A → List A → Type 0
@@ -78,6 +78,25 @@ module _ {A : Type 0} where
           → (find test rest ≡ Some found → Among found rest × (test found ≡ true)) → Among found (first ∷ rest) × (test found ≡ true)
       by true f h later = let same : first ≡ found = same_Some first found h in (inl (sym same), ap test (sym same) ∙ f)
       by false f h later = let t : Among found rest × (test found ≡ true) = later h in (inr t.0, t.1)
+
+  -- what is there is found by its number
+  pub found_by : (number : A → ℕ) (default : A) (xs : List A) → any_pair (λ (a b : A). nat_eq (number a) (number b)) xs ≡ false
+      → (x : A) → Among x xs → unwrap_or (find (λ y. nat_eq (number x) (number y)) xs) default ≡ x
+  found_by number default [] one x m = absurd m
+  found_by number default (first ∷ rest) one x m =
+      let parts = or_parts (list_any (λ b. nat_eq (number first) (number b)) rest) (any_pair (λ (a b : A). nat_eq (number a) (number b)) rest) one in
+      by parts.0 (nat_eq (number x) (number first)) refl m (λ n. found_by number default rest parts.1 x n)
+    where
+      by : list_any (λ b. nat_eq (number first) (number b)) rest ≡ false → (b : Bool) → nat_eq (number x) (number first) ≡ b → Among x (first ∷ rest)
+          → (Among x rest → unwrap_or (find (λ y. nat_eq (number x) (number y)) rest) default ≡ x)
+          → unwrap_or (cond b (Some first) (find (λ y. nat_eq (number x) (number y)) rest)) default ≡ x
+      by others true e n next =
+          ⊎_elim (λ same. sym same)
+          (λ later. absurd (true≢false
+          (sym (eq-eqb (number first) (number x) (sym (eqb-true (number x) (number first) e)))
+          ∙ fails (λ y. nat_eq (number first) (number y)) rest others x later))) n
+      by others false e n next =
+          ⊎_elim (λ same. absurd (true≢false (sym (eq-eqb (number x) (number first) (ap number same)) ∙ e))) next n
 
   pub filter_here : (p : A → Bool) (y : A) (ys : List A) → p y ≡ true → filter p (y ∷ ys) ≡ y ∷ filter p ys
   filter_here p y ys e = ap (λ b. cond b (y ∷ filter p ys) (filter p ys)) e

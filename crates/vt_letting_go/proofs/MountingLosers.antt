@@ -15,7 +15,8 @@ use Rattle.vt_letting_go.specs.Leaving.{IsSettledPlain, MountsStand, stands_on_a
 use Rattle.vt_letting_go.specs.Mounting.{inode_at, root_inode, used_by_mounts}
 use Rattle.vt_letting_go.specs.OneByOne.{AllInUseBut, FilesystemsInUseBut, GroupsInUseBut, Inode, InodesInUseBut, IsPlain, Losers, MountsInUseBut, is_inode_among, is_used_or_among, let_go}
 use Rattle.vt_letting_go.proofs.Inodes.{all_goes_one_by_one}
-use Rattle.vt_letting_go.proofs.Lists.{Among, all_from_among, all_pass, among-append, among-append_left, among-append_right, among-filter, among-filter_map, among-from_filter, among-from_filter_map, among-from_map, among-map, among_from_all, among_numbers, any-filter, any_passes, decided, is_among_left, is_among_numbers, is_among_right, one_passes, or_first, or_second, passes}
+use Rattle.vt_letting_go.proofs.InUse.{used_at}
+use Rattle.vt_letting_go.proofs.Lists.{Among, all_from_among, all_pass, among-append, among-append_left, among-append_right, among-filter, among-filter_map, among-from_filter, among-from_filter_map, among-from_map, among-map, among_from_all, among_numbers, any-filter, any_passes, decided, is_among_left, is_among_numbers, one_passes, or_first, or_second, passes}
 use Rattle.vt_letting_go.proofs.PlacesLeft.{found_in_filter, found_is_there, found_itself, no_layers, nowhere_parts, number_found, plain_uses, private_is_no_member}
 
 -- the roots, working directories and descriptors, the roots of mounts and the places of a world
@@ -178,16 +179,7 @@ module _ (world : World ℕ) (mounts : List (Mount ℕ)) (master : ℕ → Optio
     -- what is at a place that is used still
     used_still : (location : Location ℕ) → Among location (places_of mounted)
         → filesystem.number ≡ (mount_at nat_eq mounted location).filesystem → is_inode_used swept filesystem location.node ≡ true
-    used_still location m e =
-        or_second (nat_eq location.node filesystem.files.tree.root) _
-        (is_among_left location.node (named_in filesystem.files ++ located_in nat_eq swept filesystem.number ++ layers_in nat_eq swept filesystem.number)
-        (flat_map (objects_of_overlay nat_eq filesystem.number) swept.filesystems)
-        (is_among_left location.node (named_in filesystem.files ++ located_in nat_eq swept filesystem.number) (layers_in nat_eq swept filesystem.number)
-        (is_among_right location.node (named_in filesystem.files) (located_in nat_eq swept filesystem.number)
-        (is_among_numbers location.node (located_in nat_eq swept filesystem.number)
-        (among-map (λ l. l.node) (filter (λ l. nat_eq filesystem.number (mount_at nat_eq mounted l).filesystem) (places_of mounted)) location
-        (among-filter (λ l. nat_eq filesystem.number (mount_at nat_eq mounted l).filesystem) (places_of mounted) location m
-        (eq-eqb filesystem.number (mount_at nat_eq mounted location).filesystem e)))))))
+    used_still location m e = used_at swept filesystem location m e
 
     -- an inode among the losers may go
     may_go : (inode : Inode) → Among inode inodes → filesystem.number ≡ inode.0 → (number : ℕ) → number ≡ inode.1

@@ -173,6 +173,14 @@ pub same_namespaces : (world : World ℕ) (b : Bool) → record (regrouped_by na
 same_namespaces world true = refl
 same_namespaces world false = refl
 
+-- the event in which mounts are taken away is a change of each mount
+abbrev pub hands_on : World ℕ → List ℕ → Bool
+hands_on world gone = list_any (lost_a_group nat_eq (without world gone world.namespaces)) (without world gone world.namespaces).mounts
+
+pub taken_is : (world : World ℕ) (gone : List ℕ) → taken_away nat_eq world gone ≡ after world gone world.namespaces (hands_on world gone)
+taken_is world gone =
+    sym (same_namespaces (without world gone world.namespaces) (hands_on world gone)) ∙ is_changed world gone world.namespaces (hands_on world gone)
+
 pub taking_away_lets_go : TakingAwayLetsGo
 taking_away_lets_go world gone groups settles hears =
     subst (λ w. settled nat_eq w ≡ let_go w (used_by_mounts world gone (places_lost world gone) groups)) same

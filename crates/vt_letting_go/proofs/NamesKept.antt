@@ -175,7 +175,7 @@ named_before old name (Some node) number e = by node.content e
     by (Symlink text) h = h
     by Whiteout h = h
 
-same_entries_parent : (parent : ℕ) (o : Option (Node ℕ)) → entries_in (node_with_parent parent o) ≡ entries_in o
+pub same_entries_parent : (parent : ℕ) (o : Option (Node ℕ)) → entries_in (node_with_parent parent o) ≡ entries_in o
 same_entries_parent parent None = refl
 same_entries_parent parent (Some node) = by node.content
   where
@@ -186,7 +186,7 @@ same_entries_parent parent (Some node) = by node.content
     by (Symlink text) = refl
     by Whiteout = refl
 
-same_entries_bytes : (bytes : List ℕ) (o : Option (Node ℕ)) → entries_in (node_with_bytes bytes o) ≡ entries_in o
+pub same_entries_bytes : (bytes : List ℕ) (o : Option (Node ℕ)) → entries_in (node_with_bytes bytes o) ≡ entries_in o
 same_entries_bytes bytes None = refl
 same_entries_bytes bytes (Some node) = by node.content
   where
@@ -197,7 +197,7 @@ same_entries_bytes bytes (Some node) = by node.content
     by (Symlink text) = refl
     by Whiteout = refl
 
-same_entries_mark : (opaque : Bool) (o : Option (Node ℕ)) → entries_in (node_with_mark opaque o) ≡ entries_in o
+pub same_entries_mark : (opaque : Bool) (o : Option (Node ℕ)) → entries_in (node_with_mark opaque o) ≡ entries_in o
 same_entries_mark opaque None = refl
 same_entries_mark opaque (Some node) = by node.content
   where
@@ -208,7 +208,7 @@ same_entries_mark opaque (Some node) = by node.content
     by (Symlink text) = refl
     by Whiteout = refl
 
-same_entries_attr : (attr : Attr) (o : Option (Node ℕ)) → entries_in (node_with_attr attr o) ≡ entries_in o
+pub same_entries_attr : (attr : Attr) (o : Option (Node ℕ)) → entries_in (node_with_attr attr o) ≡ entries_in o
 same_entries_attr attr None = refl
 same_entries_attr attr (Some node) = refl
 

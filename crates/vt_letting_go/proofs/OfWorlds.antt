@@ -1,8 +1,8 @@
 -- What a world is by its conditions.
-use Rattle.std.proofs.Common.{◌≡◌, refl, sym, ap, subst, ◌∙◌, ◌⊎◌, inl, inr, ⊎_elim, ℕ, nat_eq, eqb-true, eq-eqb, Bool, true, false, cond, not, ◌&&◌, ◌++◌, List, [], ◌∷◌, find, map, true≢false, Option, Some, None, is_some, option_to_list, unwrap_or}
+use Rattle.std.proofs.Common.{◌≡◌, refl, sym, ap, subst, ◌∙◌, ◌⊎◌, inl, inr, ⊎_elim, ℕ, nat_eq, eqb-true, Bool, true, false, cond, not, ◌&&◌, ◌++◌, List, [], ◌∷◌, find, map, true≢false, Option, Some, None, is_some, option_to_list, unwrap_or}
 use Rattle.std.specs.Prelude.{All}
-use Rattle.std.specs.List.{list_all, list_any}
-use Rattle.std.proofs.lemmas.Bool.{and_parts, not-true, or_parts}
+use Rattle.std.specs.List.{list_all}
+use Rattle.std.proofs.lemmas.Bool.{and_parts, not-true}
 use Rattle.vt_spec.specs.Lists.{any_pair, holds_of, is_among}
 use Rattle.vt_spec.specs.Machine.Locked.{of_overlay, overlay_or}
 use Rattle.vt_spec.specs.Machine.Mounts.{Location, Mount, mount_in, no_mount}
@@ -14,7 +14,7 @@ use Rattle.vt_letting_go.specs.Leaving.{stands_on_attached}
 use Rattle.vt_letting_go.specs.Overlays.{real_in}
 use Rattle.vt_letting_go.specs.Worlds.{LocationsOfWorldsStand, MountsOfWorldsStand, PlainWorldsAreSettled, RealsOfWorldsAreThere, UppersOfWorldsArePlain, WorldsAreSettled, WorldsHaveTrees}
 use Rattle.vt_letting_go.proofs.InUse.{what_is_left_is_in_use}
-use Rattle.vt_letting_go.proofs.Lists.{Among, all_from_among, all_pass, among-append_left, among_from_all, fails, passes}
+use Rattle.vt_letting_go.proofs.Lists.{found_by, Among, all_from_among, all_pass, among-append_left, among_from_all, passes}
 use Rattle.vt_letting_go.proofs.PlacesLeft.{found_itself, nowhere_parts}
 use Rattle.std.proofs.lemmas.Option.{same_Some}
 use Rattle.vt_spec.specs.Machine.WorldLaws.Stands.{at_root, on_parent}
@@ -79,21 +79,7 @@ mounts_of_worlds_stand world is = record {
 -- Filesystems by their numbers
 pub found_filesystem : (filesystems : List (Filesystem ℕ)) → any_pair (λ (a b : Filesystem ℕ). nat_eq a.number b.number) filesystems ≡ false
     → (f : Filesystem ℕ) → Among f filesystems → unwrap_or (find (λ x. nat_eq f.number x.number) filesystems) (no_filesystem f.number) ≡ f
-found_filesystem [] one f m = absurd m
-found_filesystem (first ∷ rest) one f m =
-    let parts = or_parts (list_any (λ b. nat_eq first.number b.number) rest) (any_pair (λ (a b : Filesystem ℕ). nat_eq a.number b.number) rest) one in
-    by parts.0 (nat_eq f.number first.number) refl m (λ n. found_filesystem rest parts.1 f n)
-  where
-    by : list_any (λ b. nat_eq first.number b.number) rest ≡ false → (b : Bool) → nat_eq f.number first.number ≡ b → Among f (first ∷ rest)
-        → (Among f rest → unwrap_or (find (λ x. nat_eq f.number x.number) rest) (no_filesystem f.number) ≡ f)
-        → unwrap_or (cond b (Some first) (find (λ x. nat_eq f.number x.number) rest)) (no_filesystem f.number) ≡ f
-    by others true e n next =
-        ⊎_elim (λ same. sym same)
-        (λ later. absurd (true≢false
-        (sym (eq-eqb first.number f.number (sym (eqb-true f.number first.number e)))
-        ∙ fails (λ x. nat_eq first.number x.number) rest others f later))) n
-    by others false e n next =
-        ⊎_elim (λ same. absurd (true≢false (sym (eq-eqb f.number first.number (ap (λ x. x.number) same)) ∙ e))) next n
+found_filesystem filesystems one f m = found_by (λ (x : Filesystem ℕ). x.number) (no_filesystem f.number) filesystems one f m
 
 pub uppers_of_worlds_are_plain : UppersOfWorldsArePlain
 uppers_of_worlds_are_plain world is =

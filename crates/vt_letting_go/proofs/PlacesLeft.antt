@@ -14,29 +14,14 @@ use Rattle.vt_spec.specs.Machine.World.{Filesystem, Overlay, Task, World, all_lo
 use Rattle.vt_letting_go.specs.InUse.{AllInUse, is_inode_used}
 use Rattle.vt_letting_go.specs.Leaving.{LeavingLetsGo, MountsStand, StayingKeepsAll, inodes_of_location, is_location_among, only_these_are_left, stands_on_attached, used_by_locations, with_tasks}
 use Rattle.vt_letting_go.specs.OneByOne.{FilesystemsInUseBut, GroupsInUseBut, InodesInUseBut, IsPlain, Losers, MountsInUseBut, is_inode_among, is_used_or_among}
-use Rattle.vt_letting_go.proofs.InUse.{no_objects}
+use Rattle.vt_letting_go.proofs.InUse.{no_objects, used_at}
 use Rattle.vt_letting_go.proofs.Inodes.{all_goes_one_by_one}
-use Rattle.vt_letting_go.proofs.Lists.{Among, all_from_among, all_pass, among-append, among-append_left, among-append_right, among-filter, among-filter_map, among-flat_map, among-from_filter, among-from_filter_map, among-from_map, among-map, among_from_all, among_numbers, any-filter, any_passes, decided, fails, flat_map_none, is_among_left, is_among_numbers, is_among_right, none_passes, one_passes, or_first, or_second, passes}
+use Rattle.vt_letting_go.proofs.Lists.{Among, all_from_among, all_pass, among-append, among-append_left, among-append_right, among-filter, among-filter_map, among-flat_map, among-from_filter, among-from_filter_map, among-from_map, among-map, among_from_all, among_numbers, any-filter, any_passes, decided, fails, flat_map_none, found_by, is_among_left, is_among_numbers, none_passes, one_passes, or_first, or_second, passes}
 
 -- Mounts by their numbers
 pub found_itself : (mounts : List (Mount ℕ)) → any_pair (λ (a b : Mount ℕ). nat_eq a.number b.number) mounts ≡ false
     → (mount : Mount ℕ) → Among mount mounts → mount_in nat_eq mounts mount.number ≡ mount
-found_itself [] one mount m = absurd m
-found_itself (first ∷ rest) one mount m =
-    let parts = or_parts (list_any (λ b. nat_eq first.number b.number) rest) (any_pair (λ (a b : Mount ℕ). nat_eq a.number b.number) rest) one in
-    by parts.0 (nat_eq mount.number first.number) refl m (λ n. found_itself rest parts.1 mount n)
-  where
-    by : list_any (λ b. nat_eq first.number b.number) rest ≡ false → (b : Bool) → nat_eq mount.number first.number ≡ b → Among mount (first ∷ rest)
-        → (Among mount rest → mount_in nat_eq rest mount.number ≡ mount)
-        → unwrap_or (cond b (Some first) (find (λ x. nat_eq mount.number x.number) rest)) (no_mount mount.number) ≡ mount
-    by others true e n next =
-        ⊎_elim (λ same. sym same)
-        (λ later. absurd (true≢false
-        (sym (eq-eqb first.number mount.number (sym (eqb-true mount.number first.number e)))
-        ∙ fails (λ x. nat_eq first.number x.number) rest others mount later))) n
-    by others false e n next =
-        ⊎_elim (λ same. absurd (true≢false (sym (eq-eqb mount.number first.number (ap (λ x. x.number) same)) ∙ e)))
-        next n
+found_itself mounts one mount m = found_by (λ (x : Mount ℕ). x.number) (no_mount mount.number) mounts one mount m
 
 -- a mount of a shorter list, where those of its number stay
 pub found_in_filter : (stays : Mount ℕ → Bool) (mounts : List (Mount ℕ)) (number : ℕ)
@@ -266,18 +251,7 @@ module _ (world : World ℕ) (tasks : List (Task ℕ)) (left : List (Location �
     used_still : (location : Location ℕ)
         → Among location (all_locations after ++ map root_of mounted.mounts ++ filter_map (λ mount. mount.mount_point) mounted.mounts)
         → filesystem.number ≡ (mount_at nat_eq mounted location).filesystem → is_inode_used swept filesystem location.node ≡ true
-    used_still location m e =
-        or_second (nat_eq location.node filesystem.files.tree.root) _
-        (is_among_left location.node (named_in filesystem.files ++ located_in nat_eq swept filesystem.number ++ layers_in nat_eq swept filesystem.number)
-        (flat_map (objects_of_overlay nat_eq filesystem.number) swept.filesystems)
-        (is_among_left location.node (named_in filesystem.files ++ located_in nat_eq swept filesystem.number) (layers_in nat_eq swept filesystem.number)
-        (is_among_right location.node (named_in filesystem.files) (located_in nat_eq swept filesystem.number)
-        (is_among_numbers location.node (located_in nat_eq swept filesystem.number)
-        (among-map (λ l. l.node) (filter (λ l. nat_eq filesystem.number (mount_at nat_eq mounted l).filesystem)
-        (all_locations after ++ map root_of mounted.mounts ++ filter_map (λ mount. mount.mount_point) mounted.mounts)) location
-        (among-filter (λ l. nat_eq filesystem.number (mount_at nat_eq mounted l).filesystem)
-        (all_locations after ++ map root_of mounted.mounts ++ filter_map (λ mount. mount.mount_point) mounted.mounts) location m
-        (eq-eqb filesystem.number (mount_at nat_eq mounted location).filesystem e)))))))
+    used_still location m e = used_at swept filesystem location m e
 
     -- what was left may go
     may_go : (location : Location ℕ) → Among location left → filesystem.number ≡ (mount_at nat_eq world location).filesystem

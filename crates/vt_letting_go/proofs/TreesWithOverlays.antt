@@ -1,5 +1,5 @@
 -- What goes when trees change, in worlds with overlays.
-use Rattle.std.proofs.Common.{◌≡◌, None, Option, Some, is_some, refl, sym, ap, subst, ◌∙◌, ◌⊎◌, inl, inr, ⊎_elim, ℕ, nat_eq, eqb-true, eq-eqb, Bool, true, false, cond, ◌||◌, ◌&&◌, List, [], ◌∷◌, filter, map, flat_map, ◌++◌, true≢false}
+use Rattle.std.proofs.Common.{◌≡◌, None, Option, Some, is_some, refl, sym, ap, subst, ◌∙◌, ◌⊎◌, inl, inr, ⊎_elim, ℕ, nat_eq, eqb-true, eq-eqb, Bool, true, false, cond, ◌||◌, ◌&&◌, List, [], ◌∷◌, map, ◌++◌, true≢false}
 use Rattle.std.specs.List.{list_all, list_any}
 use Rattle.std.specs.Prelude.{All}
 use Rattle.std.proofs.lemmas.Bool.{or_cases}
@@ -7,11 +7,10 @@ use Rattle.std.proofs.lemmas.List.Folds.{list_any-append}
 use Rattle.vt_spec.specs.FileTree.{FileTree}
 use Rattle.vt_spec.specs.Lists.{any_pair, is_among}
 use Rattle.vt_spec.specs.Machine.Detach.{taken_away}
-use Rattle.vt_spec.specs.Machine.Receives.{lost_a_group}
 use Rattle.vt_spec.specs.Machine.Filesystems.{with_files}
 use Rattle.vt_spec.specs.Machine.Locked.{of_overlay, overlay_or}
 use Rattle.vt_spec.specs.Machine.Settled.{filesystem_lives, has_layer_on, is_mounted, layers_in, located_in, named_in, objects_of_overlay, settled, without_dead_filesystems, without_dead_mounts}
-use Rattle.vt_spec.specs.Machine.World.{Filesystem, Layer, Overlay, World, filesystem_numbered, is_overlay, layers_of, replaced_if_numbered}
+use Rattle.vt_spec.specs.Machine.World.{Filesystem, Overlay, World, filesystem_numbered, is_overlay, layers_of, replaced_if_numbered}
 use Rattle.vt_letting_go.specs.InUse.{FilesystemsInUse, HasTrees, IsListedTree, UppersArePlain, has_upper_in, is_inode_used}
 use Rattle.vt_letting_go.specs.LeavingOverlays.{IsSettled, used_with_layers}
 use Rattle.vt_letting_go.specs.Leaving.{with_tasks}
@@ -22,13 +21,13 @@ use Rattle.vt_letting_go.specs.OneByOne.{AllInUseBut, FilesystemsInUseBut, Group
 use Rattle.vt_letting_go.specs.Overlays.{RealsAreThere, let_go_all_inodes, real_in}
 use Rattle.vt_letting_go.specs.TreeChanges.{ChangesTree}
 use Rattle.vt_letting_go.specs.TreesOverlays.{ChangedTreesKeepAll, ChangedTreesLetGo, ChangesFilesystem, LeftAndChangedLetsGo, OpenedKeepsAll, TakenAndChangedLetsGo, UnnamedGoWithOverlays, in_use_of, upper_objects, with_filesystems, with_lost}
-use Rattle.vt_letting_go.proofs.InUse.{filesystems_stay, layers_on, mounts_stay, no_objects}
+use Rattle.vt_letting_go.proofs.InUse.{layers_stay, filesystems_stay, layers_on, mounts_stay, no_objects}
 use Rattle.vt_letting_go.proofs.LeftWithOverlays.{leaving_but}
 use Rattle.vt_letting_go.proofs.Lists.{Among, all_from_among, all_pass, among-filter, among-flat_map, among-from_filter, among-from_flat_map, among-from_map, among-map, among_from_all, among_numbers, any_passes, is_among_left, is_among_numbers, is_among_right, or_first, or_second, passes}
 use Rattle.vt_letting_go.proofs.Unmounted.{event_groups}
 use Rattle.vt_letting_go.proofs.MountingOverlays.{all_but_those}
 use Rattle.vt_letting_go.proofs.MountingTaken
-use Rattle.vt_letting_go.proofs.MountingTaken.{is_changed, loses, same_namespaces, without}
+use Rattle.vt_letting_go.proofs.MountingTaken.{hands_on, loses, taken_is}
 use Rattle.vt_letting_go.proofs.OfWorlds.{found_filesystem}
 use Rattle.vt_letting_go.proofs.WithOverlays.{with_overlays_all_goes}
 
@@ -117,15 +116,7 @@ module _ (world : World ℕ) (losers : Losers) (but : AllInUseBut losers world) 
   so_living f m = changed_so f (from_living f m).0
 
   layers_still : (filesystem number : ℕ) → Among number (layers_in nat_eq living filesystem) → Among number (layers_in nat_eq last filesystem)
-  layers_still filesystem number m =
-      let one = among-from_map (λ (layer : Layer ℕ). layer.directory) (filter (λ layer. nat_eq filesystem layer.filesystem) (flat_map (of_overlay [] layers_of) living.filesystems)) number m in
-      let two = among-from_filter (λ layer. nat_eq filesystem layer.filesystem) (flat_map (of_overlay [] layers_of) living.filesystems) one.0 one.1 in
-      let three = among-from_flat_map (of_overlay [] layers_of) living.filesystems one.0 two.0 in
-      subst (λ n. Among n (layers_in nat_eq last filesystem)) (sym one.2)
-      (among-map (λ (layer : Layer ℕ). layer.directory) (filter (λ layer. nat_eq filesystem layer.filesystem) (flat_map (of_overlay [] layers_of) last.filesystems)) one.0
-      (among-filter (λ layer. nat_eq filesystem layer.filesystem) (flat_map (of_overlay [] layers_of) last.filesystems) one.0
-      (among-flat_map (of_overlay [] layers_of) last.filesystems (change three.0) one.0 (lives_still three.0 three.1)
-      (subst (Among one.0) (sym (ChangesFilesystem.layers (so_living three.0 three.1))) three.2)) two.1))
+  layers_still = layers_stay living last (λ f m. (change f, lives_still f m, ChangesFilesystem.layers (so_living f m)))
 
   -- a real object is one still, or may go
   object_left : (filesystem number : ℕ) → Among number (upper_objects living filesystem)
@@ -448,26 +439,20 @@ unnamed_go_with_overlays world number files unnamed settles one there plain chan
 pub taken_and_changed_lets_go : TakenAndChangedLetsGo
 taken_and_changed_lets_go world gone change lost settles trees uppers reals changes =
     with_overlays_all_goes then_ (with_lost (used_by_gone_with_layers world gone) lost) trees uppers reals
-    (subst (λ w. AllInUseBut (with_lost (used_by_gone_with_layers world gone) lost) (with_filesystems w change)) (sym event)
+    (subst (λ w. AllInUseBut (with_lost (used_by_gone_with_layers world gone) lost) (with_filesystems w change)) (sym (taken_is world gone))
     (all_but_changed taken (used_by_gone_with_layers world gone)
     (all_but_those world taken.mounts taken.master world.filesystems world.namespaces world.tasks gone (places_lost world gone) (groups_of_mounts world gone)
-    settles.in_use settles.mounts (loses world gone world.namespaces settles.in_use settles.mounts b)
-    (subst (GroupsInUseBut (groups_of_mounts world gone)) event (event_groups world gone settles.in_use.groups))
+    settles.in_use settles.mounts (loses world gone world.namespaces settles.in_use settles.mounts (hands_on world gone))
+    (subst (GroupsInUseBut (groups_of_mounts world gone)) (taken_is world gone) (event_groups world gone settles.in_use.groups))
     (record { kept = λ f m. m; new = λ f m. inl m }))
     change lost
-    (subst (λ w. All (λ f. ChangesFilesystem (in_use_of (with_filesystems w change)) lost f (change f)) world.filesystems) event changes)))
+    (subst (λ w. All (λ f. ChangesFilesystem (in_use_of (with_filesystems w change)) lost f (change f)) world.filesystems) (taken_is world gone) changes)))
   where
     then_ : World ℕ
     then_ = with_filesystems (taken_away nat_eq world gone) change
 
-    b : Bool
-    b = list_any (lost_a_group nat_eq (without world gone world.namespaces)) (without world gone world.namespaces).mounts
-
     taken : World ℕ
-    taken = MountingTaken.after world gone world.namespaces b
-
-    event : taken_away nat_eq world gone ≡ taken
-    event = sym (same_namespaces (without world gone world.namespaces) b) ∙ is_changed world gone world.namespaces b
+    taken = MountingTaken.after world gone world.namespaces (hands_on world gone)
 
 -- Tasks that go to other locations, and trees that change, at once
 pub left_and_changed_lets_go : LeftAndChangedLetsGo

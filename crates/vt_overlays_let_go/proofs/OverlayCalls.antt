@@ -23,8 +23,7 @@ use Rattle.vt_letting_go.specs.TreesOverlays.{in_use_of, with_filesystems, with_
 use Rattle.vt_letting_go.specs.Unmounting.{numbers_of_trees}
 use Rattle.vt_letting_go.proofs.FilesChanged.{none_left}
 use Rattle.vt_letting_go.proofs.Lists.{Among, among-filter, among-from_map, among-map, among_numbers, any_passes, or_first, passes}
-use Rattle.vt_letting_go.proofs.MountingTaken
-use Rattle.vt_letting_go.proofs.MountingTaken.{is_changed, same_namespaces, shows_the_same, without}
+use Rattle.vt_letting_go.proofs.MountingTaken.{hands_on, shows_the_same, taken_is}
 use Rattle.vt_letting_go.proofs.PlacesLeft.{found_itself, mounts_but}
 use Rattle.vt_letting_go.proofs.TreesWithOverlays.{left_and_changed_lets_go, taken_and_changed_lets_go}
 use Rattle.vt_overlays_let_go.specs.OverlayCalls.{OpenedCopiesLetGo, OpenedNewInOverlaysLetsGo, RemovedFromOverlaysLetGo, ReplacedInOverlaysLetGo, TakenAndOverlayChangesLetGo, is_on_mount, stays_mounted}
@@ -63,26 +62,20 @@ module _ (fresh : Fresh ℕ) (world : World ℕ) (location : Location ℕ) (chan
   goes_with_mounts gone stays =
       subst (λ w. settled nat_eq w ≡ let_go_all w (with_lost (used_by_gone_with_layers world gone)
       (inodes_lost_with_upper fresh world location overlay upper change)))
-      (sym (is_swap fresh world location change overlay upper conditions can taken (ap (λ w. w.filesystems) event)
-      (ap (λ w. (mount_at nat_eq w location).filesystem) event ∙ shows_the_same world gone world.namespaces b location.mount)))
+      (sym (is_swap fresh world location change overlay upper conditions can taken (ap (λ w. w.filesystems) (taken_is world gone))
+      (ap (λ w. (mount_at nat_eq w location).filesystem) (taken_is world gone) ∙ shows_the_same world gone world.namespaces (hands_on world gone) location.mount)))
       (taken_and_changed_lets_go world gone swap (inodes_lost_with_upper fresh world location overlay upper change)
       (settles fresh world location change overlay upper conditions can)
-      (subst (λ w. HasTrees (with_filesystems w swap)) (sym event) (trees_then fresh world location change overlay upper conditions can))
-      (subst (λ w. UppersArePlain (with_filesystems w swap)) (sym event)
+      (subst (λ w. HasTrees (with_filesystems w swap)) (sym (taken_is world gone)) (trees_then fresh world location change overlay upper conditions can))
+      (subst (λ w. UppersArePlain (with_filesystems w swap)) (sym (taken_is world gone))
       (uppers_then fresh world location change overlay upper conditions can))
-      (subst (λ w. RealsAreThere (with_filesystems w swap)) (sym event)
+      (subst (λ w. RealsAreThere (with_filesystems w swap)) (sym (taken_is world gone))
       (reals_then fresh world location change overlay upper conditions can))
       (all_changed fresh world location change overlay upper conditions can (in_use_of (with_filesystems taken swap))
-      (lives_then taken (ap (λ w. w.filesystems) event) stays)))
+      (lives_then taken (ap (λ w. w.filesystems) (taken_is world gone)) stays)))
     where
       taken : World ℕ
       taken = taken_away nat_eq world gone
-
-      b : Bool
-      b = list_any (lost_a_group nat_eq (without world gone world.namespaces)) (without world gone world.namespaces).mounts
-
-      event : taken ≡ MountingTaken.after world gone world.namespaces b
-      event = sym (same_namespaces (without world gone world.namespaces) b) ∙ is_changed world gone world.namespaces b
 
   -- and a task comes to more locations
   goes_with_task : (new : Task ℕ) → only_these_are_left world (with_task world new).tasks [] ≡ true → is_on_mount world location ≡ true
