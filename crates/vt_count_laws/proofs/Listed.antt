@@ -70,7 +70,8 @@ to_front : (n : ℕ) (list : List ℕ) → 1 ≤ times_in n list → IsPermutati
 to_front n [] some = absurd (omega arith)
 to_front n (first ∷ rest) some =
     ⊎_elim
-    (λ t. subst (λ l. IsPermutation l (first ∷ rest)) (sym ((λ i. t.1 i ∷ cond (t.0 i) rest (first ∷ removed n rest)))) (IsPermutation-refl (first ∷ rest)))
+    (λ t. subst (λ l. IsPermutation l (first ∷ rest)) (sym ((λ i. t.1 i ∷ cond (t.0 i) rest (first ∷ removed n rest))))
+    (IsPermutation-refl (first ∷ rest)))
     (λ t. subst (λ b. IsPermutation (n ∷ cond b rest (first ∷ removed n rest)) (first ∷ rest)) (sym t.0)
     (IsPermutation-trans (n ∷ first ∷ removed n rest) (first ∷ n ∷ removed n rest) (first ∷ rest)
     (IsPermutation-sym (first ∷ n ∷ removed n rest) (n ∷ first ∷ removed n rest) (IsPermutation-middle (first ∷ []) n (removed n rest)))

@@ -29,14 +29,17 @@ follows false false h = refl
 
 -- the real objects of an overlay without fewer inodes
 objects_more : (some more : ℕ → Bool) (number : ℕ) (g : Filesystem ℕ) → ((k : ℕ) → some k ≡ true → more k ≡ true) → (object : ℕ)
-    → Among object (objects_of_overlay nat_eq number (without_all more g)) → Among object (objects_of_overlay nat_eq number (without_all some g))
+    → Among object (objects_of_overlay nat_eq number (without_all more g))
+    → Among object (objects_of_overlay nat_eq number (without_all some g))
 objects_more some more number g within object = over g.overlay
   where
     over : (o : Option (Overlay ℕ))
         → Among object (overlay_or [] (λ overlay. cond (holds_of (λ layer. nat_eq number layer.filesystem) overlay.upper)
-        (filter_map (λ k. upper_object (overlay.real k)) (filter (λ k. not (more k)) g.files.numbers)) []) (option_map (reals_without more) o))
+        (filter_map (λ k. upper_object (overlay.real k)) (filter (λ k. not (more k)) g.files.numbers)) [])
+        (option_map (reals_without more) o))
         → Among object (overlay_or [] (λ overlay. cond (holds_of (λ layer. nat_eq number layer.filesystem) overlay.upper)
-        (filter_map (λ k. upper_object (overlay.real k)) (filter (λ k. not (some k)) g.files.numbers)) []) (option_map (reals_without some) o))
+        (filter_map (λ k. upper_object (overlay.real k)) (filter (λ k. not (some k)) g.files.numbers)) [])
+        (option_map (reals_without some) o))
     over None m = absurd m
     over (Some overlay) m = here (holds_of (λ layer. nat_eq number layer.filesystem) overlay.upper) m
       where
@@ -44,14 +47,18 @@ objects_more some more number g within object = over g.overlay
         left k false e stays = e
         left k true e stays = absurd (true≢false (sym stays ∙ ap not (within k e)))
 
-        here : (b : Bool) → Among object (cond b (filter_map (λ k. upper_object (cond (more k) None (overlay.real k))) (filter (λ k. not (more k)) g.files.numbers)) [])
-            → Among object (cond b (filter_map (λ k. upper_object (cond (some k) None (overlay.real k))) (filter (λ k. not (some k)) g.files.numbers)) [])
+        here : (b : Bool) → Among object (cond b (filter_map (λ k. upper_object (cond (more k) None (overlay.real k)))
+            (filter (λ k. not (more k)) g.files.numbers)) [])
+            → Among object (cond b (filter_map (λ k. upper_object (cond (some k) None (overlay.real k)))
+            (filter (λ k. not (some k)) g.files.numbers)) [])
         here false n = absurd n
         here true n =
-            let from = among-from_filter_map (λ k. upper_object (cond (more k) None (overlay.real k))) (filter (λ k. not (more k)) g.files.numbers) object n in
+            let from = among-from_filter_map (λ k. upper_object (cond (more k) None (overlay.real k)))
+            (filter (λ k. not (more k)) g.files.numbers) object n in
             let listed = among-from_filter (λ k. not (more k)) g.files.numbers from.0 from.1 in
             let stays = left from.0 (some from.0) refl listed.1 in
-            among-filter_map (λ k. upper_object (cond (some k) None (overlay.real k))) (filter (λ k. not (some k)) g.files.numbers) from.0 object
+            among-filter_map (λ k. upper_object (cond (some k) None (overlay.real k)))
+            (filter (λ k. not (some k)) g.files.numbers) from.0 object
             (among-filter (λ k. not (some k)) g.files.numbers from.0 listed.0 (ap not stays))
             (ap (λ b. upper_object (cond b None (overlay.real from.0))) stays
             ∙ sym (ap (λ b. upper_object (cond b None (overlay.real from.0))) (not-true (more from.0) listed.1)) ∙ from.2)
@@ -100,10 +107,12 @@ module _ (world : World ℕ) (tasks : List (Task ℕ)) (trees : HasTrees world) 
       any_passes (is_member_of nat_eq group) first_mounts t.0 (last_was_first t.0 t.1) t.2
 
   same_master : (group : ℕ)
-      → cond (has_members nat_eq (filter (mount_lives nat_eq once) first_mounts) group) (cond (has_members nat_eq first_mounts group) (world.master group) None) None
+      → cond (has_members nat_eq (filter (mount_lives nat_eq once) first_mounts) group)
+      (cond (has_members nat_eq first_mounts group) (world.master group) None) None
       ≡ cond (has_members nat_eq last_mounts group) (world.master group) None
   same_master group =
-      ap (λ mounts. cond (has_members nat_eq mounts group) (cond (has_members nat_eq first_mounts group) (world.master group) None) None) same_mounts
+      ap (λ mounts. cond (has_members nat_eq mounts group)
+      (cond (has_members nat_eq first_mounts group) (world.master group) None) None) same_mounts
       ∙ by (has_members nat_eq last_mounts group) refl
     where
       by : (b : Bool) → has_members nat_eq last_mounts group ≡ b
@@ -121,7 +130,8 @@ module _ (world : World ℕ) (tasks : List (Task ℕ)) (trees : HasTrees world) 
   abbrev again_living : World ℕ
   again_living = without_dead_filesystems nat_eq (without_dead_mounts nat_eq again)
 
-  last_mounted_was : (number : ℕ) → is_mounted nat_eq (without_dead_mounts nat_eq once) number ≡ true → is_mounted nat_eq (without_dead_mounts nat_eq world) number ≡ true
+  last_mounted_was : (number : ℕ) → is_mounted nat_eq (without_dead_mounts nat_eq once) number ≡ true
+      → is_mounted nat_eq (without_dead_mounts nat_eq world) number ≡ true
   last_mounted_was number is =
       let t = one_passes (λ (mount : Mount ℕ). nat_eq number mount.filesystem) last_mounts is in
       any_passes (λ mount. nat_eq number mount.filesystem) first_mounts t.0 (last_was_first t.0 t.1) t.2
@@ -142,7 +152,8 @@ module _ (world : World ℕ) (tasks : List (Task ℕ)) (trees : HasTrees world) 
       let t = one_passes (layered_by f.number) world.filesystems layered in
       let parts = and_parts (has_layer_on nat_eq f.number t.0) (is_mounted nat_eq (without_dead_mounts nat_eq once) t.0.number) t.2 in
       or_second (is_mounted nat_eq (without_dead_mounts nat_eq world) f.number) _
-      (any_passes (λ merged. has_layer_on nat_eq f.number merged && is_mounted nat_eq (without_dead_mounts nat_eq world) merged.number) world.filesystems t.0 t.1
+      (any_passes (λ merged. has_layer_on nat_eq f.number merged && is_mounted nat_eq
+      (without_dead_mounts nat_eq world) merged.number) world.filesystems t.0 t.1
       (ap (λ b. b && is_mounted nat_eq (without_dead_mounts nat_eq world) t.0.number) parts.0 ∙ last_mounted_was t.0.number parts.1)))
       (or_cases (is_mounted nat_eq (without_dead_mounts nat_eq once) f.number) _ lives)
 
@@ -159,19 +170,25 @@ module _ (world : World ℕ) (tasks : List (Task ℕ)) (trees : HasTrees world) 
   first_sweep : (settled nat_eq world).filesystems ≡ map swept first_living.filesystems
   first_sweep = map_twice (after_second world) (after_first world) first_living.filesystems
 
-  same_mounted : (number : ℕ) → is_mounted nat_eq (without_dead_mounts nat_eq again) number ≡ is_mounted nat_eq (without_dead_mounts nat_eq once) number
+  same_mounted : (number : ℕ) → is_mounted nat_eq (without_dead_mounts nat_eq again) number
+      ≡ is_mounted nat_eq (without_dead_mounts nat_eq once) number
   same_mounted number = ap (list_any (λ mount. nat_eq number mount.filesystem)) same_mounts
 
   same_layered : (number : ℕ)
-      → list_any (λ merged. has_layer_on nat_eq number merged && is_mounted nat_eq (without_dead_mounts nat_eq again) merged.number) (settled nat_eq world).filesystems
+      → list_any (λ merged. has_layer_on nat_eq number merged && is_mounted nat_eq (without_dead_mounts nat_eq again) merged.number)
+      (settled nat_eq world).filesystems
       ≡ list_any (layered_by number) world.filesystems
   same_layered number =
-      ap (list_any (λ merged. has_layer_on nat_eq number merged && is_mounted nat_eq (without_dead_mounts nat_eq again) merged.number)) first_sweep
-      ∙ any-map (λ merged. has_layer_on nat_eq number merged && is_mounted nat_eq (without_dead_mounts nat_eq again) merged.number) {q = layered_by number}
+      ap (list_any (λ merged. has_layer_on nat_eq number merged && is_mounted nat_eq
+      (without_dead_mounts nat_eq again) merged.number)) first_sweep
+      ∙ any-map (λ merged. has_layer_on nat_eq number merged && is_mounted nat_eq
+      (without_dead_mounts nat_eq again) merged.number) {q = layered_by number}
       swept first_living.filesystems
       (λ g. ap (λ b. b && is_mounted nat_eq (without_dead_mounts nat_eq again) (swept g).number)
-      (layers_on world number (swept g) ∙ ap (list_any (λ layer. nat_eq number layer.filesystem)) (layers-swept g) ∙ sym (layers_on world number g))
-      ∙ ap (λ b. has_layer_on nat_eq number g && b) (same_mounted (swept g).number ∙ ap (is_mounted nat_eq (without_dead_mounts nat_eq once)) (number-swept g)))
+      (layers_on world number (swept g) ∙ ap (list_any (λ layer. nat_eq number layer.filesystem)) (layers-swept g)
+      ∙ sym (layers_on world number g))
+      ∙ ap (λ b. has_layer_on nat_eq number g && b) (same_mounted (swept g).number
+      ∙ ap (is_mounted nat_eq (without_dead_mounts nat_eq once)) (number-swept g)))
       ∙ any-filter (layered_by number) lives_first world.filesystems (λ g m dead. none g (layered_by number g) refl dead)
     where
       none : (g : Filesystem ℕ) (b : Bool) → layered_by number g ≡ b → lives_first g ≡ false → layered_by number g ≡ false
@@ -184,9 +201,11 @@ module _ (world : World ℕ) (tasks : List (Task ℕ)) (trees : HasTrees world) 
   same_lives : (f : Filesystem ℕ) → filesystem_lives nat_eq (without_dead_mounts nat_eq again) (swept f) ≡ lives_last f
   same_lives f =
       ap (λ n. is_mounted nat_eq (without_dead_mounts nat_eq again) n
-      || list_any (λ merged. has_layer_on nat_eq n merged && is_mounted nat_eq (without_dead_mounts nat_eq again) merged.number) (settled nat_eq world).filesystems)
+      || list_any (λ merged. has_layer_on nat_eq n merged && is_mounted nat_eq (without_dead_mounts nat_eq again) merged.number)
+      (settled nat_eq world).filesystems)
       (number-swept f)
-      ∙ ap (λ b. b || list_any (λ merged. has_layer_on nat_eq f.number merged && is_mounted nat_eq (without_dead_mounts nat_eq again) merged.number) (settled nat_eq world).filesystems)
+      ∙ ap (λ b. b || list_any (λ merged. has_layer_on nat_eq f.number merged
+      && is_mounted nat_eq (without_dead_mounts nat_eq again) merged.number) (settled nat_eq world).filesystems)
       (same_mounted f.number)
       ∙ ap (λ b. is_mounted nat_eq (without_dead_mounts nat_eq once) f.number || b) (same_layered f.number)
 
@@ -217,7 +236,8 @@ module _ (world : World ℕ) (tasks : List (Task ℕ)) (trees : HasTrees world) 
       → (other : Mount ℕ) → Among other world.mounts → other.number ≡ mount.number → mount_lives nat_eq once other ≡ true
   the_only mount m lives other n e =
       ap (mount_lives nat_eq once)
-      (sym (found_itself world.mounts stand.one_number other n) ∙ ap (mount_in nat_eq world.mounts) e ∙ found_itself world.mounts stand.one_number mount m)
+      (sym (found_itself world.mounts stand.one_number other n) ∙ ap (mount_in nat_eq world.mounts) e
+      ∙ found_itself world.mounts stand.one_number mount m)
       ∙ lives
 
   abbrev places_in : World ℕ → List (Mount ℕ) → List (Location ℕ)
@@ -226,15 +246,20 @@ module _ (world : World ℕ) (tasks : List (Task ℕ)) (trees : HasTrees world) 
   was_at : (f : Filesystem ℕ) (location : Location ℕ) → Among location (places_in world first_mounts)
       → f.number ≡ (mount_in nat_eq first_mounts location.mount).filesystem → Among location.node (located_in nat_eq first_living f.number)
   was_at f location m e =
-      among-map (λ l. l.node) (filter (λ l. nat_eq f.number (mount_in nat_eq first_mounts l.mount).filesystem) (places_in world first_mounts)) location
+      among-map (λ l. l.node) (filter (λ l. nat_eq f.number (mount_in nat_eq first_mounts l.mount).filesystem)
+      (places_in world first_mounts)) location
       (among-filter (λ l. nat_eq f.number (mount_in nat_eq first_mounts l.mount).filesystem) (places_in world first_mounts) location m
       (eq-eqb f.number (mount_in nat_eq first_mounts location.mount).filesystem e))
 
-  was_located_in : (f : Filesystem ℕ) (number : ℕ) → Among number (located_in nat_eq once_living f.number) → Among number (located_in nat_eq first_living f.number)
+  was_located_in : (f : Filesystem ℕ) (number : ℕ) → Among number (located_in nat_eq once_living f.number)
+      → Among number (located_in nat_eq first_living f.number)
   was_located_in f number m =
-      let from = among-from_map (λ l. l.node) (filter (λ l. nat_eq f.number (mount_in nat_eq last_mounts l.mount).filesystem) (places_in once last_mounts)) number m in
-      let here = among-from_filter (λ l. nat_eq f.number (mount_in nat_eq last_mounts l.mount).filesystem) (places_in once last_mounts) from.0 from.1 in
-      let e : f.number ≡ (mount_in nat_eq last_mounts from.0.mount).filesystem = eqb-true f.number (mount_in nat_eq last_mounts from.0.mount).filesystem here.1 in
+      let from = among-from_map (λ l. l.node) (filter (λ l. nat_eq f.number (mount_in nat_eq last_mounts l.mount).filesystem)
+      (places_in once last_mounts)) number m in
+      let here = among-from_filter (λ l. nat_eq f.number (mount_in nat_eq last_mounts l.mount).filesystem)
+      (places_in once last_mounts) from.0 from.1 in
+      let e : f.number ≡ (mount_in nat_eq last_mounts from.0.mount).filesystem = eqb-true f.number
+      (mount_in nat_eq last_mounts from.0.mount).filesystem here.1 in
       subst (λ n. Among n (located_in nat_eq first_living f.number)) (sym from.2)
       (⊎_elim
       (λ other. ⊎_elim
@@ -250,7 +275,8 @@ module _ (world : World ℕ) (tasks : List (Task ℕ)) (trees : HasTrees world) 
       was_at f from.0
       (among-append_left (all_locations world ++ map root_of first_mounts) (filter_map (λ x. x.mount_point) first_mounts) from.0
       (among-append_right (all_locations world) (map root_of first_mounts) from.0
-      (subst (λ l. Among l (map root_of first_mounts)) (sym mount.2) (among-map root_of first_mounts mount.0 (last_was_first mount.0 mount.1)))))
+      (subst (λ l. Among l (map root_of first_mounts)) (sym mount.2)
+      (among-map root_of first_mounts mount.0 (last_was_first mount.0 mount.1)))))
       (e ∙ ap (λ x. x.filesystem) (found_alike from.0.mount (λ other n same.
       the_only mount.0 was.0 was.1 other n (same ∙ ap (λ l. l.mount) mount.2)))))
       (among-append (all_locations once) (map root_of last_mounts) from.0 other))
@@ -267,24 +293,29 @@ module _ (world : World ℕ) (tasks : List (Task ℕ)) (trees : HasTrees world) 
       other n (same ∙ sym (number_found world.mounts from.0.mount))))))
       (among-append (all_locations once ++ map root_of last_mounts) (filter_map (λ mount. mount.mount_point) last_mounts) from.0 here.0))
     where
-      on_attached : (mount : Mount ℕ) → Among mount world.mounts → (place : Location ℕ) → mount.mount_point ≡ Some place → is_some (mount_at nat_eq world place).namespace ≡ true
+      on_attached : (mount : Mount ℕ) → Among mount world.mounts → (place : Location ℕ) → mount.mount_point ≡ Some place
+          → is_some (mount_at nat_eq world place).namespace ≡ true
       on_attached mount n place p =
           (and_parts (is_some (mount_at nat_eq world place).namespace) true
           (sym (ap (λ o. list_all (λ l. is_some (mount_at nat_eq world l).namespace) (option_to_list o)) p)
           ∙ passes (stands_on_attached world) world.mounts stand.on_attached mount n)).0
 
-  was_layer : (filesystem number : ℕ) → Among number (layers_in nat_eq once_living filesystem) → Among number (layers_in nat_eq first_living filesystem)
+  was_layer : (filesystem number : ℕ) → Among number (layers_in nat_eq once_living filesystem)
+      → Among number (layers_in nat_eq first_living filesystem)
   was_layer = layers_stay once_living first_living (λ f m. (f, was_living f m, refl))
 
   -- what is used in the end is the same, with a sweep in between and without
   same_uses : (with_sweep without : List (Filesystem ℕ)) (used : List ℕ) (f : Filesystem ℕ) → UnusedAreEmpty used f → (all : Bool)
-      → ((number : ℕ) → layers_in nat_eq (record again_living { filesystems = with_sweep }) number ≡ layers_in nat_eq (record once_living { filesystems = without }) number)
+      → ((number : ℕ) → layers_in nat_eq (record again_living { filesystems = with_sweep }) number
+      ≡ layers_in nat_eq (record once_living { filesystems = without }) number)
       → flat_map (objects_of_overlay nat_eq f.number) with_sweep ≡ flat_map (objects_of_overlay nat_eq f.number) without
-      → used_in nat_eq (record again_living { filesystems = with_sweep }) (left_by used f all) ≡ used_in nat_eq (record once_living { filesystems = without }) f
+      → used_in nat_eq (record again_living { filesystems = with_sweep }) (left_by used f all)
+      ≡ used_in nat_eq (record once_living { filesystems = without }) f
   same_uses with_sweep without used f empty all layers objects =
       λ i. root-left used f all i ∷ (named-left used f empty all i
       ++ located_in nat_eq (with_mounts once (same_mounts i)) (number-left used f all i)
-      ++ (layers (left_by used f all).number ∙ ap (layers_in nat_eq (record once_living { filesystems = without })) (number-left used f all)) i
+      ++ (layers (left_by used f all).number ∙ ap (layers_in nat_eq (record once_living { filesystems = without }))
+      (number-left used f all)) i
       ++ (ap (λ n. flat_map (objects_of_overlay nat_eq n) with_sweep) (number-left used f all) ∙ objects) i)
 
   -- and a second sweep takes no less than one alone
@@ -335,15 +366,18 @@ module _ (world : World ℕ) (tasks : List (Task ℕ)) (trees : HasTrees world) 
   used_before with_sweep without f located layers objects number is =
       is_among_numbers number (used_in nat_eq with_sweep f)
       (⊎_elim
-      (λ front. among-append_left (names ++ located_in nat_eq with_sweep f.number ++ layers_in nat_eq with_sweep f.number) objects_then number
+      (λ front. among-append_left (names ++ located_in nat_eq with_sweep f.number
+      ++ layers_in nat_eq with_sweep f.number) objects_then number
       (⊎_elim
       (λ first. among-append_left (names ++ located_in nat_eq with_sweep f.number) (layers_in nat_eq with_sweep f.number) number
       (⊎_elim (λ named. among-append_left names (located_in nat_eq with_sweep f.number) number named)
       (λ at. among-append_right names (located_in nat_eq with_sweep f.number) number (located number at))
       (among-append names (located_in nat_eq without f.number) number first)))
-      (λ layer. among-append_right (names ++ located_in nat_eq with_sweep f.number) (layers_in nat_eq with_sweep f.number) number (layers number layer))
+      (λ layer. among-append_right (names ++ located_in nat_eq with_sweep f.number) (layers_in nat_eq with_sweep f.number) number
+      (layers number layer))
       (among-append (names ++ located_in nat_eq without f.number) (layers_in nat_eq without f.number) number front)))
-      (λ object. among-append_right (names ++ located_in nat_eq with_sweep f.number ++ layers_in nat_eq with_sweep f.number) objects_then number (objects number object))
+      (λ object. among-append_right (names ++ located_in nat_eq with_sweep f.number
+      ++ layers_in nat_eq with_sweep f.number) objects_then number (objects number object))
       (among-append (names ++ located_in nat_eq without f.number ++ layers_in nat_eq without f.number)
       (flat_map (objects_of_overlay nat_eq f.number) without.filesystems) number (among_numbers number (used_in nat_eq without f) is)))
     where
@@ -357,34 +391,41 @@ module _ (world : World ℕ) (tasks : List (Task ℕ)) (trees : HasTrees world) 
   again_layers : (number : ℕ) → layers_in nat_eq again_living number ≡ layers_in nat_eq once_living number
   again_layers number =
       ap (λ layers. map (λ layer. layer.directory) (filter (λ layer. nat_eq number layer.filesystem) layers))
-      (ap (flat_map (of_overlay [] layers_of)) same_filesystems ∙ flat_map-map swept (of_overlay [] layers_of) once_living.filesystems layers-swept)
+      (ap (flat_map (of_overlay [] layers_of)) same_filesystems ∙ flat_map-map swept
+      (of_overlay [] layers_of) once_living.filesystems layers-swept)
 
   tree_of : (f : Filesystem ℕ) → Among f once_living.filesystems → IsListedTree f.files
   tree_of f m = among_from_all (λ g. IsListedTree g.files) world.filesystems trees f (of_world f m)
 
-  no_upper_in : (f : Filesystem ℕ) → Among f once_living.filesystems → is_overlay f ≡ true → (g : Filesystem ℕ) → Among g once_living.filesystems → has_upper_in f.number g ≡ false
+  no_upper_in : (f : Filesystem ℕ) → Among f once_living.filesystems → is_overlay f ≡ true → (g : Filesystem ℕ)
+      → Among g once_living.filesystems → has_upper_in f.number g ≡ false
   no_upper_in f m is g n =
       among_from_all (λ x. has_upper_in f.number x ≡ false) world.filesystems
-      (among_from_all (λ x. is_overlay x ≡ true → All (λ y. has_upper_in x.number y ≡ false) world.filesystems) world.filesystems uppers f (of_world f m) is)
+      (among_from_all (λ x. is_overlay x ≡ true → All (λ y. has_upper_in x.number y
+      ≡ false) world.filesystems) world.filesystems uppers f (of_world f m) is)
       g (of_world g n)
 
   upper-swept : (number : ℕ) (g : Filesystem ℕ) → has_upper_in number (swept g) ≡ has_upper_in number g
   upper-swept number g = second (not (is_overlay (after_first world g))) ∙ first (is_overlay g)
     where
-      second : (b : Bool) → has_upper_in number (only_used nat_eq (without_dead_in nat_eq is_overlay first_living) b (after_first world g)) ≡ has_upper_in number (after_first world g)
-      second true = upper-left (used_in nat_eq (without_dead_in nat_eq is_overlay first_living) (after_first world g)) (after_first world g) number _
+      second : (b : Bool) → has_upper_in number (only_used nat_eq (without_dead_in nat_eq is_overlay first_living) b
+          (after_first world g)) ≡ has_upper_in number (after_first world g)
+      second true = upper-left (used_in nat_eq (without_dead_in nat_eq is_overlay first_living) (after_first world g))
+          (after_first world g) number _
       second false = refl
 
       first : (b : Bool) → has_upper_in number (only_used nat_eq first_living b g) ≡ has_upper_in number g
       first true = upper-left (used_in nat_eq first_living g) g number _
       first false = refl
 
-  overlay_alike : (f : Filesystem ℕ) → Among f once_living.filesystems → is_overlay f ≡ true → after_first again (swept f) ≡ after_first once f
+  overlay_alike : (f : Filesystem ℕ) → Among f once_living.filesystems → is_overlay f ≡ true
+      → after_first again (swept f) ≡ after_first once f
   overlay_alike f m is =
       ap (λ x. only_used nat_eq again_living (is_overlay x) x) is_left
       ∙ ap (λ b. only_used nat_eq again_living b left) (overlay-left used f all ∙ is)
       ∙ ap (λ u. only_used_of nat_eq u left)
-      (same_uses again_living.filesystems once_living.filesystems used f (unused_are_empty first_living f (tree_of f m)) all again_layers (no_objects_again ∙ sym no_objects_once))
+      (same_uses again_living.filesystems once_living.filesystems used f (unused_are_empty first_living f (tree_of f m)) all again_layers
+      (no_objects_again ∙ sym no_objects_once))
       ∙ swept_twice used (used_in nat_eq once_living f) f (of_world f m)
       (used_before first_living once_living f (λ n at. was_located_in f n at) (was_layer f.number)
       (λ n object. absurd (subst (Among n) no_objects_once object)))
@@ -401,22 +442,26 @@ module _ (world : World ℕ) (tasks : List (Task ℕ)) (trees : HasTrees world) 
 
       is_left : swept f ≡ left
       is_left =
-          second_leaves world (after_first world f) (ap (λ b. is_overlay (only_used nat_eq first_living b f)) is ∙ overlay-left used f all ∙ is)
+          second_leaves world (after_first world f) (ap (λ b. is_overlay (only_used nat_eq first_living b f)) is
+          ∙ overlay-left used f all ∙ is)
           ∙ ap (λ b. only_used nat_eq first_living b f) is
 
       no_objects_once : flat_map (objects_of_overlay nat_eq f.number) once_living.filesystems ≡ []
       no_objects_once =
-          flat_map_none (objects_of_overlay nat_eq f.number) once_living.filesystems (λ g n. no_upper_objects world f.number g (no_upper_in f m is g n))
+          flat_map_none (objects_of_overlay nat_eq f.number) once_living.filesystems
+          (λ g n. no_upper_objects world f.number g (no_upper_in f m is g n))
 
       no_objects_again : flat_map (objects_of_overlay nat_eq f.number) again_living.filesystems ≡ []
       no_objects_again =
           ap (flat_map (objects_of_overlay nat_eq f.number)) same_filesystems
           ∙ flat_map_none (objects_of_overlay nat_eq f.number) (map swept once_living.filesystems) (λ x n.
           let from = among-from_map swept once_living.filesystems x n in
-          no_upper_objects world f.number x (ap (has_upper_in f.number) from.2 ∙ upper-swept f.number from.0 ∙ no_upper_in f m is from.0 from.1))
+          no_upper_objects world f.number x (ap (has_upper_in f.number) from.2 ∙ upper-swept f.number from.0
+          ∙ no_upper_in f m is from.0 from.1))
 
   -- Plain trees
-  plain_swept : (f : Filesystem ℕ) → is_overlay f ≡ false → swept f ≡ only_used_of nat_eq (used_in nat_eq (without_dead_in nat_eq is_overlay first_living) f) f
+  plain_swept : (f : Filesystem ℕ) → is_overlay f ≡ false
+      → swept f ≡ only_used_of nat_eq (used_in nat_eq (without_dead_in nat_eq is_overlay first_living) f) f
   plain_swept f isnt =
       ap (after_second world) (ap (λ b. only_used nat_eq first_living b f) isnt)
       ∙ ap (λ b. only_used nat_eq (without_dead_in nat_eq is_overlay first_living) (not b) f) isnt
@@ -427,7 +472,8 @@ module _ (world : World ℕ) (tasks : List (Task ℕ)) (trees : HasTrees world) 
   same_objects_of number g m =
       ⊎_elim
       (λ is. ap (objects_of_overlay nat_eq number) (overlay_alike g m is))
-      (λ isnt. let left = ap is_overlay (plain_swept g isnt) ∙ overlay-left (used_in nat_eq (without_dead_in nat_eq is_overlay first_living) g) g _ ∙ isnt in
+      (λ isnt. let left = ap is_overlay (plain_swept g isnt)
+      ∙ overlay-left (used_in nat_eq (without_dead_in nat_eq is_overlay first_living) g) g _ ∙ isnt in
       ap (λ b. objects_of_overlay nat_eq number (only_used nat_eq again_living b (swept g))) left
       ∙ no_objects world number (swept g) left
       ∙ sym (ap (λ b. objects_of_overlay nat_eq number (only_used nat_eq once_living b g)) isnt ∙ no_objects world number g isnt))
@@ -439,22 +485,26 @@ module _ (world : World ℕ) (tasks : List (Task ℕ)) (trees : HasTrees world) 
       ap (λ fs. flat_map (objects_of_overlay nat_eq number) (map (after_first again) fs)) same_filesystems
       ∙ ap (flat_map (objects_of_overlay nat_eq number)) (map_twice (after_first again) swept once_living.filesystems)
       ∙ flat_map-of_map (objects_of_overlay nat_eq number) (λ g. after_first again (swept g)) once_living.filesystems
-      ∙ flat_map_alike (λ g. objects_of_overlay nat_eq number (after_first again (swept g))) (λ g. objects_of_overlay nat_eq number (after_first once g))
+      ∙ flat_map_alike (λ g. objects_of_overlay nat_eq number (after_first again (swept g)))
+      (λ g. objects_of_overlay nat_eq number (after_first once g))
       once_living.filesystems (same_objects_of number)
       ∙ sym (flat_map-of_map (objects_of_overlay nat_eq number) (after_first once) once_living.filesystems)
 
   object_before : (number object : ℕ) (g : Filesystem ℕ) → Among g once_living.filesystems
-      → Among object (objects_of_overlay nat_eq number (after_first once g)) → Among object (objects_of_overlay nat_eq number (after_first world g))
+      → Among object (objects_of_overlay nat_eq number (after_first once g))
+      → Among object (objects_of_overlay nat_eq number (after_first world g))
   object_before number object g m n =
       ⊎_elim
       (λ is.
       subst (λ x. Among object (objects_of_overlay nat_eq number x))
       (sym (ap (λ b. only_used nat_eq first_living b g) is ∙ left_of (used_in nat_eq first_living g) g numbers has))
-      (objects_more (λ k. not (is_among nat_eq k (used_in nat_eq first_living g))) (λ k. not (is_among nat_eq k (used_in nat_eq once_living g))) number g
+      (objects_more (λ k. not (is_among nat_eq k (used_in nat_eq first_living g)))
+      (λ k. not (is_among nat_eq k (used_in nat_eq once_living g))) number g
       (λ k went. by k (is_among nat_eq k (used_in nat_eq once_living g)) refl is went) object
       (subst (λ x. Among object (objects_of_overlay nat_eq number x))
       (ap (λ b. only_used nat_eq once_living b g) is ∙ left_of (used_in nat_eq once_living g) g numbers has) n)))
-      (λ isnt. absurd (subst (Among object) (ap (λ b. objects_of_overlay nat_eq number (only_used nat_eq once_living b g)) isnt ∙ no_objects world number g isnt) n))
+      (λ isnt. absurd (subst (Among object) (ap (λ b. objects_of_overlay nat_eq number (only_used nat_eq once_living b g)) isnt
+      ∙ no_objects world number g isnt) n))
       (decided (is_overlay g))
     where
       numbers : ListsNumbers nat_eq g.files
@@ -469,7 +519,8 @@ module _ (world : World ℕ) (tasks : List (Task ℕ)) (trees : HasTrees world) 
       by k true e is went =
           absurd (true≢false (sym went ∙ ap not (used_before first_living once_living g (λ x at. was_located_in g x at) (was_layer g.number)
           (λ x o. absurd (subst (Among x)
-          (flat_map_none (objects_of_overlay nat_eq g.number) once_living.filesystems (λ h l. no_upper_objects world g.number h (no_upper_in g m is h l))) o)) k e)))
+          (flat_map_none (objects_of_overlay nat_eq g.number) once_living.filesystems
+          (λ h l. no_upper_objects world g.number h (no_upper_in g m is h l))) o)) k e)))
 
   plain_alike : (f : Filesystem ℕ) → Among f once_living.filesystems → is_overlay f ≡ false
       → after_second again (after_first again (swept f)) ≡ after_second once (after_first once f)
@@ -478,16 +529,20 @@ module _ (world : World ℕ) (tasks : List (Task ℕ)) (trees : HasTrees world) 
       ∙ ap (λ b. after_second again (only_used nat_eq again_living b left)) left_plain
       ∙ ap (λ b. only_used nat_eq (without_dead_in nat_eq is_overlay again_living) (not b) left) left_plain
       ∙ ap (λ u. only_used_of nat_eq u left)
-      (same_uses (without_dead_in nat_eq is_overlay again_living).filesystems (without_dead_in nat_eq is_overlay once_living).filesystems used f
+      (same_uses (without_dead_in nat_eq is_overlay again_living).filesystems
+      (without_dead_in nat_eq is_overlay once_living).filesystems used f
       (unused_are_empty (without_dead_in nat_eq is_overlay first_living) f (tree_of f m)) all
       (λ n. first_layers again n ∙ again_layers n ∙ sym (first_layers once n)) (same_objects_in f.number))
       ∙ swept_twice used (used_in nat_eq (without_dead_in nat_eq is_overlay once_living) f) f (of_world f m)
       (used_before (without_dead_in nat_eq is_overlay first_living) (without_dead_in nat_eq is_overlay once_living) f
       (λ n at. was_located_in f n at)
-      (λ n layer. subst (Among n) (sym (first_layers world f.number)) (was_layer f.number n (subst (Among n) (first_layers once f.number) layer)))
-      (λ n object. let from = among-from_flat_map (objects_of_overlay nat_eq f.number) (without_dead_in nat_eq is_overlay once_living).filesystems n object in
+      (λ n layer. subst (Among n) (sym (first_layers world f.number))
+      (was_layer f.number n (subst (Among n) (first_layers once f.number) layer)))
+      (λ n object. let from = among-from_flat_map (objects_of_overlay nat_eq f.number)
+      (without_dead_in nat_eq is_overlay once_living).filesystems n object in
       let one = among-from_map (after_first once) once_living.filesystems from.0 from.1 in
-      among-flat_map (objects_of_overlay nat_eq f.number) (without_dead_in nat_eq is_overlay first_living).filesystems (after_first world one.0) n
+      among-flat_map (objects_of_overlay nat_eq f.number) (without_dead_in nat_eq is_overlay first_living).filesystems
+      (after_first world one.0) n
       (among-map (after_first world) first_living.filesystems one.0 (was_living one.0 one.1))
       (object_before f.number n one.0 one.1 (subst (λ x. Among n (objects_of_overlay nat_eq f.number x)) one.2 from.2))))
       ∙ sym (ap (λ b. after_second once (only_used nat_eq once_living b f)) isnt
@@ -520,7 +575,8 @@ module _ (world : World ℕ) (tasks : List (Task ℕ)) (trees : HasTrees world) 
       ap (λ fs. map (after_second again) (map (after_first again) fs)) same_filesystems
       ∙ ap (map (after_second again)) (map_twice (after_first again) swept once_living.filesystems)
       ∙ map_twice (after_second again) (λ f. after_first again (swept f)) once_living.filesystems
-      ∙ map_alike (λ f. after_second again (after_first again (swept f))) (λ f. after_second once (after_first once f)) once_living.filesystems
+      ∙ map_alike (λ f. after_second again (after_first again (swept f)))
+      (λ f. after_second once (after_first once f)) once_living.filesystems
       (λ f m. ⊎_elim (overlay_left_so f m) (plain_alike f m) (decided (is_overlay f)))
       ∙ sym (map_twice (after_second once) (after_first once) once_living.filesystems)
 

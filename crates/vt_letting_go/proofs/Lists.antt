@@ -84,10 +84,12 @@ module _ {A : Type 0} where
       → (x : A) → Among x xs → unwrap_or (find (λ y. nat_eq (number x) (number y)) xs) default ≡ x
   found_by number default [] one x m = absurd m
   found_by number default (first ∷ rest) one x m =
-      let parts = or_parts (list_any (λ b. nat_eq (number first) (number b)) rest) (any_pair (λ (a b : A). nat_eq (number a) (number b)) rest) one in
+      let parts = or_parts (list_any (λ b. nat_eq (number first) (number b)) rest)
+      (any_pair (λ (a b : A). nat_eq (number a) (number b)) rest) one in
       by parts.0 (nat_eq (number x) (number first)) refl m (λ n. found_by number default rest parts.1 x n)
     where
-      by : list_any (λ b. nat_eq (number first) (number b)) rest ≡ false → (b : Bool) → nat_eq (number x) (number first) ≡ b → Among x (first ∷ rest)
+      by : list_any (λ b. nat_eq (number first) (number b)) rest ≡ false → (b : Bool) → nat_eq (number x) (number first) ≡ b
+          → Among x (first ∷ rest)
           → (Among x rest → unwrap_or (find (λ y. nat_eq (number x) (number y)) rest) default ≡ x)
           → unwrap_or (cond b (Some first) (find (λ y. nat_eq (number x) (number y)) rest)) default ≡ x
       by others true e n next =
@@ -146,14 +148,16 @@ module _ {A : Type 0} where
   filter_twice p q r h [] = refl
   filter_twice p q r h (y ∷ ys) = by (q y) refl (h y) (filter_twice p q r h ys)
     where
-      by : (b : Bool) → q y ≡ b → r y ≡ (q y && p y) → filter p (filter q ys) ≡ filter r ys → filter p (filter q (y ∷ ys)) ≡ filter r (y ∷ ys)
+      by : (b : Bool) → q y ≡ b → r y ≡ (q y && p y) → filter p (filter q ys) ≡ filter r ys
+          → filter p (filter q (y ∷ ys)) ≡ filter r (y ∷ ys)
       by true e f later =
           ap (filter p) (filter_here q y ys e) ∙ ap (λ rest. cond (p y) (y ∷ rest) rest) later
           ∙ ap (λ b. cond b (y ∷ filter r ys) (filter r ys)) (sym (f ∙ ap (λ b. b && p y) e))
       by false e f later = ap (filter p) (filter_skip q y ys e) ∙ later ∙ sym (filter_skip r y ys (f ∙ ap (λ b. b && p y) e))
 
   -- what does not pass is not missed
-  pub any-filter : (t q : A → Bool) (xs : List A) → ((x : A) → Among x xs → q x ≡ false → t x ≡ false) → list_any t (filter q xs) ≡ list_any t xs
+  pub any-filter : (t q : A → Bool) (xs : List A) → ((x : A) → Among x xs → q x ≡ false → t x ≡ false)
+      → list_any t (filter q xs) ≡ list_any t xs
   any-filter t q [] h = refl
   any-filter t q (y ∷ ys) h = by (q y) refl (any-filter t q ys (λ x m. h x (inr m)))
     where
@@ -231,7 +235,8 @@ module _ {A B : Type 0} where
   any-map p f [] h = refl
   any-map p {q = q} f (y ∷ ys) h = ap (λ b. b || list_any p (map f ys)) (h y) ∙ ap (λ b. q y || b) (any-map p f ys h)
 
-  pub filter-map : (p : B → Bool) {q : A → Bool} (f : A → B) (xs : List A) → ((x : A) → p (f x) ≡ q x) → filter p (map f xs) ≡ map f (filter q xs)
+  pub filter-map : (p : B → Bool) {q : A → Bool} (f : A → B) (xs : List A) → ((x : A) → p (f x) ≡ q x)
+      → filter p (map f xs) ≡ map f (filter q xs)
   filter-map p f [] h = refl
   filter-map p {q = q} f (y ∷ ys) h =
       ap (λ b. cond b (f y ∷ filter p (map f ys)) (filter p (map f ys))) (h y)
@@ -243,7 +248,8 @@ module _ {A B : Type 0} where
       by false = refl
 
   -- lists put together out of what does not change
-  pub flat_map-step : (f : A → A) (g : A → List B) (xs : List A) → ((x : A) → Among x xs → g (f x) ≡ g x) → flat_map g (map f xs) ≡ flat_map g xs
+  pub flat_map-step : (f : A → A) (g : A → List B) (xs : List A) → ((x : A) → Among x xs → g (f x) ≡ g x)
+      → flat_map g (map f xs) ≡ flat_map g xs
   flat_map-step f g [] h = refl
   flat_map-step f g (y ∷ ys) h =
       ap (λ l. l ++ flat_map g (map f ys)) (h y (inl refl)) ∙ ap (λ l. g y ++ l) (flat_map-step f g ys (λ x m. h x (inr m)))
@@ -261,7 +267,8 @@ module _ {A B : Type 0} where
   flat_map-filter p g [] h = refl
   flat_map-filter p g (y ∷ ys) h = by (p y) refl (flat_map-filter p g ys h)
     where
-      by : (b : Bool) → p y ≡ b → flat_map g (filter p ys) ≡ flat_map g ys → flat_map g (cond b (y ∷ filter p ys) (filter p ys)) ≡ g y ++ flat_map g ys
+      by : (b : Bool) → p y ≡ b → flat_map g (filter p ys) ≡ flat_map g ys
+          → flat_map g (cond b (y ∷ filter p ys) (filter p ys)) ≡ g y ++ flat_map g ys
       by true e later = ap (λ l. g y ++ l) later
       by false e later = later ∙ ap (λ l. l ++ flat_map g ys) (sym (h y e))
 

@@ -35,7 +35,8 @@ without_nothing filesystem = λ i. record filesystem {
     by (Some overlay) = refl
 
 -- without some, and then without others
-pub without_both : (some others both : ℕ → Bool) → ((number : ℕ) → both number ≡ (some number || others number)) → (filesystem : Filesystem ℕ)
+pub without_both : (some others both : ℕ → Bool) → ((number : ℕ) → both number ≡ (some number || others number))
+    → (filesystem : Filesystem ℕ)
     → without_all others (without_all some filesystem) ≡ without_all both filesystem
 without_both some others both h filesystem = λ i. record filesystem {
   files = record {
@@ -58,7 +59,8 @@ without_both some others both h filesystem = λ i. record filesystem {
         by true false = refl
         by false b = refl
 
-    reals : (o : Option (Overlay ℕ)) → option_map (reals_without others) (option_map (reals_without some) o) ≡ option_map (reals_without both) o
+    reals : (o : Option (Overlay ℕ)) → option_map (reals_without others) (option_map (reals_without some) o)
+        ≡ option_map (reals_without both) o
     reals None = refl
     reals (Some overlay) = λ i. Some (record overlay { real = λ number. twice (overlay.real number) number i })
 
@@ -72,7 +74,11 @@ pub same_without : (a b : ℕ → Bool) (filesystem : Filesystem ℕ) → ListsN
     → without_all a filesystem ≡ without_all b filesystem
 same_without a b filesystem numbers has h = λ i. record filesystem {
   files = record {
-    tree = record { root = filesystem.files.tree.root; node = λ number. node number (decided (is_among nat_eq number filesystem.files.numbers)) i };
+    tree = record {
+      root = filesystem.files.tree.root;
+      node = λ number. node number
+          (decided (is_among nat_eq number filesystem.files.numbers)) i;
+    };
     numbers = filter_alike (λ number. not (a number)) (λ number. not (b number)) filesystem.files.numbers
         (λ number m. ap not (h number (is_among_numbers number filesystem.files.numbers m))) i;
   };
@@ -96,7 +102,8 @@ same_without a b filesystem numbers has h = λ i. record filesystem {
     both o number absent (inl there) = ap (λ x. cond x None o) (h number there)
     both o number absent (inr gone) = nothing o (a number) (absent gone) ∙ sym (nothing o (b number) (absent gone))
 
-    node : (number : ℕ) → (is_among nat_eq number filesystem.files.numbers ≡ true) ⊎ (is_among nat_eq number filesystem.files.numbers ≡ false)
+    node : (number : ℕ) → (is_among nat_eq number filesystem.files.numbers ≡ true)
+        ⊎ (is_among nat_eq number filesystem.files.numbers ≡ false)
         → cond (a number) None (filesystem.files.tree.node number) ≡ cond (b number) None (filesystem.files.tree.node number)
     node number one = both (filesystem.files.tree.node number) number (no_node number) one
 
@@ -138,8 +145,13 @@ left_of used filesystem numbers has = by (list_all (λ number. is_among nat_eq n
         among_it number there = among_numbers number filesystem.files.numbers there
     by false e = λ i. record filesystem {
       files = record {
-        tree = record { root = filesystem.files.tree.root; node = λ number. flipped (filesystem.files.tree.node number) (is_among nat_eq number used) i };
-        numbers = filter_alike (λ number. is_among nat_eq number used) (λ number. not (not (is_among nat_eq number used))) filesystem.files.numbers
+        tree = record {
+          root = filesystem.files.tree.root;
+          node = λ number. flipped (filesystem.files.tree.node number)
+              (is_among nat_eq number used) i;
+        };
+        numbers = filter_alike (λ number. is_among nat_eq number used)
+            (λ number. not (not (is_among nat_eq number used))) filesystem.files.numbers
             (λ number m. not_not (is_among nat_eq number used)) i;
       };
       overlay = reals filesystem.overlay i;

@@ -23,7 +23,8 @@ named_without gone filesystem empty =
     flat_map_alike (λ directory. targets_in (cond (gone directory) None (filesystem.files.tree.node directory)))
     (λ directory. targets_in (filesystem.files.tree.node directory)) (filter (λ number. not (gone number)) filesystem.files.numbers)
     (λ directory m. by directory (gone directory) refl)
-    ∙ flat_map-filter (λ number. not (gone number)) (λ directory. targets_in (filesystem.files.tree.node directory)) filesystem.files.numbers
+    ∙ flat_map-filter (λ number. not (gone number))
+    (λ directory. targets_in (filesystem.files.tree.node directory)) filesystem.files.numbers
     (λ number skipped. nothing number (gone number) refl skipped)
   where
     by : (directory : ℕ) (b : Bool) → gone directory ≡ b
@@ -63,7 +64,8 @@ module _ (chosen : Filesystem ℕ → Bool) (keeps : (gone : ℕ → Bool) (f : 
       ((kind && nat_eq filesystem.number inode.0) && not (is_among nat_eq inode.1 used)) && nat_eq number inode.1
 
   here_or_later : (kind : Bool) (used : List ℕ) (inode : Inode) (rest : List Inode) (filesystem : Filesystem ℕ) (number : ℕ)
-      → goes_in kind used (inode ∷ rest) filesystem number ≡ (here_in kind used inode filesystem number || goes_in kind used rest filesystem number)
+      → goes_in kind used (inode ∷ rest) filesystem number
+      ≡ (here_in kind used inode filesystem number || goes_in kind used rest filesystem number)
   here_or_later true used inode rest filesystem number = goes_on used inode rest filesystem number
   here_or_later false used inode rest filesystem number = refl
 
@@ -80,7 +82,8 @@ module _ (chosen : Filesystem ℕ → Bool) (keeps : (gone : ℕ → Bool) (f : 
     one_step : (filesystem : Filesystem ℕ) → step filesystem ≡ without_all (here filesystem) filesystem
     one_step filesystem = by ((chosen filesystem && nat_eq filesystem.number inode.0) && not (is_inode_used world filesystem inode.1))
       where
-        by : (b : Bool) → cond b (without_inode_of inode.1 filesystem) filesystem ≡ without_all (λ number. b && nat_eq number inode.1) filesystem
+        by : (b : Bool) → cond b (without_inode_of inode.1 filesystem) filesystem
+            ≡ without_all (λ number. b && nat_eq number inode.1) filesystem
         by true = refl
         by false = sym (without_nothing filesystem)
 
@@ -92,13 +95,17 @@ module _ (chosen : Filesystem ℕ → Bool) (keeps : (gone : ℕ → Bool) (f : 
 
     other_stays : (filesystem : Filesystem ℕ) → chosen filesystem ≡ false → step filesystem ≡ filesystem
     other_stays filesystem e =
-        ap (λ b. cond ((b && nat_eq filesystem.number inode.0) && not (is_inode_used world filesystem inode.1)) (without_inode_of inode.1 filesystem) filesystem) e
+        ap (λ b. cond ((b && nat_eq filesystem.number inode.0) && not (is_inode_used world filesystem inode.1))
+        (without_inode_of inode.1 filesystem) filesystem) e
 
     -- what goes is not used
-    is_unused : (filesystem : Filesystem ℕ) (number : ℕ) → here filesystem number ≡ true → is_among nat_eq number (used_in nat_eq world filesystem) ≡ false
+    is_unused : (filesystem : Filesystem ℕ) (number : ℕ) → here filesystem number ≡ true
+        → is_among nat_eq number (used_in nat_eq world filesystem) ≡ false
     is_unused filesystem number e =
-        let parts = and_parts ((chosen filesystem && nat_eq filesystem.number inode.0) && not (is_inode_used world filesystem inode.1)) (nat_eq number inode.1) e in
-        let unused = and_parts (chosen filesystem && nat_eq filesystem.number inode.0) (not (is_inode_used world filesystem inode.1)) parts.0 in
+        let parts = and_parts ((chosen filesystem && nat_eq filesystem.number inode.0) && not (is_inode_used world filesystem inode.1))
+        (nat_eq number inode.1) e in
+        let unused = and_parts (chosen filesystem && nat_eq filesystem.number inode.0)
+        (not (is_inode_used world filesystem inode.1)) parts.0 in
         ap (λ n. is_among nat_eq n (used_in nat_eq world filesystem)) (eqb-true number inode.1 parts.1)
         ∙ not-true (is_inode_used world filesystem inode.1) unused.1
 
@@ -109,7 +116,8 @@ module _ (chosen : Filesystem ℕ → Bool) (keeps : (gone : ℕ → Bool) (f : 
         (λ filesystem m. ap (of_overlay [] layers_of) (one_step filesystem) ∙ layers_without (here filesystem) filesystem))
 
     objects_step : Apart world → (filesystem : Filesystem ℕ) → Among filesystem world.filesystems → chosen filesystem ≡ true
-        → flat_map (objects_of_overlay nat_eq filesystem.number) next.filesystems ≡ flat_map (objects_of_overlay nat_eq filesystem.number) world.filesystems
+        → flat_map (objects_of_overlay nat_eq filesystem.number) next.filesystems
+        ≡ flat_map (objects_of_overlay nat_eq filesystem.number) world.filesystems
     unfolding Apart
     objects_step apart filesystem m is =
         flat_map-step step (objects_of_overlay nat_eq filesystem.number) world.filesystems
@@ -119,11 +127,13 @@ module _ (chosen : Filesystem ℕ → Bool) (keeps : (gone : ℕ → Bool) (f : 
         (decided (chosen other)))
 
     used_step : Apart world → (filesystem : Filesystem ℕ) → Among filesystem world.filesystems → chosen filesystem ≡ true
-        → UnusedAreEmpty (used_in nat_eq world filesystem) filesystem → used_in nat_eq next (step filesystem) ≡ used_in nat_eq world filesystem
+        → UnusedAreEmpty (used_in nat_eq world filesystem) filesystem → used_in nat_eq next (step filesystem)
+        ≡ used_in nat_eq world filesystem
     used_step apart filesystem m is empty =
         λ i. (ap (λ f. f.files.tree.root) (one_step filesystem) i) ∷ (named i ++ located_in nat_eq world (number_step filesystem i)
         ++ (layers_step (step filesystem).number ∙ ap (layers_in nat_eq world) (number_step filesystem)) i
-        ++ (ap (λ n. flat_map (objects_of_overlay nat_eq n) next.filesystems) (number_step filesystem) ∙ objects_step apart filesystem m is) i)
+        ++ (ap (λ n. flat_map (objects_of_overlay nat_eq n) next.filesystems) (number_step filesystem)
+        ∙ objects_step apart filesystem m is) i)
       where
         named : named_in (step filesystem).files ≡ named_in filesystem.files
         named = ap (λ f. named_in f.files) (one_step filesystem)
@@ -136,7 +146,8 @@ module _ (chosen : Filesystem ℕ → Bool) (keeps : (gone : ℕ → Bool) (f : 
         let was : chosen from.0 ≡ true = sym (chosen_step from.0) ∙ ap chosen (sym from.2) ∙ is in
         subst (λ f. UnusedAreEmpty (used_in nat_eq next f) f) (sym from.2) (each from.0 from.1 was)
       where
-        by : (f : Filesystem ℕ) (number : ℕ) (b : Bool) → targets_in (f.files.tree.node number) ≡ [] → targets_in (cond b None (f.files.tree.node number)) ≡ []
+        by : (f : Filesystem ℕ) (number : ℕ) (b : Bool) → targets_in (f.files.tree.node number) ≡ []
+            → targets_in (cond b None (f.files.tree.node number)) ≡ []
         by f number true e = refl
         by f number false e = e
 
@@ -178,8 +189,10 @@ module _ (chosen : Filesystem ℕ → Bool) (keeps : (gone : ℕ → Bool) (f : 
   chosen_folded world (inode ∷ rest) apart empty =
       chosen_folded (let_go_in chosen world inode) rest (apart_step world inode apart) (empty_step world inode apart empty)
       ∙ ap (λ filesystems. record world { filesystems = filesystems })
-      (map_twice (λ f. without_all (goes_in (chosen f) (used_in nat_eq (let_go_in chosen world inode) f) rest f) f) (step world inode) world.filesystems
-      ∙ map_alike (λ f. without_all (goes_in (chosen (step world inode f)) (used_in nat_eq (let_go_in chosen world inode) (step world inode f)) rest (step world inode f)) (step world inode f))
+      (map_twice (λ f. without_all (goes_in (chosen f) (used_in nat_eq (let_go_in chosen world inode) f) rest f) f)
+      (step world inode) world.filesystems
+      ∙ map_alike (λ f. without_all (goes_in (chosen (step world inode f))
+      (used_in nat_eq (let_go_in chosen world inode) (step world inode f)) rest (step world inode f)) (step world inode f))
       (λ f. without_all (goes_in (chosen f) (used_in nat_eq world f) (inode ∷ rest) f) f) world.filesystems
       (λ f m. ⊎_elim (by_chosen f m) (by_other f) (decided (chosen f))))
     where
@@ -187,18 +200,22 @@ module _ (chosen : Filesystem ℕ → Bool) (keeps : (gone : ℕ → Bool) (f : 
       goes_by kind used filesystem number = kind && (is_inode_among filesystem number rest && not (is_among nat_eq number used))
 
       by_chosen : (f : Filesystem ℕ) → Among f world.filesystems → chosen f ≡ true
-          → without_all (goes_in (chosen (step world inode f)) (used_in nat_eq (let_go_in chosen world inode) (step world inode f)) rest (step world inode f)) (step world inode f)
+          → without_all (goes_in (chosen (step world inode f)) (used_in nat_eq (let_go_in chosen world inode) (step world inode f)) rest
+          (step world inode f)) (step world inode f)
           ≡ without_all (goes_in (chosen f) (used_in nat_eq world f) (inode ∷ rest) f) f
       by_chosen f m is =
-          (λ i. without_all (goes_by (chosen_step world inode f i) (used_step world inode apart f m is (empty f m is) i) (number_step world inode f i)) (one_step world inode f i))
+          (λ i. without_all (goes_by (chosen_step world inode f i) (used_step world inode apart f m is (empty f m is) i)
+          (number_step world inode f i)) (one_step world inode f i))
           ∙ without_both (here world inode f) (goes_in (chosen f) (used_in nat_eq world f) rest f)
           (goes_in (chosen f) (used_in nat_eq world f) (inode ∷ rest) f) (here_or_later (chosen f) (used_in nat_eq world f) inode rest f) f
 
       by_other : (f : Filesystem ℕ) → chosen f ≡ false
-          → without_all (goes_in (chosen (step world inode f)) (used_in nat_eq (let_go_in chosen world inode) (step world inode f)) rest (step world inode f)) (step world inode f)
+          → without_all (goes_in (chosen (step world inode f)) (used_in nat_eq (let_go_in chosen world inode) (step world inode f)) rest
+          (step world inode f)) (step world inode f)
           ≡ without_all (goes_in (chosen f) (used_in nat_eq world f) (inode ∷ rest) f) f
       by_other f isnt =
-          ap (λ b. without_all (goes_in b (used_in nat_eq (let_go_in chosen world inode) (step world inode f)) rest (step world inode f)) (step world inode f))
+          ap (λ b. without_all (goes_in b (used_in nat_eq (let_go_in chosen world inode) (step world inode f)) rest (step world inode f))
+          (step world inode f))
           (chosen_step world inode f ∙ isnt)
           ∙ ap (without_all (λ number. false)) (other_stays world inode f isnt)
           ∙ ap (λ b. without_all (goes_in b (used_in nat_eq world f) (inode ∷ rest) f) f) (sym isnt)
@@ -210,7 +227,8 @@ module _ (chosen : Filesystem ℕ → Bool) (keeps : (gone : ℕ → Bool) (f : 
       → without_dead_in nat_eq chosen world ≡ folded (let_go_in chosen) world losers
   chosen_go_one_by_one world losers apart empty others =
       ap (λ filesystems. record world { filesystems = filesystems })
-      (map_alike (λ f. only_used nat_eq world (chosen f) f) (λ f. without_all (goes_in (chosen f) (used_in nat_eq world f) losers f) f) world.filesystems
+      (map_alike (λ f. only_used nat_eq world (chosen f) f)
+      (λ f. without_all (goes_in (chosen f) (used_in nat_eq world f) losers f) f) world.filesystems
       (λ f m. by f m (chosen f) refl))
       ∙ sym (chosen_folded world losers apart empty)
     where
@@ -224,7 +242,8 @@ module _ (chosen : Filesystem ℕ → Bool) (keeps : (gone : ℕ → Bool) (f : 
       by f m true is =
           let all = others f m is in
           left_of (used_in nat_eq world f) f all.0.numbers all.1
-          ∙ same_without (λ number. not (is_among nat_eq number (used_in nat_eq world f))) (goes_of (used_in nat_eq world f) losers f) f all.0.numbers all.1
+          ∙ same_without (λ number. not (is_among nat_eq number (used_in nat_eq world f)))
+          (goes_of (used_in nat_eq world f) losers f) f all.0.numbers all.1
           (λ number there. same (is_inode_among f.number number losers) (is_among nat_eq number (used_in nat_eq world f))
           (passes (is_used_or_among losers world f) f.files.numbers all.2 number (among_numbers number f.files.numbers there)))
       by f m false isnt = sym (without_nothing f)

@@ -43,15 +43,19 @@ module _ (world : World ℕ) (mounts : List (Mount ℕ)) (master : ℕ → Optio
       → (is_mounted nat_eq now number ≡ true) ⊎ ((one : ℕ) × Among one gone × (number ≡ (mount_numbered nat_eq world one).filesystem))
   stays_mounted = still_mounted world mounts master filesystems namespaces tasks gone left groups in_use stand loses hears come
 
-  old_filesystem : (f : Filesystem ℕ) → Among f world.filesystems → (is_among nat_eq f.number losing || filesystem_lives nat_eq now f) ≡ true
+  old_filesystem : (f : Filesystem ℕ) → Among f world.filesystems
+      → (is_among nat_eq f.number losing || filesystem_lives nat_eq now f) ≡ true
   old_filesystem f m =
       ⊎_elim
       (λ here. ⊎_elim
-      (λ lives. or_second (is_among nat_eq f.number losing) (filesystem_lives nat_eq now f) (or_first (is_mounted nat_eq now f.number) _ lives))
+      (λ lives. or_second (is_among nat_eq f.number losing) (filesystem_lives nat_eq now f)
+      (or_first (is_mounted nat_eq now f.number) _ lives))
       (λ gone_with. or_first (is_among nat_eq f.number losing) (filesystem_lives nat_eq now f)
-      (is_among_numbers f.number losing (among-flat_map (filesystems_of_mount world) gone gone_with.0 f.number gone_with.1 (inl gone_with.2))))
+      (is_among_numbers f.number losing (among-flat_map (filesystems_of_mount world) gone gone_with.0 f.number gone_with.1
+      (inl gone_with.2))))
       (stays_mounted f.number here))
-      (λ layered. let t = one_passes (λ merged. has_layer_on nat_eq f.number merged && is_mounted nat_eq world merged.number) world.filesystems layered in
+      (λ layered. let t = one_passes (λ merged. has_layer_on nat_eq f.number merged
+      && is_mounted nat_eq world merged.number) world.filesystems layered in
       let parts = and_parts (has_layer_on nat_eq f.number t.0) (is_mounted nat_eq world t.0.number) t.2 in
       ⊎_elim
       (λ lives. or_second (is_among nat_eq f.number losing) (filesystem_lives nat_eq now f) (or_second (is_mounted nat_eq now f.number) _
@@ -68,7 +72,8 @@ module _ (world : World ℕ) (mounts : List (Mount ℕ)) (master : ℕ → Optio
       all_pass (λ f. is_among nat_eq f.number losing || filesystem_lives nat_eq now f) filesystems
       (λ f m. ⊎_elim (old_filesystem f)
       (λ new. or_second (is_among nat_eq f.number losing) (filesystem_lives nat_eq now f) (or_first (is_mounted nat_eq now f.number) _
-      (shown_is_mounted world mounts master filesystems namespaces tasks gone left groups in_use stand loses hears come f.number new.0 new.1.0 new.1.1.0 new.1.1.1.0)))
+      (shown_is_mounted world mounts master filesystems namespaces tasks gone left groups in_use stand loses hears come f.number new.0
+      new.1.0 new.1.1.0 new.1.1.1.0)))
       (come.new f m))
 
   layers_kept : (filesystem number : ℕ) → Among number (layers_in nat_eq world filesystem) → Among number (layers_in nat_eq now filesystem)
@@ -95,11 +100,14 @@ module _ (world : World ℕ) (mounts : List (Mount ℕ)) (master : ℕ → Optio
       (sym (list_any-append (nat_eq number) names (located_in nat_eq world f.number)) ∙ first)))
       (λ layer. used (is_among_left number (names ++ located_in nat_eq now f.number ++ layers_in nat_eq now f.number) objects
       (is_among_right number (names ++ located_in nat_eq now f.number) (layers_in nat_eq now f.number)
-      (is_among_numbers number (layers_in nat_eq now f.number) (layers_kept f.number number (among_numbers number (layers_in nat_eq world f.number) layer))))))
-      (or_cases (is_among nat_eq number (names ++ located_in nat_eq world f.number)) (is_among nat_eq number (layers_in nat_eq world f.number))
+      (is_among_numbers number (layers_in nat_eq now f.number)
+      (layers_kept f.number number (among_numbers number (layers_in nat_eq world f.number) layer))))))
+      (or_cases (is_among nat_eq number (names ++ located_in nat_eq world f.number))
+      (is_among nat_eq number (layers_in nat_eq world f.number))
       (sym (list_any-append (nat_eq number) (names ++ located_in nat_eq world f.number) (layers_in nat_eq world f.number)) ∙ front)))
       (λ object. used (is_among_right number (names ++ located_in nat_eq now f.number ++ layers_in nat_eq now f.number) objects
-      (is_among_numbers number objects (objects_kept f.number number (among_numbers number (flat_map (objects_of_overlay nat_eq f.number) world.filesystems) object)))))
+      (is_among_numbers number objects (objects_kept f.number number
+      (among_numbers number (flat_map (objects_of_overlay nat_eq f.number) world.filesystems) object)))))
       (or_cases (is_among nat_eq number (names ++ located_in nat_eq world f.number ++ layers_in nat_eq world f.number))
       (is_among nat_eq number (flat_map (objects_of_overlay nat_eq f.number) world.filesystems))
       (sym (list_any-append (nat_eq number) (names ++ located_in nat_eq world f.number ++ layers_in nat_eq world f.number)
@@ -138,7 +146,8 @@ module _ (world : World ℕ) (mounts : List (Mount ℕ)) (master : ℕ → Optio
   }
 
 -- what lost a use goes, if nothing uses it, and nothing else
-pub all_losers_go : (world : World ℕ) (mounts : List (Mount ℕ)) (master : ℕ → Option ℕ) (namespaces : List (Namespace ℕ)) (tasks : List (Task ℕ))
+pub all_losers_go : (world : World ℕ) (mounts : List (Mount ℕ)) (master : ℕ
+    → Option ℕ) (namespaces : List (Namespace ℕ)) (tasks : List (Task ℕ))
     (gone : List ℕ) (left : List (Location ℕ)) (groups : List ℕ) → IsSettled world
     → Loses world (changed world mounts master namespaces tasks) gone left
     → GroupsInUseBut groups (changed world mounts master namespaces tasks)
@@ -151,7 +160,8 @@ all_losers_go world mounts master namespaces tasks gone left groups settles lose
     (record { kept = λ f m. m; new = λ f m. inl m }))
 
 -- where only groups lost members, only they go
-pub only_groups_go : (world : World ℕ) (mounts : List (Mount ℕ)) (master : ℕ → Option ℕ) (filesystems : List (Filesystem ℕ)) (groups : List ℕ)
+pub only_groups_go : (world : World ℕ) (mounts : List (Mount ℕ)) (master : ℕ
+    → Option ℕ) (filesystems : List (Filesystem ℕ)) (groups : List ℕ)
     → AllInUse world → MountsStand world
     → Loses world (changed_with world mounts master filesystems world.namespaces world.tasks) [] []
     → GroupsInUseBut groups (changed_with world mounts master filesystems world.namespaces world.tasks)
@@ -181,7 +191,8 @@ only_groups_go world mounts master filesystems groups in_use stand loses hears c
     inodes = subst InodesInUse all but.inodes
 
 -- where nothing lost a use, nothing goes
-pub nothing_lost : (world : World ℕ) (mounts : List (Mount ℕ)) (master : ℕ → Option ℕ) (filesystems : List (Filesystem ℕ)) → AllInUse world → MountsStand world
+pub nothing_lost : (world : World ℕ) (mounts : List (Mount ℕ)) (master : ℕ → Option ℕ) (filesystems : List (Filesystem ℕ))
+    → AllInUse world → MountsStand world
     → Loses world (changed_with world mounts master filesystems world.namespaces world.tasks) [] []
     → GroupsInUse (changed_with world mounts master filesystems world.namespaces world.tasks)
     → Comes world (changed_with world mounts master filesystems world.namespaces world.tasks)

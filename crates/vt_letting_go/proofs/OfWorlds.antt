@@ -27,7 +27,8 @@ worlds_have_trees world is =
     })
 
 -- what is found is there, or stands for none
-found_or_none : (mounts : List (Mount ℕ)) (number : ℕ) → Among (mount_in nat_eq mounts number) mounts ⊎ (mount_in nat_eq mounts number ≡ no_mount number)
+found_or_none : (mounts : List (Mount ℕ)) (number : ℕ) → Among (mount_in nat_eq mounts number) mounts
+    ⊎ (mount_in nat_eq mounts number ≡ no_mount number)
 found_or_none [] number = inr refl
 found_or_none (first ∷ rest) number = by (nat_eq number first.number) (found_or_none rest number)
   where
@@ -86,7 +87,8 @@ uppers_of_worlds_are_plain world is =
     all_from_among (λ f. is_overlay f ≡ true → All (λ merged. has_upper_in f.number merged ≡ false) world.filesystems) world.filesystems
     (λ f m overlay. all_from_among (λ merged. has_upper_in f.number merged ≡ false) world.filesystems
     (λ merged n. by f m overlay merged.overlay
-    (passes (of_overlay true (λ o. list_all (is_plain_layer nat_eq world) (layers_of o))) world.filesystems is.overlays.plain_layers merged n)))
+    (passes (of_overlay true (λ o. list_all (is_plain_layer nat_eq world)
+    (layers_of o))) world.filesystems is.overlays.plain_layers merged n)))
   where
     by : (f : Filesystem ℕ) → Among f world.filesystems → is_overlay f ≡ true → (o : Option (Overlay ℕ))
         → overlay_or true (λ overlay. list_all (is_plain_layer nat_eq world) (layers_of overlay)) o ≡ true
@@ -94,7 +96,8 @@ uppers_of_worlds_are_plain world is =
     by f m is_one None h = refl
     by f m is_one (Some overlay) h = upper overlay.upper refl
       where
-        plain_layer : (layer : Layer ℕ) → overlay.upper ≡ Some layer → is_overlay (filesystem_numbered nat_eq world layer.filesystem) ≡ false
+        plain_layer : (layer : Layer ℕ) → overlay.upper ≡ Some layer
+            → is_overlay (filesystem_numbered nat_eq world layer.filesystem) ≡ false
         plain_layer layer e =
             let parts = and_parts (not (is_overlay (filesystem_numbered nat_eq world layer.filesystem))) _
             (passes (is_plain_layer nat_eq world) (layers_of overlay) h layer

@@ -1,6 +1,5 @@
 -- What calls that change overlays let go of.
-use Rattle.std.proofs.Common.{◌≡◌, refl, sym, ap, subst, ◌∙◌, ℕ, nat_eq, eq-eqb, Bool, true, List, [], map}
-use Rattle.std.specs.List.{list_any}
+use Rattle.std.proofs.Common.{◌≡◌, refl, sym, ap, subst, ◌∙◌, ℕ, nat_eq, eq-eqb, true, List, [], map}
 use Rattle.vt_spec.proofs.Lists.{among_from_contains}
 use Rattle.vt_spec.specs.Language.Changes.{Change}
 use Rattle.vt_spec.specs.Language.Changes.Change.{CopyUp, Make, Move, Remove}
@@ -9,7 +8,6 @@ use Rattle.vt_spec.specs.Machine.Detach.{mounts_on, taken_away}
 use Rattle.vt_spec.specs.Machine.Filesystems.{with_change}
 use Rattle.vt_spec.specs.Machine.Mounts.{Location, Mount, mount_in}
 use Rattle.vt_spec.specs.Machine.Outcome.Descriptors.{opened, with_copy, with_descriptor}
-use Rattle.vt_spec.specs.Machine.Receives.{lost_a_group}
 use Rattle.vt_spec.specs.Machine.Settled.{filesystem_lives, is_mounted, mount_lives, settled, without_dead_mounts}
 use Rattle.vt_spec.specs.Machine.World.{Filesystem, Layer, Overlay, Task, World, mount_at, with_task}
 use Rattle.vt_spec.specs.Machine.WorldLaws.{IsWorld}
@@ -63,10 +61,12 @@ module _ (fresh : Fresh ℕ) (world : World ℕ) (location : Location ℕ) (chan
       subst (λ w. settled nat_eq w ≡ let_go_all w (with_lost (used_by_gone_with_layers world gone)
       (inodes_lost_with_upper fresh world location overlay upper change)))
       (sym (is_swap fresh world location change overlay upper conditions can taken (ap (λ w. w.filesystems) (taken_is world gone))
-      (ap (λ w. (mount_at nat_eq w location).filesystem) (taken_is world gone) ∙ shows_the_same world gone world.namespaces (hands_on world gone) location.mount)))
+      (ap (λ w. (mount_at nat_eq w location).filesystem) (taken_is world gone)
+      ∙ shows_the_same world gone world.namespaces (hands_on world gone) location.mount)))
       (taken_and_changed_lets_go world gone swap (inodes_lost_with_upper fresh world location overlay upper change)
       (settles fresh world location change overlay upper conditions can)
-      (subst (λ w. HasTrees (with_filesystems w swap)) (sym (taken_is world gone)) (trees_then fresh world location change overlay upper conditions can))
+      (subst (λ w. HasTrees (with_filesystems w swap)) (sym (taken_is world gone))
+      (trees_then fresh world location change overlay upper conditions can))
       (subst (λ w. UppersArePlain (with_filesystems w swap)) (sym (taken_is world gone))
       (uppers_then fresh world location change overlay upper conditions can))
       (subst (λ w. RealsAreThere (with_filesystems w swap)) (sym (taken_is world gone))
