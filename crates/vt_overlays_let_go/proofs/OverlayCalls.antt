@@ -2,12 +2,12 @@
 use Rattle.std.proofs.Common.{◌≡◌, refl, sym, ap, subst, ◌∙◌, ℕ, nat_eq, eq-eqb, true, List, [], map}
 use Rattle.vt_spec.proofs.Lists.{among_from_contains}
 use Rattle.vt_spec.specs.Language.Changes.{Change}
-use Rattle.vt_spec.specs.Language.Changes.Change.{CopyUp, Make, Move, Remove}
+use Rattle.vt_spec.specs.Language.Changes.Change.{Make, Move, Remove}
 use Rattle.vt_spec.specs.Lists.{Fresh, evens, odds}
 use Rattle.vt_spec.specs.Machine.Detach.{mounts_on, taken_away}
 use Rattle.vt_spec.specs.Machine.Filesystems.{with_change}
 use Rattle.vt_spec.specs.Machine.Mounts.{Location, Mount, mount_in}
-use Rattle.vt_spec.specs.Machine.Outcome.Descriptors.{opened, with_copy, with_descriptor}
+use Rattle.vt_spec.specs.Machine.Outcome.Descriptors.{with_descriptor}
 use Rattle.vt_spec.specs.Machine.Settled.{filesystem_lives, is_mounted, mount_lives, settled, without_dead_mounts}
 use Rattle.vt_spec.specs.Machine.World.{Filesystem, Layer, Overlay, Task, World, mount_at, with_task}
 use Rattle.vt_spec.specs.Machine.WorldLaws.{IsWorld}
@@ -24,7 +24,7 @@ use Rattle.vt_letting_go.proofs.Lists.{Among, among-filter, among-from_map, amon
 use Rattle.vt_letting_go.proofs.MountingTaken.{hands_on, shows_the_same, taken_is}
 use Rattle.vt_letting_go.proofs.PlacesLeft.{found_itself, mounts_but}
 use Rattle.vt_letting_go.proofs.TreesWithOverlays.{left_and_changed_lets_go, taken_and_changed_lets_go}
-use Rattle.vt_overlays_let_go.specs.OverlayCalls.{OpenedCopiesLetGo, OpenedNewInOverlaysLetsGo, RemovedFromOverlaysLetGo, ReplacedInOverlaysLetGo, TakenAndOverlayChangesLetGo, is_on_mount, stays_mounted}
+use Rattle.vt_overlays_let_go.specs.OverlayCalls.{OpenedNewInOverlaysLetsGo, RemovedFromOverlaysLetGo, ReplacedInOverlaysLetGo, TakenAndOverlayChangesLetGo, is_on_mount, stays_mounted}
 use Rattle.vt_overlays_let_go.specs.OverlayChanges.{CanChange, inodes_lost_with_upper}
 use Rattle.vt_overlays_let_go.proofs.OverlaysChanged.{all_changed, becomes, is_swap, merged, merged_there, new_merged, reals_then, settles, swap_both, trees_then, uppers_then}
 
@@ -78,7 +78,7 @@ module _ (fresh : Fresh ℕ) (world : World ℕ) (location : Location ℕ) (chan
       taken = taken_away nat_eq world gone
 
   -- and a task comes to more locations
-  goes_with_task : (new : Task ℕ) → only_these_are_left world (with_task world new).tasks [] ≡ true → is_on_mount world location ≡ true
+  pub goes_with_task : (new : Task ℕ) → only_these_are_left world (with_task world new).tasks [] ≡ true → is_on_mount world location ≡ true
       → settled nat_eq (with_task (with_change nat_eq fresh world location change) new)
       ≡ let_go_all_inodes (with_task (with_change nat_eq fresh world location change) new)
       (inodes_lost_with_upper fresh world location overlay upper change)
@@ -138,11 +138,3 @@ opened_new_in_overlays_lets_go fresh world task directory name node access overl
   where
     file : Location ℕ
     file = record { mount = directory.mount; node = evens fresh 0 }
-
-pub opened_copies_let_go : OpenedCopiesLetGo
-opened_copies_let_go fresh world task file access overlay upper conditions there on copies can =
-    subst (λ b. settled nat_eq (opened (with_copy nat_eq b fresh world file) task file access).world
-    ≡ let_go_all_inodes (opened (with_copy nat_eq b fresh world file) task file access).world
-    (inodes_lost_with_upper fresh world file overlay upper (CopyUp file.node))) (sym copies)
-    (goes_with_task fresh world file (CopyUp file.node) overlay upper conditions can (with_descriptor task file access)
-    (none_left world task file access conditions.tasks.one_task (among_from_contains world.tasks task there)) on)

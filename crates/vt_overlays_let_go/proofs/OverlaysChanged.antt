@@ -1,6 +1,6 @@
 -- What goes when an overlay changes.
 use Rattle.std.proofs.Common.{◌≡◌, refl, sym, ap, subst, ◌∙◌, ◌⊎◌, inl, inr, ⊎_elim, true≢false, ne_eqb, ℕ, nat_eq, eqb-true, eq-eqb, Bool, true, false, cond, not, ◌||◌, ◌&&◌, List, [], find, map, Option, Some, None, is_some, option_to_list, unwrap_or}
-use Rattle.std.proofs.lemmas.Bool.{and_parts, or_cases}
+use Rattle.std.proofs.lemmas.Bool.{and_parts, not-true, or_cases}
 use Rattle.std.proofs.lemmas.List.Folds.{list_any-append}
 use Rattle.std.specs.List.{filter_map, list_all}
 use Rattle.std.specs.Prelude.{All}
@@ -68,7 +68,7 @@ objects_stay filesystem numbers more overlay real stay grows object =
 
 module _ (fresh : Fresh ℕ) (world : World ℕ) (location : Location ℕ) (change : Change ℕ) (overlay : Overlay ℕ) (upper : Layer ℕ)
     (conditions : IsWorld nat_eq world) (can : CanChange fresh world location change overlay upper) where
-  abbrev pub number : ℕ
+  abbrev number : ℕ
   number = (mount_at nat_eq world location).filesystem
 
   abbrev pub merged : Filesystem ℕ
@@ -86,7 +86,7 @@ module _ (fresh : Fresh ℕ) (world : World ℕ) (location : Location ℕ) (chan
   pub settles : IsSettled world
   settles = worlds_are_settled world conditions
 
-  fit : IsFitToChange fresh before
+  pub fit : IsFitToChange fresh before
   fit = overlays_are_fit fresh world number overlay upper conditions can.overlay_there can.upper_there can.distinct can.unused
 
   reals_there : (inode : ℕ) → is_some (overlay.real inode) ≡ true → is_some (merged.files.tree.node inode) ≡ true
@@ -113,13 +113,9 @@ module _ (fresh : Fresh ℕ) (world : World ℕ) (location : Location ℕ) (chan
       (subst (λ o. Among upper (option_to_list o)) (sym can.upper_there) (inl refl))))
 
   layer_plain : is_overlay layer ≡ false
-  layer_plain = by (is_overlay layer) plain_parts.0
-    where
-      by : (b : Bool) → not b ≡ true → b ≡ false
-      by true e = sym e
-      by false e = refl
+  layer_plain = not-true (is_overlay layer) plain_parts.0
 
-  layer_there : Among layer world.filesystems
+  pub layer_there : Among layer world.filesystems
   layer_there = (found_in (λ f. nat_eq upper.filesystem f.number) world.filesystems layer
       (by (find (λ f. nat_eq upper.filesystem f.number) world.filesystems) plain_parts.1)).0
     where
@@ -229,7 +225,7 @@ module _ (fresh : Fresh ℕ) (world : World ℕ) (location : Location ℕ) (chan
   abbrev lost_above : List ℕ
   lost_above = unnamed_by layer.files later.upper
 
-  abbrev pub lost : List Inode
+  abbrev lost : List Inode
   lost = inodes_lost_with_upper fresh world location overlay upper change
 
   names_tree : ChangesTree merged.files later.files lost_names

@@ -3,14 +3,13 @@
 use Rattle.std.specs.Prelude.{Bool, Contains, List, Some, map, nat_eq, true, ℕ, ◌≡◌}
 use Rattle.vt_spec.specs.Language.Calls.{Access}
 use Rattle.vt_spec.specs.Language.Changes.{Change}
-use Rattle.vt_spec.specs.Language.Changes.Change.{CopyUp, Make, Move, Remove}
+use Rattle.vt_spec.specs.Language.Changes.Change.{Make, Move, Remove}
 use Rattle.vt_spec.specs.Lists.{Fresh, evens, is_among, odds}
 use Rattle.vt_spec.specs.Machine.Apply.{apply}
 use Rattle.vt_spec.specs.Machine.Detach.{mounts_on, taken_away}
 use Rattle.vt_spec.specs.Machine.Filesystems.{with_change}
 use Rattle.vt_spec.specs.Machine.Mounts.{Location}
-use Rattle.vt_spec.specs.Machine.Outcome.Descriptors.{is_copied_up}
-use Rattle.vt_spec.specs.Machine.Permits.Permit.{ToOpen, ToOpenNew, ToRemoveDirectory, ToRename}
+use Rattle.vt_spec.specs.Machine.Permits.Permit.{ToOpenNew, ToRemoveDirectory, ToRename}
 use Rattle.vt_spec.specs.Machine.Settled.{is_mounted, settled, without_dead_mounts}
 use Rattle.vt_spec.specs.Machine.World.{Layer, Overlay, Task, World, mount_at}
 use Rattle.vt_spec.specs.Machine.WorldLaws.{IsWorld}
@@ -65,8 +64,8 @@ ReplacedInOverlaysLetGo =
 abbrev pub is_on_mount : World ℕ → Location ℕ → Bool
 is_on_mount world location = is_among nat_eq location.mount (map (λ mount. mount.number) world.mounts)
 
--- What a task opens is one use more, so with open(2) at the most that goes which the change of the overlay leaves: of a new
--- file,
+-- What a task opens is one use more, so with open(2) of a new file at the most that goes which the change of the overlay
+-- leaves.
 abbrev pub OpenedNewInOverlaysLetsGo : Type 0
 OpenedNewInOverlaysLetsGo =
     (fresh : Fresh ℕ) (world : World ℕ) (task : Task ℕ) (directory : Location ℕ) (name : List ℕ) (node : Node ℕ)
@@ -76,13 +75,3 @@ OpenedNewInOverlaysLetsGo =
     → settled nat_eq (apply nat_eq fresh world task (ToOpenNew directory name node access)).world
     ≡ let_go_all_inodes (apply nat_eq fresh world task (ToOpenNew directory name node access)).world
     (inodes_lost_with_upper (odds fresh) world directory overlay upper (Make directory.node name (evens fresh 0) node))
-
--- and of one that is copied up.
-abbrev pub OpenedCopiesLetGo : Type 0
-OpenedCopiesLetGo =
-    (fresh : Fresh ℕ) (world : World ℕ) (task : Task ℕ) (file : Location ℕ) (access : Access) (overlay : Overlay ℕ)
-    (upper : Layer ℕ) → IsWorld nat_eq world → Contains world.tasks task → is_on_mount world file ≡ true
-    → is_copied_up nat_eq world file access ≡ true → CanChange fresh world file (CopyUp file.node) overlay upper
-    → settled nat_eq (apply nat_eq fresh world task (ToOpen file access)).world
-    ≡ let_go_all_inodes (apply nat_eq fresh world task (ToOpen file access)).world
-    (inodes_lost_with_upper fresh world file overlay upper (CopyUp file.node))
