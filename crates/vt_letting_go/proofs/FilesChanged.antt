@@ -1,5 +1,5 @@
 -- What calls that change plain trees let go of.
-use Rattle.std.proofs.Common.{◌≡◌, refl, sym, ap, subst, ◌∙◌, inl, inr, ℕ, nat_eq, nat_lt, eq-eqb, Bool, true, false, cond, ◌&&◌, ◌||◌, List, [], ◌∷◌, flat_map, map, true≢false, Option, Some, None, is_some, option_to_list}
+use Rattle.std.proofs.Common.{◌≡◌, refl, sym, ap, subst, ◌∙◌, ◌⊎◌, inl, inr, ⊎_elim, ℕ, nat_eq, nat_lt, eq-eqb, Bool, true, false, cond, ◌&&◌, ◌||◌, List, [], ◌∷◌, flat_map, map, true≢false, Option, Some, None, is_some, option_to_list}
 use Rattle.std.proofs.lemmas.Bool.{or_parts}
 use Rattle.std.specs.Cmp.Lexicographic.{bytes_decides}
 use Rattle.std.specs.List.{list_any}
@@ -24,7 +24,7 @@ use Rattle.vt_letting_go.specs.Overlays.{RealsAreThere, let_go_all, let_go_all_i
 use Rattle.vt_letting_go.specs.TreeChanges.{ChangesTree}
 use Rattle.vt_letting_go.specs.TreesOverlays.{in_use_of, with_filesystems, with_lost}
 use Rattle.vt_letting_go.specs.Unmounting.{numbers_of_trees}
-use Rattle.vt_letting_go.proofs.Lists.{Among, all_pass, among-flat_map, among-from_flat_map, among-map, any_passes, fails, or_first, among-from_map, among_from_all, among_numbers}
+use Rattle.vt_letting_go.proofs.Lists.{Among, all_pass, among-flat_map, among-from_flat_map, among-map, any_passes, fails, or_first, or_second, among-from_map, among_from_all, among_numbers}
 use Rattle.vt_letting_go.proofs.MountingTaken.{hands_on, shows_the_same, taken_is}
 use Rattle.vt_letting_go.proofs.NamesKept.{changes_keep_names}
 use Rattle.vt_letting_go.proofs.OfWorlds.{found_filesystem}
@@ -219,36 +219,50 @@ with_descriptor_keeps task file access location (inr (inr l)) =
     (among-map (λ (d : Descriptor ℕ). d.location) (with_descriptor task file access).descriptors from.0
     (inserted_keeps _ task.descriptors from.0 from.1))))
 
+location_among : (list : List (Location ℕ)) (location : Location ℕ) → Among location list → is_location_among list location ≡ true
+location_among list location m =
+    any_passes (same_location nat_eq location) list location m
+    (ap (λ b. b && nat_eq location.node location.node) (eq-eqb location.mount location.mount refl)
+    ∙ eq-eqb location.node location.node refl)
+
+-- a task that goes to other locations leaves no location of another task
+pub replaced_leaves : (world : World ℕ) (task new : Task ℕ) (left : List (Location ℕ))
+    → any_pair (λ (a b : Task ℕ). same_name a.name b.name) world.tasks ≡ false → Among task world.tasks → new.name ≡ task.name
+    → ((location : Location ℕ) → Among location (locations_of task) → Among location (locations_of new) ⊎ Among location left)
+    → only_these_are_left world (with_task world new).tasks left ≡ true
+replaced_leaves world task new left one there called keeps =
+    all_pass (λ location. is_location_among (flat_map locations_of tasks) location || is_location_among left location) (all_locations world)
+    (λ location m.
+    let from = among-from_flat_map locations_of world.tasks location m in
+    ⊎_elim
+    (λ still. or_first (is_location_among (flat_map locations_of tasks) location) (is_location_among left location)
+    (location_among (flat_map locations_of tasks) location
+    (among-flat_map locations_of tasks (replaced_if_called new from.0) location
+    (among-map (replaced_if_called new) world.tasks from.0 from.1) still)))
+    (λ gone. or_second (is_location_among (flat_map locations_of tasks) location) (is_location_among left location)
+    (location_among left location gone))
+    (stays from.0 from.1 location from.2))
+  where
+    tasks : List (Task ℕ)
+    tasks = (with_task world new).tasks
+
+    stays : (other : Task ℕ) → Among other world.tasks → (location : Location ℕ) → Among location (locations_of other)
+        → Among location (locations_of (replaced_if_called new other)) ⊎ Among location left
+    stays other m location n = by (same_name new.name other.name) refl
+      where
+        by : (b : Bool) → same_name new.name other.name ≡ b → Among location (locations_of (cond b new other)) ⊎ Among location left
+        by true e =
+            keeps location
+            (subst (λ t. Among location (locations_of t))
+            (sym (one_task world.tasks one task other there m (ap (λ name. same_name name other.name) (sym called) ∙ e))) n)
+        by false e = inl n
+
 pub none_left : (world : World ℕ) (task : Task ℕ) (file : Location ℕ) (access : Access)
     → any_pair (λ (a b : Task ℕ). same_name a.name b.name) world.tasks ≡ false
     → Among task world.tasks → only_these_are_left world (with_task world (with_descriptor task file access)).tasks [] ≡ true
 none_left world task file access one there =
-    all_pass (λ location. is_location_among (flat_map locations_of tasks) location || is_location_among [] location)
-    (all_locations world) (λ location m.
-    let from = among-from_flat_map locations_of world.tasks location m in
-    or_first (is_location_among (flat_map locations_of tasks) location) false
-    (any_passes (same_location nat_eq location) (flat_map locations_of tasks) location
-    (among-flat_map locations_of tasks (replaced_if_called new from.0) location
-    (among-map (replaced_if_called new) world.tasks from.0 from.1)
-    (still from.0 from.1 location from.2))
-    (ap (λ b. b && nat_eq location.node location.node) (eq-eqb location.mount location.mount refl)
-    ∙ eq-eqb location.node location.node refl)))
-  where
-    new : Task ℕ
-    new = with_descriptor task file access
-
-    tasks : List (Task ℕ)
-    tasks = (with_task world new).tasks
-
-    still : (other : Task ℕ) → Among other world.tasks → (location : Location ℕ) → Among location (locations_of other)
-        → Among location (locations_of (replaced_if_called new other))
-    still other m location n = by (same_name task.name other.name) refl
-      where
-        by : (b : Bool) → same_name task.name other.name ≡ b → Among location (locations_of (cond b new other))
-        by true e =
-            with_descriptor_keeps task file access location
-            (subst (λ t. Among location (locations_of t)) (sym (one_task world.tasks one task other there m e)) n)
-        by false e = n
+    replaced_leaves world task (with_descriptor task file access) [] one there refl
+    (λ location m. inl (with_descriptor_keeps task file access location m))
 
 pub opened_new_keeps_all : OpenedNewKeepsAll
 opened_new_keeps_all fresh world task directory name node access settles one one_name there_task there plain after made free =

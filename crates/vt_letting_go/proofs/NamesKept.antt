@@ -40,7 +40,8 @@ below_each name (x ∷ xs) h e m =
     ⊎_elim (λ same. ap (λ (y : Entry). is_lt (name_cmp name y.0)) same ∙ parts.0) (below_each name xs parts.1 e) m
 
 -- each entry is the one that its name leads to
-pub found_entry : (entries : Entries ℕ) → is_sorted name_cmp entries ≡ true → (e : Entry) → Among e entries → entry_named e.0 entries ≡ Some e.1
+pub found_entry : (entries : Entries ℕ) → is_sorted name_cmp entries ≡ true → (e : Entry) → Among e entries
+    → entry_named e.0 entries ≡ Some e.1
 found_entry [] sorted e m = absurd m
 found_entry (x ∷ xs) sorted e m =
     let parts = and_parts (below_all name_cmp x.0 xs) (is_sorted name_cmp xs) sorted in

@@ -24,9 +24,9 @@ use Rattle.vt_letting_go.proofs.Lists.{Among, among-filter, among-from_map, amon
 use Rattle.vt_letting_go.proofs.MountingTaken.{hands_on, shows_the_same, taken_is}
 use Rattle.vt_letting_go.proofs.PlacesLeft.{found_itself, mounts_but}
 use Rattle.vt_letting_go.proofs.TreesWithOverlays.{left_and_changed_lets_go, taken_and_changed_lets_go}
-use Rattle.vt_overlays_let_go.specs.OverlayCalls.{OpenedNewInOverlaysLetsGo, RemovedFromOverlaysLetGo, ReplacedInOverlaysLetGo, TakenAndOverlayChangesLetGo, is_on_mount, stays_mounted}
+use Rattle.vt_overlays_let_go.specs.OverlayCalls.{MadeInOverlaysLetsGo, OpenedNewInOverlaysLetsGo, RemovedFromOverlaysLetGo, ReplacedInOverlaysLetGo, TakenAndOverlayChangesLetGo, is_on_mount, stays_mounted}
 use Rattle.vt_overlays_let_go.specs.OverlayChanges.{CanChange, inodes_lost_with_upper}
-use Rattle.vt_overlays_let_go.proofs.OverlaysChanged.{all_changed, becomes, is_swap, merged, merged_there, new_merged, reals_then, settles, swap_both, trees_then, uppers_then}
+use Rattle.vt_overlays_let_go.proofs.OverlaysChanged.{all_changed, becomes, is_swap, merged, merged_there, new_merged, overlay_changes_let_go, reals_then, settles, swap_both, trees_then, uppers_then}
 
 module _ (fresh : Fresh ℕ) (world : World ℕ) (location : Location ℕ) (change : Change ℕ) (overlay : Overlay ℕ) (upper : Layer ℕ)
     (conditions : IsWorld nat_eq world) (can : CanChange fresh world location change overlay upper) where
@@ -115,6 +115,10 @@ module _ (fresh : Fresh ℕ) (world : World ℕ) (location : Location ℕ) (chan
           subst (λ m. Among m world.mounts)
           (sym (found_itself world.mounts conditions.mounts.one_number found.0 found.1)
           ∙ ap (mount_in nat_eq world.mounts) (sym found.2)) found.1
+
+pub made_in_overlays_lets_go : MadeInOverlaysLetsGo
+made_in_overlays_lets_go fresh world task directory name node overlay upper conditions can =
+    overlay_changes_let_go (odds fresh) world directory (Make directory.node name (evens fresh 0) node) overlay upper conditions can
 
 pub taken_and_overlay_changes_let_go : TakenAndOverlayChangesLetGo
 taken_and_overlay_changes_let_go fresh world gone location change overlay upper conditions can stays =

@@ -9,7 +9,7 @@ use Rattle.vt_spec.specs.Machine.Apply.{apply}
 use Rattle.vt_spec.specs.Machine.Detach.{mounts_on, taken_away}
 use Rattle.vt_spec.specs.Machine.Filesystems.{with_change}
 use Rattle.vt_spec.specs.Machine.Mounts.{Location}
-use Rattle.vt_spec.specs.Machine.Permits.Permit.{ToOpenNew, ToRemoveDirectory, ToRename}
+use Rattle.vt_spec.specs.Machine.Permits.Permit.{ToMake, ToOpenNew, ToRemoveDirectory, ToRename}
 use Rattle.vt_spec.specs.Machine.Settled.{is_mounted, settled, without_dead_mounts}
 use Rattle.vt_spec.specs.Machine.World.{Layer, Overlay, Task, World, mount_at}
 use Rattle.vt_spec.specs.Machine.WorldLaws.{IsWorld}
@@ -19,6 +19,16 @@ use Rattle.vt_letting_go.specs.Overlays.{let_go_all, let_go_all_inodes}
 use Rattle.vt_letting_go.specs.TreesOverlays.{with_lost}
 use Rattle.vt_letting_go.specs.Unmounting.{numbers_of_trees}
 use Rattle.vt_overlays_let_go.specs.OverlayChanges.{CanChange, inodes_lost_with_upper}
+
+-- After a call that makes an inode in an overlay at the most that goes which the change leaves: mkdir(2), symlink(2), mknod(2).
+abbrev pub MadeInOverlaysLetsGo : Type 0
+MadeInOverlaysLetsGo =
+    (fresh : Fresh ℕ) (world : World ℕ) (task : Task ℕ) (directory : Location ℕ) (name : List ℕ) (node : Node ℕ)
+    (overlay : Overlay ℕ) (upper : Layer ℕ) → IsWorld nat_eq world
+    → CanChange (odds fresh) world directory (Make directory.node name (evens fresh 0) node) overlay upper
+    → settled nat_eq (apply nat_eq fresh world task (ToMake directory name node)).world
+    ≡ let_go_all_inodes (apply nat_eq fresh world task (ToMake directory name node)).world
+    (inodes_lost_with_upper (odds fresh) world directory overlay upper (Make directory.node name (evens fresh 0) node))
 
 -- the filesystem at a location is mounted still, by a mount in use, when these are gone
 abbrev pub stays_mounted : World ℕ → List ℕ → Location ℕ → Bool

@@ -1,5 +1,5 @@
 //! What goes when an overlay changes.
-ghost use Rattle.vt_overlays_let_go.specs.OverlayCalls.{OpenedNewInOverlaysLetsGo, RemovedFromOverlaysLetGo, ReplacedInOverlaysLetGo, TakenAndOverlayChangesLetGo};
+ghost use Rattle.vt_overlays_let_go.specs.OverlayCalls.{MadeInOverlaysLetsGo, OpenedNewInOverlaysLetsGo, RemovedFromOverlaysLetGo, ReplacedInOverlaysLetGo, TakenAndOverlayChangesLetGo};
 ghost use Rattle.vt_overlays_let_go.specs.OverlayChanges.{OverlayChangesLetGo};
 ghost use Rattle.vt_overlays_let_go.specs.OverlayNames.{OnlyTheseLoseNames, OpenedCopiesKeepAll, OverlayChangesKeepAll};
 
@@ -9,6 +9,7 @@ pub fn what_a_change_of_an_overlay_leaves_goes()
     ensures names { OnlyTheseLoseNames }
     ensures change { OverlayChangesLetGo }
     ensures kept { OverlayChangesKeepAll }
+    ensures make { MadeInOverlaysLetsGo }
     ensures with_mounts { TakenAndOverlayChangesLetGo }
     ensures rmdir { RemovedFromOverlaysLetGo }
     ensures rename { ReplacedInOverlaysLetGo }
