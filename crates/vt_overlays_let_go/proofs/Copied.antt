@@ -1,15 +1,22 @@
 -- What copies and changes of an overlay add to its upper layer.
-use Rattle.std.proofs.Common.{◌≡◌, refl, sym, ap, subst, ◌∙◌, ◌⊎◌, inl, inr, ⊎_elim, true≢false, ℕ, ◌+◌, nat_eq, eq-eqb, Bool, true, false, cond, List, [], ◌∷◌, Option, Some, None, is_some}
+use Rattle.std.proofs.Common.{◌≡◌, refl, sym, ap, subst, ◌∙◌, ◌⊎◌, inl, inr, ⊎_elim, true≢false, arith, ℕ, ◌+◌, ◌*◌, nat_eq, eq-eqb, Bool, true, false, cond, List, [], ◌∷◌, Option, Some, None, is_some}
 use Rattle.std.proofs.lemmas.Bool.Decides.{eqb_tells}
 use Rattle.vt_spec.specs.FileTree.{FileTree, a_name}
 use Rattle.vt_spec.specs.Language.Changes.{Change, changed, with_inode, with_moved, without_parent}
 use Rattle.vt_spec.specs.Language.Changes.Change.{AddName, CopyUp, Make, Move, Remove, SetAttr, SetBytes, SetMark}
-use Rattle.vt_spec.specs.Lists.{Fresh}
+use Rattle.vt_spec.specs.Lists.{Fresh, evens, odds}
 use Rattle.vt_spec.specs.Machine.CopyUp.{Merge, Stack, copied_content, copied_each, copied_up, copy_named, copy_of, copy_of_node, copy_parent, emptied, is_in_upper, line_to, marked, name_left_by, with_real}
 use Rattle.vt_spec.specs.Machine.World.{Real, upper_object}
 use Rattle.vt_spec.specs.Machine.World.Real.{Upper}
 use Rattle.vt_spec.specs.Tree.{Node, entry_named, entries_in}
 use Rattle.vt_letting_go.proofs.Lists.{Among}
+
+-- one half of some numbers that are no number twice, and the other
+pub even_distinct : (fresh : Fresh ℕ) → ((j k : ℕ) → fresh j ≡ fresh k → j ≡ k) → (j k : ℕ) → evens fresh j ≡ evens fresh k → j ≡ k
+even_distinct fresh distinct j k e = let same = distinct (2 * j) (2 * k) e in omega arith
+
+pub odd_distinct : (fresh : Fresh ℕ) → ((j k : ℕ) → fresh j ≡ fresh k → j ≡ k) → (j k : ℕ) → odds fresh j ≡ odds fresh k → j ≡ k
+odd_distinct fresh distinct j k e = let same = distinct (2 * j + 1) (2 * k + 1) e in omega arith
 
 -- Copies are real objects of inodes that are there, and each real object in the upper layer stays.
 pub record Grows (before later : Merge ℕ) : Type 0 where

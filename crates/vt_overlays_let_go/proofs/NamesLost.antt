@@ -32,6 +32,7 @@ use Rattle.vt_letting_go.proofs.NamesKept.{found_entry, same_entries_attr, same_
 use Rattle.vt_letting_go.proofs.Trees.{among_targets, named_among}
 use Rattle.vt_overlays_let_go.specs.OverlayChanges.{CanChange, inodes_lost_with_upper, merge_after, merge_at, unnamed_by}
 use Rattle.vt_overlays_let_go.specs.OverlayNames.{OnlyTheseLoseNames, OpenedCopiesKeepAll, OverlayChangesKeepAll, names_under, under_name, upper_names_lost}
+use Rattle.vt_overlays_let_go.proofs.Copied.{even_distinct, odd_distinct}
 use Rattle.vt_overlays_let_go.proofs.NamesCopied.{Fine, IsFine, line_fine, one_place, put_same, take_same}
 use Rattle.vt_overlays_let_go.proofs.NamesFree.{names_free}
 use Rattle.vt_overlays_let_go.proofs.OverlayCalls.{goes_with_task}
@@ -205,12 +206,6 @@ module _ (fresh : Fresh ℕ) (stack : Stack ℕ) (before : Merge ℕ) (fit : IsF
 
   abbrev no_spare : ℕ → Type 0
   no_spare number = ⊥
-
-  even_distinct : (supply : Fresh ℕ) → ((j k : ℕ) → supply j ≡ supply k → j ≡ k) → (j k : ℕ) → evens supply j ≡ evens supply k → j ≡ k
-  even_distinct supply distinct j k e = let same = distinct (2 * j) (2 * k) e in omega arith
-
-  odd_distinct : (supply : Fresh ℕ) → ((j k : ℕ) → supply j ≡ supply k → j ≡ k) → (j k : ℕ) → odds supply j ≡ odds supply k → j ≡ k
-  odd_distinct supply distinct j k e = let same = distinct (2 * j + 1) (2 * k + 1) e in omega arith
 
   not_odd : (supply : Fresh ℕ) → ((j k : ℕ) → supply j ≡ supply k → j ≡ k) → (k : ℕ) → ¬ (IsNew (odds supply) (evens supply k))
   not_odd supply distinct k s = let same = distinct (2 * k) (2 * s.0 + 1) s.1 in let no : ⊥ = omega arith in no

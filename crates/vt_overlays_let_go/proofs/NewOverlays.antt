@@ -1,5 +1,5 @@
 -- Each inode of a newly mounted overlay has a name.
-use Rattle.std.proofs.Common.{◌≡◌, ◌≢◌, ◌≤◌, refl, sym, ap, subst, ◌∙◌, true≢false, ⊎_elim, arith, ℕ, ◌*◌, nat_eq, eq-eqb, Bool, true, ◌||◌, List, [], ◌∷◌, length, Option, Some, None, is_some, option_and_then}
+use Rattle.std.proofs.Common.{◌≡◌, ◌≢◌, ◌≤◌, refl, sym, ap, subst, ◌∙◌, true≢false, ⊎_elim, ℕ, nat_eq, eq-eqb, Bool, true, ◌||◌, List, [], ◌∷◌, length, Option, Some, None, is_some, option_and_then}
 use Rattle.std.specs.Prelude.{option_map}
 use Rattle.std.proofs.lemmas.Bool.Decides.{eqb_tells}
 use Rattle.vt_spec.specs.Lists.{Fresh, evens, is_among, odds}
@@ -25,6 +25,7 @@ use Rattle.vt_letting_go.proofs.AttachedSwept.{new_filesystems_keep_all}
 use Rattle.vt_letting_go.proofs.Lists.{all_pass, is_among_numbers, or_first, or_second}
 use Rattle.vt_letting_go.proofs.OfWorlds.{locations_of_worlds_stand, worlds_are_settled}
 use Rattle.vt_letting_go.proofs.Trees.{named_among}
+use Rattle.vt_overlays_let_go.proofs.Copied.{even_distinct}
 use Rattle.vt_overlays_let_go.specs.NewOverlays.{NewMountsOfOverlaysKeepAll, NewOverlaysAreNamed}
 
 -- what names lead to from the root is the root or has a name
@@ -94,10 +95,6 @@ new_overlays_are_named fresh world overlay conditions are_layers distinct =
         (odds fresh) (odd_distinct world conditions overlay are_layers fresh distinct) (is_some overlay.upper)
         (root_shown world conditions overlay are_layers).0 (root_shown world conditions overlay are_layers).1 n there in
         named_if_led made.files.tree leads.0 n isnt leads.1
-
-even_distinct : (fresh : Fresh ℕ) → ((j k : ℕ) → fresh j ≡ fresh k → j ≡ k) → (j k : ℕ) → evens fresh j ≡ evens fresh k
-    → j ≡ k
-even_distinct fresh distinct j k e = let same = distinct (2 * j) (2 * k) e in omega arith
 
 pub new_mounts_of_overlays_keep_all : NewMountsOfOverlaysKeepAll
 new_mounts_of_overlays_keep_all fresh world task place overlay flags conditions are_layers distinct at_attached =
