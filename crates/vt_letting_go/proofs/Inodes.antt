@@ -14,7 +14,8 @@ use Rattle.vt_spec.specs.Machine.WorldLaws.{ListsNumbers}
 use Rattle.vt_letting_go.specs.InUse.{HasTrees, IsListedTree, is_inode_used}
 use Rattle.vt_letting_go.specs.OneByOne.{AllGoesOneByOne, Inode, InodesGoOneByOne, IsPlain, is_inode_among, is_used_or_among, let_go_filesystems, let_go_inode, let_go_inode_of, let_go_inodes, let_go_groups}
 use Rattle.vt_letting_go.proofs.InUse.{UnusedAreEmpty, no_objects, unused_are_empty}
-use Rattle.vt_letting_go.proofs.Lists.{Among, any-filter, among-from_filter, among-from_map, among_from_all, among_numbers, fails, filter_alike, filter_all, filter_twice, flat_map-filter, flat_map-map, flat_map_alike, flat_map_none, map_alike, map_same, map_twice, none_passes, passes}
+use Rattle.vt_letting_go.proofs.Merged.{named_without}
+use Rattle.vt_letting_go.proofs.Lists.{Among, any-filter, among-from_filter, among-from_map, among_from_all, among_numbers, fails, filter_alike, filter_all, filter_twice, flat_map-map, flat_map_none, map_alike, map_same, map_twice, none_passes, passes}
 use Rattle.vt_letting_go.proofs.OneByOne.{filesystems_go_one_by_one, groups_go_one_by_one, mounts_go_one_by_one}
 
 -- a filesystem without the inodes that a test names
@@ -143,12 +144,7 @@ module _ (world : World ℕ) (inode : Inode) (plain : IsPlain world) where
       → named_in (step filesystem).files ≡ named_in filesystem.files
   named-step filesystem empty =
       ap (λ f. named_in f.files) (one_step world inode filesystem)
-      ∙ flat_map_alike (λ directory. targets_in (cond (gone directory) None (filesystem.files.tree.node directory)))
-      (λ directory. targets_in (filesystem.files.tree.node directory)) (filter (λ number. not (gone number)) filesystem.files.numbers)
-      (λ directory m. by directory (gone directory) refl)
-      ∙ flat_map-filter (λ number. not (gone number))
-      (λ directory. targets_in (filesystem.files.tree.node directory)) filesystem.files.numbers
-      (λ number skipped. nothing number (gone number) refl skipped)
+      ∙ named_without gone filesystem (λ number e. empty number (is_unused number e))
     where
       gone : ℕ → Bool
       gone = goes_here world inode filesystem
@@ -161,15 +157,6 @@ module _ (world : World ℕ) (inode : Inode) (plain : IsPlain world) where
           let unused = and_parts (nat_eq filesystem.number inode.0) (not (is_inode_used world filesystem inode.1)) parts.0 in
           ap (λ n. is_among nat_eq n (used_in nat_eq world filesystem)) (eqb-true number inode.1 parts.1)
           ∙ not-true (is_inode_used world filesystem inode.1) unused.1
-
-      by : (directory : ℕ) (b : Bool) → gone directory ≡ b
-          → targets_in (cond b None (filesystem.files.tree.node directory)) ≡ targets_in (filesystem.files.tree.node directory)
-      by directory true e = sym (empty directory (is_unused directory e))
-      by directory false e = refl
-
-      nothing : (number : ℕ) (b : Bool) → gone number ≡ b → not b ≡ false → targets_in (filesystem.files.tree.node number) ≡ []
-      nothing number true e f = empty number (is_unused number e)
-      nothing number false e f = absurd (true≢false f)
 
   layers-step : (number : ℕ) → layers_in nat_eq next number ≡ layers_in nat_eq world number
   layers-step number =

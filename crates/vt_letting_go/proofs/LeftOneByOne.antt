@@ -1,5 +1,5 @@
 -- Places that are left one by one, each with a sweep, or all at once.
-use Rattle.std.proofs.Common.{◌≡◌, refl, sym, ap, subst, ◌∙◌, ⊎_elim, ℕ, nat_eq, eqb-true, eq-eqb, Bool, true, false, cond, not, ◌||◌, ◌&&◌, List, [], ◌∷◌, filter, map, true≢false, flat_map, ◌++◌, Option, Some, None, is_some, option_map, option_to_list}
+use Rattle.std.proofs.Common.{◌≡◌, refl, sym, ap, subst, ◌∙◌, ⊎_elim, ℕ, nat_eq, eqb-true, eq-eqb, Bool, true, false, cond, not, ◌||◌, ◌&&◌, List, [], ◌∷◌, filter, map, true≢false, flat_map, ◌++◌, Option, Some, None, is_some, option_map}
 use Rattle.std.specs.Prelude.{All, filter_map}
 use Rattle.std.specs.List.{list_all, list_any}
 use Rattle.std.proofs.lemmas.Bool.{and_parts, not-true, or_cases}
@@ -11,14 +11,14 @@ use Rattle.vt_spec.specs.Machine.Settled.{filesystem_lives, has_layer_on, is_loc
 use Rattle.vt_spec.specs.Machine.World.{Filesystem, Overlay, Task, World, all_locations, is_overlay, layers_of, mount_at, upper_object, with_mounts}
 use Rattle.vt_spec.specs.Machine.WorldLaws.{ListsNumbers}
 use Rattle.vt_letting_go.specs.InUse.{HasTrees, IsListedTree, UppersArePlain, has_upper_in, is_inode_used}
-use Rattle.vt_letting_go.specs.Leaving.{MountsStand, OneSweepForSeveral, comes_nowhere, is_location_among, stands_on_attached, with_tasks}
+use Rattle.vt_letting_go.specs.Leaving.{MountsStand, OneSweepForSeveral, comes_nowhere, is_location_among, with_tasks}
 use Rattle.vt_letting_go.specs.LeavingOverlays.{OneSweepForSeveralWithOverlays}
 use Rattle.vt_letting_go.specs.Overlays.{RealsAreThere}
 use Rattle.vt_letting_go.proofs.InUse.{layers_stay, UnusedAreEmpty, after_first, after_second, first_layers, layers-first, layers-second, layers_on, left_by, named-left, no_objects, no_upper_objects, number-first, number-left, number-second, overlay-left, root-left, second_leaves, unused_are_empty, upper-left}
 use Rattle.vt_letting_go.proofs.Inodes.{numbers_without}
 use Rattle.vt_letting_go.proofs.Lists.{Among, all_from_among, among-append, among-append_left, among-append_right, among-filter, among-filter_map, among-flat_map, among-from_filter, among-from_filter_map, among-from_flat_map, among-from_map, among-map, among_from_all, among_numbers, any-filter, any-map, any_passes, decided, fails, filter-map, filter_twice, flat_map-map, flat_map-of_map, flat_map_alike, flat_map_none, is_among_numbers, map_alike, map_twice, one_passes, or_first, or_second, passes}
 use Rattle.vt_letting_go.proofs.Merged.{HasReals, left_of, reals_without, without_all, without_both}
-use Rattle.vt_letting_go.proofs.PlacesLeft.{found_in_filter, found_is_there, found_itself, is_it, number_found}
+use Rattle.vt_letting_go.proofs.PlacesLeft.{found_in_filter, found_is_there, found_itself, is_it, number_found, place_attached}
 use Rattle.vt_letting_go.proofs.TreesWithOverlays.{no_real}
 
 -- one of two tests that follows from the other
@@ -283,7 +283,7 @@ module _ (world : World ℕ) (tasks : List (Task ℕ)) (trees : HasTrees world) 
       (λ place.
       let mount = among-from_filter_map (λ x. x.mount_point) last_mounts from.0 place in
       let was = among-from_filter (mount_lives nat_eq once) world.mounts mount.0 mount.1 in
-      let attached = on_attached mount.0 was.0 from.0 mount.2 in
+      let attached = place_attached world stand mount.0 was.0 from.0 mount.2 in
       was_at f from.0
       (among-append_right (all_locations world ++ map root_of first_mounts) (filter_map (λ x. x.mount_point) first_mounts) from.0
       (among-filter_map (λ x. x.mount_point) first_mounts mount.0 from.0 (last_was_first mount.0 mount.1) mount.2))
@@ -292,13 +292,6 @@ module _ (world : World ℕ) (tasks : List (Task ℕ)) (trees : HasTrees world) 
       (or_first (is_some (mount_at nat_eq world from.0).namespace) (is_located nat_eq once (mount_at nat_eq world from.0).number) attached)
       other n (same ∙ sym (number_found world.mounts from.0.mount))))))
       (among-append (all_locations once ++ map root_of last_mounts) (filter_map (λ mount. mount.mount_point) last_mounts) from.0 here.0))
-    where
-      on_attached : (mount : Mount ℕ) → Among mount world.mounts → (place : Location ℕ) → mount.mount_point ≡ Some place
-          → is_some (mount_at nat_eq world place).namespace ≡ true
-      on_attached mount n place p =
-          (and_parts (is_some (mount_at nat_eq world place).namespace) true
-          (sym (ap (λ o. list_all (λ l. is_some (mount_at nat_eq world l).namespace) (option_to_list o)) p)
-          ∙ passes (stands_on_attached world) world.mounts stand.on_attached mount n)).0
 
   was_layer : (filesystem number : ℕ) → Among number (layers_in nat_eq once_living filesystem)
       → Among number (layers_in nat_eq first_living filesystem)

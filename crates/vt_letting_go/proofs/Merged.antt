@@ -1,14 +1,15 @@
 -- Inodes of one kind of filesystem go one by one, overlays among them.
-use Rattle.std.proofs.Common.{◌≡◌, refl, sym, ap, ◌∙◌, ◌⊎◌, inl, inr, ℕ, nat_eq, Bool, true, false, cond, not, ◌||◌, ◌&&◌, List, filter, true≢false, Option, Some, None, is_some, option_map}
+use Rattle.std.proofs.Common.{◌≡◌, refl, sym, ap, ◌∙◌, ◌⊎◌, inl, inr, ℕ, nat_eq, Bool, true, false, cond, not, ◌||◌, ◌&&◌, List, [], filter, true≢false, Option, Some, None, is_some, option_map}
 use Rattle.std.specs.List.{list_all}
+use Rattle.vt_spec.specs.FileTree.{targets_in}
 use Rattle.vt_spec.specs.Tree.{Node}
 use Rattle.vt_spec.specs.Lists.{is_among}
 use Rattle.vt_spec.specs.Machine.Locked.{overlay_or}
-use Rattle.vt_spec.specs.Machine.Settled.{only_used_by, only_used_of, real_among}
+use Rattle.vt_spec.specs.Machine.Settled.{named_in, only_used_by, only_used_of, real_among}
 use Rattle.vt_spec.specs.Machine.World.{Filesystem, Overlay}
 use Rattle.vt_spec.specs.Machine.WorldLaws.{ListsNumbers}
 use Rattle.vt_letting_go.specs.Overlays.{real_in}
-use Rattle.vt_letting_go.proofs.Lists.{Among, decided, filter_alike, filter_all, filter_twice, among_numbers, is_among_numbers, passes}
+use Rattle.vt_letting_go.proofs.Lists.{Among, decided, filter_alike, filter_all, filter_twice, flat_map-filter, flat_map_alike, among_numbers, is_among_numbers, passes}
 
 -- without the real objects of the inodes that a test names
 abbrev pub reals_without : (ℕ → Bool) → Overlay ℕ → Overlay ℕ
@@ -63,6 +64,27 @@ without_both some others both h filesystem = λ i. record filesystem {
         ≡ option_map (reals_without both) o
     reals None = refl
     reals (Some overlay) = λ i. Some (record overlay { real = λ number. twice (overlay.real number) number i })
+
+-- What goes has no entries, so all names stay.
+pub named_without : (gone : ℕ → Bool) (filesystem : Filesystem ℕ)
+    → ((number : ℕ) → gone number ≡ true → targets_in (filesystem.files.tree.node number) ≡ [])
+    → named_in (without_all gone filesystem).files ≡ named_in filesystem.files
+named_without gone filesystem empty =
+    flat_map_alike (λ directory. targets_in (cond (gone directory) None (filesystem.files.tree.node directory)))
+    (λ directory. targets_in (filesystem.files.tree.node directory)) (filter (λ number. not (gone number)) filesystem.files.numbers)
+    (λ directory m. by directory (gone directory) refl)
+    ∙ flat_map-filter (λ number. not (gone number))
+    (λ directory. targets_in (filesystem.files.tree.node directory)) filesystem.files.numbers
+    (λ number skipped. nothing number (gone number) refl skipped)
+  where
+    by : (directory : ℕ) (b : Bool) → gone directory ≡ b
+        → targets_in (cond b None (filesystem.files.tree.node directory)) ≡ targets_in (filesystem.files.tree.node directory)
+    by directory true e = sym (empty directory e)
+    by directory false e = refl
+
+    nothing : (number : ℕ) (b : Bool) → gone number ≡ b → not b ≡ false → targets_in (filesystem.files.tree.node number) ≡ []
+    nothing number true e f = empty number e
+    nothing number false e f = absurd (true≢false f)
 
 -- an inode that is not there has no real object
 abbrev pub HasReals : Filesystem ℕ → Type 0

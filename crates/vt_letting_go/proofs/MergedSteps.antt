@@ -12,29 +12,8 @@ use Rattle.vt_letting_go.specs.OneByOne.{Inode, is_inode_among, is_used_or_among
 use Rattle.vt_letting_go.specs.Overlays.{let_go_in, let_go_in_of, without_inode_of}
 use Rattle.vt_letting_go.proofs.InUse.{UnusedAreEmpty}
 use Rattle.vt_letting_go.proofs.Inodes.{goes_of, goes_on}
-use Rattle.vt_letting_go.proofs.Lists.{Among, among-from_map, among_numbers, decided, flat_map-filter, flat_map-step, flat_map_alike, map_alike, map_same, map_twice, passes}
-use Rattle.vt_letting_go.proofs.Merged.{HasReals, left_of, reals_without, same_without, without_all, without_both, without_nothing}
-
--- What goes has no entries, so all names stay.
-pub named_without : (gone : ℕ → Bool) (filesystem : Filesystem ℕ)
-    → ((number : ℕ) → gone number ≡ true → targets_in (filesystem.files.tree.node number) ≡ [])
-    → named_in (without_all gone filesystem).files ≡ named_in filesystem.files
-named_without gone filesystem empty =
-    flat_map_alike (λ directory. targets_in (cond (gone directory) None (filesystem.files.tree.node directory)))
-    (λ directory. targets_in (filesystem.files.tree.node directory)) (filter (λ number. not (gone number)) filesystem.files.numbers)
-    (λ directory m. by directory (gone directory) refl)
-    ∙ flat_map-filter (λ number. not (gone number))
-    (λ directory. targets_in (filesystem.files.tree.node directory)) filesystem.files.numbers
-    (λ number skipped. nothing number (gone number) refl skipped)
-  where
-    by : (directory : ℕ) (b : Bool) → gone directory ≡ b
-        → targets_in (cond b None (filesystem.files.tree.node directory)) ≡ targets_in (filesystem.files.tree.node directory)
-    by directory true e = sym (empty directory e)
-    by directory false e = refl
-
-    nothing : (number : ℕ) (b : Bool) → gone number ≡ b → not b ≡ false → targets_in (filesystem.files.tree.node number) ≡ []
-    nothing number true e f = empty number e
-    nothing number false e f = absurd (true≢false f)
+use Rattle.vt_letting_go.proofs.Lists.{Among, among-from_map, among_numbers, decided, flat_map-step, map_alike, map_same, map_twice, passes}
+use Rattle.vt_letting_go.proofs.Merged.{HasReals, left_of, named_without, reals_without, same_without, without_all, without_both, without_nothing}
 
 pub layers_without : (gone : ℕ → Bool) (filesystem : Filesystem ℕ)
     → of_overlay [] layers_of (without_all gone filesystem) ≡ of_overlay [] layers_of filesystem

@@ -23,6 +23,14 @@ pub found_itself : (mounts : List (Mount ℕ)) → any_pair (λ (a b : Mount ℕ
     → (mount : Mount ℕ) → Among mount mounts → mount_in nat_eq mounts mount.number ≡ mount
 found_itself mounts one mount m = found_by (λ (x : Mount ℕ). x.number) (no_mount mount.number) mounts one mount m
 
+-- a mount point is on a mount in a namespace
+pub place_attached : (world : World ℕ) → MountsStand world → (mount : Mount ℕ) → Among mount world.mounts → (place : Location ℕ)
+    → mount.mount_point ≡ Some place → is_some (mount_at nat_eq world place).namespace ≡ true
+place_attached world stand mount m place p =
+    (and_parts (is_some (mount_at nat_eq world place).namespace) true
+    (sym (ap (λ o. list_all (λ l. is_some (mount_at nat_eq world l).namespace) (option_to_list o)) p)
+    ∙ passes (stands_on_attached world) world.mounts stand.on_attached mount m)).0
+
 -- a mount of a shorter list, where those of its number stay
 pub found_in_filter : (stays : Mount ℕ → Bool) (mounts : List (Mount ℕ)) (number : ℕ)
     → ((mount : Mount ℕ) → Among mount mounts → mount.number ≡ number → stays mount ≡ true)
@@ -336,10 +344,7 @@ module _ (world : World ℕ) (tasks : List (Task ℕ)) (left : List (Location �
             ∙ (nowhere_parts mount (passes is_nowhere_or_attached world.mounts stand.nowhere mount m) f).0))
 
         on_attached : is_some (mount_at nat_eq world place).namespace ≡ true
-        on_attached =
-            (and_parts (is_some (mount_at nat_eq world place).namespace) true
-            (sym (ap (λ o. list_all (λ l. is_some (mount_at nat_eq world l).namespace) (option_to_list o)) p)
-            ∙ passes (stands_on_attached world) world.mounts stand.on_attached mount m)).0
+        on_attached = place_attached world stand mount m place p
 
         there : Among (mount_at nat_eq world place) world.mounts
         there = found_is_there world.mounts place.mount on_attached

@@ -1,7 +1,7 @@
 -- What goes when tasks leave locations and namespaces at once.
-use Rattle.std.proofs.Common.{◌≡◌, refl, sym, ap, subst, ◌∙◌, ◌⊎◌, inl, inr, ⊎_elim, ℕ, nat_eq, eqb-true, Bool, true, false, cond, not, ◌||◌, List, filter, map, true≢false, flat_map, ◌++◌, Some, is_some, option_to_list}
-use Rattle.std.specs.List.{list_all, list_any}
-use Rattle.std.proofs.lemmas.Bool.{and_parts, or_cases, or_parts}
+use Rattle.std.proofs.Common.{◌≡◌, refl, sym, ap, subst, ◌∙◌, ◌⊎◌, inl, inr, ⊎_elim, ℕ, nat_eq, eqb-true, Bool, true, false, cond, not, ◌||◌, List, filter, map, true≢false, flat_map, ◌++◌, Some, is_some}
+use Rattle.std.specs.List.{list_any}
+use Rattle.std.proofs.lemmas.Bool.{or_cases, or_parts}
 use Rattle.std.proofs.lemmas.List.Folds.{list_any-append}
 use Rattle.vt_spec.specs.Language.Calls.{TaskName, same_name}
 use Rattle.vt_spec.specs.Lists.{Fresh, evens, holds_of, is_among, odds}
@@ -16,7 +16,7 @@ use Rattle.vt_letting_go.specs.EndingTasks.{EntersLetGo, EntersWithOverlaysLetGo
 use Rattle.vt_letting_go.specs.InUse.{AllInUse, GroupsInUse}
 use Rattle.vt_letting_go.specs.Keeping.{LocationsStand}
 use Rattle.vt_letting_go.specs.Unmounting.{groups_of_mounts}
-use Rattle.vt_letting_go.specs.Leaving.{IsSettledPlain, MountsStand, is_location_among, only_these_are_left, stands_on_attached}
+use Rattle.vt_letting_go.specs.Leaving.{IsSettledPlain, MountsStand, is_location_among, only_these_are_left}
 use Rattle.vt_letting_go.specs.LeavingOverlays.{IsSettled}
 use Rattle.vt_letting_go.specs.Mounting.{ended_mounts, loses_its_place, places_lost}
 use Rattle.vt_letting_go.specs.OneByOne.{GroupsInUseBut, let_go}
@@ -29,7 +29,7 @@ use Rattle.vt_letting_go.proofs.MountingOverlays.{all_losers_go}
 use Rattle.vt_letting_go.proofs.MountingTaken
 use Rattle.vt_letting_go.proofs.MountingTaken.{is_changed, nowhere_after, same_filesystem, same_namespace, same_number, same_place, same_root}
 use Rattle.vt_letting_go.proofs.MountsAdded.{found_before}
-use Rattle.vt_letting_go.proofs.PlacesLeft.{found_itself, is_it}
+use Rattle.vt_letting_go.proofs.PlacesLeft.{found_itself, is_it, place_attached}
 
 -- A world with more mounts, other tasks and other namespaces, in which namespaces end
 module _ (world : World ℕ) (all : List (Mount ℕ)) (tasks : List (Task ℕ)) (namespaces : List (Namespace ℕ)) (left : List (Location ℕ))
@@ -118,10 +118,7 @@ module _ (world : World ℕ) (all : List (Mount ℕ)) (tasks : List (Task ℕ)) 
   -- what a mount stands on is in a namespace
   stands_in_one : (mount : Mount ℕ) → Among mount world.mounts → (at : Location ℕ) → mount.mount_point ≡ Some at
       → is_some (mount_at nat_eq world at).namespace ≡ true
-  stands_in_one mount m at p =
-      (and_parts (is_some (mount_at nat_eq world at).namespace) true
-      (sym (ap (λ o. list_all (λ l. is_some (mount_at nat_eq world l).namespace) (option_to_list o)) p)
-      ∙ passes (stands_on_attached world) world.mounts stand.on_attached mount m)).0
+  stands_in_one = place_attached world stand
 
   on_attached : (number : ℕ) → is_some (mount_numbered nat_eq world number).namespace ≡ true → is_going nat_eq ended number ≡ false
       → (other : Mount ℕ) → Among other last.mounts → other.number ≡ number → is_some other.namespace ≡ true

@@ -1,7 +1,7 @@
 -- What goes after unmounts, one or several after one another.
-use Rattle.std.proofs.Common.{◌≡◌, refl, sym, ap, subst, ◌∙◌, ◌⊎◌, inl, inr, ⊎_elim, ℕ, nat_eq, eqb-true, Bool, true, false, cond, not, ◌&&◌, List, [], ◌∷◌, filter, map, true≢false, Option, Some, None, is_some, option_map, option_to_list}
-use Rattle.std.specs.List.{list_all, list_any}
-use Rattle.std.proofs.lemmas.Bool.{and_parts, false_from_ne_true, or_cases}
+use Rattle.std.proofs.Common.{◌≡◌, refl, sym, ap, subst, ◌∙◌, ◌⊎◌, inl, inr, ⊎_elim, ℕ, nat_eq, eqb-true, Bool, true, false, cond, not, ◌&&◌, List, [], ◌∷◌, filter, map, true≢false, Option, Some, None, is_some, option_map}
+use Rattle.std.specs.List.{list_any}
+use Rattle.std.proofs.lemmas.Bool.{false_from_ne_true, or_cases}
 use Rattle.vt_spec.specs.Lists.{folded, holds_of, is_among}
 use Rattle.vt_spec.specs.Machine.Detach.{deepest_first, going, is_going, lazily_unmounted, mount_point_left, mounts_on, taken_away, unmounted, unmounted_if_there}
 use Rattle.vt_spec.specs.Machine.Mounts.{Location, Mount, Propagation, detached, group_of, mount_in, mount_tree, root_of}
@@ -12,7 +12,7 @@ use Rattle.vt_spec.specs.Machine.World.{World, mount_at, mount_numbered}
 use Rattle.vt_spec.specs.Machine.WorldLaws.{is_nowhere_or_attached}
 use Rattle.vt_letting_go.specs.InUse.{AllInUse, GroupsInUse}
 use Rattle.vt_letting_go.specs.Unmounting.{LazyUnmountsLetGo, MountsOnDirectoriesLetGo, TreesLetGo, UnmountsLetGo, detached_between, groups_of_mounts, is_detached_in, numbers_of_trees, used_by_gone}
-use Rattle.vt_letting_go.specs.Leaving.{IsSettledPlain, MountsStand, stands_on_attached}
+use Rattle.vt_letting_go.specs.Leaving.{IsSettledPlain, MountsStand}
 use Rattle.vt_letting_go.specs.Mounting.{loses_its_place, places_lost}
 use Rattle.vt_letting_go.specs.OneByOne.{GroupsInUseBut, let_go}
 use Rattle.vt_letting_go.proofs.Detached.{found-map, not_found-map}
@@ -20,7 +20,7 @@ use Rattle.vt_letting_go.proofs.Lists.{Among, all_pass, among-filter, among-filt
 use Rattle.vt_letting_go.proofs.MountingLosers.{Loses, StillAPlace, changed, losers_go}
 use Rattle.vt_letting_go.proofs.MountingTaken.{is_changed, nowhere_after, same_filesystem, same_namespace, same_namespaces, same_number, same_place, same_root, stays, taking_away_lets_go}
 use Rattle.vt_letting_go.proofs.MountingTaken
-use Rattle.vt_letting_go.proofs.PlacesLeft.{found_is_there, found_itself, nowhere_parts, number_found, private_is_no_member}
+use Rattle.vt_letting_go.proofs.PlacesLeft.{found_is_there, found_itself, nowhere_parts, number_found, private_is_no_member, place_attached}
 use Rattle.std.proofs.lemmas.Bool.{or_parts}
 
 -- Where the other mounts stay in their groups, a group that is none of those of the mounts that went and has no members
@@ -271,10 +271,7 @@ module _ (world now : World ℕ) (in_use : AllInUse world) (stand : MountsStand 
 
   stands_in_one : (mount : Mount ℕ) → Among mount world.mounts → (at : Location ℕ) → mount.mount_point ≡ Some at
       → is_some (mount_at nat_eq world at).namespace ≡ true
-  stands_in_one mount m at p =
-      (and_parts (is_some (mount_at nat_eq world at).namespace) true
-      (sym (ap (λ o. list_all (λ l. is_some (mount_at nat_eq world l).namespace) (option_to_list o)) p)
-      ∙ passes (stands_on_attached world) world.mounts stand.on_attached mount m)).0
+  stands_in_one = place_attached world stand
 
   member_is_in_one : (mount : Mount ℕ) → Among mount world.mounts → (group : ℕ) → is_member_of nat_eq group mount ≡ true
       → is_some mount.namespace ≡ true
