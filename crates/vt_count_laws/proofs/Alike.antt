@@ -25,19 +25,22 @@ times_sum : (n : ℕ) (list : List ℕ) → times_in n list ≡ sum_by (one_if n
 times_sum n [] = refl
 times_sum n (first ∷ rest) = let later = times_sum n rest in let all = sum_by-cons (one_if n) first rest in omega arith
 
-named_sum : (n : ℕ) (node : ℕ → Option (Node ℕ)) (list : List ℕ) → times_in n (named_by node list) ≡ sum_by (λ d. times_in n (targets_in (node d))) list
+named_sum : (n : ℕ) (node : ℕ → Option (Node ℕ)) (list : List ℕ)
+    → times_in n (named_by node list) ≡ sum_by (λ d. times_in n (targets_in (node d))) list
 named_sum n node [] = refl
 named_sum n node (first ∷ rest) =
     let later = named_sum n node rest in
     let all = sum_by-cons (λ d. times_in n (targets_in (node d))) first rest in
-    let both : times_in n (named_by node (first ∷ rest)) ≡ times_in n (targets_in (node first)) + times_in n (named_by node rest) = times_append n (targets_in (node first)) (named_by node rest) in
+    let both : times_in n (named_by node (first ∷ rest)) ≡ times_in n (targets_in (node first)) + times_in n
+    (named_by node rest) = times_append n (targets_in (node first)) (named_by node rest) in
     omega arith
 
 same_itself : (f : Filesystem ℕ) → SameFilesystem f f
 same_itself f = record { number = refl; files = record { tree = refl; numbers = IsPermutation-refl f.files.numbers }; overlay = refl }
 
 found_same : (ones others : List (Filesystem ℕ)) → SameFilesystems ones others → (k : ℕ)
-    → SameFilesystem (unwrap_or (find (λ f. nat_eq k f.number) ones) (no_filesystem k)) (unwrap_or (find (λ f. nat_eq k f.number) others) (no_filesystem k))
+    → SameFilesystem (unwrap_or (find (λ f. nat_eq k f.number) ones) (no_filesystem k))
+    (unwrap_or (find (λ f. nat_eq k f.number) others) (no_filesystem k))
 found_same [] [] same k = same_itself (no_filesystem k)
 found_same [] (other ∷ others) same k = absurd same
 found_same (one ∷ ones) [] same k = absurd same
@@ -46,8 +49,10 @@ found_same (one ∷ ones) (other ∷ others) same k =
     (unwrap_or (cond (nat_eq k n) (Some other) (find (λ f. nat_eq k f.number) others)) (no_filesystem k)))
     same.0.number (by (nat_eq k one.number) (found_same ones others same.1 k))
   where
-    by : (b : Bool) → SameFilesystem (unwrap_or (find (λ f. nat_eq k f.number) ones) (no_filesystem k)) (unwrap_or (find (λ f. nat_eq k f.number) others) (no_filesystem k))
-        → SameFilesystem (unwrap_or (cond b (Some one) (find (λ f. nat_eq k f.number) ones)) (no_filesystem k)) (unwrap_or (cond b (Some other) (find (λ f. nat_eq k f.number) others)) (no_filesystem k))
+    by : (b : Bool) → SameFilesystem (unwrap_or (find (λ f. nat_eq k f.number) ones) (no_filesystem k))
+        (unwrap_or (find (λ f. nat_eq k f.number) others) (no_filesystem k))
+        → SameFilesystem (unwrap_or (cond b (Some one) (find (λ f. nat_eq k f.number) ones)) (no_filesystem k))
+        (unwrap_or (cond b (Some other) (find (λ f. nat_eq k f.number) others)) (no_filesystem k))
     by true later = same.0
     by false later = later
 
@@ -66,7 +71,8 @@ module _ (one other : World ℕ) (same : SameWorlds one other) where
 
   same_located : (k n : ℕ) → times_in n (located_in nat_eq one k) ≡ times_in n (located_in nat_eq other k)
   same_located k n =
-      (λ i. count_in (same.mounts i) k n (same_locations i ++ map root_of (same.mounts i) ++ filter_map (λ mount. mount.mount_point) (same.mounts i)))
+      (λ i. count_in (same.mounts i) k n (same_locations i ++ map root_of (same.mounts i)
+      ++ filter_map (λ mount. mount.mount_point) (same.mounts i)))
 
 pub same_worlds_count_alike : SameWorldsCountAlike
 same_worlds_count_alike one other k inodes same plain counted = record {
@@ -74,7 +80,8 @@ same_worlds_count_alike one other k inodes same plain counted = record {
   node = λ n. counted.node n ∙ ap (λ t. t.node n) alike.files.tree;
   uses = λ n.
       counted.uses n ∙ plain_uses_are one plain_one f n
-      ∙ (λ i. (one_if n (alike.files.tree i).root + times_in n (located_in nat_eq one (alike.number i))) + times_in n (named_by (alike.files.tree i).node f.files.numbers))
+      ∙ (λ i. (one_if n (alike.files.tree i).root + times_in n (located_in nat_eq one (alike.number i))) + times_in n
+      (named_by (alike.files.tree i).node f.files.numbers))
       ∙ (λ i. (one_if n g.files.tree.root + same_located one other same g.number n i) + named_alike n i)
       ∙ sym (plain_uses_are other plain_other g n);
   count = counted.count ∙ sym (length_permutation f.files.numbers g.files.numbers alike.files.numbers);
@@ -96,12 +103,15 @@ same_worlds_count_alike one other k inodes same plain counted = record {
     plain_other : LettingGo.IsPlain other
     plain_other = sym (plain_same one.filesystems other.filesystems same.filesystems) ∙ plain_one
 
-    named_alike : (n : ℕ) → times_in n (named_by g.files.tree.node f.files.numbers) ≡ times_in n (named_by g.files.tree.node g.files.numbers)
+    named_alike : (n : ℕ) → times_in n (named_by g.files.tree.node f.files.numbers)
+        ≡ times_in n (named_by g.files.tree.node g.files.numbers)
     named_alike n =
         named_sum n g.files.tree.node f.files.numbers
-        ∙ sym (sum_by-IsPermutation (λ d. times_in n (targets_in (g.files.tree.node d))) f.files.numbers g.files.numbers alike.files.numbers)
+        ∙ sym (sum_by-IsPermutation (λ d. times_in n
+        (targets_in (g.files.tree.node d))) f.files.numbers g.files.numbers alike.files.numbers)
         ∙ sym (named_sum n g.files.tree.node g.files.numbers)
 
     times_alike : (n : ℕ) → times_in n f.files.numbers ≡ times_in n g.files.numbers
     times_alike n =
-        times_sum n f.files.numbers ∙ sym (sum_by-IsPermutation (one_if n) f.files.numbers g.files.numbers alike.files.numbers) ∙ sym (times_sum n g.files.numbers)
+        times_sum n f.files.numbers ∙ sym (sum_by-IsPermutation (one_if n) f.files.numbers g.files.numbers alike.files.numbers)
+        ∙ sym (times_sum n g.files.numbers)

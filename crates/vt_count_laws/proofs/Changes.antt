@@ -1,5 +1,5 @@
 -- Each change that fits, with the sweep after it.
-use Rattle.std.proofs.Common.{◌≡◌, ◌≢◌, refl, sym, ap, subst, ◌∙◌, ⊎_elim, ℕ, nat_eq, Bool, true, false, cond, not, List, [], ◌∷◌, map, Option, Some, None, is_some, arith}
+use Rattle.std.proofs.Common.{◌≡◌, ◌≢◌, refl, sym, ap, subst, ◌∙◌, ⊎_elim, ℕ, nat_eq, true, false, cond, not, List, [], ◌∷◌, map, Option, Some, None, is_some, arith}
 use Rattle.std.proofs.lemmas.Bool.Decides.{eqb_tells}
 use Rattle.std.specs.List.{list_all}
 use Rattle.vt_spec.specs.FileTree.{FileTree}
@@ -15,8 +15,8 @@ use Rattle.vt_spec.specs.Machine.WorldLaws.{IsWorld}
 use Rattle.vt_spec.specs.OneTree.Fits.{Fits, MayReplace}
 use Rattle.vt_spec.specs.OneTree.Inodes.{Inodes, changed, node_in, tree_of, with_changed, without_replaced}
 use Rattle.vt_spec.specs.OneTree.Rules.{is_filled}
-use Rattle.vt_spec.specs.Tree.{Content, Entries, Node, entries_in, entries_of, entry_named, is_directory_node, node_with_bytes, node_with_entry, with_bytes}
-use Rattle.vt_spec.specs.Tree.Content.{Directory, Regular, Symlink, Whiteout}
+use Rattle.vt_spec.specs.Tree.{Entries, Node, entries_in, entry_named, is_directory_node, node_with_bytes, node_with_entry}
+use Rattle.vt_letting_go.proofs.NamesKept.{same_entries_attr, same_entries_bytes, same_entries_mark}
 use Rattle.vt_letting_go.specs.InUse.{AllInUse, IsListedTree, is_inode_used}
 use Rattle.vt_letting_go.specs.OneByOne as LettingGo
 use Rattle.vt_letting_go.specs.TreeChanges.{with_tree}
@@ -33,38 +33,13 @@ use Rattle.vt_count_laws.proofs.Swept as Swept
 use Rattle.vt_count_laws.proofs.Swept.{base_of, counted_start, found_is, plain_of, there_if_counted}
 use Rattle.vt_count_laws.proofs.TreeCounts.{IsStart, IsTallied, linked, rewritten}
 
--- Changes of a node that keep its entries
-
-kept_by_attr : (attr : Rattle.vt_spec.specs.declared.attributes.Attr.Attr) (o : Option (Node ℕ)) → entries_in (node_with_attr attr o) ≡ entries_in o
-kept_by_attr attr None = refl
-kept_by_attr attr (Some node) = refl
-
-kept_by_bytes : (bytes : List ℕ) (o : Option (Node ℕ)) → entries_in (node_with_bytes bytes o) ≡ entries_in o
-kept_by_bytes bytes None = refl
-kept_by_bytes bytes (Some node) = by node.content
-  where
-    by : (content : Content ℕ) → entries_of (with_bytes content bytes) ≡ entries_of content
-    by (Directory parent entries opaque) = refl
-    by (Regular old) = refl
-    by (Symlink text) = refl
-    by Whiteout = refl
-
-kept_by_mark : (opaque : Bool) (o : Option (Node ℕ)) → entries_in (node_with_mark opaque o) ≡ entries_in o
-kept_by_mark opaque None = refl
-kept_by_mark opaque (Some node) = by node.content
-  where
-    by : (content : Content ℕ) → entries_of (content_with_mark opaque content) ≡ entries_of content
-    by (Directory parent entries old) = refl
-    by (Regular bytes) = refl
-    by (Symlink text) = refl
-    by Whiteout = refl
-
 no_entries : (entries : Entries ℕ) → not (is_empty_list entries) ≡ false → entries ≡ []
 no_entries [] e = refl
 no_entries (entry ∷ rest) e = cc
 
 -- The tree and the counted inodes after a change, before the sweep
-module _ (base : ℕ → ℕ) (files : FileTree ℕ) (inodes : Inodes ℕ) (root : inodes.root ≡ files.tree.root) (start : IsStart base files.tree.node files.numbers inodes) where
+module _ (base : ℕ → ℕ) (files : FileTree ℕ) (inodes : Inodes ℕ) (root : inodes.root ≡ files.tree.root)
+    (start : IsStart base files.tree.node files.numbers inodes) where
   abbrev node : ℕ → Option (Node ℕ)
   node = files.tree.node
 
@@ -75,44 +50,59 @@ module _ (base : ℕ → ℕ) (files : FileTree ℕ) (inodes : Inodes ℕ) (root
   is_there : (d : ℕ) → is_directory_node (node_in (inodes.inode d)) ≡ true → is_directory_node (node d) ≡ true
   is_there d is = ap is_directory_node (sym (start.same d)) ∙ is
 
-  leads_to : (d : ℕ) (name : List ℕ) (o : Option ℕ) → entry_named name (entries_in (node_in (inodes.inode d))) ≡ o → entry_named name (entries_in (node d)) ≡ o
+  leads_to : (d : ℕ) (name : List ℕ) (o : Option ℕ) → entry_named name (entries_in (node_in (inodes.inode d))) ≡ o
+      → entry_named name (entries_in (node d)) ≡ o
   leads_to d name o is = ap (λ x. entry_named name (entries_in x)) (sym (start.same d)) ∙ is
 
   is_bare : (n : ℕ) → is_filled (tree_of inodes) n ≡ false → entries_in (node n) ≡ []
   is_bare n e = ap entries_in (sym (start.same n)) ∙ no_entries (entries_in (node_in (inodes.inode n))) e
 
-  moves : (from : ℕ) (old : List ℕ) (to : ℕ) (new : List ℕ) (object : ℕ) → entry_named old (entries_in (node from)) ≡ Some object → is_directory_node (node to) ≡ true
+  moves : (from : ℕ) (old : List ℕ) (to : ℕ) (new : List ℕ) (object : ℕ) → entry_named old (entries_in (node from)) ≡ Some object
+      → is_directory_node (node to) ≡ true
       → (o : Option ℕ) → entry_named new (entries_in (node to)) ≡ o → MayReplace inodes object o
-      → Tallied (Changes.changed_node nat_eq (Changes.with_name nat_eq (Changes.without_name nat_eq (Changes.without_parent nat_eq files o) from old) to new object) object (node_with_parent to))
+      → Tallied (Changes.changed_node nat_eq (Changes.with_name nat_eq
+      (Changes.without_name nat_eq (Changes.without_parent nat_eq files o) from old) to new object) object (node_with_parent to))
       (without_replaced nat_eq
-      (with_changed nat_eq (with_changed nat_eq (with_changed nat_eq inodes from (Changes.node_without_entry old)) to (node_with_entry new object)) object (node_with_parent to)) o)
-  moves from old to new object leads is None finds may = Names.moved base node files.numbers inodes start from old to new object None leads is finds refl (λ n gone. absurd (omega arith))
+      (with_changed nat_eq (with_changed nat_eq (with_changed nat_eq inodes from (Changes.node_without_entry old)) to
+      (node_with_entry new object)) object (node_with_parent to)) o)
+  moves from old to new object leads is None finds may =
+      Names.moved base node files.numbers inodes start from old to new object None leads is finds refl (λ n gone. absurd (omega arith))
   moves from old to new object leads is (Some gone) finds may =
-      Names.moved base node files.numbers inodes start from old to new object (Some gone) leads is finds (other_if object gone (λ e. may.0 (sym e)))
+      Names.moved base node files.numbers inodes start from old to new object (Some gone) leads is finds
+      (other_if object gone (λ e. may.0 (sym e)))
       (λ n some. ⊎_elim
       (λ t. ap (λ m. entries_in (node m)) t.1 ∙ is_bare gone may.2)
       (λ t. absurd (let none : one_if n gone ≡ 0 = ap (λ b. cond b 1 0) t.0 in omega arith))
       (eqb_tells n gone))
 
-  tallied : (change : Change ℕ) → Fits inodes change → LinksWhatIsThere inodes change → Tallied (Changes.changed nat_eq files change) (changed nat_eq inodes change)
+  tallied : (change : Change ℕ) → Fits inodes change → LinksWhatIsThere inodes change
+      → Tallied (Changes.changed nat_eq files change) (changed nat_eq inodes change)
   tallied (Make directory name number new) fits links =
-      Names.made base node files.numbers inodes start directory name number new (is_there directory fits.0) (leads_to directory name None fits.1) fits.2 fits.3
-  tallied (AddName directory name object) fits links = linked base node files.numbers inodes start directory name object (is_there directory fits.0) (leads_to directory name None fits.1) links
+      Names.made base node files.numbers inodes start directory name number new (is_there directory fits.0)
+      (leads_to directory name None fits.1) fits.2 fits.3
+  tallied (AddName directory name object) fits links = linked base node files.numbers inodes start directory name object
+      (is_there directory fits.0) (leads_to directory name None fits.1) links
   tallied (Remove directory name object) fits links =
-      Names.removed_name base node files.numbers inodes start directory name object (leads_to directory name (Some object) fits.0) (is_bare object fits.1)
+      Names.removed_name base node files.numbers inodes start directory name object (leads_to directory name (Some object) fits.0)
+      (is_bare object fits.1)
   tallied (Move from old to new object) fits links =
       subst (λ o. Tallied (Changes.with_moved nat_eq files from old to new object)
       (without_replaced nat_eq
-      (with_changed nat_eq (with_changed nat_eq (with_changed nat_eq inodes from (Changes.node_without_entry old)) to (node_with_entry new object)) object (node_with_parent to)) o))
+      (with_changed nat_eq (with_changed nat_eq (with_changed nat_eq inodes from (Changes.node_without_entry old)) to
+      (node_with_entry new object)) object (node_with_parent to)) o))
       (sym same)
-      (moves from old to new object (leads_to from old (Some object) fits.0) (is_there to fits.1) (entry_named new (entries_in (node to))) refl
+      (moves from old to new object (leads_to from old (Some object) fits.0) (is_there to fits.1)
+      (entry_named new (entries_in (node to))) refl
       (subst (MayReplace inodes object) same fits.2))
     where
       same : entry_named new (entries_in (node_in (inodes.inode to))) ≡ entry_named new (entries_in (node to))
       same = ap (λ x. entry_named new (entries_in x)) (start.same to)
-  tallied (SetBytes file bytes) fits links = rewritten base node files.numbers inodes start file (node_with_bytes bytes) (kept_by_bytes bytes) refl (λ some. (_, refl))
-  tallied (SetAttr object attr) fits links = rewritten base node files.numbers inodes start object (node_with_attr attr) (kept_by_attr attr) refl (λ some. (_, refl))
-  tallied (SetMark directory opaque) fits links = rewritten base node files.numbers inodes start directory (node_with_mark opaque) (kept_by_mark opaque) refl (λ some. (_, refl))
+  tallied (SetBytes file bytes) fits links = rewritten base node files.numbers inodes start file (node_with_bytes bytes)
+      (same_entries_bytes bytes) refl (λ some. (_, refl))
+  tallied (SetAttr object attr) fits links = rewritten base node files.numbers inodes start object (node_with_attr attr)
+      (same_entries_attr attr) refl (λ some. (_, refl))
+  tallied (SetMark directory opaque) fits links = rewritten base node files.numbers inodes start directory (node_with_mark opaque)
+      (same_entries_mark opaque) refl (λ some. (_, refl))
   tallied (CopyUp object) fits links = start.tallied
 
   -- the root stays
@@ -137,7 +127,8 @@ module _ (base : ℕ → ℕ) (files : FileTree ℕ) (inodes : Inodes ℕ) (root
   root_of_inodes (Move from old to new object) = by (entry_named new (entries_in (node_in (inodes.inode to))))
     where
       by : (o : Option ℕ) → (without_replaced nat_eq
-          (with_changed nat_eq (with_changed nat_eq (with_changed nat_eq inodes from (Changes.node_without_entry old)) to (node_with_entry new object)) object (node_with_parent to)) o).root ≡ inodes.root
+          (with_changed nat_eq (with_changed nat_eq (with_changed nat_eq inodes from (Changes.node_without_entry old)) to
+          (node_with_entry new object)) object (node_with_parent to)) o).root ≡ inodes.root
       by None = refl
       by (Some gone) = refl
   root_of_inodes (SetBytes file bytes) = refl
@@ -151,9 +142,11 @@ module _ (base : ℕ → ℕ) (files : FileTree ℕ) (inodes : Inodes ℕ) (root
 -- The world
 
 pub world_in_use : (world : World ℕ) → IsWorld nat_eq world → AllInUse world
-world_in_use world is = subst AllInUse is.nothing_unused (what_is_left_is_in_use world (worlds_have_trees world is) (uppers_of_worlds_are_plain world is))
+world_in_use world is = subst AllInUse is.nothing_unused
+    (what_is_left_is_in_use world (worlds_have_trees world is) (uppers_of_worlds_are_plain world is))
 
-module _ (fresh : Fresh ℕ) (world : World ℕ) (location : Location ℕ) (inodes : Inodes ℕ) (change : Change ℕ) (is : IsChange world location inodes change) where
+module _ (fresh : Fresh ℕ) (world : World ℕ) (location : Location ℕ) (inodes : Inodes ℕ) (change : Change ℕ)
+    (is : IsChange world location inodes change) where
   abbrev pub number : ℕ
   number = filesystem_of world location
 
@@ -181,7 +174,8 @@ module _ (fresh : Fresh ℕ) (world : World ℕ) (location : Location ℕ) (inod
   pub start : IsStart (base_of world old) old.files.tree.node old.files.numbers inodes
   start =
       counted_start world old inodes plain tree
-      (among_from_all (λ f. list_all (is_inode_used world f) f.files.numbers ≡ true) world.filesystems in_use.inodes old old_there) is.counted
+      (among_from_all (λ f. list_all (is_inode_used world f) f.files.numbers
+      ≡ true) world.filesystems in_use.inodes old old_there) is.counted
 
   pub new_tallied : IsTallied (base_of world old) files.tree.node files.numbers (changed nat_eq inodes change)
   new_tallied = tallied (base_of world old) old.files inodes is.counted.root start change is.fits is.links
@@ -212,26 +206,32 @@ module _ (fresh : Fresh ℕ) (world : World ℕ) (location : Location ℕ) (inod
   mounts_same : (after : World ℕ) → after ≡ done → filesystem_at nat_eq after location ≡ filesystem_numbered nat_eq after number
   mounts_same after e = subst (λ w. filesystem_at nat_eq w location ≡ filesystem_numbered nat_eq w number) (sym e) refl
 
-  only_files : after_change fresh world location change ≡ with_tree world number (filesystem_at nat_eq (after_change fresh world location change) location).files
-  only_files = subst (λ w. w ≡ with_tree world number (filesystem_at nat_eq w location).files) (sym after_is) (ap (λ f. with_tree world number f.files) (sym found))
+  only_files : after_change fresh world location change ≡ with_tree world number
+      (filesystem_at nat_eq (after_change fresh world location change) location).files
+  only_files = subst (λ w. w ≡ with_tree world number (filesystem_at nat_eq w location).files) (sym after_is)
+      (ap (λ f. with_tree world number f.files) (sym found))
 
   pub counted_then : IsCounted done (with_files old left) (changed nat_eq inodes change)
   counted_then =
       Swept.counted_done world number files in_use plain there (changed nat_eq inodes change)
-      (root_is (base_of world old) old.files inodes is.counted.root start change) (root_of_files (base_of world old) old.files inodes is.counted.root start change) new_tallied
+      (root_is (base_of world old) old.files inodes is.counted.root start change)
+      (root_of_files (base_of world old) old.files inodes is.counted.root start change) new_tallied
 
   pub left_times : (n : ℕ) → times_in n left.numbers ≡ cond (is_some ((changed nat_eq inodes change).inode n)) 1 0
   left_times =
       Swept.times_left world number files in_use plain there (changed nat_eq inodes change)
-      (root_is (base_of world old) old.files inodes is.counted.root start change) (root_of_files (base_of world old) old.files inodes is.counted.root start change) new_tallied
+      (root_is (base_of world old) old.files inodes is.counted.root start change)
+      (root_of_files (base_of world old) old.files inodes is.counted.root start change) new_tallied
 
-  counts_follow : IsCounted (after_change fresh world location change) (filesystem_at nat_eq (after_change fresh world location change) location) (changed nat_eq inodes change)
+  counts_follow : IsCounted (after_change fresh world location change)
+      (filesystem_at nat_eq (after_change fresh world location change) location) (changed nat_eq inodes change)
   counts_follow =
       subst (λ w. IsCounted w (filesystem_at nat_eq w location) (changed nat_eq inodes change)) (sym after_is)
       (subst (λ f. IsCounted done f (changed nat_eq inodes change)) (sym found) counted_then)
 
   others : (other : ℕ) (counts : Inodes ℕ) → other ≢ number → IsCounted world (filesystem_numbered nat_eq world other) counts
-      → IsCounted (after_change fresh world location change) (filesystem_numbered nat_eq (after_change fresh world location change) other) counts
+      → IsCounted (after_change fresh world location change)
+      (filesystem_numbered nat_eq (after_change fresh world location change) other) counts
   others other counts apart counted =
       subst (λ w. IsCounted w (filesystem_numbered nat_eq w other) counts) (sym after_is)
       (Swept.others_stay world number files in_use plain there other counts apart counted)
@@ -243,4 +243,5 @@ pub counts_follow_changes : CountsFollowChanges
 counts_follow_changes fresh world location inodes change is = counts_follow fresh world location inodes change is
 
 pub other_counts_stay : OtherCountsStay
-other_counts_stay fresh world location inodes change is other counts apart counted = others fresh world location inodes change is other counts apart counted
+other_counts_stay fresh world location inodes change is other counts apart counted =
+    others fresh world location inodes change is other counts apart counted

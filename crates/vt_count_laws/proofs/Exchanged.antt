@@ -43,40 +43,49 @@ module _ (k : ℕ) (node : ℕ → Option (Node ℕ)) where
   all_pinned (first ∷ rest) uses inodes counted used = by (nat_eq k first.0) refl (all_pinned rest)
     where
       by : (b : Bool) → nat_eq k first.0 ≡ b
-          → ((some : ℕ → ℕ) (counts : Inodes ℕ) → Counts.IsCounted some node counts → ((inode : Inode) → Among inode rest → nat_eq k inode.0 ≡ true → 1 ≤ some inode.1)
+          → ((some : ℕ → ℕ) (counts : Inodes ℕ) → Counts.IsCounted some node counts
+          → ((inode : Inode) → Among inode rest → nat_eq k inode.0 ≡ true → 1 ≤ some inode.1)
           → Counts.IsCounted (λ n. some n + times (is_inode k n) rest) node (folded (pinned_if k) counts rest))
           → Counts.IsCounted (λ n. uses n + (cond (nat_eq k first.0 && nat_eq n first.1) 1 0 + times (is_inode k n) rest)) node
           (folded (pinned_if k) (cond b (Trees.pinned nat_eq inodes first.1) inodes) rest)
       by true e later =
           let inode = some_inode (inodes.inode first.1) (counted_some uses node inodes counted first.1 (used first (inl refl) e)) in
-          other_uses (λ n. (one_if n first.1 + uses n) + times (is_inode k n) rest) (λ n. uses n + (cond (nat_eq k first.0 && nat_eq n first.1) 1 0 + times (is_inode k n) rest)) node
+          other_uses (λ n. (one_if n first.1 + uses n) + times (is_inode k n) rest)
+          (λ n. uses n + (cond (nat_eq k first.0 && nat_eq n first.1) 1 0 + times (is_inode k n) rest)) node
           (folded (pinned_if k) (Trees.pinned nat_eq inodes first.1) rest)
-          (λ n. let here : cond (nat_eq k first.0 && nat_eq n first.1) 1 0 ≡ one_if n first.1 = ap (λ b. cond (b && nat_eq n first.1) 1 0) e in omega arith)
-          (later (λ n. one_if n first.1 + uses n) (Trees.pinned nat_eq inodes first.1) (counted_pinned uses node inodes counted first.1 inode.0 inode.1)
+          (λ n. let here : cond (nat_eq k first.0 && nat_eq n first.1) 1 0
+          ≡ one_if n first.1 = ap (λ b. cond (b && nat_eq n first.1) 1 0) e in omega arith)
+          (later (λ n. one_if n first.1 + uses n) (Trees.pinned nat_eq inodes first.1)
+          (counted_pinned uses node inodes counted first.1 inode.0 inode.1)
           (λ other m same. let some = used other (inr m) same in omega arith))
       by false e later =
-          other_uses (λ n. uses n + times (is_inode k n) rest) (λ n. uses n + (cond (nat_eq k first.0 && nat_eq n first.1) 1 0 + times (is_inode k n) rest)) node
+          other_uses (λ n. uses n + times (is_inode k n) rest)
+          (λ n. uses n + (cond (nat_eq k first.0 && nat_eq n first.1) 1 0 + times (is_inode k n) rest)) node
           (folded (pinned_if k) inodes rest)
-          (λ n. let here : one_when (nat_eq k first.0 && nat_eq n first.1) ≡ 0 = ap (λ b. one_when (b && nat_eq n first.1)) e in omega arith)
+          (λ n. let here : one_when (nat_eq k first.0 && nat_eq n first.1)
+          ≡ 0 = ap (λ b. one_when (b && nat_eq n first.1)) e in omega arith)
           (later uses inodes counted (λ other m same. used other (inr m) same))
 
   pub all_unpinned : (lost : List Inode) (uses left : ℕ → ℕ) (inodes : Inodes ℕ) → Counts.IsCounted uses node inodes
       → ((n : ℕ) → left n + times (is_inode k n) lost ≡ uses n) → ((n : ℕ) → left n ≡ 0 → targets_in (node n) ≡ [])
       → Counts.IsCounted left node (folded (unpinned_if k) inodes lost)
-  all_unpinned [] uses left inodes counted less empty = other_uses uses left node inodes (λ n. let e : left n + 0 ≡ uses n = less n in omega arith) counted
+  all_unpinned [] uses left inodes counted less empty = other_uses uses left node inodes
+      (λ n. let e : left n + 0 ≡ uses n = less n in omega arith) counted
   all_unpinned (first ∷ rest) uses left inodes counted less empty = by (nat_eq k first.0) refl (all_unpinned rest)
     where
       abbrev_left : ℕ → ℕ
       abbrev_left n = left n + times (is_inode k n) rest
 
       by : (b : Bool) → nat_eq k first.0 ≡ b
-          → ((some now : ℕ → ℕ) (counts : Inodes ℕ) → Counts.IsCounted some node counts → ((n : ℕ) → now n + times (is_inode k n) rest ≡ some n)
+          → ((some now : ℕ → ℕ) (counts : Inodes ℕ) → Counts.IsCounted some node counts
+          → ((n : ℕ) → now n + times (is_inode k n) rest ≡ some n)
           → ((n : ℕ) → now n ≡ 0 → targets_in (node n) ≡ []) → Counts.IsCounted now node (folded (unpinned_if k) counts rest))
           → Counts.IsCounted left node (folded (unpinned_if k) (cond b (Trees.unpinned nat_eq inodes first.1) inodes) rest)
       by true e later =
           later abbrev_left left (Trees.unpinned nat_eq inodes first.1)
           (unpinned_counts uses abbrev_left node inodes first.1 counted
-          (λ n. let here : cond (nat_eq k first.0 && nat_eq n first.1) 1 0 ≡ one_if n first.1 = ap (λ b. cond (b && nat_eq n first.1) 1 0) e in
+          (λ n. let here : cond (nat_eq k first.0 && nat_eq n first.1) 1 0
+          ≡ one_if n first.1 = ap (λ b. cond (b && nat_eq n first.1) 1 0) e in
           let all : left n + (cond (nat_eq k first.0 && nat_eq n first.1) 1 0 + times (is_inode k n) rest) ≡ uses n = less n in omega arith)
           (λ none. empty first.1 (let all : left first.1 + times (is_inode k first.1) rest ≡ 0 = none in omega arith)))
           (λ n. refl) empty
@@ -105,26 +114,33 @@ module _ (k : ℕ) (node : ℕ → Option (Node ℕ)) where
 -- The world
 
 -- a filesystem among others that are changed one by one, with their numbers
-pub found_mapped : (step : Filesystem ℕ → Filesystem ℕ) → ((f : Filesystem ℕ) → (step f).number ≡ f.number) → (filesystems : List (Filesystem ℕ)) (k : ℕ)
+pub found_mapped : (step : Filesystem ℕ → Filesystem ℕ) → ((f : Filesystem ℕ) → (step f).number ≡ f.number)
+    → (filesystems : List (Filesystem ℕ)) (k : ℕ)
     → is_among nat_eq k (map (λ f. f.number) filesystems) ≡ true
-    → unwrap_or (find (λ f. nat_eq k f.number) (map step filesystems)) (no_filesystem k) ≡ step (unwrap_or (find (λ f. nat_eq k f.number) filesystems) (no_filesystem k))
+    → unwrap_or (find (λ f. nat_eq k f.number) (map step filesystems)) (no_filesystem k)
+    ≡ step (unwrap_or (find (λ f. nat_eq k f.number) filesystems) (no_filesystem k))
 found_mapped step same [] k there = absurd (true≢false (sym there))
 found_mapped step same (first ∷ rest) k there =
-    ap (λ n. unwrap_or (cond (nat_eq k n) (Some (step first)) (find (λ f. nat_eq k f.number) (map step rest))) (no_filesystem k)) (same first)
+    ap (λ n. unwrap_or (cond (nat_eq k n) (Some (step first)) (find (λ f. nat_eq k f.number) (map step rest))) (no_filesystem k))
+    (same first)
     ∙ by (nat_eq k first.number) there (found_mapped step same rest k)
   where
     by : (b : Bool) → (b || is_among nat_eq k (map (λ f. f.number) rest)) ≡ true
-        → (is_among nat_eq k (map (λ f. f.number) rest) ≡ true → unwrap_or (find (λ f. nat_eq k f.number) (map step rest)) (no_filesystem k) ≡ step (unwrap_or (find (λ f. nat_eq k f.number) rest) (no_filesystem k)))
-        → unwrap_or (cond b (Some (step first)) (find (λ f. nat_eq k f.number) (map step rest))) (no_filesystem k) ≡ step (unwrap_or (cond b (Some first) (find (λ f. nat_eq k f.number) rest)) (no_filesystem k))
+        → (is_among nat_eq k (map (λ f. f.number) rest) ≡ true → unwrap_or (find (λ f. nat_eq k f.number) (map step rest))
+        (no_filesystem k) ≡ step (unwrap_or (find (λ f. nat_eq k f.number) rest) (no_filesystem k)))
+        → unwrap_or (cond b (Some (step first)) (find (λ f. nat_eq k f.number) (map step rest))) (no_filesystem k)
+        ≡ step (unwrap_or (cond b (Some first) (find (λ f. nat_eq k f.number) rest)) (no_filesystem k))
     by true h later = refl
     by false h later = later h
 
-pub numbers_mapped : (step : Filesystem ℕ → Filesystem ℕ) → ((f : Filesystem ℕ) → (step f).number ≡ f.number) → (filesystems : List (Filesystem ℕ)) → map (λ f. f.number) (map step filesystems) ≡ map (λ f. f.number) filesystems
+pub numbers_mapped : (step : Filesystem ℕ → Filesystem ℕ) → ((f : Filesystem ℕ) → (step f).number ≡ f.number)
+    → (filesystems : List (Filesystem ℕ)) → map (λ f. f.number) (map step filesystems) ≡ map (λ f. f.number) filesystems
 numbers_mapped step same [] = refl
 numbers_mapped step same (first ∷ rest) = λ i. same first i ∷ numbers_mapped step same rest i
 
 -- what is left of a filesystem after some inodes were looked at
-pub record IsLeft (k : ℕ) (world : World ℕ) (filesystem : Filesystem ℕ) (lost : List Inode) (after : World ℕ) (left : Filesystem ℕ) : Type 0 where
+pub record IsLeft (k : ℕ) (world : World ℕ) (filesystem : Filesystem ℕ) (lost : List Inode) (after : World ℕ)
+    (left : Filesystem ℕ) : Type 0 where
   pub uses : (n : ℕ) → inode_uses after left n ≡ inode_uses world filesystem n
   pub used : (n : ℕ) → 1 ≤ inode_uses world filesystem n → left.files.tree.node n ≡ filesystem.files.tree.node n
   pub gone : (n : ℕ) → inode_uses world filesystem n ≡ 0 → is_inode_among k n lost ≡ true → left.files.tree.node n ≡ None
@@ -139,9 +155,11 @@ abbrev pub StandOnce : Filesystem ℕ → Type 0
 StandOnce filesystem = (n : ℕ) → times_in n filesystem.files.numbers ≡ cond (is_some (filesystem.files.tree.node n)) 1 0
 
 -- an inode is used or counted zero
-used_or_zero : (world : World ℕ) (filesystem : Filesystem ℕ) (n : ℕ) (b : Bool) → is_inode_used world filesystem n ≡ b → b ≡ false → inode_uses world filesystem n ≡ 0
+used_or_zero : (world : World ℕ) (filesystem : Filesystem ℕ) (n : ℕ) (b : Bool) → is_inode_used world filesystem n ≡ b → b ≡ false
+    → inode_uses world filesystem n ≡ 0
 used_or_zero world filesystem n b e none =
-    times_is n (used_in nat_eq world filesystem) ∙ Rattle.vt_count_laws.proofs.Listed.none_times n (used_in nat_eq world filesystem) (e ∙ none)
+    times_is n (used_in nat_eq world filesystem) ∙ Rattle.vt_count_laws.proofs.Listed.none_times n (used_in nat_eq world filesystem)
+    (e ∙ none)
 
 -- One inode is looked at
 module _ (world : World ℕ) (inode : Inode) (plain : LettingGo.IsPlain world) where
@@ -205,21 +223,26 @@ module _ (world : World ℕ) (inode : Inode) (plain : LettingGo.IsPlain world) w
             stays : (u : Bool) → is_inode_used world f inode.1 ≡ u → nat_eq f.number inode.0 ≡ true → n ≡ inode.1 → ⊥
             stays true u here it =
                 let some = among_times inode.1 (used_in nat_eq world f) u in
-                let all : times (nat_eq inode.1) (used_in nat_eq world f) ≡ times_in inode.1 (used_in nat_eq world f) = times_is inode.1 (used_in nat_eq world f) in
-                let none : times (nat_eq inode.1) (used_in nat_eq world f) ≡ 0 = ap (λ m. times (nat_eq m) (used_in nat_eq world f)) (sym it) ∙ zero_uses in
+                let all : times (nat_eq inode.1) (used_in nat_eq world f)
+                ≡ times_in inode.1 (used_in nat_eq world f) = times_is inode.1 (used_in nat_eq world f) in
+                let none : times (nat_eq inode.1) (used_in nat_eq world f)
+                ≡ 0 = ap (λ m. times (nat_eq m) (used_in nat_eq world f)) (sym it) ∙ zero_uses in
                 absurd (omega arith)
             stays false u here it = true≢false ((λ i. sym here i && not (sym u i)) ∙ e)
 
     -- it goes
     left_without : nat_eq k inode.0 ≡ true → inode_uses world f inode.1 ≡ 0 → IsLeft k world f (inode ∷ []) next gone_f
     left_without here zero_uses = record {
-      uses = λ n. plain_uses_are next plain_next gone_f n ∙ ap (λ l. base_of world f n + times_in n l) named ∙ sym (plain_uses_are world plain f n);
+      uses = λ n. plain_uses_are next plain_next gone_f n ∙ ap (λ l. base_of world f n + times_in n l) named
+          ∙ sym (plain_uses_are world plain f n);
       used = λ n some. ⊎_elim
           (λ t. absurd (let none : inode_uses world f n ≡ 0 = ap (inode_uses world f) t.1 ∙ zero_uses in omega arith))
           (λ t. ap (λ b. cond b None (f.files.tree.node n)) t.0)
           (eqb_tells n inode.1);
-      gone = λ n none among. ap (λ b. cond b None (f.files.tree.node n)) (and_parts (nat_eq k inode.0) (nat_eq n inode.1) (sym (among_one n) ∙ among)).1;
-      other = λ n apart. ap (λ b. cond b None (f.files.tree.node n)) (sym (ap (λ b. b && nat_eq n inode.1) here) ∙ sym (among_one n) ∙ apart);
+      gone = λ n none among. ap (λ b. cond b None (f.files.tree.node n))
+          (and_parts (nat_eq k inode.0) (nat_eq n inode.1) (sym (among_one n) ∙ among)).1;
+      other = λ n apart. ap (λ b. cond b None (f.files.tree.node n))
+          (sym (ap (λ b. b && nat_eq n inode.1) here) ∙ sym (among_one n) ∙ apart);
       root = refl;
       once = λ n. times_filter (λ m. not (nat_eq m inode.1)) n f.files.numbers ∙ by n (nat_eq n inode.1);
     }
@@ -238,22 +261,27 @@ module _ (world : World ℕ) (inode : Inode) (plain : LettingGo.IsPlain world) w
 
         named : named_in (without_inode inode.1 f.files) ≡ named_in f.files
         named =
-            flat_map_alike (λ d. targets_in (cond (nat_eq d inode.1) None (f.files.tree.node d))) (λ d. targets_in (f.files.tree.node d)) (filter (λ d. not (nat_eq d inode.1)) f.files.numbers)
+            flat_map_alike (λ d. targets_in (cond (nat_eq d inode.1) None (f.files.tree.node d))) (λ d. targets_in (f.files.tree.node d))
+            (filter (λ d. not (nat_eq d inode.1)) f.files.numbers)
             (λ d m. bare d (nat_eq d inode.1) refl)
-            ∙ flat_map-filter (λ d. not (nat_eq d inode.1)) (λ d. targets_in (f.files.tree.node d)) f.files.numbers (λ d h. skipped d (nat_eq d inode.1) refl h)
+            ∙ flat_map-filter (λ d. not (nat_eq d inode.1)) (λ d. targets_in (f.files.tree.node d)) f.files.numbers
+            (λ d h. skipped d (nat_eq d inode.1) refl h)
 
     one_left : IsLeft k world f (inode ∷ []) next (step f)
     one_left = by (nat_eq f.number inode.0) refl (is_inode_used world f inode.1) refl
       where
-        by : (a : Bool) → nat_eq f.number inode.0 ≡ a → (u : Bool) → is_inode_used world f inode.1 ≡ u → IsLeft k world f (inode ∷ []) next (cond (nat_eq f.number inode.0 && not (is_inode_used world f inode.1)) gone_f f)
+        by : (a : Bool) → nat_eq f.number inode.0 ≡ a → (u : Bool) → is_inode_used world f inode.1 ≡ u
+            → IsLeft k world f (inode ∷ []) next (cond (nat_eq f.number inode.0 && not (is_inode_used world f inode.1)) gone_f f)
         by true e true u =
             let not_so : (nat_eq f.number inode.0 && not (is_inode_used world f inode.1)) ≡ false = (λ i. e i && not (u i)) in
             subst (λ b. IsLeft k world f (inode ∷ []) next (cond b gone_f f)) (sym not_so) (left_same not_so)
         by true e false u =
             let so : (nat_eq f.number inode.0 && not (is_inode_used world f inode.1)) ≡ true = (λ i. e i && not (u i)) in
-            subst (λ b. IsLeft k world f (inode ∷ []) next (cond b gone_f f)) (sym so) (left_without (ap (λ m. nat_eq m inode.0) (sym is) ∙ e) (used_or_zero world f inode.1 (is_inode_used world f inode.1) refl u))
+            subst (λ b. IsLeft k world f (inode ∷ []) next (cond b gone_f f)) (sym so)
+            (left_without (ap (λ m. nat_eq m inode.0) (sym is) ∙ e) (used_or_zero world f inode.1 (is_inode_used world f inode.1) refl u))
         by false e u h =
-            let not_so : (nat_eq f.number inode.0 && not (is_inode_used world f inode.1)) ≡ false = ap (λ b. b && not (is_inode_used world f inode.1)) e in
+            let not_so : (nat_eq f.number inode.0 && not (is_inode_used world f inode.1))
+            ≡ false = ap (λ b. b && not (is_inode_used world f inode.1)) e in
             subst (λ b. IsLeft k world f (inode ∷ []) next (cond b gone_f f)) (sym not_so) (left_same not_so)
 
 -- and then others
@@ -261,9 +289,11 @@ some_or_zero : (n : ℕ) → (n ≡ 0) ⊎ (1 ≤ n)
 some_or_zero Rattle.std.proofs.Common.zero = inl refl
 some_or_zero (Rattle.std.proofs.Common.suc n) = inr (omega arith)
 
-all_left : (k : ℕ) (world : World ℕ) (lost : List Inode) → LettingGo.IsPlain world → is_among nat_eq k (map (λ f. f.number) world.filesystems) ≡ true
+all_left : (k : ℕ) (world : World ℕ) (lost : List Inode) → LettingGo.IsPlain world
+    → is_among nat_eq k (map (λ f. f.number) world.filesystems) ≡ true
     → EmptyUnused world (filesystem_numbered nat_eq world k) → StandOnce (filesystem_numbered nat_eq world k)
-    → IsLeft k world (filesystem_numbered nat_eq world k) lost (let_go_inodes world lost) (filesystem_numbered nat_eq (let_go_inodes world lost) k)
+    → IsLeft k world (filesystem_numbered nat_eq world k) lost (let_go_inodes world lost)
+    (filesystem_numbered nat_eq (let_go_inodes world lost) k)
 all_left k world [] plain there empty stand = record {
   uses = λ n. refl;
   used = λ n some. refl;
@@ -285,7 +315,8 @@ all_left k world (inode ∷ rest) plain there empty stand =
 
     first_left : IsLeft k world f (inode ∷ []) (let_go_inode world inode) f1
     first_left =
-        subst (IsLeft k world f (inode ∷ []) (let_go_inode world inode)) (sym (found_mapped (step world inode plain) (step_number world inode plain) world.filesystems k there))
+        subst (IsLeft k world f (inode ∷ []) (let_go_inode world inode))
+        (sym (found_mapped (step world inode plain) (step_number world inode plain) world.filesystems k there))
         (one_left world inode plain k f (found_number world.filesystems k) empty stand)
 
     among_one : (n : ℕ) (b : Bool) → is_inode k n inode ≡ b → is_inode_among k n (inode ∷ []) ≡ b
@@ -299,8 +330,10 @@ all_left k world (inode ∷ rest) plain there empty stand =
         by true e = ap targets_in (first_left.gone n none (among_one n true e))
         by false e = ap targets_in (first_left.other n (among_one n false e)) ∙ empty n none
 
-    then_left : IsLeft k (let_go_inode world inode) f1 rest (let_go_inodes (let_go_inode world inode) rest) (filesystem_numbered nat_eq (let_go_inodes (let_go_inode world inode) rest) k)
-        → IsLeft k world f (inode ∷ rest) (let_go_inodes (let_go_inode world inode) rest) (filesystem_numbered nat_eq (let_go_inodes (let_go_inode world inode) rest) k)
+    then_left : IsLeft k (let_go_inode world inode) f1 rest (let_go_inodes (let_go_inode world inode) rest)
+        (filesystem_numbered nat_eq (let_go_inodes (let_go_inode world inode) rest) k)
+        → IsLeft k world f (inode ∷ rest) (let_go_inodes (let_go_inode world inode) rest)
+        (filesystem_numbered nat_eq (let_go_inodes (let_go_inode world inode) rest) k)
     then_left later = record {
       uses = λ n. later.uses n ∙ first_left.uses n;
       used = λ n some. later.used n (subst (λ u. 1 ≤ u) (sym (first_left.uses n)) some) ∙ first_left.used n some;
@@ -310,7 +343,8 @@ all_left k world (inode ∷ rest) plain there empty stand =
       once = later.once;
     }
       where
-        by : (n : ℕ) → inode_uses world f n ≡ 0 → (a : Bool) → is_inode k n inode ≡ a → (b : Bool) → is_inode_among k n rest ≡ b → (is_inode k n inode || is_inode_among k n rest) ≡ true
+        by : (n : ℕ) → inode_uses world f n ≡ 0 → (a : Bool) → is_inode k n inode ≡ a → (b : Bool) → is_inode_among k n rest ≡ b
+            → (is_inode k n inode || is_inode_among k n rest) ≡ true
             → (filesystem_numbered nat_eq (let_go_inodes (let_go_inode world inode) rest) k).files.tree.node n ≡ None
         by n none a e true h both = later.gone n (first_left.uses n ∙ none) h
         by n none true e false h both = later.other n h ∙ first_left.gone n none (among_one n true e)
@@ -323,8 +357,10 @@ all_left k world (inode ∷ rest) plain there empty stand =
 
 -- Together
 
-module _ (world after : World ℕ) (gained lost : List Inode) (k : ℕ) (inodes : Inodes ℕ) (trees : HasTrees world) (in_use : InodesInUse world) (plain : IsPlain after)
-    (exchange : Exchanges gained lost k world after) (counted : IsCounted world (filesystem_numbered nat_eq world k) inodes) (gains : AreThere k inodes gained) where
+module _ (world after : World ℕ) (gained lost : List Inode) (k : ℕ) (inodes : Inodes ℕ) (trees : HasTrees world)
+    (in_use : InodesInUse world) (plain : IsPlain after)
+    (exchange : Exchanges gained lost k world after) (counted : IsCounted world (filesystem_numbered nat_eq world k) inodes)
+    (gains : AreThere k inodes gained) where
   abbrev pub f : Filesystem ℕ
   f = filesystem_numbered nat_eq world k
 
@@ -338,7 +374,8 @@ module _ (world after : World ℕ) (gained lost : List Inode) (k : ℕ) (inodes 
   tree = among_from_all (λ g. IsListedTree g.files) world.filesystems trees f (found_is world.filesystems k there)
 
   start : Counts.IsCounted (inode_uses world f) f.files.tree.node inodes
-  start = start_counts world f inodes tree (among_from_all (λ g. list_all (is_inode_used world g) g.files.numbers ≡ true) world.filesystems in_use f (found_is world.filesystems k there)) counted
+  start = start_counts world f inodes tree (among_from_all (λ g. list_all (is_inode_used world g) g.files.numbers
+      ≡ true) world.filesystems in_use f (found_is world.filesystems k there)) counted
 
   abbrev pub used_then : ℕ → ℕ
   used_then = inode_uses after f
@@ -358,14 +395,16 @@ module _ (world after : World ℕ) (gained lost : List Inode) (k : ℕ) (inodes 
 
   pub counted_then : Counts.IsCounted used_then f.files.tree.node (exchanged k gained lost inodes)
   counted_then =
-      all_unpinned k f.files.tree.node lost (λ n. inode_uses world f n + times (is_inode k n) gained) used_then (folded (pinned_if k) inodes gained)
+      all_unpinned k f.files.tree.node lost (λ n. inode_uses world f n + times (is_inode k n) gained) used_then
+      (folded (pinned_if k) inodes gained)
       (all_pinned k f.files.tree.node gained (inode_uses world f) inodes start
       (λ inode m here. let some = start.in_use inode.1 (is_there inode m here) in let e = start.uses_are inode.1 in omega arith))
       (λ n. sym (exchange_uses n)) empty_then
     where
       is_there : (inode : Inode) → Among inode gained → nat_eq k inode.0 ≡ true → is_some (inodes.inode inode.1) ≡ true
       is_there inode m here =
-          sym (ap (λ b. not b || is_some (inodes.inode inode.1)) here) ∙ passes (λ i. not (nat_eq k i.0) || is_some (inodes.inode i.1)) gained gains inode m
+          sym (ap (λ b. not b || is_some (inodes.inode inode.1)) here)
+          ∙ passes (λ i. not (nat_eq k i.0) || is_some (inodes.inode i.1)) gained gains inode m
 
   abbrev last : World ℕ
   last = let_go_inodes after lost
@@ -404,14 +443,18 @@ module _ (world after : World ℕ) (gained lost : List Inode) (k : ℕ) (inodes 
       never true e none = absurd (let some = start.in_use n e in let same = start.uses_are n in omega arith)
       never false e none = sym (counted.node n) ∙ missing (inodes.inode n) e
 
-      by : (b : Bool) → is_some ((exchanged k gained lost inodes).inode n) ≡ b → node_in ((exchanged k gained lost inodes).inode n) ≡ f_last.files.tree.node n
-      by true e = sym (counted_then.kept n e) ∙ sym (left.used n (let some = counted_then.in_use n e in let same = counted_then.uses_are n in omega arith))
+      by : (b : Bool) → is_some ((exchanged k gained lost inodes).inode n) ≡ b
+          → node_in ((exchanged k gained lost inodes).inode n) ≡ f_last.files.tree.node n
+      by true e = sym (counted_then.kept n e) ∙ sym (left.used n
+          (let some = counted_then.in_use n e in let same = counted_then.uses_are n in omega arith))
       by false e =
-          missing ((exchanged k gained lost inodes).inode n) e ∙ sym (gone (is_inode_among k n lost) refl (sym (counted_then.uses_are n) ∙ unused ((exchanged k gained lost inodes).inode n) e))
+          missing ((exchanged k gained lost inodes).inode n) e
+          ∙ sym (gone (is_inode_among k n lost) refl (sym (counted_then.uses_are n) ∙ unused ((exchanged k gained lost inodes).inode n) e))
         where
           gone : (b : Bool) → is_inode_among k n lost ≡ b → used_then n ≡ 0 → f_last.files.tree.node n ≡ None
           gone true h none = left.gone n none h
-          gone false h none = left.other n h ∙ never (is_some (inodes.inode n)) refl (let all = exchange_uses n in let nothing = not_lost lost h in omega arith)
+          gone false h none = left.other n h ∙ never (is_some (inodes.inode n)) refl
+              (let all = exchange_uses n in let nothing = not_lost lost h in omega arith)
 
   there_last : (n : ℕ) → is_some (f_last.files.tree.node n) ≡ is_some ((exchanged k gained lost inodes).inode n)
   there_last n = sym (ap is_some (node_last n)) ∙ by ((exchanged k gained lost inodes).inode n)
@@ -422,10 +465,12 @@ module _ (world after : World ℕ) (gained lost : List Inode) (k : ℕ) (inodes 
 
   counted_last : IsCounted last f_last (exchanged k gained lost inodes)
   counted_last = record {
-    root = root_unpinned k f.files.tree.node lost (folded (pinned_if k) inodes gained) ∙ root_pinned k f.files.tree.node gained inodes ∙ counted.root ∙ sym left.root;
+    root = root_unpinned k f.files.tree.node lost (folded (pinned_if k) inodes gained) ∙ root_pinned k f.files.tree.node gained inodes
+        ∙ counted.root ∙ sym left.root;
     node = node_last;
     uses = λ n. counted_then.uses_are n ∙ sym (left.uses n);
-    count = counted_then.as_many ∙ as_long counted_then.list f_last.files.numbers (λ n. counted_then.listed n ∙ ap (λ b. cond b 1 0) (sym (there_last n)) ∙ sym (left.once n));
+    count = counted_then.as_many ∙ as_long counted_then.list f_last.files.numbers
+        (λ n. counted_then.listed n ∙ ap (λ b. cond b 1 0) (sym (there_last n)) ∙ sym (left.once n));
     once = no_repeats f_last.files.numbers (λ n. few n (is_some (f_last.files.tree.node n)) (left.once n));
   }
     where

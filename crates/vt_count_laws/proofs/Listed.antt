@@ -1,5 +1,5 @@
 -- Numbers in lists: how often each stands there.
-use Rattle.std.proofs.Common.{◌≡◌, refl, sym, ap, subst, ◌∙◌, ⊎_elim, ℕ, ◌+◌, ◌≤◌, nat_eq, eq-eqb, Bool, true, false, cond, ◌||◌, List, [], ◌∷◌, arith}
+use Rattle.std.proofs.Common.{◌≡◌, eqb-true, true≢false, refl, sym, ap, subst, ◌∙◌, ⊎_elim, ℕ, ◌+◌, ◌≤◌, nat_eq, eq-eqb, Bool, true, false, cond, ◌||◌, List, [], ◌∷◌, arith}
 use Rattle.std.specs.List.Sorted.{IsPermutation}
 use Rattle.std.proofs.lemmas.Bool.{or_parts}
 use Rattle.std.proofs.lemmas.Bool.Decides.{eqb_tells}
@@ -10,6 +10,15 @@ use Rattle.vt_one_text.specs.OneTree.{times_in}
 use Rattle.vt_one_text.proofs.OneTreeEntries.{one_if}
 use Rattle.vt_one_text.proofs.OneTreeTrees.{among_times, removed, times_among, times_removed}
 use Rattle.vt_count_laws.specs.Numbers.{SameNumbersArePermuted}
+
+-- a comparison the other way round
+pub turned : (a b : ℕ) (c : Bool) → nat_eq a b ≡ c → nat_eq b a ≡ c
+turned a b true e = eq-eqb b a (sym (eqb-true a b e))
+turned a b false e = by (nat_eq b a) refl
+  where
+    by : (d : Bool) → nat_eq b a ≡ d → d ≡ false
+    by false f = refl
+    by true f = absurd (true≢false (sym (eq-eqb a b (sym (eqb-true b a f))) ∙ e))
 
 pub times_is : (n : ℕ) (list : List ℕ) → times (nat_eq n) list ≡ times_in n list
 times_is n [] = refl
@@ -61,7 +70,8 @@ to_front : (n : ℕ) (list : List ℕ) → 1 ≤ times_in n list → IsPermutati
 to_front n [] some = absurd (omega arith)
 to_front n (first ∷ rest) some =
     ⊎_elim
-    (λ t. subst (λ l. IsPermutation l (first ∷ rest)) (sym ((λ i. t.1 i ∷ cond (t.0 i) rest (first ∷ removed n rest)))) (IsPermutation-refl (first ∷ rest)))
+    (λ t. subst (λ l. IsPermutation l (first ∷ rest)) (sym ((λ i. t.1 i ∷ cond (t.0 i) rest (first ∷ removed n rest))))
+    (IsPermutation-refl (first ∷ rest)))
     (λ t. subst (λ b. IsPermutation (n ∷ cond b rest (first ∷ removed n rest)) (first ∷ rest)) (sym t.0)
     (IsPermutation-trans (n ∷ first ∷ removed n rest) (first ∷ n ∷ removed n rest) (first ∷ rest)
     (IsPermutation-sym (first ∷ n ∷ removed n rest) (n ∷ first ∷ removed n rest) (IsPermutation-middle (first ∷ []) n (removed n rest)))

@@ -64,7 +64,8 @@ module _ (tree : Tree ℕ) (is : IsTree tree) (own : HasOwnParents tree) (top : 
   alike : (most d : ℕ) → among (chain most above d) ≡ among (chain most named d)
   alike zero d = refl
   alike (suc most) d =
-      at (nat_eq d tree.root) refl (has_entry_to nat_eq tree (parent_in d (tree.node d)) d) refl (alike most (parent_in d (tree.node d))) (λ self. repeats d self most)
+      at (nat_eq d tree.root) refl (has_entry_to nat_eq tree (parent_in d (tree.node d)) d) refl (alike most (parent_in d (tree.node d)))
+      (λ self. repeats d self most)
     where
       at : (r : Bool) → nat_eq d tree.root ≡ r → (e : Bool) → has_entry_to nat_eq tree (parent_in d (tree.node d)) d ≡ e
           → among (chain most above (parent_in d (tree.node d))) ≡ among (chain most named (parent_in d (tree.node d)))
@@ -81,5 +82,6 @@ module _ (tree : Tree ℕ) (is : IsTree tree) (own : HasOwnParents tree) (top : 
 
 pub directories_lie_alike : DirectoriesLieAlike
 directories_lie_alike world filesystem inodes top directory is own counted =
-    (λ i. is_among nat_eq top (chain (counted.count i) (λ d. cond (nat_eq d (counted.root i)) None (Some (parent_in d (counted.node d i)))) directory))
+    (λ i. is_among nat_eq top (chain (counted.count i)
+    (λ d. cond (nat_eq d (counted.root i)) None (Some (parent_in d (counted.node d i)))) directory))
     ∙ alike filesystem.files.tree is own top (length filesystem.files.numbers) directory

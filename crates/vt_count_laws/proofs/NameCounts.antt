@@ -21,7 +21,8 @@ use Rattle.vt_one_text.proofs.OneTreeTrees.{times_append}
 use Rattle.vt_count_laws.proofs.TreeCounts.{IsStart, IsTallied, added_targets, apart_one, changed_counts, changed_same, once_directory, other_uses, own_one, there_directory, unpinned_counts, uses_of}
 
 -- what a new object holds
-new_entries : (directory : ℕ) (content : Content ℕ) → ((content ≡ new_directory directory) ⊎ (is_directory (kind_of content) ≡ false)) → entries_of content ≡ []
+new_entries : (directory : ℕ) (content : Content ℕ) → ((content ≡ new_directory directory) ⊎ (is_directory (kind_of content) ≡ false))
+    → entries_of content ≡ []
 new_entries directory (Directory parent entries opaque) (inl e) = ap entries_of e
 new_entries directory (Directory parent entries opaque) (inr e) = cc
 new_entries directory (Regular bytes) e = refl
@@ -29,7 +30,8 @@ new_entries directory (Symlink text) e = refl
 new_entries directory Whiteout e = refl
 
 -- what has an entry is a directory
-pub directory_with : (name : List ℕ) (object : ℕ) (o : Option (Node ℕ)) → entry_named name (entries_in o) ≡ Some object → is_directory_node o ≡ true
+pub directory_with : (name : List ℕ) (object : ℕ) (o : Option (Node ℕ)) → entry_named name (entries_in o) ≡ Some object
+    → is_directory_node o ≡ true
 directory_with name object None e = cc
 directory_with name object (Some node) e = by node.content e
   where
@@ -42,7 +44,8 @@ directory_with name object (Some node) e = by node.content e
 -- A new inode
 module _ (base : ℕ → ℕ) (node : ℕ → Option (Node ℕ)) (numbers : List ℕ) (inodes : Inodes ℕ) (start : IsStart base node numbers inodes)
     (directory : ℕ) (name : List ℕ) (number : ℕ) (new : Node ℕ) (is : is_directory_node (node directory) ≡ true)
-    (free : entry_named name (entries_in (node directory)) ≡ None) (vacant : inodes.inode number ≡ None) (fits : IsNewIn directory new) where
+    (free : entry_named name (entries_in (node directory)) ≡ None) (vacant : inodes.inode number ≡ None)
+    (fits : IsNewIn directory new) where
   abbrev made_uses : ℕ → ℕ
   made_uses = uses_of base node numbers
 
@@ -62,11 +65,13 @@ module _ (base : ℕ → ℕ) (node : ℕ → Option (Node ℕ)) (numbers : List
   no_node = sym (start.same number) ∙ ap node_in vacant
 
   apart : number ≢ directory
-  apart e = true≢false (sym (there_directory base node numbers inodes start directory is) ∙ ap (λ n. is_some (node n)) (sym e) ∙ ap is_some no_node)
+  apart e = true≢false (sym (there_directory base node numbers inodes start directory is) ∙ ap (λ n. is_some (node n)) (sym e)
+      ∙ ap is_some no_node)
 
   pub either_way : (n : ℕ) → node_made n ≡ node_made_there n
   either_way n =
-      sym (ap (λ b. cond (nat_eq n directory) (node_with_entry name number (cond b (Some new) (node directory))) (cond (nat_eq n number) (Some new) (node n))) (ne_eqb directory number (λ e. apart (sym e)))
+      sym (ap (λ b. cond (nat_eq n directory) (node_with_entry name number (cond b (Some new) (node directory)))
+      (cond (nat_eq n number) (Some new) (node n))) (ne_eqb directory number (λ e. apart (sym e)))
       ∙ ⊎_elim
       (λ t. ap (λ b. cond (nat_eq n directory) (node_with_entry name number (node directory)) (cond b (Some new) (node n))) t.0
       ∙ ap (λ b. cond b (node_with_entry name number (node directory)) (Some new)) (ne_eqb n directory (λ e. apart (sym t.1 ∙ e)))
@@ -82,38 +87,48 @@ module _ (base : ℕ → ℕ) (node : ℕ → Option (Node ℕ)) (numbers : List
   no_number = start.tallied.once number ∙ ap (λ o. cond (is_some o) 1 0) no_node
 
   counted_on : Counts.IsCounted made_uses node_on inodes_on
-  counted_on = changed_counts made_uses node inodes directory (node_with_entry name number) start.tallied.counted (start.same directory) refl (λ some. (_, refl))
+  counted_on = changed_counts made_uses node inodes directory (node_with_entry name number) start.tallied.counted
+      (start.same directory) refl (λ some. (_, refl))
 
   vacant_on : inodes_on.inode number ≡ None
-  vacant_on = ap (λ b. cond b (inode_with_node (node_with_entry name number (node_in (inodes.inode directory))) (inodes.inode directory)) (inodes.inode number)) (ne_eqb number directory apart) ∙ vacant
+  vacant_on = ap (λ b. cond b (inode_with_node (node_with_entry name number (node_in (inodes.inode directory))) (inodes.inode directory))
+      (inodes.inode number)) (ne_eqb number directory apart) ∙ vacant
 
   more : (n : ℕ) → one_if n number + made_uses n ≡ uses_of base node_made (number ∷ numbers) n
   more n =
-      let names = named_changed n node directory (node_with_entry name number (node directory)) numbers (once_directory base node numbers inodes start directory is) in
+      let names = named_changed n node directory (node_with_entry name number (node directory)) numbers
+      (once_directory base node numbers inodes start directory is) in
       let put = added_targets base node numbers inodes start directory name number is free n in
-      let all : times_in n (named_by node_made (number ∷ numbers)) ≡ times_in n (targets_in (node_made number)) + times_in n (named_by node_made numbers) = times_append n (targets_in (node_made number)) (named_by node_made numbers) in
-      let none : times_in n (targets_in (node_made number)) ≡ 0 = ap (λ o. times_in n (targets_in o)) made_new ∙ ap (λ e. times_in n (targets e)) (new_entries directory new.content fits) in
-      let rest : times_in n (named_by node_made numbers) ≡ times_in n (named_by node_on numbers) = ap (times_in n) (named_apart node_on number (Some new) numbers no_number) in
+      let all : times_in n (named_by node_made (number ∷ numbers)) ≡ times_in n (targets_in (node_made number)) + times_in n
+      (named_by node_made numbers) = times_append n (targets_in (node_made number)) (named_by node_made numbers) in
+      let none : times_in n (targets_in (node_made number)) ≡ 0 = ap (λ o. times_in n (targets_in o)) made_new
+      ∙ ap (λ e. times_in n (targets e)) (new_entries directory new.content fits) in
+      let rest : times_in n (named_by node_made numbers) ≡ times_in n (named_by node_on numbers) = ap (times_in n)
+      (named_apart node_on number (Some new) numbers no_number) in
       omega arith
 
   made_once : (n : ℕ) → one_if n number + times_in n numbers ≡ cond (is_some (node_made n)) 1 0
   made_once n =
       ⊎_elim
-      (λ t. (let one : one_if n number ≡ 1 = ap (λ b. cond b 1 0) t.0 in let none : times_in n numbers ≡ 0 = ap (λ m. times_in m numbers) t.1 ∙ no_number in
+      (λ t. (let one : one_if n number ≡ 1 = ap (λ b. cond b 1 0) t.0 in let none : times_in n numbers
+      ≡ 0 = ap (λ m. times_in m numbers) t.1 ∙ no_number in
       let all : one_if n number + times_in n numbers ≡ 1 = omega arith in all)
       ∙ sym (ap (λ b. cond (is_some (cond b (Some new) (node_on n))) 1 0) t.0))
-      (λ t. (let one : one_if n number ≡ 0 = ap (λ b. cond b 1 0) t.0 in let all : one_if n number + times_in n numbers ≡ times_in n numbers = omega arith in all)
+      (λ t. (let one : one_if n number ≡ 0 = ap (λ b. cond b 1 0) t.0 in let all : one_if n number + times_in n numbers
+      ≡ times_in n numbers = omega arith in all)
       ∙ start.tallied.once n
       ∙ ap (λ b. cond b 1 0) (sym (part_at is_some node directory (node_with_entry name number) (some_with name number (node directory)) n))
       ∙ sym (ap (λ b. cond (is_some (cond b (Some new) (node_on n))) 1 0) t.0))
       (eqb_tells n number)
 
   pub made : IsTallied base node_made_there (number ∷ numbers) (with_new nat_eq inodes directory name number new)
-  made = subst (λ f. IsTallied base f (number ∷ numbers) (with_new nat_eq inodes directory name number new)) (λ i. λ n. either_way n i) (record {
-    counted = other_uses (λ n. one_if n number + made_uses n) (uses_of base node_made (number ∷ numbers)) node_made (with_new nat_eq inodes directory name number new) more
-        (counted_new made_uses node_on inodes_on counted_on number new vacant_on);
-    once = made_once;
-  })
+  made = subst (λ f. IsTallied base f (number ∷ numbers) (with_new nat_eq inodes directory name number new)) (λ i. λ n. either_way n i)
+      (record {
+        counted = other_uses (λ n. one_if n number + made_uses n) (uses_of base node_made (number ∷ numbers)) node_made
+            (with_new nat_eq inodes directory name number new) more
+            (counted_new made_uses node_on inodes_on counted_on number new vacant_on);
+        once = made_once;
+      })
 
 -- A name less
 module _ (base : ℕ → ℕ) (node : ℕ → Option (Node ℕ)) (numbers : List ℕ) (inodes : Inodes ℕ) (start : IsStart base node numbers inodes)
@@ -127,19 +142,24 @@ module _ (base : ℕ → ℕ) (node : ℕ → Option (Node ℕ)) (numbers : List
   abbrev pub node_off : ℕ → Option (Node ℕ)
   node_off = at_place node directory (node_without_entry name)
 
-  pub off_targets : (n : ℕ) → times_in n (targets_in (node_without_entry name (node directory))) + one_if n object ≡ times_in n (targets_in (node directory))
+  pub off_targets : (n : ℕ) → times_in n (targets_in (node_without_entry name (node directory))) + one_if n object
+      ≡ times_in n (targets_in (node directory))
   off_targets n =
-      let less : times_in n (targets (without_entry name (entries_in (node directory)))) + one_if_some n (entry_named name (entries_in (node directory))) ≡ times_in n (targets (entries_in (node directory)))
+      let less : times_in n (targets (without_entry name (entries_in (node directory)))) + one_if_some n
+      (entry_named name (entries_in (node directory))) ≡ times_in n (targets (entries_in (node directory)))
       = times_without n name (entries_in (node directory)) (start.in_order directory) in
       let own : one_if_some n (entry_named name (entries_in (node directory))) ≡ one_if n object = ap (one_if_some n) leads in
-      let same : times_in n (targets_in (node_without_entry name (node directory))) ≡ times_in n (targets (without_entry name (entries_in (node directory)))) = ap (λ e. times_in n (targets e)) (entries_without name (node directory)) in
+      let same : times_in n (targets_in (node_without_entry name (node directory)))
+      ≡ times_in n (targets (without_entry name (entries_in (node directory)))) = ap (λ e. times_in n (targets e))
+      (entries_without name (node directory)) in
       omega arith
 
   pub is_target : 1 ≤ times_in object (targets_in (node directory))
   is_target = let off = off_targets object in let one = own_one object in omega arith
 
 module _ (base : ℕ → ℕ) (node : ℕ → Option (Node ℕ)) (numbers : List ℕ) (inodes : Inodes ℕ) (start : IsStart base node numbers inodes)
-    (directory : ℕ) (name : List ℕ) (object : ℕ) (leads : entry_named name (entries_in (node directory)) ≡ Some object) (empty : entries_in (node object) ≡ []) where
+    (directory : ℕ) (name : List ℕ) (object : ℕ) (leads : entry_named name (entries_in (node directory)) ≡ Some object)
+    (empty : entries_in (node object) ≡ []) where
   abbrev uses_r : ℕ → ℕ
   uses_r = uses_of base node numbers
 
@@ -154,7 +174,8 @@ module _ (base : ℕ → ℕ) (node : ℕ → Option (Node ℕ)) (numbers : List
 
   apart_r : object ≢ directory
   apart_r e =
-      let none : times_in object (targets_in (node directory)) ≡ 0 = ap (λ n. times_in object (targets_in (node n))) (sym e) ∙ ap (λ l. times_in object (targets l)) empty in
+      let none : times_in object (targets_in (node directory)) ≡ 0 = ap (λ n. times_in object (targets_in (node n))) (sym e)
+      ∙ ap (λ l. times_in object (targets l)) empty in
       let some = is_target base node numbers inodes start directory name object leads in absurd (omega arith)
 
   removed_entries : (n : ℕ) → entries_in (node_removed n) ≡ entries_in (node_less n)
@@ -167,19 +188,25 @@ module _ (base : ℕ → ℕ) (node : ℕ → Option (Node ℕ)) (numbers : List
   one_less : (n : ℕ) → one_if n object + uses_of base node_removed numbers n ≡ uses_r n
   one_less n =
       let names = named_changed n node directory (node_without_entry name (node directory)) numbers
-      (once_directory base node numbers inodes start directory (is_directory_off base node numbers inodes start directory name object leads)) in
-      let same : times_in n (named_by node_removed numbers) ≡ times_in n (named_by node_less numbers) = ap (times_in n) (named_same numbers) in
+      (once_directory base node numbers inodes start directory
+      (is_directory_off base node numbers inodes start directory name object leads)) in
+      let same : times_in n (named_by node_removed numbers) ≡ times_in n (named_by node_less numbers) = ap (times_in n)
+      (named_same numbers) in
       let off = off_targets base node numbers inodes start directory name object leads n in
       omega arith
 
   pub removed_name : IsTallied base node_removed numbers (without_name nat_eq inodes directory name object)
   removed_name = record {
     counted =
-        let first = changed_counts uses_r node inodes directory (node_without_entry name) start.tallied.counted (start.same directory) refl (λ some. (_, refl)) in
+        let first = changed_counts uses_r node inodes directory (node_without_entry name) start.tallied.counted
+        (start.same directory) refl (λ some. (_, refl)) in
         let second = changed_counts uses_r node_less inodes_less object (node_with_parent object) first
-        (changed_same node inodes directory (node_without_entry name) start.same refl (λ some. (_, refl)) object) refl (λ some. (_, refl)) in
-        unpinned_counts uses_r (uses_of base node_removed numbers) node_removed (with_changed nat_eq inodes_less object (node_with_parent object)) object second one_less
-        (λ none. ap targets (removed_entries object ∙ ap entries_in (at_other node directory (node_without_entry name) object apart_r) ∙ empty));
+        (changed_same node inodes directory (node_without_entry name) start.same refl (λ some. (_, refl)) object) refl
+        (λ some. (_, refl)) in
+        unpinned_counts uses_r (uses_of base node_removed numbers) node_removed
+        (with_changed nat_eq inodes_less object (node_with_parent object)) object second one_less
+        (λ none. ap targets (removed_entries object ∙ ap entries_in (at_other node directory (node_without_entry name) object apart_r)
+        ∙ empty));
     once = λ n. start.tallied.once n ∙ ap (λ b. cond b 1 0) (sym
         (part_at is_some node_less object (node_with_parent object) (some_with_parent object (node_less object)) n
         ∙ part_at is_some node directory (node_without_entry name) (some_without name (node directory)) n));
@@ -188,7 +215,8 @@ module _ (base : ℕ → ℕ) (node : ℕ → Option (Node ℕ)) (numbers : List
 -- A name that is moved
 
 -- changes at two places may change places
-commute : (node : ℕ → Option (Node ℕ)) (a b : ℕ) (f g : Option (Node ℕ) → Option (Node ℕ)) → a ≢ b → (n : ℕ) → at_place (at_place node a f) b g n ≡ at_place (at_place node b g) a f n
+commute : (node : ℕ → Option (Node ℕ)) (a b : ℕ) (f g : Option (Node ℕ) → Option (Node ℕ)) → a ≢ b → (n : ℕ)
+    → at_place (at_place node a f) b g n ≡ at_place (at_place node b g) a f n
 commute node a b f g apart n =
     ⊎_elim
     (λ t. ap (λ c. cond c (g (at_place node a f b)) (at_place node a f n)) t.0
@@ -199,13 +227,17 @@ commute node a b f g apart n =
     (eqb_tells n b)
 
 -- entries of another name stay
-find_without : (name other : List ℕ) (entries : Entries ℕ) → (bytes_eq other name ≡ false) → entry_named other (without_entry name entries) ≡ entry_named other entries
+find_without : (name other : List ℕ) (entries : Entries ℕ) → (bytes_eq other name ≡ false)
+    → entry_named other (without_entry name entries) ≡ entry_named other entries
 find_without name other entries apart =
-    find-where_key name_cmp (λ key. not (bytes_eq key name)) other (λ key same. ap (λ k. not (bytes_eq k name)) (sym ((bytes_decides other key).0 (texts_ties other key ∙ ap Rattle.std.specs.Ordering.is_eq same)))) entries
+    find-where_key name_cmp (λ key. not (bytes_eq key name)) other
+    (λ key same. ap (λ k. not (bytes_eq k name))
+    (sym ((bytes_decides other key).0 (texts_ties other key ∙ ap Rattle.std.specs.Ordering.is_eq same)))) entries
     ∙ ap (λ b. cond (not b) (entry_named other entries) None) apart
 
 module _ (base : ℕ → ℕ) (node : ℕ → Option (Node ℕ)) (numbers : List ℕ) (inodes : Inodes ℕ) (start : IsStart base node numbers inodes)
-    (from : ℕ) (old : List ℕ) (to : ℕ) (new : List ℕ) (object : ℕ) (replaced : Option ℕ) (leads : entry_named old (entries_in (node from)) ≡ Some object)
+    (from : ℕ) (old : List ℕ) (to : ℕ) (new : List ℕ) (object : ℕ) (replaced : Option ℕ)
+    (leads : entry_named old (entries_in (node from)) ≡ Some object)
     (to_is : is_directory_node (node to) ≡ true) (finds : entry_named new (entries_in (node to)) ≡ replaced)
     (other : one_if_some object replaced ≡ 0) (empty : (n : ℕ) → 1 ≤ one_if_some n replaced → entries_in (node n) ≡ []) where
   abbrev uses_m : ℕ → ℕ
@@ -267,14 +299,19 @@ module _ (base : ℕ → ℕ) (node : ℕ → Option (Node ℕ)) (numbers : List
           let one : one_if_some object replaced ≡ one_if object object = ap (one_if_some object) it in
           let self = own_one object in
           absurd (omega (arith, other))
-      here same false e = find_without old new (entries_in (node from)) e ∙ ap (λ n. entry_named new (entries_in (node n))) (sym same) ∙ finds
+      here same false e = find_without old new (entries_in (node from)) e ∙ ap (λ n. entry_named new (entries_in (node n))) (sym same)
+          ∙ finds
 
-  on_targets : (n : ℕ) → times_in n (targets_in (node_with_entry new object (node_from to))) + one_if_some n replaced ≡ times_in n (targets_in (node_from to)) + one_if n object
+  on_targets : (n : ℕ) → times_in n (targets_in (node_with_entry new object (node_from to))) + one_if_some n replaced
+      ≡ times_in n (targets_in (node_from to)) + one_if n object
   on_targets n =
-      let put : times_in n (targets (with_entry new object (entries_in (node_from to)))) + one_if_some n (entry_named new (entries_in (node_from to))) ≡ times_in n (targets (entries_in (node_from to))) + one_if n object
+      let put : times_in n (targets (with_entry new object (entries_in (node_from to)))) + one_if_some n
+      (entry_named new (entries_in (node_from to))) ≡ times_in n (targets (entries_in (node_from to))) + one_if n object
       = times_put n new object (entries_in (node_from to)) (order_from to) in
       let it : one_if_some n (entry_named new (entries_in (node_from to))) ≡ one_if_some n replaced = ap (one_if_some n) finds_from in
-      let same : times_in n (targets_in (node_with_entry new object (node_from to))) ≡ times_in n (targets (with_entry new object (entries_in (node_from to)))) = ap (λ e. times_in n (targets e)) (entries_with_entry new object (node_from to) to_from) in
+      let same : times_in n (targets_in (node_with_entry new object (node_from to)))
+      ≡ times_in n (targets (with_entry new object (entries_in (node_from to)))) = ap (λ e. times_in n (targets e))
+      (entries_with_entry new object (node_from to) to_from) in
       omega arith
 
   entries_moved : (n : ℕ) → entries_in (node_moved replaced n) ≡ entries_in (node_to n)
@@ -306,9 +343,12 @@ module _ (base : ℕ → ℕ) (node : ℕ → Option (Node ℕ)) (numbers : List
 
   less : (n : ℕ) → one_if_some n replaced + uses_of base (node_moved replaced) numbers n ≡ uses_m n
   less n =
-      let one = named_changed n node from (node_without_entry old (node from)) numbers (once_directory base node numbers inodes start from from_is) in
-      let two = named_changed n node_from to (node_with_entry new object (node_from to)) numbers (once_directory base node numbers inodes start to to_is) in
-      let same : times_in n (named_by (node_moved replaced) numbers) ≡ times_in n (named_by node_to numbers) = ap (times_in n) (named_moved numbers) in
+      let one = named_changed n node from (node_without_entry old (node from)) numbers
+      (once_directory base node numbers inodes start from from_is) in
+      let two = named_changed n node_from to (node_with_entry new object (node_from to)) numbers
+      (once_directory base node numbers inodes start to to_is) in
+      let same : times_in n (named_by (node_moved replaced) numbers) ≡ times_in n (named_by node_to numbers) = ap (times_in n)
+      (named_moved numbers) in
       let a = off n in
       let b = on_targets n in
       omega arith
@@ -349,7 +389,8 @@ module _ (base : ℕ → ℕ) (node : ℕ → Option (Node ℕ)) (numbers : List
 
   gone_target : (n : ℕ) → one_if_some n replaced ≤ times_in n (targets_in (node to))
   gone_target n =
-      let found : one_if_some n (entry_named new (entries_in (node to))) ≤ times_in n (targets (entries_in (node to))) = found_target n new (entries_in (node to)) in
+      let found : one_if_some n (entry_named new (entries_in (node to))) ≤ times_in n
+      (targets (entries_in (node to))) = found_target n new (entries_in (node to)) in
       let it : one_if_some n (entry_named new (entries_in (node to))) ≡ one_if_some n replaced = ap (one_if_some n) finds in
       omega arith
 
@@ -359,37 +400,47 @@ module _ (base : ℕ → ℕ) (node : ℕ → Option (Node ℕ)) (numbers : List
       (λ gone. full_stays to to (let t = gone_target to in omega arith))
       (none_or_one to)
 
-  counted_moved : Counts.IsCounted (uses_of base (node_moved replaced) numbers) (node_moved replaced) (without_replaced nat_eq inodes_under replaced)
+  counted_moved : Counts.IsCounted (uses_of base (node_moved replaced) numbers) (node_moved replaced)
+      (without_replaced nat_eq inodes_under replaced)
   counted_moved = by replaced refl
     where
-      by : (o : Option ℕ) → replaced ≡ o → Counts.IsCounted (uses_of base (node_moved replaced) numbers) (node_moved o) (without_replaced nat_eq inodes_under o)
+      by : (o : Option ℕ) → replaced ≡ o → Counts.IsCounted (uses_of base (node_moved replaced) numbers) (node_moved o)
+          (without_replaced nat_eq inodes_under o)
       by None e =
           other_uses uses_m (uses_of base (node_moved replaced) numbers) node_under inodes_under
           (λ n. let l = less n in let none : one_if_some n replaced ≡ 0 = ap (one_if_some n) e in omega arith) counted_under
       by (Some gone) e =
           let one : one_if_some gone replaced ≡ 1 = ap (one_if_some gone) e ∙ own_one gone in
-          let second = changed_counts uses_m node_under inodes_under gone (node_with_parent gone) counted_under (same_under gone) refl (λ some. (_, refl)) in
-          unpinned_counts uses_m (uses_of base (node_moved replaced) numbers) (node_moved (Some gone)) (with_changed nat_eq inodes_under gone (node_with_parent gone)) gone second
+          let second = changed_counts uses_m node_under inodes_under gone (node_with_parent gone) counted_under (same_under gone) refl
+          (λ some. (_, refl)) in
+          unpinned_counts uses_m (uses_of base (node_moved replaced) numbers) (node_moved (Some gone))
+          (with_changed nat_eq inodes_under gone (node_with_parent gone)) gone second
           (λ n. ap (λ o. one_if_some n o + uses_of base (node_moved replaced) numbers n) (sym e) ∙ less n)
           (λ left. ap targets (ap (λ o. entries_in (node_moved o gone)) (sym e) ∙ entries_moved gone
-          ∙ ap entries_in (at_other node_from to (node_with_entry new object) gone (λ same. let none : one_if_some gone replaced ≡ 0 = ap (λ n. one_if_some n replaced) same ∙ to_stays in absurd (omega arith))
-          ∙ at_other node from (node_without_entry old) gone (λ same. let none : one_if_some gone replaced ≡ 0 = ap (λ n. one_if_some n replaced) same ∙ from_stays in absurd (omega arith)))
+          ∙ ap entries_in (at_other node_from to (node_with_entry new object) gone
+          (λ same. let none : one_if_some gone replaced ≡ 0 = ap (λ n. one_if_some n replaced) same ∙ to_stays in absurd (omega arith))
+          ∙ at_other node from (node_without_entry old) gone (λ same. let none : one_if_some gone replaced
+          ≡ 0 = ap (λ n. one_if_some n replaced) same ∙ from_stays in absurd (omega arith)))
           ∙ empty gone (omega arith)))
 
   -- what the whole machine does first, is done last here
   abbrev pub node_there : Option ℕ → ℕ → Option (Node ℕ)
   node_there None = node_under
-  node_there (Some gone) = at_place (at_place (at_place (at_place node gone (node_with_parent gone)) from (node_without_entry old)) to (node_with_entry new object)) object (node_with_parent to)
+  node_there (Some gone) = at_place (at_place (at_place (at_place node gone (node_with_parent gone)) from (node_without_entry old)) to
+      (node_with_entry new object)) object (node_with_parent to)
 
   same_there : (o : Option ℕ) → one_if_some from o ≡ 0 → one_if_some to o ≡ 0 → one_if_some object o ≡ 0 → node_there o ≡ node_moved o
   same_there None a b c = refl
   same_there (Some gone) a b c =
-      (λ i. at_place (at_place (λ n. commute node gone from (node_with_parent gone) (node_without_entry old) (λ e. apart_one from gone a (sym e)) n i) to (node_with_entry new object)) object (node_with_parent to))
-      ∙ (λ i. at_place (λ n. commute node_from gone to (node_with_parent gone) (node_with_entry new object) (λ e. apart_one to gone b (sym e)) n i) object (node_with_parent to))
+      (λ i. at_place (at_place (λ n. commute node gone from (node_with_parent gone) (node_without_entry old)
+      (λ e. apart_one from gone a (sym e)) n i) to (node_with_entry new object)) object (node_with_parent to))
+      ∙ (λ i. at_place (λ n. commute node_from gone to (node_with_parent gone) (node_with_entry new object)
+      (λ e. apart_one to gone b (sym e)) n i) object (node_with_parent to))
       ∙ (λ i. λ n. commute node_to gone object (node_with_parent gone) (node_with_parent to) (λ e. apart_one object gone c (sym e)) n i)
 
   pub moved : IsTallied base (node_there replaced) numbers (without_replaced nat_eq inodes_under replaced)
-  moved = subst (λ f. IsTallied base f numbers (without_replaced nat_eq inodes_under replaced)) (sym (same_there replaced from_stays to_stays other)) (record {
-    counted = counted_moved;
-    once = λ n. start.tallied.once n ∙ ap (λ b. cond b 1 0) (sym (some_moved n));
-  })
+  moved = subst (λ f. IsTallied base f numbers (without_replaced nat_eq inodes_under replaced))
+      (sym (same_there replaced from_stays to_stays other)) (record {
+        counted = counted_moved;
+        once = λ n. start.tallied.once n ∙ ap (λ b. cond b 1 0) (sym (some_moved n));
+      })

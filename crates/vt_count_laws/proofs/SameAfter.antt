@@ -18,8 +18,11 @@ same_filesystem f = record { number = refl; files = record { tree = refl; number
 same_filesystems : (one other : Filesystem ℕ) → one.number ≡ other.number → SameFilesystem one other → (filesystems : List (Filesystem ℕ))
     → SameFilesystems (map (replaced_if_numbered nat_eq one) filesystems) (map (replaced_if_numbered nat_eq other) filesystems)
 same_filesystems one other number same [] = tt
-same_filesystems one other number same (first ∷ rest) =
-    (subst (λ n. SameFilesystem (cond (nat_eq one.number first.number) one first) (cond (nat_eq n first.number) other first)) number (by (nat_eq one.number first.number)), same_filesystems one other number same rest)
+same_filesystems one other number same (first ∷ rest) = (
+  subst (λ n. SameFilesystem (cond (nat_eq one.number first.number) one first) (cond (nat_eq n first.number) other first)) number
+      (by (nat_eq one.number first.number)),
+  same_filesystems one other number same rest,
+)
   where
     by : (b : Bool) → SameFilesystem (cond b one first) (cond b other first)
     by true = same
@@ -27,10 +30,12 @@ same_filesystems one other number same (first ∷ rest) =
 
 pub counted_changes_are_swept : CountedChangesAreSwept
 counted_changes_are_swept fresh world location inodes change is files tree once lists =
-    subst (SameWorlds (with_tree world (filesystem_of world location) files)) (sym (Changes.after_is fresh world location inodes change is)) (record {
+    subst (SameWorlds (with_tree world (filesystem_of world location) files))
+    (sym (Changes.after_is fresh world location inodes change is)) (record {
       mounts = refl;
       master = refl;
-      filesystems = same_filesystems (with_files old files) (with_files old left) refl (record { number = refl; files = record { tree = same_tree; numbers = same_numbers }; overlay = refl }) world.filesystems;
+      filesystems = same_filesystems (with_files old files) (with_files old left) refl
+          (record { number = refl; files = record { tree = same_tree; numbers = same_numbers }; overlay = refl }) world.filesystems;
       namespaces = refl;
       tasks = refl;
     })
@@ -52,7 +57,8 @@ counted_changes_are_swept fresh world location inodes change is files tree once 
     same_numbers =
         same_numbers_are_permuted files.numbers left.numbers once (Changes.counted_then fresh world location inodes change is).once
         (λ n. lists n ∙ ap (λ t. is_some (t.node n)) tree ∙ there ((changed nat_eq inodes change).inode n)
-        ∙ sym (among_by_times n left.numbers (is_some ((changed nat_eq inodes change).inode n)) (Changes.left_times fresh world location inodes change is n)))
+        ∙ sym (among_by_times n left.numbers (is_some ((changed nat_eq inodes change).inode n))
+        (Changes.left_times fresh world location inodes change is n)))
       where
         there : (o : Rattle.std.specs.Prelude.Option (Rattle.vt_spec.specs.OneTree.Inodes.Inode ℕ)) → is_some (node_in o) ≡ is_some o
         there Rattle.std.specs.Prelude.None = refl

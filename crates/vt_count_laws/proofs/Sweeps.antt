@@ -25,8 +25,10 @@ use Rattle.vt_count_laws.proofs.Exchanged.{found_mapped, root_pinned, root_unpin
 use Rattle.vt_count_laws.proofs.Listed.{no_repeats, times_is}
 use Rattle.vt_count_laws.proofs.Swept.{base_of, found_is, plain_of, plain_uses_are}
 
-module _ (world after : World ℕ) (gained lost : List Inode) (k : ℕ) (inodes : Inodes ℕ) (trees : HasTrees world) (in_use : InodesInUse world) (plain : IsPlain after)
-    (exchange : Exchanges gained lost k world (living after)) (counted : IsCounted world (filesystem_numbered nat_eq world k) inodes) (gains : AreThere k inodes gained) where
+module _ (world after : World ℕ) (gained lost : List Inode) (k : ℕ) (inodes : Inodes ℕ) (trees : HasTrees world)
+    (in_use : InodesInUse world) (plain : IsPlain after)
+    (exchange : Exchanges gained lost k world (living after)) (counted : IsCounted world (filesystem_numbered nat_eq world k) inodes)
+    (gains : AreThere k inodes gained) where
   abbrev f : Filesystem ℕ
   f = filesystem_numbered nat_eq world k
 
@@ -57,20 +59,24 @@ module _ (world after : World ℕ) (gained lost : List Inode) (k : ℕ) (inodes 
   plain_f =
       ap is_overlay (sym exchange.same)
       ∙ fails is_overlay lives.filesystems (plain_of lives plain_living) (filesystem_numbered nat_eq lives k)
-      (found_is lives.filesystems k (Exchanged.there_after world lives gained lost k inodes trees in_use plain_living exchange counted gains))
+      (found_is lives.filesystems k (Exchanged.there_after world lives gained lost k inodes trees in_use plain_living exchange counted
+      gains))
 
   plain_swept : LettingGo.IsPlain swept
   plain_swept = none_passes is_overlay swept.filesystems (λ g m.
       let from = among-from_map step lives.filesystems g m in
-      ap is_overlay from.2 ∙ overlay-left (used_in nat_eq lives from.0) from.0 (list_all (λ n. is_among nat_eq n (used_in nat_eq lives from.0)) from.0.files.numbers)
+      ap is_overlay from.2 ∙ overlay-left (used_in nat_eq lives from.0) from.0
+      (list_all (λ n. is_among nat_eq n (used_in nat_eq lives from.0)) from.0.files.numbers)
       ∙ fails is_overlay lives.filesystems (plain_of lives plain_living) from.0 from.1)
 
   found : filesystem_numbered nat_eq swept k ≡ f_last
   found =
-      found_mapped step (λ g. number-left (used_in nat_eq lives g) g (list_all (λ n. is_among nat_eq n (used_in nat_eq lives g)) g.files.numbers)) lives.filesystems k
+      found_mapped step (λ g. number-left (used_in nat_eq lives g) g
+      (list_all (λ n. is_among nat_eq n (used_in nat_eq lives g)) g.files.numbers)) lives.filesystems k
       (Exchanged.there_after world lives gained lost k inodes trees in_use plain_living exchange counted gains)
       ∙ ap step exchange.same
-      ∙ left_of_plain used f (Exchanged.tree world lives gained lost k inodes trees in_use plain_living exchange counted gains).numbers plain_f
+      ∙ left_of_plain used f (Exchanged.tree world lives gained lost k inodes trees in_use plain_living exchange counted gains).numbers
+      plain_f
 
   counts : Rattle.vt_one_text.proofs.OneTreeCounts.IsCounted (inode_uses lives f) f.files.tree.node result
   counts = Exchanged.counted_then world lives gained lost k inodes trees in_use plain_living exchange counted gains
@@ -100,7 +106,8 @@ module _ (world after : World ℕ) (gained lost : List Inode) (k : ℕ) (inodes 
       missing None e = refl
       missing (Some inode) e = cc
 
-      by : (b : Bool) → is_some (result.inode n) ≡ b → node_in (result.inode n) ≡ cond (not (is_some (result.inode n))) None (f.files.tree.node n)
+      by : (b : Bool) → is_some (result.inode n) ≡ b → node_in (result.inode n)
+          ≡ cond (not (is_some (result.inode n))) None (f.files.tree.node n)
       by true e = sym (counts.kept n e) ∙ sym (ap (λ b. cond (not b) None (f.files.tree.node n)) e)
       by false e = missing (result.inode n) e ∙ sym (ap (λ b. cond (not b) None (f.files.tree.node n)) e)
 
@@ -109,11 +116,14 @@ module _ (world after : World ℕ) (gained lost : List Inode) (k : ℕ) (inodes 
 
   named : named_in f_last.files ≡ named_in f.files
   named =
-      flat_map_alike (λ d. targets_in (cond (not (is_among nat_eq d used)) None (f.files.tree.node d))) (λ d. targets_in (f.files.tree.node d)) (filter (λ d. not (not (is_among nat_eq d used))) f.files.numbers)
+      flat_map_alike (λ d. targets_in (cond (not (is_among nat_eq d used)) None (f.files.tree.node d)))
+      (λ d. targets_in (f.files.tree.node d)) (filter (λ d. not (not (is_among nat_eq d used))) f.files.numbers)
       (λ d m. by d (is_among nat_eq d used) refl)
-      ∙ flat_map-filter (λ d. not (not (is_among nat_eq d used))) (λ d. targets_in (f.files.tree.node d)) f.files.numbers (λ d h. bare d (twice (is_among nat_eq d used) h))
+      ∙ flat_map-filter (λ d. not (not (is_among nat_eq d used))) (λ d. targets_in (f.files.tree.node d)) f.files.numbers
+      (λ d h. bare d (twice (is_among nat_eq d used) h))
     where
-      by : (d : ℕ) (b : Bool) → is_among nat_eq d used ≡ b → targets_in (cond (not b) None (f.files.tree.node d)) ≡ targets_in (f.files.tree.node d)
+      by : (d : ℕ) (b : Bool) → is_among nat_eq d used ≡ b → targets_in (cond (not b) None (f.files.tree.node d))
+          ≡ targets_in (f.files.tree.node d)
       by d true e = refl
       by d false e = sym (bare d e)
 
@@ -123,7 +133,8 @@ module _ (world after : World ℕ) (gained lost : List Inode) (k : ℕ) (inodes 
 
   times_last : (n : ℕ) → times_in n f_last.files.numbers ≡ cond (is_some (result.inode n)) 1 0
   times_last n =
-      times_filter (λ m. not (not (is_among nat_eq m used))) n f.files.numbers ∙ ap (λ b. cond (not (not b)) (times_in n f.files.numbers) 0) (used_there n)
+      times_filter (λ m. not (not (is_among nat_eq m used))) n f.files.numbers
+      ∙ ap (λ b. cond (not (not b)) (times_in n f.files.numbers) 0) (used_there n)
       ∙ by (is_some (result.inode n)) refl
     where
       there_in : (o : Option (Trees.Inode ℕ)) → is_some o ≡ true → is_some (node_in o) ≡ true
@@ -145,7 +156,9 @@ module _ (world after : World ℕ) (gained lost : List Inode) (k : ℕ) (inodes 
 
   counted_swept : IsCounted swept f_last result
   counted_swept = record {
-    root = root_unpinned k f.files.tree.node lost (Rattle.vt_spec.specs.Lists.folded (Rattle.vt_count_laws.specs.Using.pinned_if k) inodes gained) ∙ root_pinned k f.files.tree.node gained inodes ∙ counted.root;
+    root = root_unpinned k f.files.tree.node lost
+        (Rattle.vt_spec.specs.Lists.folded (Rattle.vt_count_laws.specs.Using.pinned_if k) inodes gained)
+        ∙ root_pinned k f.files.tree.node gained inodes ∙ counted.root;
     node = node_last;
     uses = λ n.
         counts.uses_are n ∙ plain_uses_are lives (plain_of lives plain_living) f n

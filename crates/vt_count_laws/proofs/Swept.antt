@@ -26,7 +26,36 @@ use Rattle.vt_count_laws.proofs.Listed.{no_repeats, once_or_none, times_is}
 use Rattle.vt_count_laws.proofs.TreeCounts.{IsStart, IsTallied, other_uses, own_one, uses_of}
 
 pub plain_of : (world : World ℕ) → IsPlain world → LettingGo.IsPlain world
-plain_of world plain = none_passes is_overlay world.filesystems (λ f m. among_from_all (λ g. is_overlay g ≡ false) world.filesystems plain f m)
+plain_of world plain = none_passes is_overlay world.filesystems
+    (λ f m. among_from_all (λ g. is_overlay g ≡ false) world.filesystems plain f m)
+
+-- What uses an inode
+
+pub uses_split : (world : World ℕ) (f : Filesystem ℕ) (n : ℕ)
+    → inode_uses world f n ≡ one_if n f.files.tree.root + (((times_in n (named_in f.files) + times_in n (located_in nat_eq world f.number))
+    + times_in n (layers_in nat_eq world f.number)) + times_in n (flat_map (objects_of_overlay nat_eq f.number) world.filesystems))
+uses_split world f n =
+    let all : times (nat_eq n) (used_in nat_eq world f) ≡ times_in n (used_in nat_eq world f) = times_is n (used_in nat_eq world f) in
+    let one : times_in n (((named ++ located) ++ layers) ++ objects) ≡ times_in n
+    ((named ++ located) ++ layers) + times_in n objects = times_append n ((named ++ located) ++ layers) objects in
+    let two : times_in n ((named ++ located) ++ layers) ≡ times_in n (named ++ located) + times_in n layers = times_append n
+    (named ++ located) layers in
+    let three : times_in n (named ++ located) ≡ times_in n named + times_in n located = times_append n named located in
+    let split : times_in n (used_in nat_eq world f) ≡ one_if n f.files.tree.root + times_in n
+    (((named ++ located) ++ layers) ++ objects) = refl in
+    omega arith
+  where
+    named : List ℕ
+    named = named_in f.files
+
+    located : List ℕ
+    located = located_in nat_eq world f.number
+
+    layers : List ℕ
+    layers = layers_in nat_eq world f.number
+
+    objects : List ℕ
+    objects = flat_map (objects_of_overlay nat_eq f.number) world.filesystems
 
 -- In a world of plain filesystems an inode is used as the root, by names, and at locations.
 
@@ -36,26 +65,11 @@ base_of world filesystem n = one_if n filesystem.files.tree.root + times_in n (l
 pub plain_uses_are : (world : World ℕ) → LettingGo.IsPlain world → (filesystem : Filesystem ℕ) (n : ℕ)
     → inode_uses world filesystem n ≡ uses_of (base_of world filesystem) filesystem.files.tree.node filesystem.files.numbers n
 plain_uses_are world plain filesystem n =
-    let all : times (nat_eq n) (used_in nat_eq world filesystem) ≡ times_in n (used_in nat_eq world filesystem) = times_is n (used_in nat_eq world filesystem) in
-    let one : times_in n (((named ++ located) ++ layers) ++ objects) ≡ times_in n ((named ++ located) ++ layers) + times_in n objects = times_append n ((named ++ located) ++ layers) objects in
-    let two : times_in n ((named ++ located) ++ layers) ≡ times_in n (named ++ located) + times_in n layers = times_append n (named ++ located) layers in
-    let three : times_in n (named ++ located) ≡ times_in n named + times_in n located = times_append n named located in
-    let none : times_in n layers ≡ 0 = ap (times_in n) (no_layers_of world plain filesystem.number) in
-    let nothing : times_in n objects ≡ 0 = ap (times_in n) (no_objects_of world plain filesystem.number) in
-    let split : times_in n (used_in nat_eq world filesystem) ≡ one_if n filesystem.files.tree.root + times_in n (((named ++ located) ++ layers) ++ objects) = refl in
+    let split = uses_split world filesystem n in
+    let none : times_in n (layers_in nat_eq world filesystem.number) ≡ 0 = ap (times_in n) (no_layers_of world plain filesystem.number) in
+    let nothing : times_in n (flat_map (objects_of_overlay nat_eq filesystem.number) world.filesystems) ≡ 0 =
+    ap (times_in n) (no_objects_of world plain filesystem.number) in
     omega arith
-  where
-    named : List ℕ
-    named = named_in filesystem.files
-
-    located : List ℕ
-    located = located_in nat_eq world filesystem.number
-
-    layers : List ℕ
-    layers = layers_in nat_eq world filesystem.number
-
-    objects : List ℕ
-    objects = flat_map (objects_of_overlay nat_eq filesystem.number) world.filesystems
 
 -- Filesystems by their numbers
 
@@ -66,16 +80,22 @@ found_changed [] number new is there = absurd (true≢false (sym there))
 found_changed (first ∷ rest) number new is there = by (nat_eq new.number first.number) refl (found_changed rest number new is)
   where
     Found : Filesystem ℕ → Type 0
-    Found f = unwrap_or (cond (nat_eq number f.number) (Some f) (find (λ f. nat_eq number f.number) (map (replaced_if_numbered nat_eq new) rest))) (no_filesystem number) ≡ new
+    Found f = unwrap_or (cond (nat_eq number f.number) (Some f)
+        (find (λ f. nat_eq number f.number) (map (replaced_if_numbered nat_eq new) rest))) (no_filesystem number) ≡ new
 
     by : (b : Bool) → nat_eq new.number first.number ≡ b
-        → (is_among nat_eq number (map (λ f. f.number) rest) ≡ true → unwrap_or (find (λ f. nat_eq number f.number) (map (replaced_if_numbered nat_eq new) rest)) (no_filesystem number) ≡ new)
+        → (is_among nat_eq number (map (λ f. f.number) rest) ≡ true
+        → unwrap_or (find (λ f. nat_eq number f.number) (map (replaced_if_numbered nat_eq new) rest)) (no_filesystem number) ≡ new)
         → Found (cond b new first)
-    by true e later = ap (λ b. unwrap_or (cond b (Some new) (find (λ f. nat_eq number f.number) (map (replaced_if_numbered nat_eq new) rest))) (no_filesystem number)) (eq-eqb number new.number (sym is))
+    by true e later = ap (λ b. unwrap_or (cond b (Some new)
+        (find (λ f. nat_eq number f.number) (map (replaced_if_numbered nat_eq new) rest))) (no_filesystem number))
+        (eq-eqb number new.number (sym is))
     by false e later =
         let apart : nat_eq number first.number ≡ false = ap (λ k. nat_eq k first.number) (sym is) ∙ e in
-        ap (λ b. unwrap_or (cond b (Some first) (find (λ f. nat_eq number f.number) (map (replaced_if_numbered nat_eq new) rest))) (no_filesystem number)) apart
-        ∙ later (⊎_elim (λ here. absurd (true≢false (sym here ∙ apart))) (λ rest. rest) (or_cases (nat_eq number first.number) (is_among nat_eq number (map (λ f. f.number) rest)) there))
+        ap (λ b. unwrap_or (cond b (Some first) (find (λ f. nat_eq number f.number) (map (replaced_if_numbered nat_eq new) rest)))
+        (no_filesystem number)) apart
+        ∙ later (⊎_elim (λ here. absurd (true≢false (sym here ∙ apart))) (λ rest. rest)
+        (or_cases (nat_eq number first.number) (is_among nat_eq number (map (λ f. f.number) rest)) there))
 
 pub found_other : (filesystems : List (Filesystem ℕ)) (other : ℕ) (new : Filesystem ℕ) → other ≢ new.number
     → unwrap_or (find (λ f. nat_eq other f.number) (map (replaced_if_numbered nat_eq new) filesystems)) (no_filesystem other)
@@ -89,16 +109,19 @@ found_other (first ∷ rest) other new apart = by (nat_eq new.number first.numbe
     later_old : Option (Filesystem ℕ)
     later_old = find (λ f. nat_eq other f.number) rest
 
-    by : (b : Bool) → nat_eq new.number first.number ≡ b → unwrap_or later_new (no_filesystem other) ≡ unwrap_or later_old (no_filesystem other)
+    by : (b : Bool) → nat_eq new.number first.number ≡ b → unwrap_or later_new (no_filesystem other)
+        ≡ unwrap_or later_old (no_filesystem other)
         → unwrap_or (cond (nat_eq other (cond b new first).number) (Some (cond b new first)) later_new) (no_filesystem other)
         ≡ unwrap_or (cond (nat_eq other first.number) (Some first) later_old) (no_filesystem other)
     by true e later =
         ap (λ c. unwrap_or (cond c (Some new) later_new) (no_filesystem other)) (ne_eqb other new.number apart)
         ∙ later
-        ∙ sym (ap (λ c. unwrap_or (cond c (Some first) later_old) (no_filesystem other)) (ne_eqb other first.number (λ same. apart (same ∙ sym (eqb-true new.number first.number e)))))
+        ∙ sym (ap (λ c. unwrap_or (cond c (Some first) later_old) (no_filesystem other))
+        (ne_eqb other first.number (λ same. apart (same ∙ sym (eqb-true new.number first.number e)))))
     by false e later = here (nat_eq other first.number)
       where
-        here : (c : Bool) → unwrap_or (cond c (Some first) later_new) (no_filesystem other) ≡ unwrap_or (cond c (Some first) later_old) (no_filesystem other)
+        here : (c : Bool) → unwrap_or (cond c (Some first) later_new) (no_filesystem other)
+            ≡ unwrap_or (cond c (Some first) later_old) (no_filesystem other)
         here true = refl
         here false = later
 
@@ -107,16 +130,20 @@ pub found_is : (filesystems : List (Filesystem ℕ)) (number : ℕ) → is_among
 found_is [] number there = absurd (true≢false (sym there))
 found_is (first ∷ rest) number there = by (nat_eq number first.number) refl (found_is rest number)
   where
-    by : (b : Bool) → nat_eq number first.number ≡ b → (is_among nat_eq number (map (λ f. f.number) rest) ≡ true → Among (unwrap_or (find (λ f. nat_eq number f.number) rest) (no_filesystem number)) rest)
+    by : (b : Bool) → nat_eq number first.number ≡ b → (is_among nat_eq number (map (λ f. f.number) rest) ≡ true
+        → Among (unwrap_or (find (λ f. nat_eq number f.number) rest) (no_filesystem number)) rest)
         → Among (unwrap_or (cond b (Some first) (find (λ f. nat_eq number f.number) rest)) (no_filesystem number)) (first ∷ rest)
     by true e later = inl refl
-    by false e later = inr (later (⊎_elim (λ here. absurd (true≢false (sym here ∙ e))) (λ rest. rest) (or_cases (nat_eq number first.number) (is_among nat_eq number (map (λ f. f.number) rest)) there)))
+    by false e later = inr (later (⊎_elim (λ here. absurd (true≢false (sym here ∙ e))) (λ rest. rest)
+        (or_cases (nat_eq number first.number) (is_among nat_eq number (map (λ f. f.number) rest)) there)))
 
-pub found_number : (filesystems : List (Filesystem ℕ)) (number : ℕ) → (unwrap_or (find (λ f. nat_eq number f.number) filesystems) (no_filesystem number)).number ≡ number
+pub found_number : (filesystems : List (Filesystem ℕ)) (number : ℕ)
+    → (unwrap_or (find (λ f. nat_eq number f.number) filesystems) (no_filesystem number)).number ≡ number
 found_number [] number = refl
 found_number (first ∷ rest) number = by (nat_eq number first.number) refl (found_number rest number)
   where
-    by : (b : Bool) → nat_eq number first.number ≡ b → (unwrap_or (find (λ f. nat_eq number f.number) rest) (no_filesystem number)).number ≡ number
+    by : (b : Bool) → nat_eq number first.number ≡ b
+        → (unwrap_or (find (λ f. nat_eq number f.number) rest) (no_filesystem number)).number ≡ number
         → (unwrap_or (cond b (Some first) (find (λ f. nat_eq number f.number) rest)) (no_filesystem number)).number ≡ number
     by true e later = sym (eqb-true number first.number e)
     by false e later = later
@@ -127,24 +154,30 @@ not_found [] number none = refl
 not_found (first ∷ rest) number none = by (nat_eq number first.number) none (not_found rest number)
   where
     by : (b : Bool) → (b || is_among nat_eq number (map (λ f. f.number) rest)) ≡ false
-        → (is_among nat_eq number (map (λ f. f.number) rest) ≡ false → unwrap_or (find (λ f. nat_eq number f.number) rest) (no_filesystem number) ≡ no_filesystem number)
+        → (is_among nat_eq number (map (λ f. f.number) rest) ≡ false → unwrap_or (find (λ f. nat_eq number f.number) rest)
+        (no_filesystem number) ≡ no_filesystem number)
         → unwrap_or (cond b (Some first) (find (λ f. nat_eq number f.number) rest)) (no_filesystem number) ≡ no_filesystem number
     by true e later = absurd (true≢false e)
     by false e later = later e
 
 -- a filesystem with counted inodes is there
-pub there_if_some : (searched world : World ℕ) (number : ℕ) (inodes : Inodes ℕ) → IsCounted world (filesystem_numbered nat_eq searched number) inodes
+pub there_if_some : (searched world : World ℕ) (number : ℕ) (inodes : Inodes ℕ)
+    → IsCounted world (filesystem_numbered nat_eq searched number) inodes
     → is_among nat_eq number (map (λ f. f.number) searched.filesystems) ≡ true
 there_if_some searched world number inodes counted = by (is_among nat_eq number (map (λ f. f.number) searched.filesystems)) refl
   where
-    by : (b : Bool) → is_among nat_eq number (map (λ f. f.number) searched.filesystems) ≡ b → is_among nat_eq number (map (λ f. f.number) searched.filesystems) ≡ true
+    by : (b : Bool) → is_among nat_eq number (map (λ f. f.number) searched.filesystems) ≡ b
+        → is_among nat_eq number (map (λ f. f.number) searched.filesystems) ≡ true
     by true e = e
     by false e =
-        let missing : IsCounted world (no_filesystem number) inodes = subst (λ f. IsCounted world f inodes) (not_found searched.filesystems number e) counted in
+        let missing : IsCounted world (no_filesystem number) inodes = subst (λ f. IsCounted world f inodes)
+        (not_found searched.filesystems number e) counted in
         let none : uses_in (inodes.inode number) ≡ 0 = unused (inodes.inode number) (missing.node number) in
-        let all : uses_in (inodes.inode number) ≡ times (nat_eq number) (used_in nat_eq world (no_filesystem number)) = missing.uses number in
+        let all : uses_in (inodes.inode number) ≡ times (nat_eq number)
+        (used_in nat_eq world (no_filesystem number)) = missing.uses number in
         let own = own_one number in
-        let some : times (nat_eq number) (used_in nat_eq world (no_filesystem number)) ≡ one_if number number + times (nat_eq number) others = refl in
+        let some : times (nat_eq number) (used_in nat_eq world (no_filesystem number))
+        ≡ one_if number number + times (nat_eq number) others = refl in
         absurd (omega arith)
       where
         unused : (o : Option (Inode ℕ)) → node_in o ≡ None → uses_in o ≡ 0
@@ -171,9 +204,11 @@ start_counts world filesystem inodes tree used counted = record {
   uses_are = counted.uses;
   in_use = λ n there.
       let e = counted.uses n in
-      let all : times (nat_eq n) (used_in nat_eq world filesystem) ≡ times_in n (used_in nat_eq world filesystem) = times_is n (used_in nat_eq world filesystem) in
+      let all : times (nat_eq n) (used_in nat_eq world filesystem) ≡ times_in n (used_in nat_eq world filesystem) = times_is n
+      (used_in nat_eq world filesystem) in
       let some = among_times n (used_in nat_eq world filesystem)
-      (passes (is_inode_used world filesystem) filesystem.files.numbers used n (among_numbers n filesystem.files.numbers (tree.numbers n ∙ sym (same_there n) ∙ there))) in
+      (passes (is_inode_used world filesystem) filesystem.files.numbers used n
+      (among_numbers n filesystem.files.numbers (tree.numbers n ∙ sym (same_there n) ∙ there))) in
       omega arith;
   kept = λ n there. sym (counted.node n);
   emptied = λ n none. ap targets_in (sym (counted.node n)) ∙ no_targets (inodes.inode n) none;
@@ -190,12 +225,14 @@ start_counts world filesystem inodes tree used counted = record {
     no_targets (Some inode) e = cc
 
 -- The counted inodes before a change
-pub counted_start : (world : World ℕ) (filesystem : Filesystem ℕ) (inodes : Inodes ℕ) → LettingGo.IsPlain world → IsListedTree filesystem.files
+pub counted_start : (world : World ℕ) (filesystem : Filesystem ℕ) (inodes : Inodes ℕ) → LettingGo.IsPlain world
+    → IsListedTree filesystem.files
     → list_all (is_inode_used world filesystem) filesystem.files.numbers ≡ true → IsCounted world filesystem inodes
     → IsStart (base_of world filesystem) filesystem.files.tree.node filesystem.files.numbers inodes
 counted_start world filesystem inodes plain tree used counted = record {
   tallied = record {
-    counted = other_uses (inode_uses world filesystem) (uses_of (base_of world filesystem) filesystem.files.tree.node filesystem.files.numbers) filesystem.files.tree.node inodes
+    counted = other_uses (inode_uses world filesystem)
+        (uses_of (base_of world filesystem) filesystem.files.tree.node filesystem.files.numbers) filesystem.files.tree.node inodes
         (plain_uses_are world plain filesystem) (start_counts world filesystem inodes tree used counted);
     once = λ n. once_or_none n filesystem.files.numbers counted.once ∙ ap (λ b. cond b 1 0) (tree.numbers n);
   };
@@ -232,12 +269,14 @@ module _ (world : World ℕ) (number : ℕ) (files : FileTree ℕ) (in_use : All
 
   -- a world with other files there is plain still, and lives
   module _ (some : FileTree ℕ) where
-    is_new_or_old : (f : Filesystem ℕ) → Among f (with_tree world number some).filesystems → (f ≡ with_files old some) ⊎ Among f world.filesystems
+    is_new_or_old : (f : Filesystem ℕ) → Among f (with_tree world number some).filesystems
+        → (f ≡ with_files old some) ⊎ Among f world.filesystems
     is_new_or_old f m =
         let from = among-from_map (replaced_if_numbered nat_eq (with_files old some)) world.filesystems f m in
         by (nat_eq old.number from.0.number) from.0 from.1 from.2
       where
-        by : (b : Bool) (g : Filesystem ℕ) → Among g world.filesystems → f ≡ cond b (with_files old some) g → (f ≡ with_files old some) ⊎ Among f world.filesystems
+        by : (b : Bool) (g : Filesystem ℕ) → Among g world.filesystems → f ≡ cond b (with_files old some) g
+            → (f ≡ with_files old some) ⊎ Among f world.filesystems
         by true g n e = inl e
         by false g n e = inr (subst (λ h. Among h world.filesystems) (sym e) n)
 
@@ -302,11 +341,13 @@ module _ (world : World ℕ) (number : ℕ) (files : FileTree ℕ) (in_use : All
             by : (b : Bool) → is_some (files.tree.node n) ≡ b → files.tree.node n ≡ cond (is_among nat_eq n used) (files.tree.node n) None
             by true e =
                 sym (ap (λ b. cond b (files.tree.node n) None) (passes (λ m. is_among nat_eq m used) files.numbers all n
-                (among_numbers n files.numbers (times_among n files.numbers (let one : times_in n files.numbers ≡ 1 = once n ∙ ap (λ b. cond b 1 0) e in omega arith)))))
+                (among_numbers n files.numbers (times_among n files.numbers
+                (let one : times_in n files.numbers ≡ 1 = once n ∙ ap (λ b. cond b 1 0) e in omega arith)))))
             by false e = none (files.tree.node n) (is_among nat_eq n used) e
 
         same : files.numbers ≡ filter (λ n. is_among nat_eq n used) files.numbers
-        same = sym (Rattle.vt_letting_go.proofs.Lists.filter_all (λ n. is_among nat_eq n used) files.numbers (passes (λ n. is_among nat_eq n used) files.numbers all))
+        same = sym (Rattle.vt_letting_go.proofs.Lists.filter_all (λ n. is_among nat_eq n used) files.numbers
+            (passes (λ n. is_among nat_eq n used) files.numbers all))
 
     step_new : step new ≡ with_files old swept
     step_new = ap (λ b. only_used nat_eq raw (not b) new) plain_old ∙ by (list_all (λ n. is_among nat_eq n used) files.numbers) refl
@@ -360,7 +401,8 @@ module _ (world : World ℕ) (number : ℕ) (files : FileTree ℕ) (in_use : All
     used_times : (n : ℕ) → uses_in (inodes.inode n) ≡ times_in n used
     used_times n =
         tallied.counted.uses_are n
-        ∙ ap (λ r. (one_if n r + times_in n (located_in nat_eq world old.number)) + times_in n (named_by files.tree.node files.numbers)) (sym root_same)
+        ∙ ap (λ r. (one_if n r + times_in n (located_in nat_eq world old.number)) + times_in n (named_by files.tree.node files.numbers))
+        (sym root_same)
         ∙ sym (plain_uses_are raw (plain_with files) new n)
         ∙ times_is n used
 
@@ -419,7 +461,8 @@ module _ (world : World ℕ) (number : ℕ) (files : FileTree ℕ) (in_use : All
       node = node_left;
       uses = λ n.
           tallied.counted.uses_are n
-          ∙ (λ i. (one_if n (sym root_same i) + times_in n (located_in nat_eq world old.number)) + times_in n (sym (named-left used new unused_empty false) i))
+          ∙ (λ i. (one_if n (sym root_same i) + times_in n (located_in nat_eq world old.number)) + times_in n
+          (sym (named-left used new unused_empty false) i))
           ∙ sym (plain_uses_are done (plain_with swept) (with_files old swept) n);
       count = tallied.counted.as_many ∙ as_long tallied.counted.list swept.numbers (λ n. tallied.counted.listed n ∙ sym (times_left n));
       once = no_repeats swept.numbers few;

@@ -13,7 +13,7 @@ use Rattle.vt_spec.proofs.Nodes.{node_set}
 use Rattle.vt_spec.proofs.Trees.{led-append}
 use Rattle.vt_layer_laws.specs.Layers.ChangesUpper.{IsLeft}
 use Rattle.vt_layer_laws.proofs.CopyingEach.{IsNew}
-use Rattle.vt_layer_laws.proofs.CopyingNames.{emptied_is_empty, emptied_other, emptied_part, freed_entries, is_left_by, left_elsewhere, left_part, left_stays, left_where, marked_entries, marked_itself, marked_other, moved_part, parent_entries}
+use Rattle.vt_layer_laws.proofs.CopyingNames.{emptied_is_empty, LeftWith, emptied_other, emptied_part, freed_entries, is_left_by, left_elsewhere, left_part, left_stays, left_where, marked_entries, marked_itself, marked_other, moved_part, parent_entries}
 use Rattle.vt_layer_laws.proofs.CopyingParts.{kept_part}
 use Rattle.vt_layer_laws.proofs.CopyingSound.{IsSound, State}
 use Rattle.vt_layer_laws.proofs.LowersKept.{kept_elsewhere}
@@ -66,16 +66,17 @@ module _ (files : FileTree ℕ) (tree : IsTree files.tree) (first : ℕ → Opti
   old_differs : (number object : ℕ) → upper_object (real number) ≡ Some object → object ≢ fresh 0
   old_differs number object e same = sound.spared number object e (0, same)
 
-  pub removed_left : (directory : ℕ) (name : List ℕ) (object seen : ℕ) → entry_at files.tree directory name ≡ Some object → upper_object (real directory) ≡ Some seen → IsLeft stack here (removed nat_eq fresh stack here directory name object) directory name
-  removed_left directory name object seen e has =
+  -- what is left of a name, with the number of the whiteout
+  pub removed_with : (directory : ℕ) (name : List ℕ) (object seen : ℕ) → entry_at files.tree directory name ≡ Some object → upper_object (real directory) ≡ Some seen
+      → LeftWith (fresh 0) (shown_below nat_eq stack here directory name) stack (removed nat_eq fresh stack here directory name object).upper (upper_of here directory) name
+  removed_with directory name object seen e has =
       let left = name_left_by nat_eq (is_some (shown_below nat_eq stack here directory name)) fresh stack upper (upper_of here directory) name in
       let kind = ap (λ n. is_directory_node (upper.tree.node n)) (upper_of_is here directory seen has) ∙ sound.kinds (path_to files tree directory name object e).0 directory seen (path_to files tree directory name object e).1 has ∙ has_entries files.tree directory name object e in
       let new = λ (same : upper_of here directory ≡ fresh 0). old_differs directory seen has (sym (upper_of_is here directory seen has) ∙ same) in
-      is_left_by (fresh 0) (shown_below nat_eq stack here directory name) stack (emptied nat_eq left (upper_directory_named here directory name)) (upper_of here directory) name
-      (left_stays (fresh 0) (shown_below nat_eq stack here directory name) stack left (emptied nat_eq left (upper_directory_named here directory name)) (upper_of here directory) name
+      left_stays (fresh 0) (shown_below nat_eq stack here directory name) stack left (emptied nat_eq left (upper_directory_named here directory name)) (upper_of here directory) name
       (ap entries_in (emptied_other left (upper_directory_named here directory name) (upper_of here directory) not_itself))
       (emptied_other left (upper_directory_named here directory name) (fresh 0) not_new)
-      (left_where fresh (shown_below nat_eq stack here directory name) stack upper (upper_of here directory) name kind new))
+      (left_where fresh (shown_below nat_eq stack here directory name) stack upper (upper_of here directory) name kind new)
     where
       not_itself : upper_directory_named here directory name ≢ Some (upper_of here directory)
       not_itself same =
@@ -87,6 +88,11 @@ module _ (files : FileTree ℕ) (tree : IsTree files.tree) (first : ℕ → Opti
       not_new same =
           let found = directory_named here directory name (fresh 0) same in
           sound.spared found.0 (fresh 0) found.2 (0, refl)
+
+  pub removed_left : (directory : ℕ) (name : List ℕ) (object seen : ℕ) → entry_at files.tree directory name ≡ Some object → upper_object (real directory) ≡ Some seen → IsLeft stack here (removed nat_eq fresh stack here directory name object) directory name
+  removed_left directory name object seen e has =
+      is_left_by (fresh 0) (shown_below nat_eq stack here directory name) stack (removed nat_eq fresh stack here directory name object).upper (upper_of here directory) name
+      (removed_with directory name object seen e has)
 
   pub removed_empty : (directory : ℕ) (name : List ℕ) (object replaced : ℕ) → upper_directory_named here directory name ≡ Some replaced → entries_in ((removed nat_eq fresh stack here directory name object).upper.tree.node replaced) ≡ []
   removed_empty directory name object replaced e =
@@ -141,16 +147,19 @@ module _ (files : FileTree ℕ) (tree : IsTree files.tree) (first : ℕ → Opti
     object_new : upper_of here object ≢ fresh 0
     object_new same = old_differs object seen has (sym (upper_of_is here object seen has) ∙ same)
 
-    pub moved_left : IsLeft stack here (moved nat_eq fresh stack here from old to name object) from old
-    moved_left =
-        is_left_by (fresh 0) (shown_below nat_eq stack here from old) stack (marked nat_eq (hides_directory nat_eq stack here to name) left (upper_of here object)) (upper_of here from) old
-        (left_stays (fresh 0) (shown_below nat_eq stack here from old) stack left (marked nat_eq (hides_directory nat_eq stack here to name) left (upper_of here object)) (upper_of here from) old
+    pub moved_with : LeftWith (fresh 0) (shown_below nat_eq stack here from old) stack (moved nat_eq fresh stack here from old to name object).upper (upper_of here from) old
+    moved_with =
+        left_stays (fresh 0) (shown_below nat_eq stack here from old) stack left (marked nat_eq (hides_directory nat_eq stack here to name) left (upper_of here object)) (upper_of here from) old
         (marked_entries (hides_directory nat_eq stack here to name) left (upper_of here object) (upper_of here from))
         (marked_other (hides_directory nat_eq stack here to name) left (upper_of here object) (fresh 0) (λ same. object_new (sym same)))
         (left_where fresh (shown_below nat_eq stack here from old) stack away (upper_of here from) old
         (kind_away (upper_of here from) ∙ ap (λ n. is_directory_node (upper.tree.node n)) (upper_of_is here from seen_from has_from)
         ∙ sound.kinds (path_to files tree from old object e).0 from seen_from (path_to files tree from old object e).1 has_from ∙ has_entries files.tree from old object e)
-        from_new))
+        from_new)
+
+    pub moved_left : IsLeft stack here (moved nat_eq fresh stack here from old to name object) from old
+    moved_left =
+        is_left_by (fresh 0) (shown_below nat_eq stack here from old) stack (moved nat_eq fresh stack here from old to name object).upper (upper_of here from) old moved_with
 
     pub moved_marked : IsDirectory files.tree object → is_opaque_in ((moved nat_eq fresh stack here from old to name object).upper.tree.node (upper_of here object)) ≡ (hides_directory nat_eq stack here to name || is_opaque_in (upper.tree.node (upper_of here object)))
     moved_marked d =

@@ -28,7 +28,7 @@ module _ (fresh : Fresh ℕ) (stack : Stack ℕ) (before : Merge ℕ) (fit : IsF
   nothing_spared number = ⊥
 
   -- copies by one supply, with the other spared
-  by_evens : (object : ℕ) → IsReady fresh before fit (IsNew (odds fresh)) (line_to nat_eq before.files object) (copied_up nat_eq (evens fresh) before object)
+  pub by_evens : (object : ℕ) → IsReady fresh before fit (IsNew (odds fresh)) (line_to nat_eq before.files object) (copied_up nat_eq (evens fresh) before object)
   by_evens object =
       one_line fresh before fit (IsNew (odds fresh)) (λ number s. (2 * s.0 + 1, s.1)) (evens fresh)
       (λ j k e. let same = fit.distinct (2 * j) (2 * k) e in omega arith)
@@ -45,14 +45,14 @@ module _ (fresh : Fresh ℕ) (stack : Stack ℕ) (before : Merge ℕ) (fit : IsF
       (λ j k e. let same = fit.distinct (2 * j + 1) (2 * k + 1) e in omega arith)
       (λ k s. s) (λ k. (k, refl)) (λ k. (2 * k + 1, refl)) other
 
-  then_odd_evens : (object other : ℕ) → IsReady fresh before fit (IsNew (odds (odds fresh))) (line_to nat_eq before.files object ++ line_to nat_eq before.files other) (copied_up nat_eq (evens (odds fresh)) (copied_up nat_eq (evens fresh) before object) other)
+  pub then_odd_evens : (object other : ℕ) → IsReady fresh before fit (IsNew (odds (odds fresh))) (line_to nat_eq before.files object ++ line_to nat_eq before.files other) (copied_up nat_eq (evens (odds fresh)) (copied_up nat_eq (evens fresh) before object) other)
   then_odd_evens object other =
       next_line fresh before fit (IsNew (odds fresh)) (IsNew (odds (odds fresh))) (λ number s. (2 * s.0 + 1, s.1)) (line_to nat_eq before.files object) _ (by_evens object) (evens (odds fresh))
       (λ j k e. let same = fit.distinct (2 * (2 * j) + 1) (2 * (2 * k) + 1) e in omega arith)
       (λ k s. let same = fit.distinct (2 * (2 * k) + 1) (2 * (2 * s.0 + 1) + 1) s.1 in let no : ⊥ = omega arith in no)
       (λ k. (2 * k, refl)) (λ k. (2 * (2 * k) + 1, refl)) other
 
-  among_first : (number object other : ℕ) → Rattle.vt_spec.specs.Lists.is_among nat_eq number (line_to nat_eq before.files object) ≡ true → Rattle.vt_spec.specs.Lists.is_among nat_eq number (line_to nat_eq before.files object ++ line_to nat_eq before.files other) ≡ true
+  pub among_first : (number object other : ℕ) → Rattle.vt_spec.specs.Lists.is_among nat_eq number (line_to nat_eq before.files object) ≡ true → Rattle.vt_spec.specs.Lists.is_among nat_eq number (line_to nat_eq before.files object ++ line_to nat_eq before.files other) ≡ true
   among_first number object other e =
       Rattle.std.proofs.lemmas.List.Folds.list_any-append (nat_eq number) (line_to nat_eq before.files object) (line_to nat_eq before.files other)
       ∙ left (Rattle.std.specs.List.list_any (nat_eq number) (line_to nat_eq before.files object)) _ e
@@ -61,7 +61,7 @@ module _ (fresh : Fresh ℕ) (stack : Stack ℕ) (before : Merge ℕ) (fit : IsF
       left true b e = refl
       left false b e = absurd (true≢false (sym e))
 
-  among_second : (number object other : ℕ) → Rattle.vt_spec.specs.Lists.is_among nat_eq number (line_to nat_eq before.files other) ≡ true → Rattle.vt_spec.specs.Lists.is_among nat_eq number (line_to nat_eq before.files object ++ line_to nat_eq before.files other) ≡ true
+  pub among_second : (number object other : ℕ) → Rattle.vt_spec.specs.Lists.is_among nat_eq number (line_to nat_eq before.files other) ≡ true → Rattle.vt_spec.specs.Lists.is_among nat_eq number (line_to nat_eq before.files object ++ line_to nat_eq before.files other) ≡ true
   among_second number object other e =
       Rattle.std.proofs.lemmas.List.Folds.list_any-append (nat_eq number) (line_to nat_eq before.files object) (line_to nat_eq before.files other)
       ∙ right (Rattle.std.specs.List.list_any (nat_eq number) (line_to nat_eq before.files object)) _ e
@@ -70,7 +70,7 @@ module _ (fresh : Fresh ℕ) (stack : Stack ℕ) (before : Merge ℕ) (fit : IsF
       right true b e = refl
       right false b e = e
 
-  in_own_line : (object : ℕ) → Rattle.vt_spec.specs.Lists.is_among nat_eq object (line_to nat_eq before.files object) ≡ true
+  pub in_own_line : (object : ℕ) → Rattle.vt_spec.specs.Lists.is_among nat_eq object (line_to nat_eq before.files object) ≡ true
   in_own_line object = last_in_line before.files before.real nothing_spared fresh fit.distinct (λ k s. s) object
 
   overlay_changes : (change : Change ℕ) → SpeaksOfWhatIsThere before.files change → ChangesUpper fresh stack before change (merge_changed nat_eq fresh stack before change)

@@ -140,7 +140,7 @@ module _ (world : World ℕ) (conditions : IsWorld nat_eq world) (number : ℕ) 
         (real_named [] files.tree.root refl ∙ upper_is_real top lower [] upper.directory refl upper_directory)
 
     -- something is shown where names lead
-    shown_there : (path : List (List ℕ)) (object : ℕ) → number_at_path files path ≡ Some object → is_some (files.tree.node object) ≡ true → is_some (shown (top ∷ lower) path) ≡ true
+    pub shown_there : (path : List (List ℕ)) (object : ℕ) → number_at_path files path ≡ Some object → is_some (files.tree.node object) ≡ true → is_some (shown (top ∷ lower) path) ≡ true
     shown_there path object e there =
         by (shown (top ∷ lower) path) (then_some (number_at_path files path) files.tree.node)
         (ap (λ o. is_some (then_some o files.tree.node)) e ∙ there)

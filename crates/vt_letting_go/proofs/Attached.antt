@@ -16,24 +16,9 @@ use Rattle.vt_spec.specs.Machine.WorldLaws.{is_nowhere_or_attached}
 use Rattle.vt_letting_go.specs.InUse.{AllInUse, GroupsInUse}
 use Rattle.vt_letting_go.specs.Keeping.{LocationsStand}
 use Rattle.vt_letting_go.specs.Leaving.{MountsStand}
-use Rattle.vt_letting_go.proofs.Lists.{Among, all_pass, among-append, among-append_left, among-append_right, among-flat_map, among-from_filter, among-from_filter_map, among-from_flat_map, among-from_map, among-map, any_passes, map_twice, none_passes, or_first, passes}
+use Rattle.vt_letting_go.proofs.Lists.{Among, all_pass, among-append, among-append_left, among-append_right, among-flat_map, among-from_filter, among-from_filter_map, among-from_flat_map, among-from_map, among-map, any_passes, found_in, map_twice, none_passes, or_first, passes}
 use Rattle.vt_letting_go.proofs.MountingLosers.{Loses, StillAPlace, places_of, places_stand}
 use Rattle.vt_letting_go.proofs.PlacesLeft.{found_itself, nowhere_parts, number_found, one_location}
-
--- what is found is there and passes
-found_in : (test : Mount ℕ → Bool) (mounts : List (Mount ℕ)) (found : Mount ℕ) → find test mounts ≡ Some found
-    → Among found mounts × (test found ≡ true)
-found_in test [] found e = absurd (true≢false (sym (ap is_some e)))
-found_in test (first ∷ rest) found e = by (test first) refl (found_in test rest found)
-  where
-    by : (b : Bool) → test first ≡ b → (find test rest ≡ Some found → Among found rest × (test found ≡ true))
-        → Among found (first ∷ rest) × (test found ≡ true)
-    by true f later =
-        let same : first ≡ found = same_Some first found (ap (λ c. cond c (Some first) (find test rest)) (sym f) ∙ e) in
-        (inl (sym same), ap test (sym same) ∙ f)
-    by false f later =
-        let t : Among found rest × (test found ≡ true) = later (ap (λ c. cond c (Some first) (find test rest)) (sym f) ∙ e) in
-        (inr t.0, t.1)
 
 -- Mounts that are replaced by those of their numbers
 abbrev swapped : List (Mount ℕ) → Mount ℕ → Mount ℕ
@@ -165,7 +150,8 @@ module _ (world : World ℕ) (filesystems : List (Filesystem ℕ)) (new : Copies
 
   copy_at_receiver : (part x : Mount ℕ) → Among part (rest_of parts) → Among x (copies part) → Among x after.mounts
   copy_at_receiver part x m n =
-      among-append_right (map push (with_moved_mounts nat_eq moves world.mounts (copies destination)) ++ added_mounts moves (copies destination))
+      among-append_right (map push (with_moved_mounts nat_eq moves world.mounts (copies destination))
+      ++ added_mounts moves (copies destination))
       (flat_map copies (rest_of parts)) x
       (among-flat_map copies (rest_of parts) part x m n)
 
@@ -240,7 +226,8 @@ module _ (world : World ℕ) (filesystems : List (Filesystem ℕ)) (new : Copies
           (swapped_is (copies destination) mount)
 
   -- what is pushed up keeps all but its place
-  push_keeps : {A : Type 0} (part : Mount ℕ → A) → ((mount : Mount ℕ) (at : Option (Location ℕ)) → part (record mount { mount_point = at }) ≡ part mount)
+  push_keeps : {A : Type 0} (part : Mount ℕ → A) → ((mount : Mount ℕ) (at : Option (Location ℕ))
+      → part (record mount { mount_point = at }) ≡ part mount)
       → (mount : Mount ℕ) → part (push mount) ≡ part mount
   push_keeps part same mount = by (receiver_below nat_eq tree parts mount)
     where
@@ -271,7 +258,8 @@ module _ (world : World ℕ) (filesystems : List (Filesystem ℕ)) (new : Copies
 
   first_copy : (part : Mount ℕ) → (copy part first).mount_point ≡ Some (record { mount = part.number; node = place.node })
   first_copy part =
-      ap (λ b. Some (cond b (record { mount = part.number; node = place.node }) (unwrap_or (option_map (place_on_copy nat_eq new tree part.number) first.mount_point) place)))
+      ap (λ b. Some (cond b (record { mount = part.number; node = place.node })
+      (unwrap_or (option_map (place_on_copy nat_eq new tree part.number) first.mount_point) place)))
       (eq-eqb first.number first.number refl)
 
   -- each mount keeps its number, what it shows, and the namespace or another one
@@ -322,7 +310,8 @@ module _ (world : World ℕ) (filesystems : List (Filesystem ℕ)) (new : Copies
     where
       by : Comes x → mount_lives nat_eq after x ≡ true
       by (was mount n e) = ap (mount_lives nat_eq after) e ∙ last_lives mount n
-      by (came part origin there n e) = ap (mount_lives nat_eq after) e ∙ or_first (is_some part.namespace) (is_located nat_eq after (copy part origin).number) there
+      by (came part origin there n e) = ap (mount_lives nat_eq after) e
+          ∙ or_first (is_some part.namespace) (is_located nat_eq after (copy part origin).number) there
 
   last_nowhere : (mount : Mount ℕ) → Among mount world.mounts → is_nowhere_or_attached (last mount) ≡ true
   last_nowhere mount m = by (is_some mount.namespace) refl (went_is mount m)
@@ -356,14 +345,16 @@ module _ (world : World ℕ) (filesystems : List (Filesystem ℕ)) (new : Copies
       → (mount_in nat_eq (map last mounts ++ others) number).filesystem ≡ (mount_in nat_eq mounts number).filesystem
   found_changed [] others number sub h = absurd (true≢false (sym h))
   found_changed (one ∷ mounts) others number sub h =
-      ap (λ n. (unwrap_or (cond (nat_eq number n) (Some (last one)) (find (λ x. nat_eq number x.number) (map last mounts ++ others))) (no_mount number)).filesystem)
+      ap (λ n. (unwrap_or (cond (nat_eq number n) (Some (last one)) (find (λ x. nat_eq number x.number) (map last mounts ++ others)))
+      (no_mount number)).filesystem)
       (last_number one (sub one (inl refl)))
       ∙ by (nat_eq number one.number) h (found_changed mounts others number (λ x m. sub x (inr m)))
     where
       by : (b : Bool) → (b || is_among nat_eq number (map (λ x. x.number) mounts)) ≡ true
           → (is_among nat_eq number (map (λ x. x.number) mounts) ≡ true
           → (mount_in nat_eq (map last mounts ++ others) number).filesystem ≡ (mount_in nat_eq mounts number).filesystem)
-          → (unwrap_or (cond b (Some (last one)) (find (λ x. nat_eq number x.number) (map last mounts ++ others))) (no_mount number)).filesystem
+          → (unwrap_or (cond b (Some (last one)) (find (λ x. nat_eq number x.number) (map last mounts ++ others)))
+          (no_mount number)).filesystem
           ≡ (unwrap_or (cond b (Some one) (find (λ x. nat_eq number x.number) mounts)) (no_mount number)).filesystem
       by true g later = last_filesystem one (sub one (inl refl))
       by false g later = later g
@@ -396,9 +387,14 @@ module _ (world : World ℕ) (filesystems : List (Filesystem ℕ)) (new : Copies
           inr (first_left g at (ap (λ (x : Mount ℕ). x.mount_point) (sym same) ∙ e))
       by_first g n false f is =
           inl (ap (λ (x : Mount ℕ). x.mount_point) is
-          ∙ ap (λ b. Some (cond b (record { mount = destination.number; node = place.node }) (unwrap_or (option_map (place_on_copy nat_eq new tree destination.number) mount.mount_point) place))) f
+          ∙ ap (λ b. Some (cond b (record { mount = destination.number; node = place.node })
+          (unwrap_or (option_map (place_on_copy nat_eq new tree destination.number) mount.mount_point) place))) f
           ∙ ap (λ o. Some (unwrap_or (option_map (place_on_copy nat_eq new tree destination.number) o) place)) e
-          ∙ ap (λ b. Some (record { mount = cond (b && is_destination nat_eq tree destination.number) at.mount (new.copy destination.number at.mount); node = at.node })) g
+          ∙ ap (λ b. Some (record {
+            mount = cond (b && is_destination nat_eq tree destination.number) at.mount
+                (new.copy destination.number at.mount);
+            node = at.node;
+          })) g
           ∙ ap (λ b. Some (record { mount = cond b at.mount (new.copy destination.number at.mount); node = at.node })) at_its_number)
 
       by : Went mount → ((went mount).mount_point ≡ Some at) ⊎ Among at (left_by moves)
@@ -411,7 +407,13 @@ module _ (world : World ℕ) (filesystems : List (Filesystem ℕ)) (new : Copies
       ⊎_elim
       (λ there. inl (⊎_elim
       (λ same. (last mount, (old_there mount m, (ap (λ (x : Mount ℕ). x.mount_point) same ∙ there, inl refl))))
-      (λ up. (copy up.0 first, (copy_at_receiver up.0 (copy up.0 first) up.1 (copy_there up.0 first (inl refl)), (first_copy up.0 ∙ sym up.2 ∙ there, inl refl))))
+      (λ up. (
+        copy up.0 first,
+        (
+          copy_at_receiver up.0 (copy up.0 first) up.1 (copy_there up.0 first (inl refl)),
+          (first_copy up.0 ∙ sym up.2 ∙ there, inl refl),
+        ),
+      ))
       (pushed (went mount))))
       inr
       (place_went mount m at e)
@@ -433,16 +435,20 @@ module _ (world : World ℕ) (filesystems : List (Filesystem ℕ)) (new : Copies
   }
 
   -- the first is shown at the destination
-  pub first_shown : moves ≡ false → (x : Mount ℕ) × (Among x after.mounts × ((mount_lives nat_eq after x ≡ true) × (x.filesystem ≡ first.filesystem)))
+  pub first_shown : moves ≡ false → (x : Mount ℕ)
+      × (Among x after.mounts × ((mount_lives nat_eq after x ≡ true) × (x.filesystem ≡ first.filesystem)))
   first_shown e =
       (copy destination first, (there, (all_live (copy destination first) there, refl)))
     where
       there : Among (copy destination first) after.mounts
       there =
-          among-append_left (map push (with_moved_mounts nat_eq moves world.mounts (copies destination)) ++ added_mounts moves (copies destination))
+          among-append_left (map push (with_moved_mounts nat_eq moves world.mounts (copies destination))
+          ++ added_mounts moves (copies destination))
           (flat_map copies (rest_of parts)) (copy destination first)
-          (among-append_right (map push (with_moved_mounts nat_eq moves world.mounts (copies destination))) (added_mounts moves (copies destination)) (copy destination first)
-          (subst (λ b. Among (copy destination first) (added_mounts b (copies destination))) (sym e) (copy_there destination first (inl refl))))
+          (among-append_right (map push (with_moved_mounts nat_eq moves world.mounts (copies destination)))
+          (added_mounts moves (copies destination)) (copy destination first)
+          (subst (λ b. Among (copy destination first) (added_mounts b (copies destination))) (sym e)
+          (copy_there destination first (inl refl))))
 
   -- Groups
 
@@ -463,7 +469,8 @@ module _ (world : World ℕ) (filesystems : List (Filesystem ℕ)) (new : Copies
       by (stayed e none) = ap (is_member_of nat_eq group) e ∙ h
       by (moved g n e) =
           ap (is_member_of nat_eq group) e
-          ∙ ap (λ b. holds_of (nat_eq group) (group_of (cond b (twig mount).propagation (copy_type nat_eq base new parts destination (twig mount) destination.propagation)))) at_its_number
+          ∙ ap (λ b. holds_of (nat_eq group) (group_of (cond b (twig mount).propagation
+          (copy_type nat_eq base new parts destination (twig mount) destination.propagation)))) at_its_number
           ∙ keeps mount.propagation (group_of destination.propagation) h
 
   -- what a copy is, some mount is afterwards
@@ -471,16 +478,20 @@ module _ (world : World ℕ) (filesystems : List (Filesystem ℕ)) (new : Copies
       → (x : Mount ℕ) × Among x after.mounts × (x.propagation ≡ (copy part origin).propagation)
   copy_stands part origin m n =
       ⊎_elim
-      (λ here. subst (λ p. (x : Mount ℕ) × Among x after.mounts × (x.propagation ≡ (copy p origin).propagation)) (sym here) (at_destination moves refl))
+      (λ here. subst (λ p. (x : Mount ℕ) × Among x after.mounts × (x.propagation ≡ (copy p origin).propagation)) (sym here)
+      (at_destination moves refl))
       (λ there. (copy part origin, copy_at_receiver part (copy part origin) there (copy_there part origin n), refl))
       m
     where
-      at_destination : (b : Bool) → moves ≡ b → (x : Mount ℕ) × Among x after.mounts × (x.propagation ≡ (copy destination origin).propagation)
+      at_destination : (b : Bool) → moves ≡ b → (x : Mount ℕ) × Among x after.mounts
+          × (x.propagation ≡ (copy destination origin).propagation)
       at_destination false e = (
         copy destination origin,
-        among-append_left (map push (with_moved_mounts nat_eq moves world.mounts (copies destination)) ++ added_mounts moves (copies destination))
+        among-append_left (map push (with_moved_mounts nat_eq moves world.mounts (copies destination))
+            ++ added_mounts moves (copies destination))
             (flat_map copies (rest_of parts)) (copy destination origin)
-            (among-append_right (map push (with_moved_mounts nat_eq moves world.mounts (copies destination))) (added_mounts moves (copies destination)) (copy destination origin)
+            (among-append_right (map push (with_moved_mounts nat_eq moves world.mounts (copies destination)))
+            (added_mounts moves (copies destination)) (copy destination origin)
             (subst (λ b. Among (copy destination origin) (added_mounts b (copies destination))) (sym e) (copy_there destination origin n))),
         refl,
       )
@@ -510,8 +521,11 @@ module _ (world : World ℕ) (filesystems : List (Filesystem ℕ)) (new : Copies
       made_by false g above f = absurd (true≢false (sym (ap is_some f)))
 
       at_receiver : (kind : Propagation ℕ)
-          → then_some (group_of kind) (λ group. when (not (is_member_of nat_eq group destination))
-          (image nat_eq new destination (twig origin) group, nearest_image nat_eq base new parts destination (twig origin) (base.master group))) ≡ Some made
+          → then_some (group_of kind) (λ group. when (not (is_member_of nat_eq group destination)) (
+            image nat_eq new destination (twig origin) group,
+            nearest_image nat_eq base new parts destination (twig origin)
+                (base.master group),
+          )) ≡ Some made
           → group_of (copy_type nat_eq base new parts destination (twig origin) kind) ≡ Some made.0
       at_receiver (Shared group) f = ap Some (made_by (not (is_member_of nat_eq group destination)) _ _ f)
       at_receiver (Slave up) f = absurd (true≢false (sym (ap is_some f)))
@@ -520,19 +534,25 @@ module _ (world : World ℕ) (filesystems : List (Filesystem ℕ)) (new : Copies
 
       made_at : Bool → Option (ℕ × Option ℕ)
       made_at b =
-          cond b (twig_master (twig origin)) (then_some (group_of part.propagation) (λ group. when (not (is_member_of nat_eq group destination))
-          (image nat_eq new destination (twig origin) group, nearest_image nat_eq base new parts destination (twig origin) (base.master group))))
+          cond b (twig_master (twig origin)) (then_some (group_of part.propagation)
+          (λ group. when (not (is_member_of nat_eq group destination)) (
+            image nat_eq new destination (twig origin) group,
+            nearest_image nat_eq base new parts destination (twig origin)
+                (base.master group),
+          )))
 
       type_by : Bool → Propagation ℕ
       type_by b = cond b (twig origin).propagation (copy_type nat_eq base new parts destination (twig origin) part.propagation)
 
       by : (b : Bool) → is_destination nat_eq tree part.number ≡ b → group_of (copy part origin).propagation ≡ Some made.0
-      by true f = ap (λ b. group_of (type_by b)) f ∙ at_destination (is_shared origin.propagation) (group_of (twig origin).propagation) (ap made_at (sym f) ∙ e)
+      by true f = ap (λ b. group_of (type_by b)) f ∙ at_destination (is_shared origin.propagation) (group_of (twig origin).propagation)
+          (ap made_at (sym f) ∙ e)
       by false f = ap (λ b. group_of (type_by b)) f ∙ at_receiver part.propagation (ap made_at (sym f) ∙ e)
 
   is_its_member : (x origin part : Mount ℕ) (group made : ℕ) → x.propagation ≡ (copy part origin).propagation
       → group_of (copy part origin).propagation ≡ Some made → nat_eq group made ≡ true → is_member_of nat_eq group x ≡ true
-  is_its_member x origin part group made e f same = ap (λ kind. holds_of (nat_eq group) (group_of kind)) e ∙ ap (holds_of (nat_eq group)) f ∙ same
+  is_its_member x origin part group made e f same = ap (λ kind. holds_of (nat_eq group) (group_of kind)) e
+      ∙ ap (holds_of (nat_eq group)) f ∙ same
 
   pub attached_groups : GroupsInUse after
   attached_groups group none =
@@ -548,4 +568,5 @@ module _ (world : World ℕ) (filesystems : List (Filesystem ℕ)) (new : Copies
       ∙ in_use.groups group
       (none_passes (is_member_of nat_eq group) world.mounts (λ mount m.
       false_from_ne_true (is_member_of nat_eq group mount) (λ is.
-      true≢false (sym (any_passes (is_member_of nat_eq group) after.mounts (last mount) (old_there mount m) (member_still mount m group is)) ∙ none))))
+      true≢false (sym (any_passes (is_member_of nat_eq group) after.mounts (last mount) (old_there mount m)
+      (member_still mount m group is)) ∙ none))))

@@ -27,7 +27,8 @@ tree_among (suc depth) mounts top mount m =
     ⊎_elim inl
     (λ later.
     let under = among-from_flat_map (tree_from nat_eq depth mounts) (children nat_eq mounts top.number) mount later in
-    let child : Among under.0 mounts × (stands_on nat_eq top.number under.0 ≡ true) = among-from_filter (stands_on nat_eq top.number) mounts under.0 under.1 in
+    let child : Among under.0 mounts × (stands_on nat_eq top.number under.0
+    ≡ true) = among-from_filter (stands_on nat_eq top.number) mounts under.0 under.1 in
     inr (⊎_elim (λ e. subst (λ x. Among x mounts) (sym e) child.0) (λ l. l) (tree_among depth mounts under.0 mount under.2)))
     m
 
@@ -39,7 +40,8 @@ of_tree world number is depth mount m =
     (tree_among depth world.mounts (mount_numbered nat_eq world number) mount m)
 
 -- a tree of copies, of mounts that show filesystems of the world or a new one
-copies_with : (world : World ℕ) (filesystems : List (Filesystem ℕ)) (new : Copies ℕ) (place : Location ℕ) (first : Mount ℕ) (rest : List (Mount ℕ))
+copies_with : (world : World ℕ) (filesystems : List (Filesystem ℕ)) (new : Copies ℕ) (place : Location ℕ) (first : Mount ℕ)
+    (rest : List (Mount ℕ))
     → AllInUse world → MountsStand world → LocationsStand world → is_attached world place.mount ≡ true
     → Comes world (attached_by nat_eq (record world { filesystems = filesystems }) new place false (first ∷ rest))
     → settled nat_eq (attached_by nat_eq (record world { filesystems = filesystems }) new place false (first ∷ rest))
@@ -55,14 +57,17 @@ copies_with world filesystems new place first rest in_use stand located at_attac
 
 pub copies_keep_all : CopiesKeepAll
 copies_keep_all world new place first rest in_use stand located at_attached =
-    copies_with world world.filesystems new place first rest in_use stand located at_attached (record { kept = λ f m. m; new = λ f m. inl m })
+    copies_with world world.filesystems new place first rest in_use stand located at_attached
+    (record { kept = λ f m. m; new = λ f m. inl m })
 
 pub binds_keep_all : BindsKeepAll
 binds_keep_all fresh world task source place false in_use stand located at_attached =
-    copies_keep_all world (copies_from nat_eq fresh (parts_of nat_eq world place) (bind_tree nat_eq world source false)) place (bound nat_eq world source) []
+    copies_keep_all world (copies_from nat_eq fresh (parts_of nat_eq world place) (bind_tree nat_eq world source false)) place
+    (bound nat_eq world source) []
     in_use stand located at_attached
 binds_keep_all fresh world task source place true in_use stand located at_attached =
-    copies_keep_all world (copies_from nat_eq fresh (parts_of nat_eq world place) (bind_tree nat_eq world source true)) place (bound nat_eq world source)
+    copies_keep_all world (copies_from nat_eq fresh (parts_of nat_eq world place) (bind_tree nat_eq world source true)) place
+    (bound nat_eq world source)
     (flat_map (bindable_tree nat_eq (length world.mounts) world.mounts)
     (filter (stands_under nat_eq world source) (bindable_children nat_eq world.mounts source.mount)))
     in_use stand located at_attached
@@ -108,7 +113,8 @@ pub moved_trees_let_go : MovedTreesLetGo
 moved_trees_let_go world new place first rest settles located at_attached of_world =
     losers_go world after.mounts after.master world.namespaces world.tasks [] (option_to_list first.mount_point) [] settles
     (attached_loses world world.filesystems new place true first rest settles.in_use settles.mounts located at_attached its)
-    (λ group among none. attached_groups world world.filesystems new place true first rest settles.in_use settles.mounts located at_attached its group none)
+    (λ group among none. attached_groups world world.filesystems new place true first rest settles.in_use settles.mounts located
+    at_attached its group none)
   where
     after : World ℕ
     after = attached_by nat_eq world new place true (first ∷ rest)
@@ -131,8 +137,10 @@ moves_let_go fresh world task number place settles located at_attached is = by (
     new mounts = copies_from nat_eq fresh (parts_of nat_eq world place) mounts
 
     by : (depth : ℕ) → settled nat_eq (attach nat_eq world fresh place true (tree_from nat_eq depth world.mounts mount))
-        ≡ let_go_inodes (attach nat_eq world fresh place true (tree_from nat_eq depth world.mounts mount)) (inodes_of_mount_point world mount)
+        ≡ let_go_inodes (attach nat_eq world fresh place true (tree_from nat_eq depth world.mounts mount))
+        (inodes_of_mount_point world mount)
     by zero = moved_trees_let_go world (new (mount ∷ [])) place mount [] settles located at_attached (all_of_world zero)
     by (suc depth) =
         moved_trees_let_go world (new (tree_from nat_eq (suc depth) world.mounts mount)) place mount
-        (flat_map (tree_from nat_eq depth world.mounts) (children nat_eq world.mounts mount.number)) settles located at_attached (all_of_world (suc depth))
+        (flat_map (tree_from nat_eq depth world.mounts) (children nat_eq world.mounts mount.number)) settles located at_attached
+        (all_of_world (suc depth))

@@ -29,7 +29,8 @@ module _ (world : World ℕ) (number : ℕ) (alone : has_child nat_eq world numb
       by : (n : ℕ) → last_or place (chain n (mount_point_of_parent nat_eq world (number ∷ [])) place) ≡ place
       by zero = refl
       by (suc n) =
-          ap (λ (o : Option (Location ℕ)). last_or place (elim o [ None ↦ place ∷ [] | Some b ↦ place ∷ chain n (mount_point_of_parent nat_eq world (number ∷ [])) b ])) ends
+          ap (λ (o : Option (Location ℕ)). last_or place
+          (elim o [ None ↦ place ∷ [] | Some b ↦ place ∷ chain n (mount_point_of_parent nat_eq world (number ∷ [])) b ])) ends
 
   one_by_one : (mount : Mount ℕ) → Among mount world.mounts → after_going nat_eq world (number ∷ []) mount ≡ detached_if number mount
   one_by_one mount m = by (nat_eq mount.number number)
@@ -40,7 +41,8 @@ module _ (world : World ℕ) (number : ℕ) (alone : has_child nat_eq world numb
           ap Some (stays_at place
           (sym (ap (holds_of (λ l. nat_eq number l.mount)) e) ∙ fails (stands_on nat_eq number) world.mounts alone mount m))
 
-      by : (b : Bool) → cond (b || false) (detached mount) (record mount { mount_point = option_map (mount_point_left nat_eq world (number ∷ [])) mount.mount_point })
+      by : (b : Bool) → cond (b || false) (detached mount)
+          (record mount { mount_point = option_map (mount_point_left nat_eq world (number ∷ [])) mount.mount_point })
           ≡ cond b (detached mount) mount
       by true = refl
       by false = ap (λ place. record mount { mount_point = place }) (keeps mount.mount_point refl)
@@ -57,34 +59,40 @@ module _ (world : World ℕ) (number : ℕ) (alone : has_child nat_eq world numb
       its_number : mount.number ∷ [] ≡ number ∷ []
       its_number = ap (λ n. n ∷ []) (number_found world.mounts number)
 
-      by : (o : Option (Location ℕ)) → list_all (λ place. not (is_shared (mount_at nat_eq world place).propagation)) (option_to_list o) ≡ true
+      by : (o : Option (Location ℕ)) → list_all (λ place. not (is_shared (mount_at nat_eq world place).propagation)) (option_to_list o)
+          ≡ true
           → going_at nat_eq world mount o ≡ number ∷ []
       by None e = its_number
       by (Some place) e =
           ap (going_from nat_eq world mount place)
-          (not-true (is_shared (mount_at nat_eq world place).propagation) (and_parts (not (is_shared (mount_at nat_eq world place).propagation)) true e).0)
+          (not-true (is_shared (mount_at nat_eq world place).propagation)
+          (and_parts (not (is_shared (mount_at nat_eq world place).propagation)) true e).0)
           ∙ its_number
 
 pub unmount_is_of_one : UnmountIsOfOne
 unmount_is_of_one world number alone unshared = goes_alone world number alone unshared
 
 -- A mount of a list that is changed, where numbers stay
-pub found-map : (change : Mount ℕ → Mount ℕ) → ((mount : Mount ℕ) → (change mount).number ≡ mount.number) → (mounts : List (Mount ℕ)) (number : ℕ)
+pub found-map : (change : Mount ℕ → Mount ℕ) → ((mount : Mount ℕ) → (change mount).number ≡ mount.number)
+    → (mounts : List (Mount ℕ)) (number : ℕ)
     → (mount : Mount ℕ) → Among mount mounts → mount_in nat_eq mounts number ≡ mount → mount.number ≡ number
     → mount_in nat_eq (map change mounts) number ≡ change (mount_in nat_eq mounts number)
 found-map change same [] number mount m e f = absurd m
 found-map change same (first ∷ rest) number mount m e f =
-    ap (λ n. unwrap_or (cond (nat_eq number n) (Some (change first)) (find (λ x. nat_eq number x.number) (map change rest))) (no_mount number)) (same first)
+    ap (λ n. unwrap_or (cond (nat_eq number n) (Some (change first)) (find (λ x. nat_eq number x.number) (map change rest)))
+    (no_mount number)) (same first)
     ∙ by (nat_eq number first.number) refl
     (λ g h. found-map change same rest number mount g h f) m e
   where
     by : (b : Bool) → nat_eq number first.number ≡ b
-        → (Among mount rest → mount_in nat_eq rest number ≡ mount → mount_in nat_eq (map change rest) number ≡ change (mount_in nat_eq rest number))
+        → (Among mount rest → mount_in nat_eq rest number ≡ mount → mount_in nat_eq (map change rest) number
+        ≡ change (mount_in nat_eq rest number))
         → Among mount (first ∷ rest)
         → unwrap_or (cond (nat_eq number first.number) (Some first) (find (λ x. nat_eq number x.number) rest)) (no_mount number) ≡ mount
         → unwrap_or (cond b (Some (change first)) (find (λ x. nat_eq number x.number) (map change rest))) (no_mount number)
         ≡ change (unwrap_or (cond (nat_eq number first.number) (Some first) (find (λ x. nat_eq number x.number) rest)) (no_mount number))
-    by true g later n h = ap (λ b. change (unwrap_or (cond b (Some first) (find (λ x. nat_eq number x.number) rest)) (no_mount number))) (sym g)
+    by true g later n h = ap (λ b. change (unwrap_or (cond b (Some first) (find (λ x. nat_eq number x.number) rest)) (no_mount number)))
+        (sym g)
     by false g later n h =
         later
         (⊎_elim (λ is. absurd (true≢false (sym (eq-eqb number first.number (sym f ∙ ap (λ x. x.number) is)) ∙ g))) (λ l. l) n)
@@ -92,7 +100,8 @@ found-map change same (first ∷ rest) number mount m e f =
         ∙ ap (λ b. change (unwrap_or (cond b (Some first) (find (λ x. nat_eq number x.number) rest)) (no_mount number))) (sym g)
 
 -- where none has the number, none has it after the change
-pub not_found-map : (change : Mount ℕ → Mount ℕ) → ((mount : Mount ℕ) → (change mount).number ≡ mount.number) → (mounts : List (Mount ℕ)) (number : ℕ)
+pub not_found-map : (change : Mount ℕ → Mount ℕ) → ((mount : Mount ℕ) → (change mount).number ≡ mount.number)
+    → (mounts : List (Mount ℕ)) (number : ℕ)
     → (mount_in nat_eq (map change mounts) number).filesystem ≡ (mount_in nat_eq mounts number).filesystem
     ⊎ ((mount : Mount ℕ) × Among mount mounts × (mount_in nat_eq mounts number ≡ mount) × (mount.number ≡ number))
 not_found-map change same [] number = inl refl
@@ -104,10 +113,17 @@ not_found-map change same (first ∷ rest) number = by (nat_eq number first.numb
         → ((mount_in nat_eq (map change (first ∷ rest)) number).filesystem ≡ (mount_in nat_eq (first ∷ rest) number).filesystem
         ⊎ ((mount : Mount ℕ) × Among mount (first ∷ rest) × (mount_in nat_eq (first ∷ rest) number ≡ mount) × (mount.number ≡ number)))
     by true e later =
-        inr (first, inl refl, ap (λ b. unwrap_or (cond b (Some first) (find (λ x. nat_eq number x.number) rest)) (no_mount number)) e, sym (eqb-true number first.number e))
+        inr (
+          first,
+          inl refl,
+          ap (λ b. unwrap_or (cond b (Some first) (find (λ x. nat_eq number x.number) rest))
+              (no_mount number)) e,
+          sym (eqb-true number first.number e),
+        )
     by false e later =
         let here = ap (λ b. unwrap_or (cond b (Some first) (find (λ x. nat_eq number x.number) rest)) (no_mount number)) e in
-        let there = ap (λ n. unwrap_or (cond (nat_eq number n) (Some (change first)) (find (λ x. nat_eq number x.number) (map change rest))) (no_mount number)) (same first)
+        let there = ap (λ n. unwrap_or (cond (nat_eq number n) (Some (change first))
+        (find (λ x. nat_eq number x.number) (map change rest))) (no_mount number)) (same first)
         ∙ ap (λ b. unwrap_or (cond b (Some (change first)) (find (λ x. nat_eq number x.number) (map change rest))) (no_mount number)) e in
         ⊎_elim (λ none. inl (ap (λ x. x.filesystem) there ∙ none ∙ ap (λ x. x.filesystem) (sym here)))
         (λ some. inr (some.0, inr some.1, here ∙ some.2, some.3)) later

@@ -37,11 +37,13 @@ module _ (world : World ℕ) (group : ℕ) (live : GroupsLiveBut group world) (e
   heir_of_group : heir nat_eq world (Some group) ≡ world.master group
   heir_of_group = by world.mounts refl
     where
-      by : (mounts : List (Mount ℕ)) → world.mounts ≡ mounts → find lives (chain (length world.mounts) world.master group) ≡ world.master group
+      by : (mounts : List (Mount ℕ)) → world.mounts ≡ mounts
+          → find lives (chain (length world.mounts) world.master group) ≡ world.master group
       by [] e =
           ap (λ (ms : List (Mount ℕ)). find lives (chain (length ms) world.master group)) e
           ∙ ap (λ b. cond b (Some group) None) empty
-          ∙ none (world.master group) (ap (λ ms. list_all (has_members nat_eq ms) (option_to_list (world.master group))) (sym e) ∙ live.its_master)
+          ∙ none (world.master group) (ap (λ ms. list_all (has_members nat_eq ms) (option_to_list (world.master group))) (sym e)
+          ∙ live.its_master)
         where
           none : (o : Option ℕ) → list_all (has_members nat_eq []) (option_to_list o) ≡ true → None ≡ o
           none None h = refl
@@ -68,8 +70,10 @@ module _ (world : World ℕ) (group : ℕ) (live : GroupsLiveBut group world) (e
   inherited_handed_on (Slave master) h = ap slave_of_heir (heir_handed_on (Some master) h) ∙ by (nat_eq group master) refl
     where
       by : (b : Bool) → nat_eq group master ≡ b
-          → slave_of_heir (cond b (world.master group) (Some master)) ≡ cond (nat_eq master group) (slave_of_heir (world.master group)) (Slave master)
-      by true e = ap (λ b. cond b (slave_of_heir (world.master group)) (Slave master)) (sym (eq-eqb master group (sym (eqb-true group master e))))
+          → slave_of_heir (cond b (world.master group) (Some master)) ≡ cond (nat_eq master group) (slave_of_heir (world.master group))
+          (Slave master)
+      by true e = ap (λ b. cond b (slave_of_heir (world.master group)) (Slave master))
+          (sym (eq-eqb master group (sym (eqb-true group master e))))
       by false e = ap (λ b. cond b (slave_of_heir (world.master group)) (Slave master)) (sym (differs (nat_eq master group) refl))
         where
           differs : (b : Bool) → nat_eq master group ≡ b → b ≡ false
@@ -89,7 +93,8 @@ module _ (world : World ℕ) (group : ℕ) (live : GroupsLiveBut group world) (e
   no_slave Private h = refl
   no_slave Unbindable h = refl
 
-  no_lower : list_any (lost_a_group nat_eq world) world.mounts ≡ false → (other : ℕ) → master_handed_on group (world.master group) (world.master other) ≡ world.master other
+  no_lower : list_any (lost_a_group nat_eq world) world.mounts ≡ false → (other : ℕ)
+      → master_handed_on group (world.master group) (world.master other) ≡ world.master other
   no_lower none other = by (holds_of (nat_eq group) (world.master other)) refl
     where
       is_it : (o : Option ℕ) → holds_of (nat_eq group) o ≡ true → o ≡ Some group
@@ -110,19 +115,22 @@ module _ (world : World ℕ) (group : ℕ) (live : GroupsLiveBut group world) (e
           let t = one_passes (is_member_of nat_eq other) world.mounts e in
           let source = member_source t.0 t.2 in
           true≢false
-          (sym (or_second (is_lost_group nat_eq world (source_of t.0.propagation)) (is_lost_group nat_eq world (then_some (source_of t.0.propagation) world.master))
+          (sym (or_second (is_lost_group nat_eq world (source_of t.0.propagation))
+          (is_lost_group nat_eq world (then_some (source_of t.0.propagation) world.master))
           (ap (λ o. is_lost_group nat_eq world (then_some o world.master)) source ∙ ap (is_lost_group nat_eq world) below ∙ ap not empty))
           ∙ fails (lost_a_group nat_eq world) world.mounts none t.0 t.1)
       has below false e =
           ⊎_elim
           (λ same. true≢false
           (sym (and_parts (lives group) true
-          (sym (ap (λ o. list_all lives (option_to_list o)) (ap world.master (sym (eqb-true other group same)) ∙ below)) ∙ live.its_master)).0 ∙ empty))
+          (sym (ap (λ o. list_all lives (option_to_list o)) (ap world.master (sym (eqb-true other group same)) ∙ below))
+          ∙ live.its_master)).0 ∙ empty))
           (λ differ. true≢false
           (sym (ap is_some below) ∙ ap is_some (live.in_use other (ap (λ b. b || false) differ) e)))
           (decided (nat_eq other group))
 
-      by : (b : Bool) → holds_of (nat_eq group) (world.master other) ≡ b → cond b (world.master group) (world.master other) ≡ world.master other
+      by : (b : Bool) → holds_of (nat_eq group) (world.master other) ≡ b
+          → cond b (world.master group) (world.master other) ≡ world.master other
       by true e = absurd (has (is_it (world.master other) e) (lives other) refl)
       by false e = refl
 
@@ -134,14 +142,16 @@ module _ (world : World ℕ) (group : ℕ) (live : GroupsLiveBut group world) (e
         mounts = map_alike (inheriting nat_eq world) (mount_handed_on group (world.master group)) world.mounts
             (λ mount m. ap (λ kind. record mount { propagation = kind })
             (inherited_handed_on mount.propagation
-            (passes (λ x. list_all (is_group_or_lives world group) (option_to_list (source_of x.propagation))) world.mounts live.of_mounts mount m))) i;
+            (passes (λ x. list_all (is_group_or_lives world group)
+            (option_to_list (source_of x.propagation))) world.mounts live.of_mounts mount m))) i;
         master = λ other. heir_handed_on (world.master other) (live.of_groups other) i;
       }
       by false e = λ i. record world {
         mounts = sym (map_same (mount_handed_on group (world.master group)) world.mounts
             (λ mount m. ap (λ kind. record mount { propagation = kind })
             (no_slave mount.propagation
-            (or_parts (is_lost_group nat_eq world (source_of mount.propagation)) _ (fails (lost_a_group nat_eq world) world.mounts e mount m)).0))) i;
+            (or_parts (is_lost_group nat_eq world (source_of mount.propagation)) _
+            (fails (lost_a_group nat_eq world) world.mounts e mount m)).0))) i;
         master = λ other. sym (no_lower e other) i;
       }
 

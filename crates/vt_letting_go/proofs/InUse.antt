@@ -1,15 +1,16 @@
 -- Where all is in use nothing goes, and what is left is in use.
-use Rattle.std.proofs.Common.{◌≡◌, refl, sym, ap, ◌∙◌, ⊎_elim, ℕ, nat_eq, eq-eqb, Bool, true, false, cond, not, ◌||◌, ◌&&◌, List, [], ◌∷◌, filter, map, true≢false, flat_map, ◌++◌, Option, Some, None, is_some, option_map}
+use Rattle.std.proofs.Common.{◌≡◌, refl, sym, ap, subst, ◌∙◌, ⊎_elim, ℕ, nat_eq, eq-eqb, Bool, true, false, cond, not, ◌||◌, ◌&&◌, List, [], ◌∷◌, filter, map, true≢false, flat_map, ◌++◌, Option, Some, None, is_some, option_map}
 use Rattle.std.specs.Prelude.{All, filter_map}
 use Rattle.std.specs.List.{list_all, list_any}
 use Rattle.vt_spec.specs.FileTree.{targets_in}
 use Rattle.vt_spec.specs.Lists.{holds_of, is_among}
 use Rattle.vt_spec.specs.Machine.Locked.{of_overlay, overlay_or}
+use Rattle.vt_spec.specs.Machine.Mounts.{Location, root_of}
 use Rattle.vt_spec.specs.Machine.Receives.{has_members}
 use Rattle.vt_spec.specs.Machine.Settled.{filesystem_lives, has_layer_on, is_mounted, layers_in, located_in, mount_lives, named_in, objects_of_overlay, only_used, only_used_by, real_among, settled, used_in, without_dead_filesystems, without_dead_groups, without_dead_in, without_dead_inodes, without_dead_mounts}
-use Rattle.vt_spec.specs.Machine.World.{Filesystem, Overlay, World, is_overlay, layers_of, upper_object, with_mounts}
+use Rattle.vt_spec.specs.Machine.World.{Filesystem, Layer, Overlay, World, all_locations, is_overlay, layers_of, mount_at, upper_object, with_mounts}
 use Rattle.vt_letting_go.specs.InUse.{AllInUse, FilesystemsInUse, GroupsInUse, HasTrees, InodesInUse, IsListedTree, MountsInUse, NothingGoes, OneSweepIsEnough, UppersArePlain, WhatIsLeftIsInUse, has_upper_in, is_inode_used}
-use Rattle.vt_letting_go.proofs.Lists.{Among, all_from_among, all_pass, among-filter, among-from_map, among-map, among_from_all, any_passes, flat_map_none, one_passes, or_first, decided, among-from_filter, filter_all, flat_map-filter, flat_map-map, flat_map_alike, is_among_left, map_same, or_second, passes}
+use Rattle.vt_letting_go.proofs.Lists.{Among, all_from_among, all_pass, among-filter, among-flat_map, among-from_flat_map, among-from_map, among-map, among_from_all, any_passes, flat_map_none, one_passes, or_first, decided, among-from_filter, filter_all, flat_map-filter, flat_map-map, flat_map_alike, is_among_left, is_among_numbers, is_among_right, map_same, or_second, passes}
 use Rattle.vt_letting_go.proofs.Trees.{unnamed_is_empty}
 use Rattle.std.proofs.lemmas.Bool.{and_parts, or_cases, or_parts}
 use Rattle.std.proofs.lemmas.List.Folds.{list_any-append}
@@ -39,7 +40,8 @@ groups_stay world all = λ i. record world { master = λ group. kept group i }
     kept group = by group (has_members nat_eq world.mounts group) refl
 
 pub mounts_stay : (world : World ℕ) → MountsInUse world → without_dead_mounts nat_eq world ≡ world
-mounts_stay world all = ap (with_mounts world) (filter_all (mount_lives nat_eq world) world.mounts (passes (mount_lives nat_eq world) world.mounts all))
+mounts_stay world all = ap (with_mounts world) (filter_all (mount_lives nat_eq world) world.mounts
+    (passes (mount_lives nat_eq world) world.mounts all))
 
 pub filesystems_stay : (world : World ℕ) → FilesystemsInUse world → without_dead_filesystems nat_eq world ≡ world
 filesystems_stay world all =
@@ -50,7 +52,8 @@ pub nothing_goes : NothingGoes
 nothing_goes world all =
     ap (λ w. without_dead_groups nat_eq (without_dead_inodes nat_eq (without_dead_filesystems nat_eq w))) (mounts_stay world all.mounts)
     ∙ ap (λ w. without_dead_groups nat_eq (without_dead_inodes nat_eq w)) (filesystems_stay world all.filesystems)
-    ∙ ap (λ w. without_dead_groups nat_eq (without_dead_in nat_eq (λ filesystem. not (is_overlay filesystem)) w)) (inodes_stay is_overlay world all.inodes)
+    ∙ ap (λ w. without_dead_groups nat_eq (without_dead_in nat_eq (λ filesystem. not (is_overlay filesystem)) w))
+    (inodes_stay is_overlay world all.inodes)
     ∙ ap (without_dead_groups nat_eq) (inodes_stay (λ filesystem. not (is_overlay filesystem)) world all.inodes)
     ∙ groups_stay world all.groups
 
@@ -85,6 +88,17 @@ module _ (used : List ℕ) (filesystem : Filesystem ℕ) where
       by None = refl
       by (Some overlay) = refl
 
+  pub upper-left : (number : ℕ) (all : Bool) → has_upper_in number (left_by all) ≡ has_upper_in number filesystem
+  upper-left number true = refl
+  upper-left number false = by filesystem.overlay
+    where
+      by : (o : Option (Overlay ℕ))
+          → overlay_or false (λ overlay. holds_of (λ layer. nat_eq number layer.filesystem) overlay.upper)
+          (option_map (real_among nat_eq used) o)
+          ≡ overlay_or false (λ overlay. holds_of (λ layer. nat_eq number layer.filesystem) overlay.upper) o
+      by None = refl
+      by (Some overlay) = refl
+
   -- an inode that is used no more has no entries
   abbrev pub UnusedAreEmpty : Type 0
   UnusedAreEmpty = (number : ℕ) → is_among nat_eq number used ≡ false → targets_in (filesystem.files.tree.node number) ≡ []
@@ -94,9 +108,11 @@ module _ (used : List ℕ) (filesystem : Filesystem ℕ) where
   named-left empty true = refl
   named-left empty false =
       flat_map_alike (λ directory. targets_in (cond (is_among nat_eq directory used) (filesystem.files.tree.node directory) None))
-      (λ directory. targets_in (filesystem.files.tree.node directory)) (filter (λ number. is_among nat_eq number used) filesystem.files.numbers)
+      (λ directory. targets_in (filesystem.files.tree.node directory))
+      (filter (λ number. is_among nat_eq number used) filesystem.files.numbers)
       (λ directory m. by directory (is_among nat_eq directory used) refl)
-      ∙ flat_map-filter (λ number. is_among nat_eq number used) (λ directory. targets_in (filesystem.files.tree.node directory)) filesystem.files.numbers empty
+      ∙ flat_map-filter (λ number. is_among nat_eq number used)
+      (λ directory. targets_in (filesystem.files.tree.node directory)) filesystem.files.numbers empty
     where
       by : (directory : ℕ) (b : Bool) → is_among nat_eq directory used ≡ b
           → targets_in (cond b (filesystem.files.tree.node directory) None) ≡ targets_in (filesystem.files.tree.node directory)
@@ -121,12 +137,58 @@ unused_are_empty world filesystem conditions number unused =
     (⊎_elim
     (λ named. absurd (true≢false
     (sym (or_second (nat_eq number filesystem.files.tree.root) _
-    (is_among_left number (named_in filesystem.files ++ located_in nat_eq world filesystem.number ++ layers_in nat_eq world filesystem.number)
+    (is_among_left number (named_in filesystem.files ++ located_in nat_eq world filesystem.number
+    ++ layers_in nat_eq world filesystem.number)
     (flat_map (objects_of_overlay nat_eq filesystem.number) world.filesystems)
-    (is_among_left number (named_in filesystem.files ++ located_in nat_eq world filesystem.number) (layers_in nat_eq world filesystem.number)
+    (is_among_left number (named_in filesystem.files ++ located_in nat_eq world filesystem.number)
+    (layers_in nat_eq world filesystem.number)
     (is_among_left number (named_in filesystem.files) (located_in nat_eq world filesystem.number) named)))) ∙ unused)))
     (λ unnamed. unnamed)
     (decided (is_among nat_eq number (named_in filesystem.files))))
+
+-- a place that is there is in use
+pub used_at : (world : World ℕ) (filesystem : Filesystem ℕ) (location : Location ℕ)
+    → Among location (all_locations world ++ map root_of world.mounts ++ filter_map (λ mount. mount.mount_point) world.mounts)
+    → filesystem.number ≡ (mount_at nat_eq world location).filesystem → is_inode_used world filesystem location.node ≡ true
+used_at world filesystem location m e =
+    or_second (nat_eq location.node filesystem.files.tree.root) _
+    (is_among_left location.node (named_in filesystem.files ++ located_in nat_eq world filesystem.number
+    ++ layers_in nat_eq world filesystem.number)
+    (flat_map (objects_of_overlay nat_eq filesystem.number) world.filesystems)
+    (is_among_left location.node (named_in filesystem.files ++ located_in nat_eq world filesystem.number)
+    (layers_in nat_eq world filesystem.number)
+    (is_among_right location.node (named_in filesystem.files) (located_in nat_eq world filesystem.number)
+    (is_among_numbers location.node (located_in nat_eq world filesystem.number)
+    (among-map (λ l. l.node) (filter (λ l. nat_eq filesystem.number (mount_at nat_eq world l).filesystem) places) location
+    (among-filter (λ l. nat_eq filesystem.number (mount_at nat_eq world l).filesystem) places location m
+    (eq-eqb filesystem.number (mount_at nat_eq world location).filesystem e)))))))
+  where
+    places : List (Location ℕ)
+    places = all_locations world ++ map root_of world.mounts ++ filter_map (λ mount. mount.mount_point) world.mounts
+
+-- layers of filesystems that are there still are layers still
+pub layers_stay : (before after : World ℕ)
+    → ((f : Filesystem ℕ) → Among f before.filesystems → (g : Filesystem ℕ) × Among g after.filesystems
+    × (of_overlay [] layers_of g ≡ of_overlay [] layers_of f))
+    → (filesystem number : ℕ) → Among number (layers_in nat_eq before filesystem) → Among number (layers_in nat_eq after filesystem)
+layers_stay before after still filesystem number m =
+    let one = among-from_map (λ (layer : Layer ℕ). layer.directory)
+    (filter is_in (flat_map (of_overlay [] layers_of) before.filesystems)) number m in
+    let two = among-from_filter is_in (flat_map (of_overlay [] layers_of) before.filesystems) one.0 one.1 in
+    let three = among-from_flat_map (of_overlay [] layers_of) before.filesystems one.0 two.0 in
+    subst (λ n. Among n (layers_in nat_eq after filesystem)) (sym one.2)
+    (among-map (λ (layer : Layer ℕ). layer.directory) (filter is_in (flat_map (of_overlay [] layers_of) after.filesystems)) one.0
+    (among-filter is_in (flat_map (of_overlay [] layers_of) after.filesystems) one.0
+    (is_layer three.0 one.0 three.2 (still three.0 three.1)) two.1))
+  where
+    is_layer : (f : Filesystem ℕ) (layer : Layer ℕ) → Among layer (of_overlay [] layers_of f)
+        → ((g : Filesystem ℕ) × Among g after.filesystems × (of_overlay [] layers_of g ≡ of_overlay [] layers_of f))
+        → Among layer (flat_map (of_overlay [] layers_of) after.filesystems)
+    is_layer f layer among same =
+        among-flat_map (of_overlay [] layers_of) after.filesystems same.0 layer same.1 (subst (Among layer) (sym same.2) among)
+
+    is_in : Layer ℕ → Bool
+    is_in layer = nat_eq filesystem layer.filesystem
 
 module _ (world : World ℕ) where
   abbrev mounted : World ℕ
@@ -139,34 +201,34 @@ module _ (world : World ℕ) where
   abbrev first : World ℕ
   first = without_dead_in nat_eq is_overlay living
 
-  abbrev after_first : Filesystem ℕ → Filesystem ℕ
+  abbrev pub after_first : Filesystem ℕ → Filesystem ℕ
   after_first filesystem = only_used nat_eq living (is_overlay filesystem) filesystem
 
-  abbrev after_second : Filesystem ℕ → Filesystem ℕ
+  abbrev pub after_second : Filesystem ℕ → Filesystem ℕ
   after_second filesystem = only_used nat_eq first (not (is_overlay filesystem)) filesystem
 
-  number-first : (filesystem : Filesystem ℕ) → (after_first filesystem).number ≡ filesystem.number
+  pub number-first : (filesystem : Filesystem ℕ) → (after_first filesystem).number ≡ filesystem.number
   number-first filesystem = by (is_overlay filesystem)
     where
       by : (b : Bool) → (only_used nat_eq living b filesystem).number ≡ filesystem.number
       by true = number-left (used_in nat_eq living filesystem) filesystem _
       by false = refl
 
-  number-second : (filesystem : Filesystem ℕ) → (after_second filesystem).number ≡ filesystem.number
+  pub number-second : (filesystem : Filesystem ℕ) → (after_second filesystem).number ≡ filesystem.number
   number-second filesystem = by (not (is_overlay filesystem))
     where
       by : (b : Bool) → (only_used nat_eq first b filesystem).number ≡ filesystem.number
       by true = number-left (used_in nat_eq first filesystem) filesystem _
       by false = refl
 
-  layers-first : (filesystem : Filesystem ℕ) → of_overlay [] layers_of (after_first filesystem) ≡ of_overlay [] layers_of filesystem
+  pub layers-first : (filesystem : Filesystem ℕ) → of_overlay [] layers_of (after_first filesystem) ≡ of_overlay [] layers_of filesystem
   layers-first filesystem = by (is_overlay filesystem)
     where
       by : (b : Bool) → of_overlay [] layers_of (only_used nat_eq living b filesystem) ≡ of_overlay [] layers_of filesystem
       by true = layers-left (used_in nat_eq living filesystem) filesystem _
       by false = refl
 
-  layers-second : (filesystem : Filesystem ℕ) → of_overlay [] layers_of (after_second filesystem) ≡ of_overlay [] layers_of filesystem
+  pub layers-second : (filesystem : Filesystem ℕ) → of_overlay [] layers_of (after_second filesystem) ≡ of_overlay [] layers_of filesystem
   layers-second filesystem = by (not (is_overlay filesystem))
     where
       by : (b : Bool) → of_overlay [] layers_of (only_used nat_eq first b filesystem) ≡ of_overlay [] layers_of filesystem
@@ -179,17 +241,18 @@ module _ (world : World ℕ) where
       (flat_map-map after_second (of_overlay [] layers_of) first.filesystems layers-second
       ∙ flat_map-map after_first (of_overlay [] layers_of) living.filesystems layers-first)
 
-  first_layers : (number : ℕ) → layers_in nat_eq first number ≡ layers_in nat_eq living number
+  pub first_layers : (number : ℕ) → layers_in nat_eq first number ≡ layers_in nat_eq living number
   first_layers number =
       ap (λ layers. map (λ layer. layer.directory) (filter (λ layer. nat_eq number layer.filesystem) layers))
       (flat_map-map after_first (of_overlay [] layers_of) living.filesystems layers-first)
 
   -- the second round leaves overlays
-  second_leaves : (filesystem : Filesystem ℕ) → is_overlay filesystem ≡ true → after_second filesystem ≡ filesystem
+  pub second_leaves : (filesystem : Filesystem ℕ) → is_overlay filesystem ≡ true → after_second filesystem ≡ filesystem
   second_leaves filesystem e = ap (λ b. only_used nat_eq first (not b) filesystem) e
 
   -- a plain tree has no objects
-  pub no_objects : (number : ℕ) (filesystem : Filesystem ℕ) → is_overlay filesystem ≡ false → objects_of_overlay nat_eq number filesystem ≡ []
+  pub no_objects : (number : ℕ) (filesystem : Filesystem ℕ) → is_overlay filesystem ≡ false
+      → objects_of_overlay nat_eq number filesystem ≡ []
   no_objects number filesystem e = by filesystem.overlay e
     where
       by : (o : Option (Overlay ℕ)) → is_some o ≡ false
@@ -209,7 +272,8 @@ module _ (world : World ℕ) where
       (decided (is_overlay filesystem))
 
   same_objects : (number : ℕ)
-      → flat_map (objects_of_overlay nat_eq number) (settled nat_eq world).filesystems ≡ flat_map (objects_of_overlay nat_eq number) first.filesystems
+      → flat_map (objects_of_overlay nat_eq number) (settled nat_eq world).filesystems
+      ≡ flat_map (objects_of_overlay nat_eq number) first.filesystems
   same_objects number = flat_map-map after_second (objects_of_overlay nat_eq number) first.filesystems (objects_after_second number)
 
   abbrev used_of : ℕ → List ℕ → List ℕ → List ℕ → List ℕ → List ℕ
@@ -218,10 +282,12 @@ module _ (world : World ℕ) where
   -- Overlays
   overlays_used : (filesystem : Filesystem ℕ) → IsListedTree filesystem.files → is_overlay filesystem ≡ true
       → flat_map (objects_of_overlay nat_eq filesystem.number) living.filesystems ≡ []
-      → list_all (is_inode_used (settled nat_eq world) (after_second (after_first filesystem))) (after_second (after_first filesystem)).files.numbers ≡ true
+      → list_all (is_inode_used (settled nat_eq world) (after_second (after_first filesystem)))
+      (after_second (after_first filesystem)).files.numbers ≡ true
   overlays_used filesystem conditions e plain =
       ap (λ f. list_all (is_inode_used (settled nat_eq world) f) f.files.numbers)
-      (second_leaves (after_first filesystem) (ap (λ b. is_overlay (only_used nat_eq living b filesystem)) e ∙ overlay-left used filesystem _ ∙ e)
+      (second_leaves (after_first filesystem) (ap (λ b. is_overlay (only_used nat_eq living b filesystem)) e
+      ∙ overlay-left used filesystem _ ∙ e)
       ∙ ap (λ b. only_used nat_eq living b filesystem) e)
       ∙ by (list_all (λ number. is_among nat_eq number used) filesystem.files.numbers) refl
     where
@@ -229,9 +295,11 @@ module _ (world : World ℕ) where
       used = used_in nat_eq living filesystem
 
       same : (all : Bool) → used_in nat_eq (settled nat_eq world) (left_by used filesystem all)
-          ≡ used_of filesystem.files.tree.root (named_in filesystem.files) (located_in nat_eq living filesystem.number) (layers_in nat_eq living filesystem.number)
+          ≡ used_of filesystem.files.tree.root (named_in filesystem.files) (located_in nat_eq living filesystem.number)
+          (layers_in nat_eq living filesystem.number)
           (flat_map (objects_of_overlay nat_eq (left_by used filesystem all).number) (settled nat_eq world).filesystems)
-      same all = λ i. used_of (root-left used filesystem all i) (named-left used filesystem (unused_are_empty living filesystem conditions) all i)
+      same all = λ i. used_of (root-left used filesystem all i)
+          (named-left used filesystem (unused_are_empty living filesystem conditions) all i)
           (located_in nat_eq living (number-left used filesystem all i))
           ((same_layers (left_by used filesystem all).number ∙ ap (layers_in nat_eq living) (number-left used filesystem all)) i)
           (flat_map (objects_of_overlay nat_eq (left_by used filesystem all).number) (settled nat_eq world).filesystems)
@@ -240,15 +308,18 @@ module _ (world : World ℕ) where
           → is_among nat_eq number (used_in nat_eq (settled nat_eq world) (left_by used filesystem all)) ≡ true
       still all number is =
           ap (is_among nat_eq number) (same all)
-          ∙ more (filesystem.files.tree.root ∷ (named_in filesystem.files ++ located_in nat_eq living filesystem.number ++ layers_in nat_eq living filesystem.number))
+          ∙ more (filesystem.files.tree.root ∷ (named_in filesystem.files ++ located_in nat_eq living filesystem.number
+          ++ layers_in nat_eq living filesystem.number))
           (flat_map (objects_of_overlay nat_eq filesystem.number) living.filesystems)
           (flat_map (objects_of_overlay nat_eq (left_by used filesystem all).number) (settled nat_eq world).filesystems) plain is
         where
-          more : (front before after : List ℕ) → before ≡ [] → is_among nat_eq number (front ++ before) ≡ true → is_among nat_eq number (front ++ after) ≡ true
+          more : (front before after : List ℕ) → before ≡ [] → is_among nat_eq number (front ++ before) ≡ true
+              → is_among nat_eq number (front ++ after) ≡ true
           more front before after none h =
               ⊎_elim (λ g. is_among_left number front after g)
               (λ g. absurd (true≢false (sym g ∙ ap (is_among nat_eq number) none)))
-              (or_cases (is_among nat_eq number front) (is_among nat_eq number before) (sym (list_any-append (nat_eq number) front before) ∙ h))
+              (or_cases (is_among nat_eq number front) (is_among nat_eq number before)
+              (sym (list_any-append (nat_eq number) front before) ∙ h))
 
       by : (all : Bool) → list_all (λ number. is_among nat_eq number used) filesystem.files.numbers ≡ all
           → list_all (is_inode_used (settled nat_eq world) (left_by used filesystem all)) (left_by used filesystem all).files.numbers ≡ true
@@ -259,7 +330,8 @@ module _ (world : World ℕ) where
 
   -- Plain trees
   plain_used : (filesystem : Filesystem ℕ) → IsListedTree filesystem.files → is_overlay filesystem ≡ false
-      → list_all (is_inode_used (settled nat_eq world) (after_second (after_first filesystem))) (after_second (after_first filesystem)).files.numbers ≡ true
+      → list_all (is_inode_used (settled nat_eq world) (after_second (after_first filesystem)))
+      (after_second (after_first filesystem)).files.numbers ≡ true
   plain_used filesystem conditions e =
       ap (λ f. list_all (is_inode_used (settled nat_eq world) f) f.files.numbers)
       (ap after_second (ap (λ b. only_used nat_eq living b filesystem) e) ∙ ap (λ b. only_used nat_eq first (not b) filesystem) e)
@@ -269,7 +341,8 @@ module _ (world : World ℕ) where
       used = used_in nat_eq first filesystem
 
       same : (all : Bool) → used_in nat_eq (settled nat_eq world) (left_by used filesystem all) ≡ used
-      same all = λ i. used_of (root-left used filesystem all i) (named-left used filesystem (unused_are_empty first filesystem conditions) all i)
+      same all = λ i. used_of (root-left used filesystem all i)
+          (named-left used filesystem (unused_are_empty first filesystem conditions) all i)
           (located_in nat_eq living (number-left used filesystem all i))
           ((same_layers (left_by used filesystem all).number ∙ sym (first_layers (left_by used filesystem all).number)
           ∙ ap (layers_in nat_eq first) (number-left used filesystem all)) i)
@@ -304,23 +377,29 @@ module _ (world : World ℕ) where
   still_lives : (filesystem : Filesystem ℕ) → filesystem_lives nat_eq mounted filesystem ≡ true
       → filesystem_lives nat_eq (settled nat_eq world) (after_second (after_first filesystem)) ≡ true
   still_lives filesystem lives =
-      ap (λ n. is_mounted nat_eq mounted n || list_any (λ merged. has_layer_on nat_eq n merged && is_mounted nat_eq mounted merged.number) (settled nat_eq world).filesystems)
+      ap (λ n. is_mounted nat_eq mounted n || list_any (λ merged. has_layer_on nat_eq n merged
+      && is_mounted nat_eq mounted merged.number) (settled nat_eq world).filesystems)
       (number-second (after_first filesystem) ∙ number-first filesystem)
       ∙ ⊎_elim
       (λ here. or_first (is_mounted nat_eq mounted filesystem.number) _ here)
       (λ layered. or_second (is_mounted nat_eq mounted filesystem.number) _ (by_overlay layered))
       (or_cases (is_mounted nat_eq mounted filesystem.number) _ lives)
     where
-      by_overlay : list_any (λ merged. has_layer_on nat_eq filesystem.number merged && is_mounted nat_eq mounted merged.number) world.filesystems ≡ true
-          → list_any (λ merged. has_layer_on nat_eq filesystem.number merged && is_mounted nat_eq mounted merged.number) (settled nat_eq world).filesystems ≡ true
+      by_overlay : list_any (λ merged. has_layer_on nat_eq filesystem.number merged
+          && is_mounted nat_eq mounted merged.number) world.filesystems ≡ true
+          → list_any (λ merged. has_layer_on nat_eq filesystem.number merged && is_mounted nat_eq mounted merged.number)
+          (settled nat_eq world).filesystems ≡ true
       by_overlay layered =
-          let t = one_passes (λ merged. has_layer_on nat_eq filesystem.number merged && is_mounted nat_eq mounted merged.number) world.filesystems layered in
+          let t = one_passes (λ merged. has_layer_on nat_eq filesystem.number merged
+          && is_mounted nat_eq mounted merged.number) world.filesystems layered in
           let parts = and_parts (has_layer_on nat_eq filesystem.number t.0) (is_mounted nat_eq mounted t.0.number) t.2 in
-          any_passes (λ merged. has_layer_on nat_eq filesystem.number merged && is_mounted nat_eq mounted merged.number) (settled nat_eq world).filesystems
+          any_passes (λ merged. has_layer_on nat_eq filesystem.number merged && is_mounted nat_eq mounted merged.number)
+          (settled nat_eq world).filesystems
           (after_second (after_first t.0))
           (among-map after_second first.filesystems (after_first t.0)
           (among-map after_first living.filesystems t.0
-          (among-filter (filesystem_lives nat_eq mounted) world.filesystems t.0 t.1 (or_first (is_mounted nat_eq mounted t.0.number) _ parts.1))))
+          (among-filter (filesystem_lives nat_eq mounted) world.filesystems t.0 t.1
+          (or_first (is_mounted nat_eq mounted t.0.number) _ parts.1))))
           (ap (λ b. b && is_mounted nat_eq mounted (after_second (after_first t.0)).number)
           (layers_on filesystem.number (after_second (after_first t.0))
           ∙ ap (list_any (λ layer. nat_eq filesystem.number layer.filesystem)) (layers-second (after_first t.0) ∙ layers-first t.0)
@@ -328,10 +407,12 @@ module _ (world : World ℕ) where
           ∙ ap (is_mounted nat_eq mounted) (number-second (after_first t.0) ∙ number-first t.0) ∙ parts.1)
 
   -- an overlay that has no upper layer there has no objects there
-  pub no_upper_objects : (number : ℕ) (merged : Filesystem ℕ) → has_upper_in number merged ≡ false → objects_of_overlay nat_eq number merged ≡ []
+  pub no_upper_objects : (number : ℕ) (merged : Filesystem ℕ) → has_upper_in number merged ≡ false
+      → objects_of_overlay nat_eq number merged ≡ []
   no_upper_objects number merged e = by merged.overlay e
     where
-      by : (o : Option (Overlay ℕ)) → overlay_or false (λ overlay. holds_of (λ layer. nat_eq number layer.filesystem) overlay.upper) o ≡ false
+      by : (o : Option (Overlay ℕ)) → overlay_or false (λ overlay. holds_of (λ layer. nat_eq number layer.filesystem) overlay.upper) o
+          ≡ false
           → overlay_or [] (λ overlay. cond (holds_of (λ layer. nat_eq number layer.filesystem) overlay.upper)
           (filter_map (λ object. upper_object (overlay.real object)) merged.files.numbers) []) o ≡ []
       by None f = refl
@@ -339,10 +420,12 @@ module _ (world : World ℕ) where
 
   pub left_in_use : HasTrees world → UppersArePlain world → AllInUse (settled nat_eq world)
   left_in_use trees plain = record {
-    mounts = all_pass (mount_lives nat_eq world) mounted.mounts (λ mount m. (among-from_filter (mount_lives nat_eq world) world.mounts mount m).1);
+    mounts = all_pass (mount_lives nat_eq world) mounted.mounts
+        (λ mount m. (among-from_filter (mount_lives nat_eq world) world.mounts mount m).1);
     filesystems = all_pass (filesystem_lives nat_eq (settled nat_eq world)) (settled nat_eq world).filesystems
         (λ last m. let was = was_there last m in ap (filesystem_lives nat_eq (settled nat_eq world)) was.3 ∙ still_lives was.0 was.2);
-    inodes = all_from_among (λ f. list_all (is_inode_used (settled nat_eq world) f) f.files.numbers ≡ true) (settled nat_eq world).filesystems
+    inodes = all_from_among (λ f. list_all (is_inode_used (settled nat_eq world) f) f.files.numbers ≡ true)
+        (settled nat_eq world).filesystems
         (λ last m. let was = was_there last m in
         let tree = among_from_all (λ f. IsListedTree f.files) world.filesystems trees was.0 was.1 in
         ap (λ f. list_all (is_inode_used (settled nat_eq world) f) f.files.numbers) was.3
@@ -351,7 +434,8 @@ module _ (world : World ℕ) where
         (flat_map_none (objects_of_overlay nat_eq was.0.number) living.filesystems
         (λ merged n. no_upper_objects was.0.number merged
         (among_from_all (λ f. has_upper_in was.0.number f ≡ false) world.filesystems
-        (among_from_all (λ f. is_overlay f ≡ true → All (λ other. has_upper_in f.number other ≡ false) world.filesystems) world.filesystems plain was.0 was.1 e)
+        (among_from_all (λ f. is_overlay f ≡ true → All (λ other. has_upper_in f.number other
+        ≡ false) world.filesystems) world.filesystems plain was.0 was.1 e)
         merged (among-from_filter (filesystem_lives nat_eq mounted) world.filesystems merged n).0))))
         (λ e. plain_used was.0 tree e)
         (decided (is_overlay was.0)));

@@ -14,7 +14,8 @@ use Rattle.vt_spec.specs.Machine.WorldLaws.{ListsNumbers}
 use Rattle.vt_letting_go.specs.InUse.{HasTrees, IsListedTree, is_inode_used}
 use Rattle.vt_letting_go.specs.OneByOne.{AllGoesOneByOne, Inode, InodesGoOneByOne, IsPlain, is_inode_among, is_used_or_among, let_go_filesystems, let_go_inode, let_go_inode_of, let_go_inodes, let_go_groups}
 use Rattle.vt_letting_go.proofs.InUse.{UnusedAreEmpty, no_objects, unused_are_empty}
-use Rattle.vt_letting_go.proofs.Lists.{Among, any-filter, among-from_filter, among-from_map, among_from_all, among_numbers, fails, filter_alike, filter_all, filter_twice, flat_map-filter, flat_map-map, flat_map_alike, flat_map_none, map_alike, map_same, map_twice, none_passes, passes}
+use Rattle.vt_letting_go.proofs.Merged.{named_without}
+use Rattle.vt_letting_go.proofs.Lists.{Among, any-filter, among-from_filter, among-from_map, among_from_all, among_numbers, fails, filter_alike, filter_all, filter_twice, flat_map-map, flat_map_none, map_alike, map_same, map_twice, none_passes, passes}
 use Rattle.vt_letting_go.proofs.OneByOne.{filesystems_go_one_by_one, groups_go_one_by_one, mounts_go_one_by_one}
 
 -- a filesystem without the inodes that a test names
@@ -42,7 +43,8 @@ one_step : (world : World ℕ) (inode : Inode) (filesystem : Filesystem ℕ)
 one_step world inode filesystem = by (nat_eq filesystem.number inode.0 && not (is_inode_used world filesystem inode.1))
   where
     by : (b : Bool)
-        → cond b (without_those (λ number. nat_eq number inode.1) filesystem) filesystem ≡ without_those (λ number. b && nat_eq number inode.1) filesystem
+        → cond b (without_those (λ number. nat_eq number inode.1) filesystem) filesystem
+        ≡ without_those (λ number. b && nat_eq number inode.1) filesystem
     by true = refl
     by false = sym (without_none filesystem)
 
@@ -52,7 +54,8 @@ goes_of used losers filesystem number = is_inode_among filesystem.number number 
 -- it goes here, or later
 pub goes_on : (used : List ℕ) (inode : Inode) (rest : List Inode) (filesystem : Filesystem ℕ) (number : ℕ)
     → goes_of used (inode ∷ rest) filesystem number
-    ≡ (((nat_eq filesystem.number inode.0 && not (is_among nat_eq inode.1 used)) && nat_eq number inode.1) || goes_of used rest filesystem number)
+    ≡ (((nat_eq filesystem.number inode.0 && not (is_among nat_eq inode.1 used)) && nat_eq number inode.1)
+    || goes_of used rest filesystem number)
 goes_on used inode rest filesystem number =
     by (nat_eq filesystem.number inode.0) (nat_eq number inode.1) refl (is_inode_among filesystem.number number rest)
     (is_among nat_eq number used) (is_among nat_eq inode.1 used) (λ e. ap (λ n. is_among nat_eq n used) (eqb-true number inode.1 e))
@@ -75,7 +78,8 @@ goes_on used inode rest filesystem number =
     by false same e later mine its h = refl
 
 -- what goes at one step, and later
-two_steps : (world : World ℕ) (inode : Inode) (rest : List Inode) (filesystem : Filesystem ℕ) (used : List ℕ) → used ≡ used_in nat_eq world filesystem
+two_steps : (world : World ℕ) (inode : Inode) (rest : List Inode) (filesystem : Filesystem ℕ) (used : List ℕ)
+    → used ≡ used_in nat_eq world filesystem
     → without_those (goes_of used rest filesystem) (without_those (goes_here world inode filesystem) filesystem)
     ≡ without_those (goes_of used (inode ∷ rest) filesystem) filesystem
 two_steps world inode rest filesystem used same = λ i. record filesystem {
@@ -91,7 +95,8 @@ two_steps world inode rest filesystem used same = λ i. record filesystem {
     here_or_later : (number : ℕ) → goes_of used (inode ∷ rest) filesystem number ≡ (here number || goes_of used rest filesystem number)
     here_or_later number =
         goes_on used inode rest filesystem number
-        ∙ ap (λ u. ((nat_eq filesystem.number inode.0 && not (is_among nat_eq inode.1 u)) && nat_eq number inode.1) || goes_of used rest filesystem number) same
+        ∙ ap (λ u. ((nat_eq filesystem.number inode.0 && not (is_among nat_eq inode.1 u)) && nat_eq number inode.1)
+        || goes_of used rest filesystem number) same
 
     node : (number : ℕ) → cond (goes_of used rest filesystem number) None (cond (here number) None (filesystem.files.tree.node number))
         ≡ cond (goes_of used (inode ∷ rest) filesystem number) None (filesystem.files.tree.node number)
@@ -99,7 +104,8 @@ two_steps world inode rest filesystem used same = λ i. record filesystem {
         by (here number) (goes_of used rest filesystem number)
         ∙ ap (λ b. cond b None (filesystem.files.tree.node number)) (sym (here_or_later number))
       where
-        by : (a b : Bool) → cond b None (cond a None (filesystem.files.tree.node number)) ≡ cond (a || b) None (filesystem.files.tree.node number)
+        by : (a b : Bool) → cond b None (cond a None (filesystem.files.tree.node number))
+            ≡ cond (a || b) None (filesystem.files.tree.node number)
         by true true = refl
         by true false = refl
         by false b = refl
@@ -138,11 +144,7 @@ module _ (world : World ℕ) (inode : Inode) (plain : IsPlain world) where
       → named_in (step filesystem).files ≡ named_in filesystem.files
   named-step filesystem empty =
       ap (λ f. named_in f.files) (one_step world inode filesystem)
-      ∙ flat_map_alike (λ directory. targets_in (cond (gone directory) None (filesystem.files.tree.node directory)))
-      (λ directory. targets_in (filesystem.files.tree.node directory)) (filter (λ number. not (gone number)) filesystem.files.numbers)
-      (λ directory m. by directory (gone directory) refl)
-      ∙ flat_map-filter (λ number. not (gone number)) (λ directory. targets_in (filesystem.files.tree.node directory)) filesystem.files.numbers
-      (λ number skipped. nothing number (gone number) refl skipped)
+      ∙ named_without gone filesystem (λ number e. empty number (is_unused number e))
     where
       gone : ℕ → Bool
       gone = goes_here world inode filesystem
@@ -150,19 +152,11 @@ module _ (world : World ℕ) (inode : Inode) (plain : IsPlain world) where
       -- what goes is not used
       is_unused : (number : ℕ) → gone number ≡ true → is_among nat_eq number (used_in nat_eq world filesystem) ≡ false
       is_unused number e =
-          let parts = and_parts (nat_eq filesystem.number inode.0 && not (is_inode_used world filesystem inode.1)) (nat_eq number inode.1) e in
+          let parts = and_parts (nat_eq filesystem.number inode.0 && not (is_inode_used world filesystem inode.1))
+          (nat_eq number inode.1) e in
           let unused = and_parts (nat_eq filesystem.number inode.0) (not (is_inode_used world filesystem inode.1)) parts.0 in
           ap (λ n. is_among nat_eq n (used_in nat_eq world filesystem)) (eqb-true number inode.1 parts.1)
           ∙ not-true (is_inode_used world filesystem inode.1) unused.1
-
-      by : (directory : ℕ) (b : Bool) → gone directory ≡ b
-          → targets_in (cond b None (filesystem.files.tree.node directory)) ≡ targets_in (filesystem.files.tree.node directory)
-      by directory true e = sym (empty directory (is_unused directory e))
-      by directory false e = refl
-
-      nothing : (number : ℕ) (b : Bool) → gone number ≡ b → not b ≡ false → targets_in (filesystem.files.tree.node number) ≡ []
-      nothing number true e f = empty number (is_unused number e)
-      nothing number false e f = absurd (true≢false f)
 
   layers-step : (number : ℕ) → layers_in nat_eq next number ≡ layers_in nat_eq world number
   layers-step number =
@@ -188,7 +182,8 @@ module _ (world : World ℕ) (inode : Inode) (plain : IsPlain world) where
       → UnusedAreEmpty (used_in nat_eq next (step filesystem)) (step filesystem)
   empty-step filesystem empty number unused =
       ap (λ f. targets_in (f.files.tree.node number)) (one_step world inode filesystem)
-      ∙ by (goes_here world inode filesystem number) (empty number (ap (is_among nat_eq number) (sym (used-step filesystem empty)) ∙ unused))
+      ∙ by (goes_here world inode filesystem number)
+      (empty number (ap (is_among nat_eq number) (sym (used-step filesystem empty)) ∙ unused))
     where
       by : (b : Bool) → targets_in (filesystem.files.tree.node number) ≡ []
           → targets_in (cond b None (filesystem.files.tree.node number)) ≡ []
@@ -197,11 +192,15 @@ module _ (world : World ℕ) (inode : Inode) (plain : IsPlain world) where
 
 -- each inode that is used no more has no entries
 AllUnusedAreEmpty : World ℕ → Type 0
-AllUnusedAreEmpty world = (filesystem : Filesystem ℕ) → Among filesystem world.filesystems → UnusedAreEmpty (used_in nat_eq world filesystem) filesystem
+AllUnusedAreEmpty world = (filesystem : Filesystem ℕ) → Among filesystem world.filesystems
+    → UnusedAreEmpty (used_in nat_eq world filesystem) filesystem
 
 inodes_folded : (world : World ℕ) (losers : List Inode) → IsPlain world → AllUnusedAreEmpty world
     → let_go_inodes world losers
-    ≡ record world { filesystems = map (λ filesystem. without_those (goes_of (used_in nat_eq world filesystem) losers filesystem) filesystem) world.filesystems }
+    ≡ record world {
+      filesystems = map (λ filesystem. without_those
+          (goes_of (used_in nat_eq world filesystem) losers filesystem) filesystem) world.filesystems;
+    }
 unfolding AllUnusedAreEmpty
 inodes_folded world [] plain empty =
     ap (λ filesystems. record world { filesystems = filesystems })
@@ -213,11 +212,14 @@ inodes_folded world (inode ∷ rest) plain empty =
     subst (λ f. UnusedAreEmpty (used_in nat_eq (let_go_inode world inode) f) f) (sym from.2)
     (empty-step world inode plain from.0 (empty from.0 from.1)))
     ∙ ap (λ filesystems. record world { filesystems = filesystems })
-    (map_twice (λ f. without_those (goes_of (used_in nat_eq (let_go_inode world inode) f) rest f) f) (step world inode plain) world.filesystems
-    ∙ map_alike (λ f. without_those (goes_of (used_in nat_eq (let_go_inode world inode) (step world inode plain f)) rest (step world inode plain f)) (step world inode plain f))
+    (map_twice (λ f. without_those (goes_of (used_in nat_eq (let_go_inode world inode) f) rest f) f)
+    (step world inode plain) world.filesystems
+    ∙ map_alike (λ f. without_those (goes_of (used_in nat_eq (let_go_inode world inode) (step world inode plain f)) rest
+    (step world inode plain f)) (step world inode plain f))
     (λ f. without_those (goes_of (used_in nat_eq world f) (inode ∷ rest) f) f) world.filesystems
     (λ f m.
-    (λ i. without_those (goes_by (used-step world inode plain f (empty f m) i) (number-step world inode plain f i) rest) (one_step world inode f i))
+    (λ i. without_those (goes_by (used-step world inode plain f (empty f m) i) (number-step world inode plain f i) rest)
+    (one_step world inode f i))
     ∙ two_steps world inode rest f (used_in nat_eq world f) refl))
   where
     goes_by : List ℕ → ℕ → List Inode → ℕ → Bool
@@ -229,15 +231,18 @@ no_real used None e = refl
 no_real used (Some overlay) e = absurd (true≢false e)
 
 -- where all are used, what is not used is not there
-node_kept : (used : List ℕ) (files : FileTree ℕ) → ListsNumbers nat_eq files → list_all (λ number. is_among nat_eq number used) files.numbers ≡ true
+node_kept : (used : List ℕ) (files : FileTree ℕ) → ListsNumbers nat_eq files
+    → list_all (λ number. is_among nat_eq number used) files.numbers ≡ true
     → (number : ℕ) → files.tree.node number ≡ cond (is_among nat_eq number used) (files.tree.node number) None
 node_kept used files numbers all number = by (is_among nat_eq number used) refl (files.tree.node number) (numbers number)
   where
-    by : (u : Bool) → is_among nat_eq number used ≡ u → (o : Option (Node ℕ)) → is_among nat_eq number files.numbers ≡ is_some o → o ≡ cond u o None
+    by : (u : Bool) → is_among nat_eq number used ≡ u → (o : Option (Node ℕ)) → is_among nat_eq number files.numbers ≡ is_some o
+        → o ≡ cond u o None
     by true f o there = refl
     by false f None there = refl
     by false f (Some node) there =
-        absurd (true≢false (sym (passes (λ n. is_among nat_eq n used) files.numbers all number (among_numbers number files.numbers there)) ∙ f))
+        absurd (true≢false (sym (passes (λ n. is_among nat_eq n used) files.numbers all number
+        (among_numbers number files.numbers there)) ∙ f))
 
 pub left_of_plain : (used : List ℕ) (filesystem : Filesystem ℕ) → ListsNumbers nat_eq filesystem.files → is_overlay filesystem ≡ false
     → only_used_of nat_eq used filesystem ≡ without_those (λ number. not (is_among nat_eq number used)) filesystem
@@ -249,7 +254,8 @@ left_of_plain used filesystem numbers plain = by (list_all (λ number. is_among 
 
     twice : filter (λ number. is_among nat_eq number used) filesystem.files.numbers
         ≡ filter (λ number. not (not (is_among nat_eq number used))) filesystem.files.numbers
-    twice = filter_alike (λ number. is_among nat_eq number used) (λ number. not (not (is_among nat_eq number used))) filesystem.files.numbers
+    twice = filter_alike (λ number. is_among nat_eq number used)
+        (λ number. not (not (is_among nat_eq number used))) filesystem.files.numbers
         (λ number m. not_not (is_among nat_eq number used))
       where
         not_not : (b : Bool) → b ≡ not (not b)
@@ -275,31 +281,6 @@ left_of_plain used filesystem numbers plain = by (list_all (λ number. is_among 
       };
       overlay = no_real used filesystem.overlay plain i;
     }
-
--- without some, and then without more
-pub without_more : (some more : ℕ → Bool) (filesystem : Filesystem ℕ) → ((number : ℕ) → some number ≡ true → more number ≡ true)
-    → without_those more (without_those some filesystem) ≡ without_those more filesystem
-without_more some more filesystem within = λ i. record filesystem {
-  files = record {
-    tree = record {
-      root = filesystem.files.tree.root;
-      node = λ number. node number (some number) refl (more number) refl i;
-    };
-    numbers = filter_twice (λ number. not (more number)) (λ number. not (some number)) (λ number. not (more number))
-        (λ number. by number (some number) refl (more number) refl) filesystem.files.numbers i;
-  };
-}
-  where
-    node : (number : ℕ) (a : Bool) → some number ≡ a → (b : Bool) → more number ≡ b
-        → cond b None (cond a None (filesystem.files.tree.node number)) ≡ cond b None (filesystem.files.tree.node number)
-    node number a e true f = refl
-    node number true e false f = absurd (true≢false (sym (within number e) ∙ f))
-    node number false e false f = refl
-
-    by : (number : ℕ) (a : Bool) → some number ≡ a → (b : Bool) → more number ≡ b → not b ≡ (not a && not b)
-    by number true e true f = refl
-    by number true e false f = absurd (true≢false (sym (within number e) ∙ f))
-    by number false e b f = refl
 
 -- the numbers beside a tree without some
 pub numbers_without : (gone : ℕ → Bool) (filesystem : Filesystem ℕ) → ListsNumbers nat_eq filesystem.files
@@ -327,7 +308,10 @@ numbers_without gone filesystem numbers number = by (gone number) refl
 
 -- the sweep of a world of plain filesystems
 pub plain_sweep : (world : World ℕ) → IsPlain world
-    → without_dead_inodes nat_eq world ≡ record world { filesystems = map (λ f. only_used_of nat_eq (used_in nat_eq world f) f) world.filesystems }
+    → without_dead_inodes nat_eq world ≡ record world {
+      filesystems = map (λ f. only_used_of nat_eq
+          (used_in nat_eq world f) f) world.filesystems;
+    }
 plain_sweep world plain =
     ap (without_dead_in nat_eq (λ filesystem. not (is_overlay filesystem)))
     (ap (λ filesystems. record world { filesystems = filesystems })
@@ -340,11 +324,13 @@ plain_sweep world plain =
 
 -- What the sweep leaves of a plain tree, where all other inodes are used
 module _ (used : List ℕ) (losers : List Inode) (filesystem : Filesystem ℕ) (numbers : ListsNumbers nat_eq filesystem.files)
-    (others : list_all (λ number. is_inode_among filesystem.number number losers || is_among nat_eq number used) filesystem.files.numbers ≡ true) where
+    (others : list_all (λ number. is_inode_among filesystem.number number losers || is_among nat_eq number used) filesystem.files.numbers
+    ≡ true) where
   -- an inode that is not used, and none of these, is not there
   not_there : (number : ℕ) → is_among nat_eq number used ≡ false → is_inode_among filesystem.number number losers ≡ false
       → filesystem.files.tree.node number ≡ None
-  not_there number unused other = none (filesystem.files.tree.node number) (sym (numbers number) ∙ missing (is_among nat_eq number filesystem.files.numbers) refl)
+  not_there number unused other = none (filesystem.files.tree.node number)
+      (sym (numbers number) ∙ missing (is_among nat_eq number filesystem.files.numbers) refl)
     where
       none : (o : Option (Node ℕ)) → is_some o ≡ false → o ≡ None
       none None e = refl
@@ -392,7 +378,8 @@ module _ (used : List ℕ) (losers : List Inode) (filesystem : Filesystem ℕ) (
       ∙ (λ i. record filesystem {
         files = record {
           tree = record { root = filesystem.files.tree.root; node = λ number. node_swept number i };
-          numbers = filter_alike (λ number. not (not (is_among nat_eq number used))) (λ number. not (goes number)) filesystem.files.numbers unused_goes i;
+          numbers = filter_alike (λ number. not (not (is_among nat_eq number used)))
+              (λ number. not (goes number)) filesystem.files.numbers unused_goes i;
         };
       })
 
@@ -418,8 +405,10 @@ all_goes_one_by_one world losers plain trees others =
     let living = without_dead_filesystems nat_eq mounted in
     let plain_living : IsPlain living =
     none_passes is_overlay living.filesystems (λ filesystem m.
-    fails is_overlay world.filesystems plain filesystem (among-from_filter (filesystem_lives nat_eq mounted) world.filesystems filesystem m).0) in
-    let trees_living : HasTrees living = All-filter (filesystem_lives nat_eq mounted) (λ filesystem. IsListedTree filesystem.files) world.filesystems trees in
+    fails is_overlay world.filesystems plain filesystem
+    (among-from_filter (filesystem_lives nat_eq mounted) world.filesystems filesystem m).0) in
+    let trees_living : HasTrees living = All-filter (filesystem_lives nat_eq mounted)
+    (λ filesystem. IsListedTree filesystem.files) world.filesystems trees in
     let inodes = inodes_go_one_by_one living losers.inodes plain_living trees_living others.inodes in
     ap (without_dead_groups nat_eq) inodes
     ∙ groups_go_one_by_one (let_go_inodes living losers.inodes) losers.groups

@@ -18,6 +18,21 @@ use Rattle.vt_letting_go.proofs.OverlaysGone.{filesystems_take_their_uses}
 use Rattle.vt_letting_go.proofs.PlacesLeft.{after, by_located, dead_was_left, filesystem_left, groups_but, mounted, mounts_but}
 use Rattle.vt_letting_go.proofs.WithOverlays.{with_overlays_all_goes}
 
+-- the filesystem of a layer is among those of its overlay
+pub in_layers : (world : World ℕ) (number : ℕ) (merged : Filesystem ℕ) → Among merged world.filesystems → (filesystem : ℕ)
+    → merged.number ≡ filesystem
+    → has_layer_on nat_eq number merged ≡ true → Among number (filesystems_of_layers world filesystem)
+in_layers world number merged m filesystem e has =
+    let t = one_passes (λ layer. nat_eq number layer.filesystem) layers (sym (layers_on world number merged) ∙ has) in
+    among-flat_map (λ f. cond (nat_eq f.number filesystem) (map (λ (layer : Layer ℕ). layer.filesystem) (of_overlay [] layers_of f)) [])
+    world.filesystems merged number m
+    (subst (λ b. Among number (cond b (map (λ (layer : Layer ℕ). layer.filesystem) layers) [])) (sym (eq-eqb merged.number filesystem e))
+    (subst (λ n. Among n (map (λ (layer : Layer ℕ). layer.filesystem) layers)) (sym (eqb-true number t.0.filesystem t.2))
+    (among-map (λ (layer : Layer ℕ). layer.filesystem) layers t.0 t.1)))
+  where
+    layers : List (Layer ℕ)
+    layers = of_overlay [] layers_of merged
+
 module _ (world : World ℕ) (tasks : List (Task ℕ)) (left : List (Location ℕ)) (in_use : AllInUse world) (stand : MountsStand world)
     (only : only_these_are_left world tasks left ≡ true) where
   abbrev now : World ℕ
@@ -34,7 +49,8 @@ module _ (world : World ℕ) (tasks : List (Task ℕ)) (left : List (Location �
 
   -- a filesystem that was mounted is, or was left with the mount
   still_mounted : (number : ℕ) → is_mounted nat_eq world number ≡ true
-      → (is_mounted nat_eq swept number ≡ true) ⊎ ((location : Location ℕ) × Among location left × (number ≡ (mount_at nat_eq world location).filesystem))
+      → (is_mounted nat_eq swept number ≡ true) ⊎ ((location : Location ℕ) × Among location left
+      × (number ≡ (mount_at nat_eq world location).filesystem))
   still_mounted number is =
       let t = one_passes (λ mount. nat_eq number mount.filesystem) world.mounts is in
       ⊎_elim
@@ -54,30 +70,24 @@ module _ (world : World ℕ) (tasks : List (Task ℕ)) (left : List (Location �
       all_pass (λ f. is_among nat_eq f.number losing || filesystem_lives nat_eq swept f) world.filesystems
       (λ f m. ⊎_elim
       (λ here. ⊎_elim
-      (λ lives. or_second (is_among nat_eq f.number losing) (filesystem_lives nat_eq swept f) (or_first (is_mounted nat_eq swept f.number) _ lives))
+      (λ lives. or_second (is_among nat_eq f.number losing) (filesystem_lives nat_eq swept f)
+      (or_first (is_mounted nat_eq swept f.number) _ lives))
       (λ gone. or_first (is_among nat_eq f.number losing) (filesystem_lives nat_eq swept f)
       (is_among_numbers f.number losing (among-flat_map (filesystems_of_location world) left gone.0 f.number gone.1 (inl gone.2))))
       (still_mounted f.number here))
-      (λ layered. let t = one_passes (λ merged. has_layer_on nat_eq f.number merged && is_mounted nat_eq world merged.number) world.filesystems layered in
+      (λ layered. let t = one_passes (λ merged. has_layer_on nat_eq f.number merged
+      && is_mounted nat_eq world merged.number) world.filesystems layered in
       let parts = and_parts (has_layer_on nat_eq f.number t.0) (is_mounted nat_eq world t.0.number) t.2 in
       ⊎_elim
-      (λ lives. or_second (is_among nat_eq f.number losing) (filesystem_lives nat_eq swept f) (or_second (is_mounted nat_eq swept f.number) _
+      (λ lives. or_second (is_among nat_eq f.number losing) (filesystem_lives nat_eq swept f)
+      (or_second (is_mounted nat_eq swept f.number) _
       (any_passes (λ merged. has_layer_on nat_eq f.number merged && is_mounted nat_eq swept merged.number) world.filesystems t.0 t.1
       (ap (λ b. b && is_mounted nat_eq swept t.0.number) parts.0 ∙ lives))))
       (λ gone. or_first (is_among nat_eq f.number losing) (filesystem_lives nat_eq swept f)
       (is_among_numbers f.number losing (among-flat_map (filesystems_of_location world) left gone.0 f.number gone.1
-      (inr (in_layers f.number t.0 t.1 (mount_at nat_eq world gone.0).filesystem gone.2 parts.0)))))
+      (inr (in_layers world f.number t.0 t.1 (mount_at nat_eq world gone.0).filesystem gone.2 parts.0)))))
       (still_mounted t.0.number parts.1))
       (or_cases (is_mounted nat_eq world f.number) _ (passes (filesystem_lives nat_eq world) world.filesystems in_use.filesystems f m)))
-    where
-      in_layers : (number : ℕ) (merged : Filesystem ℕ) → Among merged world.filesystems → (filesystem : ℕ) → merged.number ≡ filesystem
-          → has_layer_on nat_eq number merged ≡ true → Among number (filesystems_of_layers world filesystem)
-      in_layers number merged m filesystem e has =
-          let t = one_passes (λ layer. nat_eq number layer.filesystem) (of_overlay [] layers_of merged) (sym (layers_on world number merged) ∙ has) in
-          among-flat_map (λ f. cond (nat_eq f.number filesystem) (map (λ (layer : Layer ℕ). layer.filesystem) (of_overlay [] layers_of f)) []) world.filesystems merged number m
-          (subst (λ b. Among number (cond b (map (λ (layer : Layer ℕ). layer.filesystem) (of_overlay [] layers_of merged)) [])) (sym (eq-eqb merged.number filesystem e))
-          (subst (λ n. Among n (map (λ (layer : Layer ℕ). layer.filesystem) (of_overlay [] layers_of merged))) (sym (eqb-true number t.0.filesystem t.2))
-          (among-map (λ (layer : Layer ℕ). layer.filesystem) (of_overlay [] layers_of merged) t.0 t.1)))
 
   -- what the world used is used where mounts have gone, or may go
   use_left : (f : Filesystem ℕ) (number : ℕ) → is_inode_used world f number ≡ true → is_used_or_among inodes swept f number ≡ true
@@ -86,8 +96,10 @@ module _ (world : World ℕ) (tasks : List (Task ℕ)) (left : List (Location �
       (λ front. ⊎_elim
       (λ first. ⊎_elim
       (λ named. used (is_among_left number (names ++ located_in nat_eq swept f.number ++ layers) objects
-      (is_among_left number (names ++ located_in nat_eq swept f.number) layers (is_among_left number names (located_in nat_eq swept f.number) named))))
-      (λ at. by_located world tasks left in_use stand only world.filesystems f number (among_numbers number (located_in nat_eq world f.number) at))
+      (is_among_left number (names ++ located_in nat_eq swept f.number) layers
+      (is_among_left number names (located_in nat_eq swept f.number) named))))
+      (λ at. by_located world tasks left in_use stand only world.filesystems f number
+      (among_numbers number (located_in nat_eq world f.number) at))
       (or_cases (is_among nat_eq number names) (is_among nat_eq number (located_in nat_eq world f.number))
       (sym (list_any-append (nat_eq number) names (located_in nat_eq world f.number)) ∙ first)))
       (λ layer. used (is_among_left number (names ++ located_in nat_eq swept f.number ++ layers) objects

@@ -34,3 +34,4 @@ pub mod TasksEnd
 pub mod Retyped
 pub mod NamesKept
 pub mod FilesChanged
+pub mod TaskCalls

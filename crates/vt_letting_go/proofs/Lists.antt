@@ -1,11 +1,12 @@
 -- What stands in a list: tests over lists that are shortened or changed.
-use Rattle.std.proofs.Common.{◌≡◌, refl, sym, ap, subst, ◌∙◌, ◌⊎◌, inl, inr, ⊎_elim, ℕ, nat_eq, eqb-true, eq-eqb, Bool, true, false, cond, ◌||◌, ◌&&◌, List, [], ◌∷◌, filter, map, true≢false, flat_map, ◌++◌}
+use Rattle.std.proofs.Common.{◌≡◌, refl, sym, ap, subst, ◌∙◌, ◌⊎◌, inl, inr, ⊎_elim, ℕ, nat_eq, eqb-true, eq-eqb, Bool, true, false, cond, ◌||◌, ◌&&◌, List, [], ◌∷◌, filter, find, map, true≢false, flat_map, ◌++◌, is_some, unwrap_or}
 use Rattle.std.specs.Prelude.{All, Option, None, Some}
 use Rattle.std.specs.List.{cons_option, filter_map, list_all, list_any}
 use Rattle.std.proofs.lemmas.Bool.{and_parts, or_cases, or_parts}
 use Rattle.std.proofs.lemmas.List.Elements.{All-nil, All-cons, All-head, All-tail}
 use Rattle.std.proofs.lemmas.List.Folds.{list_any-append}
-use Rattle.vt_spec.specs.Lists.{is_among}
+use Rattle.std.proofs.lemmas.Option.{same_Some}
+use Rattle.vt_spec.specs.Lists.{any_pair, is_among}
 
 -- x stands in a list
 abbrev pub Among : {A : Type 0} → A → List A → Type 0
@@ -68,6 +69,37 @@ module _ {A : Type 0} where
       ⊎_elim (λ same. or_first (p y) (list_any p ys) (ap p (sym same) ∙ e))
       (λ l. or_second (p y) (list_any p ys) (any_passes p ys x l e)) m
 
+  -- what is found is there and passes
+  pub found_in : (test : A → Bool) (xs : List A) (found : A) → find test xs ≡ Some found → Among found xs × (test found ≡ true)
+  found_in test [] found e = absurd (true≢false (sym (ap is_some e)))
+  found_in test (first ∷ rest) found e = by (test first) refl e (found_in test rest found)
+    where
+      by : (b : Bool) → test first ≡ b → cond b (Some first) (find test rest) ≡ Some found
+          → (find test rest ≡ Some found → Among found rest × (test found ≡ true)) → Among found (first ∷ rest) × (test found ≡ true)
+      by true f h later = let same : first ≡ found = same_Some first found h in (inl (sym same), ap test (sym same) ∙ f)
+      by false f h later = let t : Among found rest × (test found ≡ true) = later h in (inr t.0, t.1)
+
+  -- what is there is found by its number
+  pub found_by : (number : A → ℕ) (default : A) (xs : List A) → any_pair (λ (a b : A). nat_eq (number a) (number b)) xs ≡ false
+      → (x : A) → Among x xs → unwrap_or (find (λ y. nat_eq (number x) (number y)) xs) default ≡ x
+  found_by number default [] one x m = absurd m
+  found_by number default (first ∷ rest) one x m =
+      let parts = or_parts (list_any (λ b. nat_eq (number first) (number b)) rest)
+      (any_pair (λ (a b : A). nat_eq (number a) (number b)) rest) one in
+      by parts.0 (nat_eq (number x) (number first)) refl m (λ n. found_by number default rest parts.1 x n)
+    where
+      by : list_any (λ b. nat_eq (number first) (number b)) rest ≡ false → (b : Bool) → nat_eq (number x) (number first) ≡ b
+          → Among x (first ∷ rest)
+          → (Among x rest → unwrap_or (find (λ y. nat_eq (number x) (number y)) rest) default ≡ x)
+          → unwrap_or (cond b (Some first) (find (λ y. nat_eq (number x) (number y)) rest)) default ≡ x
+      by others true e n next =
+          ⊎_elim (λ same. sym same)
+          (λ later. absurd (true≢false
+          (sym (eq-eqb (number first) (number x) (sym (eqb-true (number x) (number first) e)))
+          ∙ fails (λ y. nat_eq (number first) (number y)) rest others x later))) n
+      by others false e n next =
+          ⊎_elim (λ same. absurd (true≢false (sym (eq-eqb (number x) (number first) (ap number same)) ∙ e))) next n
+
   pub filter_here : (p : A → Bool) (y : A) (ys : List A) → p y ≡ true → filter p (y ∷ ys) ≡ y ∷ filter p ys
   filter_here p y ys e = ap (λ b. cond b (y ∷ filter p ys) (filter p ys)) e
 
@@ -116,14 +148,16 @@ module _ {A : Type 0} where
   filter_twice p q r h [] = refl
   filter_twice p q r h (y ∷ ys) = by (q y) refl (h y) (filter_twice p q r h ys)
     where
-      by : (b : Bool) → q y ≡ b → r y ≡ (q y && p y) → filter p (filter q ys) ≡ filter r ys → filter p (filter q (y ∷ ys)) ≡ filter r (y ∷ ys)
+      by : (b : Bool) → q y ≡ b → r y ≡ (q y && p y) → filter p (filter q ys) ≡ filter r ys
+          → filter p (filter q (y ∷ ys)) ≡ filter r (y ∷ ys)
       by true e f later =
           ap (filter p) (filter_here q y ys e) ∙ ap (λ rest. cond (p y) (y ∷ rest) rest) later
           ∙ ap (λ b. cond b (y ∷ filter r ys) (filter r ys)) (sym (f ∙ ap (λ b. b && p y) e))
       by false e f later = ap (filter p) (filter_skip q y ys e) ∙ later ∙ sym (filter_skip r y ys (f ∙ ap (λ b. b && p y) e))
 
   -- what does not pass is not missed
-  pub any-filter : (t q : A → Bool) (xs : List A) → ((x : A) → Among x xs → q x ≡ false → t x ≡ false) → list_any t (filter q xs) ≡ list_any t xs
+  pub any-filter : (t q : A → Bool) (xs : List A) → ((x : A) → Among x xs → q x ≡ false → t x ≡ false)
+      → list_any t (filter q xs) ≡ list_any t xs
   any-filter t q [] h = refl
   any-filter t q (y ∷ ys) h = by (q y) refl (any-filter t q ys (λ x m. h x (inr m)))
     where
@@ -201,7 +235,8 @@ module _ {A B : Type 0} where
   any-map p f [] h = refl
   any-map p {q = q} f (y ∷ ys) h = ap (λ b. b || list_any p (map f ys)) (h y) ∙ ap (λ b. q y || b) (any-map p f ys h)
 
-  pub filter-map : (p : B → Bool) {q : A → Bool} (f : A → B) (xs : List A) → ((x : A) → p (f x) ≡ q x) → filter p (map f xs) ≡ map f (filter q xs)
+  pub filter-map : (p : B → Bool) {q : A → Bool} (f : A → B) (xs : List A) → ((x : A) → p (f x) ≡ q x)
+      → filter p (map f xs) ≡ map f (filter q xs)
   filter-map p f [] h = refl
   filter-map p {q = q} f (y ∷ ys) h =
       ap (λ b. cond b (f y ∷ filter p (map f ys)) (filter p (map f ys))) (h y)
@@ -213,9 +248,14 @@ module _ {A B : Type 0} where
       by false = refl
 
   -- lists put together out of what does not change
+  pub flat_map-step : (f : A → A) (g : A → List B) (xs : List A) → ((x : A) → Among x xs → g (f x) ≡ g x)
+      → flat_map g (map f xs) ≡ flat_map g xs
+  flat_map-step f g [] h = refl
+  flat_map-step f g (y ∷ ys) h =
+      ap (λ l. l ++ flat_map g (map f ys)) (h y (inl refl)) ∙ ap (λ l. g y ++ l) (flat_map-step f g ys (λ x m. h x (inr m)))
+
   pub flat_map-map : (f : A → A) (g : A → List B) (xs : List A) → ((x : A) → g (f x) ≡ g x) → flat_map g (map f xs) ≡ flat_map g xs
-  flat_map-map f g [] h = refl
-  flat_map-map f g (y ∷ ys) h = ap (λ l. l ++ flat_map g (map f ys)) (h y) ∙ ap (λ l. g y ++ l) (flat_map-map f g ys h)
+  flat_map-map f g xs h = flat_map-step f g xs (λ x m. h x)
 
   pub flat_map_none : (g : A → List B) (xs : List A) → ((x : A) → Among x xs → g x ≡ []) → flat_map g xs ≡ []
   flat_map_none g [] h = refl
@@ -227,7 +267,8 @@ module _ {A B : Type 0} where
   flat_map-filter p g [] h = refl
   flat_map-filter p g (y ∷ ys) h = by (p y) refl (flat_map-filter p g ys h)
     where
-      by : (b : Bool) → p y ≡ b → flat_map g (filter p ys) ≡ flat_map g ys → flat_map g (cond b (y ∷ filter p ys) (filter p ys)) ≡ g y ++ flat_map g ys
+      by : (b : Bool) → p y ≡ b → flat_map g (filter p ys) ≡ flat_map g ys
+          → flat_map g (cond b (y ∷ filter p ys) (filter p ys)) ≡ g y ++ flat_map g ys
       by true e later = ap (λ l. g y ++ l) later
       by false e later = later ∙ ap (λ l. l ++ flat_map g ys) (sym (h y e))
 
@@ -240,6 +281,10 @@ module _ {A B C : Type 0} where
   pub map_twice : (f : B → C) (g : A → B) (xs : List A) → map f (map g xs) ≡ map (λ x. f (g x)) xs
   map_twice f g [] = refl
   map_twice f g (y ∷ ys) = ap (λ rest. f (g y) ∷ rest) (map_twice f g ys)
+
+  pub flat_map-of_map : (g : B → List C) (f : A → B) (xs : List A) → flat_map g (map f xs) ≡ flat_map (λ x. g (f x)) xs
+  flat_map-of_map g f [] = refl
+  flat_map-of_map g f (y ∷ ys) = ap (λ l. g (f y) ++ l) (flat_map-of_map g f ys)
 
 -- a number among numbers
 pub among_numbers : (number : ℕ) (numbers : List ℕ) → is_among nat_eq number numbers ≡ true → Among number numbers

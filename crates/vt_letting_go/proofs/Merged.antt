@@ -1,14 +1,15 @@
 -- Inodes of one kind of filesystem go one by one, overlays among them.
-use Rattle.std.proofs.Common.{◌≡◌, refl, sym, ap, ◌∙◌, ◌⊎◌, inl, inr, ℕ, nat_eq, Bool, true, false, cond, not, ◌||◌, ◌&&◌, List, filter, true≢false, Option, Some, None, is_some, option_map}
+use Rattle.std.proofs.Common.{◌≡◌, refl, sym, ap, ◌∙◌, ◌⊎◌, inl, inr, ℕ, nat_eq, Bool, true, false, cond, not, ◌||◌, ◌&&◌, List, [], filter, true≢false, Option, Some, None, is_some, option_map}
 use Rattle.std.specs.List.{list_all}
+use Rattle.vt_spec.specs.FileTree.{targets_in}
 use Rattle.vt_spec.specs.Tree.{Node}
 use Rattle.vt_spec.specs.Lists.{is_among}
 use Rattle.vt_spec.specs.Machine.Locked.{overlay_or}
-use Rattle.vt_spec.specs.Machine.Settled.{only_used_by, only_used_of, real_among}
+use Rattle.vt_spec.specs.Machine.Settled.{named_in, only_used_by, only_used_of, real_among}
 use Rattle.vt_spec.specs.Machine.World.{Filesystem, Overlay}
 use Rattle.vt_spec.specs.Machine.WorldLaws.{ListsNumbers}
 use Rattle.vt_letting_go.specs.Overlays.{real_in}
-use Rattle.vt_letting_go.proofs.Lists.{Among, decided, filter_alike, filter_all, filter_twice, among_numbers, is_among_numbers, passes}
+use Rattle.vt_letting_go.proofs.Lists.{Among, decided, filter_alike, filter_all, filter_twice, flat_map-filter, flat_map_alike, among_numbers, is_among_numbers, passes}
 
 -- without the real objects of the inodes that a test names
 abbrev pub reals_without : (ℕ → Bool) → Overlay ℕ → Overlay ℕ
@@ -35,7 +36,8 @@ without_nothing filesystem = λ i. record filesystem {
     by (Some overlay) = refl
 
 -- without some, and then without others
-pub without_both : (some others both : ℕ → Bool) → ((number : ℕ) → both number ≡ (some number || others number)) → (filesystem : Filesystem ℕ)
+pub without_both : (some others both : ℕ → Bool) → ((number : ℕ) → both number ≡ (some number || others number))
+    → (filesystem : Filesystem ℕ)
     → without_all others (without_all some filesystem) ≡ without_all both filesystem
 without_both some others both h filesystem = λ i. record filesystem {
   files = record {
@@ -58,9 +60,31 @@ without_both some others both h filesystem = λ i. record filesystem {
         by true false = refl
         by false b = refl
 
-    reals : (o : Option (Overlay ℕ)) → option_map (reals_without others) (option_map (reals_without some) o) ≡ option_map (reals_without both) o
+    reals : (o : Option (Overlay ℕ)) → option_map (reals_without others) (option_map (reals_without some) o)
+        ≡ option_map (reals_without both) o
     reals None = refl
     reals (Some overlay) = λ i. Some (record overlay { real = λ number. twice (overlay.real number) number i })
+
+-- What goes has no entries, so all names stay.
+pub named_without : (gone : ℕ → Bool) (filesystem : Filesystem ℕ)
+    → ((number : ℕ) → gone number ≡ true → targets_in (filesystem.files.tree.node number) ≡ [])
+    → named_in (without_all gone filesystem).files ≡ named_in filesystem.files
+named_without gone filesystem empty =
+    flat_map_alike (λ directory. targets_in (cond (gone directory) None (filesystem.files.tree.node directory)))
+    (λ directory. targets_in (filesystem.files.tree.node directory)) (filter (λ number. not (gone number)) filesystem.files.numbers)
+    (λ directory m. by directory (gone directory) refl)
+    ∙ flat_map-filter (λ number. not (gone number))
+    (λ directory. targets_in (filesystem.files.tree.node directory)) filesystem.files.numbers
+    (λ number skipped. nothing number (gone number) refl skipped)
+  where
+    by : (directory : ℕ) (b : Bool) → gone directory ≡ b
+        → targets_in (cond b None (filesystem.files.tree.node directory)) ≡ targets_in (filesystem.files.tree.node directory)
+    by directory true e = sym (empty directory e)
+    by directory false e = refl
+
+    nothing : (number : ℕ) (b : Bool) → gone number ≡ b → not b ≡ false → targets_in (filesystem.files.tree.node number) ≡ []
+    nothing number true e f = empty number e
+    nothing number false e f = absurd (true≢false f)
 
 -- an inode that is not there has no real object
 abbrev pub HasReals : Filesystem ℕ → Type 0
@@ -72,7 +96,11 @@ pub same_without : (a b : ℕ → Bool) (filesystem : Filesystem ℕ) → ListsN
     → without_all a filesystem ≡ without_all b filesystem
 same_without a b filesystem numbers has h = λ i. record filesystem {
   files = record {
-    tree = record { root = filesystem.files.tree.root; node = λ number. node number (decided (is_among nat_eq number filesystem.files.numbers)) i };
+    tree = record {
+      root = filesystem.files.tree.root;
+      node = λ number. node number
+          (decided (is_among nat_eq number filesystem.files.numbers)) i;
+    };
     numbers = filter_alike (λ number. not (a number)) (λ number. not (b number)) filesystem.files.numbers
         (λ number m. ap not (h number (is_among_numbers number filesystem.files.numbers m))) i;
   };
@@ -96,7 +124,8 @@ same_without a b filesystem numbers has h = λ i. record filesystem {
     both o number absent (inl there) = ap (λ x. cond x None o) (h number there)
     both o number absent (inr gone) = nothing o (a number) (absent gone) ∙ sym (nothing o (b number) (absent gone))
 
-    node : (number : ℕ) → (is_among nat_eq number filesystem.files.numbers ≡ true) ⊎ (is_among nat_eq number filesystem.files.numbers ≡ false)
+    node : (number : ℕ) → (is_among nat_eq number filesystem.files.numbers ≡ true)
+        ⊎ (is_among nat_eq number filesystem.files.numbers ≡ false)
         → cond (a number) None (filesystem.files.tree.node number) ≡ cond (b number) None (filesystem.files.tree.node number)
     node number one = both (filesystem.files.tree.node number) number (no_node number) one
 
@@ -138,8 +167,13 @@ left_of used filesystem numbers has = by (list_all (λ number. is_among nat_eq n
         among_it number there = among_numbers number filesystem.files.numbers there
     by false e = λ i. record filesystem {
       files = record {
-        tree = record { root = filesystem.files.tree.root; node = λ number. flipped (filesystem.files.tree.node number) (is_among nat_eq number used) i };
-        numbers = filter_alike (λ number. is_among nat_eq number used) (λ number. not (not (is_among nat_eq number used))) filesystem.files.numbers
+        tree = record {
+          root = filesystem.files.tree.root;
+          node = λ number. flipped (filesystem.files.tree.node number)
+              (is_among nat_eq number used) i;
+        };
+        numbers = filter_alike (λ number. is_among nat_eq number used)
+            (λ number. not (not (is_among nat_eq number used))) filesystem.files.numbers
             (λ number m. not_not (is_among nat_eq number used)) i;
       };
       overlay = reals filesystem.overlay i;

@@ -1,5 +1,5 @@
 -- Inodes of one kind of filesystem go one by one, overlays among them.
-use Rattle.std.proofs.Common.{◌≡◌, refl, sym, ap, subst, ◌∙◌, inl, inr, ⊎_elim, ℕ, nat_eq, eqb-true, Bool, true, false, cond, not, ◌||◌, ◌&&◌, List, [], ◌∷◌, filter, map, true≢false, flat_map, ◌++◌, Option, Some, None, option_map}
+use Rattle.std.proofs.Common.{◌≡◌, refl, sym, ap, subst, ◌∙◌, ⊎_elim, ℕ, nat_eq, eqb-true, Bool, true, false, cond, not, ◌||◌, ◌&&◌, List, [], ◌∷◌, filter, map, true≢false, flat_map, ◌++◌, Option, Some, None, option_map}
 use Rattle.std.specs.List.{list_all}
 use Rattle.std.proofs.lemmas.Bool.{and_parts, not-true}
 use Rattle.vt_spec.specs.FileTree.{targets_in}
@@ -12,34 +12,8 @@ use Rattle.vt_letting_go.specs.OneByOne.{Inode, is_inode_among, is_used_or_among
 use Rattle.vt_letting_go.specs.Overlays.{let_go_in, let_go_in_of, without_inode_of}
 use Rattle.vt_letting_go.proofs.InUse.{UnusedAreEmpty}
 use Rattle.vt_letting_go.proofs.Inodes.{goes_of, goes_on}
-use Rattle.vt_letting_go.proofs.Lists.{Among, among-from_map, among_numbers, decided, flat_map-filter, flat_map_alike, map_alike, map_same, map_twice, passes}
-use Rattle.vt_letting_go.proofs.Merged.{HasReals, left_of, reals_without, same_without, without_all, without_both, without_nothing}
-
-pub flat_map-step : {A B : Type 0} (f : A → A) (g : A → List B) (xs : List A) → ((x : A) → Among x xs → g (f x) ≡ g x)
-    → flat_map g (map f xs) ≡ flat_map g xs
-flat_map-step f g [] h = refl
-flat_map-step f g (y ∷ ys) h =
-    ap (λ l. l ++ flat_map g (map f ys)) (h y (inl refl)) ∙ ap (λ l. g y ++ l) (flat_map-step f g ys (λ x m. h x (inr m)))
-
--- What goes has no entries, so all names stay.
-pub named_without : (gone : ℕ → Bool) (filesystem : Filesystem ℕ)
-    → ((number : ℕ) → gone number ≡ true → targets_in (filesystem.files.tree.node number) ≡ [])
-    → named_in (without_all gone filesystem).files ≡ named_in filesystem.files
-named_without gone filesystem empty =
-    flat_map_alike (λ directory. targets_in (cond (gone directory) None (filesystem.files.tree.node directory)))
-    (λ directory. targets_in (filesystem.files.tree.node directory)) (filter (λ number. not (gone number)) filesystem.files.numbers)
-    (λ directory m. by directory (gone directory) refl)
-    ∙ flat_map-filter (λ number. not (gone number)) (λ directory. targets_in (filesystem.files.tree.node directory)) filesystem.files.numbers
-    (λ number skipped. nothing number (gone number) refl skipped)
-  where
-    by : (directory : ℕ) (b : Bool) → gone directory ≡ b
-        → targets_in (cond b None (filesystem.files.tree.node directory)) ≡ targets_in (filesystem.files.tree.node directory)
-    by directory true e = sym (empty directory e)
-    by directory false e = refl
-
-    nothing : (number : ℕ) (b : Bool) → gone number ≡ b → not b ≡ false → targets_in (filesystem.files.tree.node number) ≡ []
-    nothing number true e f = empty number e
-    nothing number false e f = absurd (true≢false f)
+use Rattle.vt_letting_go.proofs.Lists.{Among, among-from_map, among_numbers, decided, flat_map-step, map_alike, map_same, map_twice, passes}
+use Rattle.vt_letting_go.proofs.Merged.{HasReals, left_of, named_without, reals_without, same_without, without_all, without_both, without_nothing}
 
 pub layers_without : (gone : ℕ → Bool) (filesystem : Filesystem ℕ)
     → of_overlay [] layers_of (without_all gone filesystem) ≡ of_overlay [] layers_of filesystem
@@ -69,7 +43,8 @@ module _ (chosen : Filesystem ℕ → Bool) (keeps : (gone : ℕ → Bool) (f : 
       ((kind && nat_eq filesystem.number inode.0) && not (is_among nat_eq inode.1 used)) && nat_eq number inode.1
 
   here_or_later : (kind : Bool) (used : List ℕ) (inode : Inode) (rest : List Inode) (filesystem : Filesystem ℕ) (number : ℕ)
-      → goes_in kind used (inode ∷ rest) filesystem number ≡ (here_in kind used inode filesystem number || goes_in kind used rest filesystem number)
+      → goes_in kind used (inode ∷ rest) filesystem number
+      ≡ (here_in kind used inode filesystem number || goes_in kind used rest filesystem number)
   here_or_later true used inode rest filesystem number = goes_on used inode rest filesystem number
   here_or_later false used inode rest filesystem number = refl
 
@@ -86,7 +61,8 @@ module _ (chosen : Filesystem ℕ → Bool) (keeps : (gone : ℕ → Bool) (f : 
     one_step : (filesystem : Filesystem ℕ) → step filesystem ≡ without_all (here filesystem) filesystem
     one_step filesystem = by ((chosen filesystem && nat_eq filesystem.number inode.0) && not (is_inode_used world filesystem inode.1))
       where
-        by : (b : Bool) → cond b (without_inode_of inode.1 filesystem) filesystem ≡ without_all (λ number. b && nat_eq number inode.1) filesystem
+        by : (b : Bool) → cond b (without_inode_of inode.1 filesystem) filesystem
+            ≡ without_all (λ number. b && nat_eq number inode.1) filesystem
         by true = refl
         by false = sym (without_nothing filesystem)
 
@@ -98,13 +74,17 @@ module _ (chosen : Filesystem ℕ → Bool) (keeps : (gone : ℕ → Bool) (f : 
 
     other_stays : (filesystem : Filesystem ℕ) → chosen filesystem ≡ false → step filesystem ≡ filesystem
     other_stays filesystem e =
-        ap (λ b. cond ((b && nat_eq filesystem.number inode.0) && not (is_inode_used world filesystem inode.1)) (without_inode_of inode.1 filesystem) filesystem) e
+        ap (λ b. cond ((b && nat_eq filesystem.number inode.0) && not (is_inode_used world filesystem inode.1))
+        (without_inode_of inode.1 filesystem) filesystem) e
 
     -- what goes is not used
-    is_unused : (filesystem : Filesystem ℕ) (number : ℕ) → here filesystem number ≡ true → is_among nat_eq number (used_in nat_eq world filesystem) ≡ false
+    is_unused : (filesystem : Filesystem ℕ) (number : ℕ) → here filesystem number ≡ true
+        → is_among nat_eq number (used_in nat_eq world filesystem) ≡ false
     is_unused filesystem number e =
-        let parts = and_parts ((chosen filesystem && nat_eq filesystem.number inode.0) && not (is_inode_used world filesystem inode.1)) (nat_eq number inode.1) e in
-        let unused = and_parts (chosen filesystem && nat_eq filesystem.number inode.0) (not (is_inode_used world filesystem inode.1)) parts.0 in
+        let parts = and_parts ((chosen filesystem && nat_eq filesystem.number inode.0) && not (is_inode_used world filesystem inode.1))
+        (nat_eq number inode.1) e in
+        let unused = and_parts (chosen filesystem && nat_eq filesystem.number inode.0)
+        (not (is_inode_used world filesystem inode.1)) parts.0 in
         ap (λ n. is_among nat_eq n (used_in nat_eq world filesystem)) (eqb-true number inode.1 parts.1)
         ∙ not-true (is_inode_used world filesystem inode.1) unused.1
 
@@ -115,7 +95,8 @@ module _ (chosen : Filesystem ℕ → Bool) (keeps : (gone : ℕ → Bool) (f : 
         (λ filesystem m. ap (of_overlay [] layers_of) (one_step filesystem) ∙ layers_without (here filesystem) filesystem))
 
     objects_step : Apart world → (filesystem : Filesystem ℕ) → Among filesystem world.filesystems → chosen filesystem ≡ true
-        → flat_map (objects_of_overlay nat_eq filesystem.number) next.filesystems ≡ flat_map (objects_of_overlay nat_eq filesystem.number) world.filesystems
+        → flat_map (objects_of_overlay nat_eq filesystem.number) next.filesystems
+        ≡ flat_map (objects_of_overlay nat_eq filesystem.number) world.filesystems
     unfolding Apart
     objects_step apart filesystem m is =
         flat_map-step step (objects_of_overlay nat_eq filesystem.number) world.filesystems
@@ -125,11 +106,13 @@ module _ (chosen : Filesystem ℕ → Bool) (keeps : (gone : ℕ → Bool) (f : 
         (decided (chosen other)))
 
     used_step : Apart world → (filesystem : Filesystem ℕ) → Among filesystem world.filesystems → chosen filesystem ≡ true
-        → UnusedAreEmpty (used_in nat_eq world filesystem) filesystem → used_in nat_eq next (step filesystem) ≡ used_in nat_eq world filesystem
+        → UnusedAreEmpty (used_in nat_eq world filesystem) filesystem → used_in nat_eq next (step filesystem)
+        ≡ used_in nat_eq world filesystem
     used_step apart filesystem m is empty =
         λ i. (ap (λ f. f.files.tree.root) (one_step filesystem) i) ∷ (named i ++ located_in nat_eq world (number_step filesystem i)
         ++ (layers_step (step filesystem).number ∙ ap (layers_in nat_eq world) (number_step filesystem)) i
-        ++ (ap (λ n. flat_map (objects_of_overlay nat_eq n) next.filesystems) (number_step filesystem) ∙ objects_step apart filesystem m is) i)
+        ++ (ap (λ n. flat_map (objects_of_overlay nat_eq n) next.filesystems) (number_step filesystem)
+        ∙ objects_step apart filesystem m is) i)
       where
         named : named_in (step filesystem).files ≡ named_in filesystem.files
         named = ap (λ f. named_in f.files) (one_step filesystem)
@@ -142,7 +125,8 @@ module _ (chosen : Filesystem ℕ → Bool) (keeps : (gone : ℕ → Bool) (f : 
         let was : chosen from.0 ≡ true = sym (chosen_step from.0) ∙ ap chosen (sym from.2) ∙ is in
         subst (λ f. UnusedAreEmpty (used_in nat_eq next f) f) (sym from.2) (each from.0 from.1 was)
       where
-        by : (f : Filesystem ℕ) (number : ℕ) (b : Bool) → targets_in (f.files.tree.node number) ≡ [] → targets_in (cond b None (f.files.tree.node number)) ≡ []
+        by : (f : Filesystem ℕ) (number : ℕ) (b : Bool) → targets_in (f.files.tree.node number) ≡ []
+            → targets_in (cond b None (f.files.tree.node number)) ≡ []
         by f number true e = refl
         by f number false e = e
 
@@ -184,8 +168,10 @@ module _ (chosen : Filesystem ℕ → Bool) (keeps : (gone : ℕ → Bool) (f : 
   chosen_folded world (inode ∷ rest) apart empty =
       chosen_folded (let_go_in chosen world inode) rest (apart_step world inode apart) (empty_step world inode apart empty)
       ∙ ap (λ filesystems. record world { filesystems = filesystems })
-      (map_twice (λ f. without_all (goes_in (chosen f) (used_in nat_eq (let_go_in chosen world inode) f) rest f) f) (step world inode) world.filesystems
-      ∙ map_alike (λ f. without_all (goes_in (chosen (step world inode f)) (used_in nat_eq (let_go_in chosen world inode) (step world inode f)) rest (step world inode f)) (step world inode f))
+      (map_twice (λ f. without_all (goes_in (chosen f) (used_in nat_eq (let_go_in chosen world inode) f) rest f) f)
+      (step world inode) world.filesystems
+      ∙ map_alike (λ f. without_all (goes_in (chosen (step world inode f))
+      (used_in nat_eq (let_go_in chosen world inode) (step world inode f)) rest (step world inode f)) (step world inode f))
       (λ f. without_all (goes_in (chosen f) (used_in nat_eq world f) (inode ∷ rest) f) f) world.filesystems
       (λ f m. ⊎_elim (by_chosen f m) (by_other f) (decided (chosen f))))
     where
@@ -193,18 +179,22 @@ module _ (chosen : Filesystem ℕ → Bool) (keeps : (gone : ℕ → Bool) (f : 
       goes_by kind used filesystem number = kind && (is_inode_among filesystem number rest && not (is_among nat_eq number used))
 
       by_chosen : (f : Filesystem ℕ) → Among f world.filesystems → chosen f ≡ true
-          → without_all (goes_in (chosen (step world inode f)) (used_in nat_eq (let_go_in chosen world inode) (step world inode f)) rest (step world inode f)) (step world inode f)
+          → without_all (goes_in (chosen (step world inode f)) (used_in nat_eq (let_go_in chosen world inode) (step world inode f)) rest
+          (step world inode f)) (step world inode f)
           ≡ without_all (goes_in (chosen f) (used_in nat_eq world f) (inode ∷ rest) f) f
       by_chosen f m is =
-          (λ i. without_all (goes_by (chosen_step world inode f i) (used_step world inode apart f m is (empty f m is) i) (number_step world inode f i)) (one_step world inode f i))
+          (λ i. without_all (goes_by (chosen_step world inode f i) (used_step world inode apart f m is (empty f m is) i)
+          (number_step world inode f i)) (one_step world inode f i))
           ∙ without_both (here world inode f) (goes_in (chosen f) (used_in nat_eq world f) rest f)
           (goes_in (chosen f) (used_in nat_eq world f) (inode ∷ rest) f) (here_or_later (chosen f) (used_in nat_eq world f) inode rest f) f
 
       by_other : (f : Filesystem ℕ) → chosen f ≡ false
-          → without_all (goes_in (chosen (step world inode f)) (used_in nat_eq (let_go_in chosen world inode) (step world inode f)) rest (step world inode f)) (step world inode f)
+          → without_all (goes_in (chosen (step world inode f)) (used_in nat_eq (let_go_in chosen world inode) (step world inode f)) rest
+          (step world inode f)) (step world inode f)
           ≡ without_all (goes_in (chosen f) (used_in nat_eq world f) (inode ∷ rest) f) f
       by_other f isnt =
-          ap (λ b. without_all (goes_in b (used_in nat_eq (let_go_in chosen world inode) (step world inode f)) rest (step world inode f)) (step world inode f))
+          ap (λ b. without_all (goes_in b (used_in nat_eq (let_go_in chosen world inode) (step world inode f)) rest (step world inode f))
+          (step world inode f))
           (chosen_step world inode f ∙ isnt)
           ∙ ap (without_all (λ number. false)) (other_stays world inode f isnt)
           ∙ ap (λ b. without_all (goes_in b (used_in nat_eq world f) (inode ∷ rest) f) f) (sym isnt)
@@ -216,7 +206,8 @@ module _ (chosen : Filesystem ℕ → Bool) (keeps : (gone : ℕ → Bool) (f : 
       → without_dead_in nat_eq chosen world ≡ folded (let_go_in chosen) world losers
   chosen_go_one_by_one world losers apart empty others =
       ap (λ filesystems. record world { filesystems = filesystems })
-      (map_alike (λ f. only_used nat_eq world (chosen f) f) (λ f. without_all (goes_in (chosen f) (used_in nat_eq world f) losers f) f) world.filesystems
+      (map_alike (λ f. only_used nat_eq world (chosen f) f)
+      (λ f. without_all (goes_in (chosen f) (used_in nat_eq world f) losers f) f) world.filesystems
       (λ f m. by f m (chosen f) refl))
       ∙ sym (chosen_folded world losers apart empty)
     where
@@ -230,7 +221,8 @@ module _ (chosen : Filesystem ℕ → Bool) (keeps : (gone : ℕ → Bool) (f : 
       by f m true is =
           let all = others f m is in
           left_of (used_in nat_eq world f) f all.0.numbers all.1
-          ∙ same_without (λ number. not (is_among nat_eq number (used_in nat_eq world f))) (goes_of (used_in nat_eq world f) losers f) f all.0.numbers all.1
+          ∙ same_without (λ number. not (is_among nat_eq number (used_in nat_eq world f)))
+          (goes_of (used_in nat_eq world f) losers f) f all.0.numbers all.1
           (λ number there. same (is_inode_among f.number number losers) (is_among nat_eq number (used_in nat_eq world f))
           (passes (is_used_or_among losers world f) f.files.numbers all.2 number (among_numbers number f.files.numbers there)))
       by f m false isnt = sym (without_nothing f)

@@ -1,8 +1,8 @@
 -- Which things may have lost a use after a change of mounts and tasks.
-use Rattle.std.proofs.Common.{◌≡◌, refl, sym, ap, subst, ◌∙◌, ◌⊎◌, inl, inr, ⊎_elim, ℕ, nat_eq, eqb-true, eq-eqb, Bool, true, false, ◌||◌, ◌&&◌, List, filter, map, true≢false, flat_map, ◌++◌, Option, Some, is_some, option_to_list}
+use Rattle.std.proofs.Common.{◌≡◌, refl, sym, ap, subst, ◌∙◌, ◌⊎◌, inl, inr, ⊎_elim, ℕ, nat_eq, eqb-true, eq-eqb, Bool, true, false, ◌||◌, ◌&&◌, List, filter, map, true≢false, flat_map, ◌++◌, Option, Some, is_some}
 use Rattle.std.specs.Prelude.{filter_map}
 use Rattle.std.specs.List.{list_all}
-use Rattle.std.proofs.lemmas.Bool.{and_parts, or_cases, or_parts}
+use Rattle.std.proofs.lemmas.Bool.{or_cases, or_parts}
 use Rattle.vt_spec.specs.Lists.{is_among}
 use Rattle.vt_spec.specs.Machine.Mounts.{Location, Mount, mount_in, root_of}
 use Rattle.vt_spec.specs.Machine.Receives.{is_member_of}
@@ -11,12 +11,13 @@ use Rattle.vt_spec.specs.Machine.World.{Filesystem, Namespace, Task, World, all_
 use Rattle.vt_spec.specs.Machine.WorldLaws.{is_nowhere_or_attached}
 use Rattle.vt_letting_go.specs.InUse.{AllInUse, is_inode_used}
 use Rattle.vt_letting_go.specs.Keeping.{LocationsStand, has_only_named}
-use Rattle.vt_letting_go.specs.Leaving.{IsSettledPlain, MountsStand, stands_on_attached}
+use Rattle.vt_letting_go.specs.Leaving.{IsSettledPlain, MountsStand}
 use Rattle.vt_letting_go.specs.Mounting.{inode_at, root_inode, used_by_mounts}
 use Rattle.vt_letting_go.specs.OneByOne.{AllInUseBut, FilesystemsInUseBut, GroupsInUseBut, Inode, InodesInUseBut, IsPlain, Losers, MountsInUseBut, is_inode_among, is_used_or_among, let_go}
 use Rattle.vt_letting_go.proofs.Inodes.{all_goes_one_by_one}
-use Rattle.vt_letting_go.proofs.Lists.{Among, all_from_among, all_pass, among-append, among-append_left, among-append_right, among-filter, among-filter_map, among-from_filter, among-from_filter_map, among-from_map, among-map, among_from_all, among_numbers, any-filter, any_passes, decided, is_among_left, is_among_numbers, is_among_right, one_passes, or_first, or_second, passes}
-use Rattle.vt_letting_go.proofs.PlacesLeft.{found_in_filter, found_is_there, found_itself, no_layers, nowhere_parts, number_found, plain_uses, private_is_no_member}
+use Rattle.vt_letting_go.proofs.InUse.{used_at}
+use Rattle.vt_letting_go.proofs.Lists.{Among, all_from_among, all_pass, among-append, among-append_left, among-append_right, among-filter, among-filter_map, among-from_filter, among-from_filter_map, among-from_map, among-map, among_from_all, among_numbers, any-filter, any_passes, decided, is_among_left, is_among_numbers, one_passes, or_first, or_second, passes}
+use Rattle.vt_letting_go.proofs.PlacesLeft.{found_in_filter, found_is_there, found_itself, no_layers, nowhere_parts, number_found, plain_uses, private_is_no_member, place_attached}
 
 -- the roots, working directories and descriptors, the roots of mounts and the places of a world
 abbrev pub places_of : World ℕ → List (Location ℕ)
@@ -34,9 +35,7 @@ places_stand world stand located_well location m =
     (among-append (all_locations world) (map root_of world.mounts) location front))
     (λ at.
     let t = among-from_filter_map (λ x. x.mount_point) world.mounts location at in
-    let on = (and_parts (is_some (mount_at nat_eq world location).namespace) true
-    (sym (ap (λ o. list_all (λ l. is_some (mount_at nat_eq world l).namespace) (option_to_list o)) t.2)
-    ∙ passes (stands_on_attached world) world.mounts stand.on_attached t.0 t.1)).0 in
+    let on = place_attached world stand t.0 t.1 location t.2 in
     ap (λ n. is_among nat_eq n numbers) (sym (number_found world.mounts location.mount))
     ∙ numbered (mount_at nat_eq world location) (found_is_there world.mounts location.mount on))
     (among-append (all_locations world ++ map root_of world.mounts) (filter_map (λ mount. mount.mount_point) world.mounts) location m)
@@ -54,11 +53,13 @@ Image mounts mount = (image : Mount ℕ) × (Among image mounts × ((root_of ima
 -- the mounts of a number are none of those that may go, or in a namespace
 abbrev pub Stays : List (Mount ℕ) → List ℕ → ℕ → Type 0
 Stays mounts gone number =
-    (is_among nat_eq number gone ≡ false) ⊎ ((mount : Mount ℕ) → Among mount mounts → mount.number ≡ number → is_some mount.namespace ≡ true)
+    (is_among nat_eq number gone ≡ false) ⊎ ((mount : Mount ℕ) → Among mount mounts → mount.number ≡ number → is_some mount.namespace
+    ≡ true)
 
 -- a place that a mount in use has still, on a mount that stays
 abbrev pub StillAPlace : List (Mount ℕ) → List ℕ → Location ℕ → Type 0
-StillAPlace mounts gone place = (mount : Mount ℕ) × (Among mount mounts × ((mount.mount_point ≡ Some place) × Stays mounts gone place.mount))
+StillAPlace mounts gone place = (mount : Mount ℕ)
+    × (Among mount mounts × ((mount.mount_point ≡ Some place) × Stays mounts gone place.mount))
 
 abbrev pub changed_with : World ℕ → List (Mount ℕ) → (ℕ → Option ℕ) → List (Filesystem ℕ) → List (Namespace ℕ) → List (Task ℕ) → World ℕ
 changed_with world mounts master filesystems namespaces tasks =
@@ -69,7 +70,8 @@ changed world mounts master namespaces tasks = changed_with world mounts master 
 
 -- the root of a mount that is none of those that may go
 abbrev pub IsARoot : List (Mount ℕ) → List ℕ → Location ℕ → Type 0
-IsARoot mounts gone location = (mount : Mount ℕ) × (Among mount mounts × ((root_of mount ≡ location) × (is_among nat_eq mount.number gone ≡ false)))
+IsARoot mounts gone location = (mount : Mount ℕ)
+    × (Among mount mounts × ((root_of mount ≡ location) × (is_among nat_eq mount.number gone ≡ false)))
 
 -- a location of a task still, or the root of a mount that stays
 abbrev pub StillALocation : World ℕ → List ℕ → Location ℕ → Type 0
@@ -78,7 +80,8 @@ StillALocation after gone location = Among location (all_locations after) ⊎ Is
 -- a new filesystem, which a mount in use shows, and of which each inode is the root or has a name
 abbrev pub IsNew : World ℕ → Filesystem ℕ → Type 0
 IsNew after filesystem =
-    (mount : Mount ℕ) × (Among mount after.mounts × ((mount_lives nat_eq after mount ≡ true) × ((nat_eq filesystem.number mount.filesystem ≡ true) × (has_only_named filesystem ≡ true))))
+    (mount : Mount ℕ) × (Among mount after.mounts × ((mount_lives nat_eq after mount ≡ true)
+    × ((nat_eq filesystem.number mount.filesystem ≡ true) × (has_only_named filesystem ≡ true))))
 
 -- what was there is there, and what is new is shown
 pub record Comes (world after : World ℕ) : Type 0 where
@@ -87,10 +90,13 @@ pub record Comes (world after : World ℕ) : Type 0 where
 
 pub record Loses (world after : World ℕ) (gone : List ℕ) (left : List (Location ℕ)) : Type 0 where
   pub images : (mount : Mount ℕ) → Among mount world.mounts → Image after.mounts mount
-  pub shown : (location : Location ℕ) → Among location (places_of world) → (mount_at nat_eq after location).filesystem ≡ (mount_at nat_eq world location).filesystem
-  pub live : (mount : Mount ℕ) → Among mount after.mounts → is_among nat_eq mount.number gone ≡ false → mount_lives nat_eq after mount ≡ true
+  pub shown : (location : Location ℕ) → Among location (places_of world)
+      → (mount_at nat_eq after location).filesystem ≡ (mount_at nat_eq world location).filesystem
+  pub live : (mount : Mount ℕ) → Among mount after.mounts → is_among nat_eq mount.number gone ≡ false
+      → mount_lives nat_eq after mount ≡ true
   pub locations : (location : Location ℕ) → Among location (all_locations world) → StillALocation after gone location ⊎ Among location left
-  pub places : (mount : Mount ℕ) → Among mount world.mounts → (place : Location ℕ) → mount.mount_point ≡ Some place → StillAPlace after.mounts gone place ⊎ Among place left
+  pub places : (mount : Mount ℕ) → Among mount world.mounts → (place : Location ℕ) → mount.mount_point ≡ Some place
+      → StillAPlace after.mounts gone place ⊎ Among place left
   pub nowhere : list_all is_nowhere_or_attached after.mounts ≡ true
 
 module _ (world : World ℕ) (mounts : List (Mount ℕ)) (master : ℕ → Option ℕ) (filesystems : List (Filesystem ℕ))
@@ -125,7 +131,8 @@ module _ (world : World ℕ) (mounts : List (Mount ℕ)) (master : ℕ → Optio
       (decided (is_among nat_eq mount.number gone)))
 
   -- a mount that is none of those that may go has an image that lives
-  image_lives : (mount : Mount ℕ) → is_among nat_eq mount.number gone ≡ false → (image : Image mounts mount) → mount_lives nat_eq after image.0 ≡ true
+  image_lives : (mount : Mount ℕ) → is_among nat_eq mount.number gone ≡ false → (image : Image mounts mount)
+      → mount_lives nat_eq after image.0 ≡ true
   image_lives mount isnt image =
       loses.live image.0 image.1.0 (ap (λ l. is_among nat_eq l.mount gone) image.1.1.0 ∙ isnt)
 
@@ -178,16 +185,7 @@ module _ (world : World ℕ) (mounts : List (Mount ℕ)) (master : ℕ → Optio
     -- what is at a place that is used still
     used_still : (location : Location ℕ) → Among location (places_of mounted)
         → filesystem.number ≡ (mount_at nat_eq mounted location).filesystem → is_inode_used swept filesystem location.node ≡ true
-    used_still location m e =
-        or_second (nat_eq location.node filesystem.files.tree.root) _
-        (is_among_left location.node (named_in filesystem.files ++ located_in nat_eq swept filesystem.number ++ layers_in nat_eq swept filesystem.number)
-        (flat_map (objects_of_overlay nat_eq filesystem.number) swept.filesystems)
-        (is_among_left location.node (named_in filesystem.files ++ located_in nat_eq swept filesystem.number) (layers_in nat_eq swept filesystem.number)
-        (is_among_right location.node (named_in filesystem.files) (located_in nat_eq swept filesystem.number)
-        (is_among_numbers location.node (located_in nat_eq swept filesystem.number)
-        (among-map (λ l. l.node) (filter (λ l. nat_eq filesystem.number (mount_at nat_eq mounted l).filesystem) (places_of mounted)) location
-        (among-filter (λ l. nat_eq filesystem.number (mount_at nat_eq mounted l).filesystem) (places_of mounted) location m
-        (eq-eqb filesystem.number (mount_at nat_eq mounted location).filesystem e)))))))
+    used_still location m e = used_at swept filesystem location m e
 
     -- an inode among the losers may go
     may_go : (inode : Inode) → Among inode inodes → filesystem.number ≡ inode.0 → (number : ℕ) → number ≡ inode.1
@@ -201,7 +199,8 @@ module _ (world : World ℕ) (mounts : List (Mount ℕ)) (master : ℕ → Optio
         → is_used_or_among inodes swept filesystem location.node ≡ true
     left_may_go location m e =
         may_go (inode_at world location)
-        (among-append_right (map (root_inode world) gone) (map (inode_at world) left) (inode_at world location) (among-map (inode_at world) left location m))
+        (among-append_right (map (root_inode world) gone) (map (inode_at world) left) (inode_at world location)
+        (among-map (inode_at world) left location m))
         e location.node refl
 
     was_a_place : (location : Location ℕ) → Among location (all_locations world) → Among location (places_of world)
@@ -209,17 +208,20 @@ module _ (world : World ℕ) (mounts : List (Mount ℕ)) (master : ℕ → Optio
         among-append_left (all_locations world ++ map root_of world.mounts) (filter_map (λ mount. mount.mount_point) world.mounts) location
         (among-append_left (all_locations world) (map root_of world.mounts) location m)
 
-    located_still : (location : Location ℕ) → Among location (all_locations world) → filesystem.number ≡ (mount_at nat_eq world location).filesystem
+    located_still : (location : Location ℕ) → Among location (all_locations world)
+        → filesystem.number ≡ (mount_at nat_eq world location).filesystem
         → Among location (all_locations after) → is_inode_used swept filesystem location.node ≡ true
     located_still location m e stays =
         used_still location
-        (among-append_left (all_locations after ++ map root_of mounted.mounts) (filter_map (λ mount. mount.mount_point) mounted.mounts) location
+        (among-append_left (all_locations after ++ map root_of mounted.mounts)
+        (filter_map (λ mount. mount.mount_point) mounted.mounts) location
         (among-append_left (all_locations after) (map root_of mounted.mounts) location stays))
         (e ∙ sym (found_still location (was_a_place location m)
         (λ mount n same. or_second (is_some mount.namespace) (is_located nat_eq after mount.number)
         (any_passes (λ l. nat_eq mount.number l.mount) (all_locations after) location stays (eq-eqb mount.number location.mount same)))))
 
-    root_still : (location : Location ℕ) → Among location (all_locations world) → filesystem.number ≡ (mount_at nat_eq world location).filesystem
+    root_still : (location : Location ℕ) → Among location (all_locations world)
+        → filesystem.number ≡ (mount_at nat_eq world location).filesystem
         → (mount : Mount ℕ) → Among mount mounts → root_of mount ≡ location → is_among nat_eq mount.number gone ≡ false
         → is_inode_used swept filesystem location.node ≡ true
     root_still location m e mount n is isnt =
@@ -231,7 +233,8 @@ module _ (world : World ℕ) (mounts : List (Mount ℕ)) (master : ℕ → Optio
         (e ∙ sym (found_still location (was_a_place location m)
         (stays_there location.mount (ap (λ (l : Location ℕ). is_among nat_eq l.mount gone) (sym is) ∙ isnt))))
 
-    by_location : (location : Location ℕ) → Among location (all_locations world) → filesystem.number ≡ (mount_at nat_eq world location).filesystem
+    by_location : (location : Location ℕ) → Among location (all_locations world)
+        → filesystem.number ≡ (mount_at nat_eq world location).filesystem
         → is_used_or_among inodes swept filesystem location.node ≡ true
     by_location location m e =
         ⊎_elim
@@ -251,10 +254,12 @@ module _ (world : World ℕ) (mounts : List (Mount ℕ)) (master : ℕ → Optio
         (λ isnt. let image = loses.images mount m in
         or_second (is_inode_among filesystem.number mount.root inodes) _
         (used_still (root_of mount)
-        (among-append_left (all_locations after ++ map root_of mounted.mounts) (filter_map (λ x. x.mount_point) mounted.mounts) (root_of mount)
+        (among-append_left (all_locations after ++ map root_of mounted.mounts) (filter_map (λ x. x.mount_point) mounted.mounts)
+        (root_of mount)
         (among-append_right (all_locations after) (map root_of mounted.mounts) (root_of mount)
         (subst (λ l. Among l (map root_of mounted.mounts)) image.1.1.0
-        (among-map root_of mounted.mounts image.0 (among-filter (mount_lives nat_eq after) mounts image.0 image.1.0 (image_lives mount isnt image))))))
+        (among-map root_of mounted.mounts image.0 (among-filter (mount_lives nat_eq after) mounts image.0 image.1.0
+        (image_lives mount isnt image))))))
         (e ∙ sym (found_still (root_of mount)
         (among-append_left (all_locations world ++ map root_of world.mounts) (filter_map (λ x. x.mount_point) world.mounts) (root_of mount)
         (among-append_right (all_locations world) (map root_of world.mounts) (root_of mount) (among-map root_of world.mounts mount m)))
@@ -277,20 +282,25 @@ module _ (world : World ℕ) (mounts : List (Mount ℕ)) (master : ℕ → Optio
         (among-append_right (all_locations world ++ map root_of world.mounts) (filter_map (λ x. x.mount_point) world.mounts) place
         (among-filter_map (λ x. x.mount_point) world.mounts mount place m p))
         (⊎_elim (stays_there place.mount)
-        (λ in_one other n same. or_first (is_some other.namespace) (is_located nat_eq after other.number) (in_one other n same)) still.1.1.1)))))
+        (λ in_one other n same. or_first (is_some other.namespace) (is_located nat_eq after other.number)
+        (in_one other n same)) still.1.1.1)))))
         (λ gone_from. left_may_go place gone_from e)
         (loses.places mount m place p)
       where
-        is_attached : (on : Mount ℕ) → Among on mounts → on.mount_point ≡ Some place → (b : Bool) → is_some on.namespace ≡ b → is_some on.namespace ≡ true
+        is_attached : (on : Mount ℕ) → Among on mounts → on.mount_point ≡ Some place → (b : Bool) → is_some on.namespace ≡ b
+            → is_some on.namespace ≡ true
         is_attached on n q true f = f
         is_attached on n q false f =
             absurd (true≢false (sym (ap is_some q) ∙ (nowhere_parts on (passes is_nowhere_or_attached mounts loses.nowhere on n) f).0))
 
-    pub by_located : (inode : ℕ) → Among inode (located_in nat_eq world filesystem.number) → is_used_or_among inodes swept filesystem inode ≡ true
+    pub by_located : (inode : ℕ) → Among inode (located_in nat_eq world filesystem.number)
+        → is_used_or_among inodes swept filesystem inode ≡ true
     by_located inode m =
-        let from = among-from_map (λ l. l.node) (filter (λ l. nat_eq filesystem.number (mount_at nat_eq world l).filesystem) (places_of world)) inode m in
+        let from = among-from_map (λ l. l.node) (filter (λ l. nat_eq filesystem.number (mount_at nat_eq world l).filesystem)
+        (places_of world)) inode m in
         let here = among-from_filter (λ l. nat_eq filesystem.number (mount_at nat_eq world l).filesystem) (places_of world) from.0 from.1 in
-        let e : filesystem.number ≡ (mount_at nat_eq world from.0).filesystem = eqb-true filesystem.number (mount_at nat_eq world from.0).filesystem here.1 in
+        let e : filesystem.number ≡ (mount_at nat_eq world from.0).filesystem = eqb-true filesystem.number
+        (mount_at nat_eq world from.0).filesystem here.1 in
         ap (is_used_or_among inodes swept filesystem) from.2
         ∙ ⊎_elim
         (λ other. ⊎_elim
@@ -301,7 +311,8 @@ module _ (world : World ℕ) (mounts : List (Mount ℕ)) (master : ℕ → Optio
         (among-append (all_locations world) (map root_of world.mounts) from.0 other))
         (λ place. let mount = among-from_filter_map (λ x. x.mount_point) world.mounts from.0 place in
         by_place mount.0 mount.1 from.0 mount.2 e)
-        (among-append (all_locations world ++ map root_of world.mounts) (filter_map (λ mount. mount.mount_point) world.mounts) from.0 here.0)
+        (among-append (all_locations world ++ map root_of world.mounts)
+        (filter_map (λ mount. mount.mount_point) world.mounts) from.0 here.0)
 
     -- an inode of a new filesystem is its root, or has a name
     pub by_a_name : (inode : ℕ) → (nat_eq inode filesystem.files.tree.root || is_among nat_eq inode (named_in filesystem.files)) ≡ true
@@ -311,9 +322,11 @@ module _ (world : World ℕ) (mounts : List (Mount ℕ)) (master : ℕ → Optio
         (⊎_elim
         (or_first (nat_eq inode filesystem.files.tree.root) _)
         (λ named. or_second (nat_eq inode filesystem.files.tree.root) _
-        (is_among_left inode (named_in filesystem.files ++ located_in nat_eq swept filesystem.number ++ layers_in nat_eq swept filesystem.number)
+        (is_among_left inode (named_in filesystem.files ++ located_in nat_eq swept filesystem.number
+        ++ layers_in nat_eq swept filesystem.number)
         (flat_map (objects_of_overlay nat_eq filesystem.number) swept.filesystems)
-        (is_among_left inode (named_in filesystem.files ++ located_in nat_eq swept filesystem.number) (layers_in nat_eq swept filesystem.number)
+        (is_among_left inode (named_in filesystem.files ++ located_in nat_eq swept filesystem.number)
+        (layers_in nat_eq swept filesystem.number)
         (is_among_left inode (named_in filesystem.files) (located_in nat_eq swept filesystem.number) named))))
         (or_cases (nat_eq inode filesystem.files.tree.root) (is_among nat_eq inode (named_in filesystem.files)) is))
 
@@ -322,11 +335,13 @@ module _ (world : World ℕ) (mounts : List (Mount ℕ)) (master : ℕ → Optio
     was_mounted : (filesystem : Filesystem ℕ) → Among filesystem world.filesystems → is_mounted nat_eq world filesystem.number ≡ true
     was_mounted filesystem m =
         ⊎_elim (λ e. e) (λ layered. absurd (true≢false (sym layered ∙ no_layers filesystem.number world world.filesystems plain)))
-        (or_cases (is_mounted nat_eq world filesystem.number) _ (passes (filesystem_lives nat_eq world) world.filesystems in_use.filesystems filesystem m))
+        (or_cases (is_mounted nat_eq world filesystem.number) _
+        (passes (filesystem_lives nat_eq world) world.filesystems in_use.filesystems filesystem m))
 
     filesystems_but : FilesystemsInUseBut losers.filesystems mounted
     filesystems_but =
-        all_pass (λ filesystem. is_among nat_eq filesystem.number losers.filesystems || filesystem_lives nat_eq mounted filesystem) filesystems
+        all_pass (λ filesystem. is_among nat_eq filesystem.number losers.filesystems
+        || filesystem_lives nat_eq mounted filesystem) filesystems
         (λ filesystem m.
         let lives = λ (e : is_mounted nat_eq mounted filesystem.number ≡ true).
         or_second (is_among nat_eq filesystem.number losers.filesystems) (filesystem_lives nat_eq mounted filesystem)
@@ -335,12 +350,14 @@ module _ (world : World ℕ) (mounts : List (Mount ℕ)) (master : ℕ → Optio
         (λ was. ⊎_elim lives
         (λ gone_with. or_first (is_among nat_eq filesystem.number losers.filesystems) (filesystem_lives nat_eq mounted filesystem)
         (is_among_numbers filesystem.number losers.filesystems
-        (subst (λ n. Among n losers.filesystems) (sym gone_with.2) (among-map (λ n. (mount_numbered nat_eq world n).filesystem) gone gone_with.0 gone_with.1))))
+        (subst (λ n. Among n losers.filesystems) (sym gone_with.2)
+        (among-map (λ n. (mount_numbered nat_eq world n).filesystem) gone gone_with.0 gone_with.1))))
         (still_mounted filesystem.number (was_mounted filesystem was)))
         (λ new. lives (shown_is_mounted filesystem.number new.0 new.1.0 new.1.1.0 new.1.1.1.0))
         (come.new filesystem m))
 
-    by_a_use : (filesystem : Filesystem ℕ) (inode : ℕ) → is_inode_used world filesystem inode ≡ true → is_used_or_among inodes living filesystem inode ≡ true
+    by_a_use : (filesystem : Filesystem ℕ) (inode : ℕ) → is_inode_used world filesystem inode ≡ true
+        → is_used_or_among inodes living filesystem inode ≡ true
     by_a_use filesystem inode is =
         ⊎_elim
         (λ root. or_second (is_inode_among filesystem.number inode inodes) _
@@ -360,9 +377,11 @@ module _ (world : World ℕ) (mounts : List (Mount ℕ)) (master : ℕ → Optio
         (λ inode n. ⊎_elim
         (λ was. by_a_use filesystem inode
         (passes (is_inode_used world filesystem) filesystem.files.numbers
-        (among_from_all (λ f. list_all (is_inode_used world f) f.files.numbers ≡ true) world.filesystems in_use.inodes filesystem was) inode n))
+        (among_from_all (λ f. list_all (is_inode_used world f) f.files.numbers
+        ≡ true) world.filesystems in_use.inodes filesystem was) inode n))
         (λ new. by_a_name living.filesystems filesystem inode
-        (passes (λ k. nat_eq k filesystem.files.tree.root || is_among nat_eq k (named_in filesystem.files)) filesystem.files.numbers new.1.1.1.1 inode n))
+        (passes (λ k. nat_eq k filesystem.files.tree.root || is_among nat_eq k
+        (named_in filesystem.files)) filesystem.files.numbers new.1.1.1.1 inode n))
         (come.new filesystem there.0)))
 
     -- all but what lost a use is in use
@@ -375,7 +394,8 @@ module _ (world : World ℕ) (mounts : List (Mount ℕ)) (master : ℕ → Optio
     }
 
 -- what lost a use goes, if nothing uses it, and nothing else
-pub losers_go : (world : World ℕ) (mounts : List (Mount ℕ)) (master : ℕ → Option ℕ) (namespaces : List (Namespace ℕ)) (tasks : List (Task ℕ))
+pub losers_go : (world : World ℕ) (mounts : List (Mount ℕ)) (master : ℕ → Option ℕ) (namespaces : List (Namespace ℕ))
+    (tasks : List (Task ℕ))
     (gone : List ℕ) (left : List (Location ℕ)) (groups : List ℕ) → IsSettledPlain world
     → Loses world (changed world mounts master namespaces tasks) gone left
     → GroupsInUseBut groups (changed world mounts master namespaces tasks)

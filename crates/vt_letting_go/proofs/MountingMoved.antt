@@ -16,7 +16,8 @@ use Rattle.vt_letting_go.proofs.Lists.{Among, fails, among-filter, among-filter_
 use Rattle.vt_letting_go.proofs.PlacesLeft.{found_itself}
 use Rattle.vt_letting_go.proofs.MountingLosers.{Loses, losers_go}
 
-pub loses : (world : World ℕ) (moved : List ℕ) (change : Mount ℕ → Mount ℕ) (master : ℕ → Option ℕ) → AllInUse world → MovesSome moved change
+pub loses : (world : World ℕ) (moved : List ℕ) (change : Mount ℕ → Mount ℕ) (master : ℕ → Option ℕ) → AllInUse world
+    → MovesSome moved change
     → list_all is_nowhere_or_attached (with_changed world change master).mounts ≡ true
     → Loses world (with_changed world change master) [] (places_moved world moved)
 loses world moved change master in_use moves nowhere = record {
@@ -78,7 +79,13 @@ one_loses world number change master in_use moves alone one nowhere = record {
       (λ is. inr (subst (λ o. Among place (option_to_list o))
       (sym p ∙ ap (λ (x : Mount ℕ). x.mount_point) (sym (found_itself world.mounts one mount m))
       ∙ ap (λ n. (mount_in nat_eq world.mounts n).mount_point) (eqb-true mount.number number is)) (inl refl)))
-      (λ isnt. inl (change mount, (among-map change world.mounts mount m, (moves.mount_point mount isnt ∙ p, inl (not_on mount m place p)))))
+      (λ isnt. inl (
+        change mount,
+        (
+          among-map change world.mounts mount m,
+          (moves.mount_point mount isnt ∙ p, inl (not_on mount m place p)),
+        ),
+      ))
       (decided (nat_eq mount.number number));
   nowhere = nowhere;
 }

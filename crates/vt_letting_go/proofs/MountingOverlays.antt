@@ -1,22 +1,22 @@
 -- What goes after a change of mounts in worlds with overlays.
-use Rattle.std.proofs.Common.{not, ◌≡◌, sym, ap, subst, ◌∙◌, ◌⊎◌, inl, inr, ⊎_elim, ℕ, nat_eq, eqb-true, eq-eqb, true, cond, ◌||◌, ◌&&◌, List, [], ◌∷◌, filter, map, flat_map, ◌++◌, Option}
+use Rattle.std.proofs.Common.{not, refl, ◌≡◌, sym, ap, subst, ◌∙◌, ◌⊎◌, inl, inr, ⊎_elim, ℕ, nat_eq, true, ◌||◌, ◌&&◌, List, [], ◌∷◌, flat_map, ◌++◌, Option}
 use Rattle.std.specs.List.{list_all}
 use Rattle.std.proofs.lemmas.Bool.{and_parts, or_cases}
 use Rattle.std.proofs.lemmas.List.Folds.{list_any-append}
 use Rattle.vt_spec.specs.Lists.{is_among}
-use Rattle.vt_spec.specs.Machine.Locked.{of_overlay}
 use Rattle.vt_spec.specs.Machine.Mounts.{Location, Mount}
 use Rattle.vt_spec.specs.Machine.Settled.{filesystem_lives, has_layer_on, is_mounted, layers_in, located_in, named_in, objects_of_overlay, settled, without_dead_filesystems, without_dead_groups, without_dead_in, without_dead_inodes, without_dead_mounts}
-use Rattle.vt_spec.specs.Machine.World.{Filesystem, Layer, Namespace, Task, World, is_overlay, layers_of, mount_numbered}
+use Rattle.vt_spec.specs.Machine.World.{Filesystem, Namespace, Task, World, is_overlay, mount_numbered}
 use Rattle.vt_letting_go.specs.InUse.{AllInUse, GroupsInUse, InodesInUse, is_inode_used}
 use Rattle.vt_letting_go.specs.Leaving.{MountsStand}
-use Rattle.vt_letting_go.specs.LeavingOverlays.{IsSettled, filesystems_of_layers}
+use Rattle.vt_letting_go.specs.LeavingOverlays.{IsSettled}
 use Rattle.vt_letting_go.specs.MountingOverlays.{filesystems_of_mount, used_by_mounts_with_layers}
 use Rattle.vt_letting_go.specs.OneByOne.{AllInUseBut, FilesystemsInUseBut, GroupsInUseBut, Inode, InodesInUseBut, Losers, is_inode_among, is_used_or_among, let_go_groups}
 use Rattle.vt_letting_go.specs.Overlays.{let_go_all, used_by_filesystems}
-use Rattle.vt_letting_go.proofs.InUse.{filesystems_stay, inodes_stay, layers_on, mounts_stay}
+use Rattle.vt_letting_go.proofs.InUse.{layers_stay, filesystems_stay, inodes_stay, mounts_stay}
 use Rattle.vt_letting_go.proofs.OneByOne.{groups_go_one_by_one}
-use Rattle.vt_letting_go.proofs.Lists.{Among, all_from_among, all_pass, among-filter, among-flat_map, among-from_filter, among-from_flat_map, among-from_map, among-map, among_from_all, among_numbers, any_passes, is_among_left, is_among_numbers, is_among_right, one_passes, or_first, or_second, passes}
+use Rattle.vt_letting_go.proofs.LeftWithOverlays.{in_layers}
+use Rattle.vt_letting_go.proofs.Lists.{Among, all_from_among, all_pass, among-flat_map, among-from_flat_map, among_from_all, among_numbers, any_passes, is_among_left, is_among_numbers, is_among_right, one_passes, or_first, or_second, passes}
 use Rattle.vt_letting_go.proofs.MountingLosers.{Comes, Loses, by_a_name, by_located, changed, changed_with, groups_but, inodes, mounts_but, shown_is_mounted, still_mounted}
 use Rattle.vt_letting_go.proofs.OverlaysGone.{filesystems_take_their_uses}
 use Rattle.vt_letting_go.proofs.WithOverlays.{with_overlays_all_goes}
@@ -43,25 +43,19 @@ module _ (world : World ℕ) (mounts : List (Mount ℕ)) (master : ℕ → Optio
       → (is_mounted nat_eq now number ≡ true) ⊎ ((one : ℕ) × Among one gone × (number ≡ (mount_numbered nat_eq world one).filesystem))
   stays_mounted = still_mounted world mounts master filesystems namespaces tasks gone left groups in_use stand loses hears come
 
-  -- the filesystems of layers of an overlay
-  in_layers : (number : ℕ) (merged : Filesystem ℕ) → Among merged world.filesystems → (filesystem : ℕ) → merged.number ≡ filesystem
-      → has_layer_on nat_eq number merged ≡ true → Among number (filesystems_of_layers world filesystem)
-  in_layers number merged m filesystem e has =
-      let t = one_passes (λ layer. nat_eq number layer.filesystem) (of_overlay [] layers_of merged) (sym (layers_on world number merged) ∙ has) in
-      among-flat_map (λ f. cond (nat_eq f.number filesystem) (map (λ (layer : Layer ℕ). layer.filesystem) (of_overlay [] layers_of f)) []) world.filesystems merged number m
-      (subst (λ b. Among number (cond b (map (λ (layer : Layer ℕ). layer.filesystem) (of_overlay [] layers_of merged)) [])) (sym (eq-eqb merged.number filesystem e))
-      (subst (λ n. Among n (map (λ (layer : Layer ℕ). layer.filesystem) (of_overlay [] layers_of merged))) (sym (eqb-true number t.0.filesystem t.2))
-      (among-map (λ (layer : Layer ℕ). layer.filesystem) (of_overlay [] layers_of merged) t.0 t.1)))
-
-  old_filesystem : (f : Filesystem ℕ) → Among f world.filesystems → (is_among nat_eq f.number losing || filesystem_lives nat_eq now f) ≡ true
+  old_filesystem : (f : Filesystem ℕ) → Among f world.filesystems
+      → (is_among nat_eq f.number losing || filesystem_lives nat_eq now f) ≡ true
   old_filesystem f m =
       ⊎_elim
       (λ here. ⊎_elim
-      (λ lives. or_second (is_among nat_eq f.number losing) (filesystem_lives nat_eq now f) (or_first (is_mounted nat_eq now f.number) _ lives))
+      (λ lives. or_second (is_among nat_eq f.number losing) (filesystem_lives nat_eq now f)
+      (or_first (is_mounted nat_eq now f.number) _ lives))
       (λ gone_with. or_first (is_among nat_eq f.number losing) (filesystem_lives nat_eq now f)
-      (is_among_numbers f.number losing (among-flat_map (filesystems_of_mount world) gone gone_with.0 f.number gone_with.1 (inl gone_with.2))))
+      (is_among_numbers f.number losing (among-flat_map (filesystems_of_mount world) gone gone_with.0 f.number gone_with.1
+      (inl gone_with.2))))
       (stays_mounted f.number here))
-      (λ layered. let t = one_passes (λ merged. has_layer_on nat_eq f.number merged && is_mounted nat_eq world merged.number) world.filesystems layered in
+      (λ layered. let t = one_passes (λ merged. has_layer_on nat_eq f.number merged
+      && is_mounted nat_eq world merged.number) world.filesystems layered in
       let parts = and_parts (has_layer_on nat_eq f.number t.0) (is_mounted nat_eq world t.0.number) t.2 in
       ⊎_elim
       (λ lives. or_second (is_among nat_eq f.number losing) (filesystem_lives nat_eq now f) (or_second (is_mounted nat_eq now f.number) _
@@ -69,7 +63,7 @@ module _ (world : World ℕ) (mounts : List (Mount ℕ)) (master : ℕ → Optio
       (ap (λ b. b && is_mounted nat_eq now t.0.number) parts.0 ∙ lives))))
       (λ gone_with. or_first (is_among nat_eq f.number losing) (filesystem_lives nat_eq now f)
       (is_among_numbers f.number losing (among-flat_map (filesystems_of_mount world) gone gone_with.0 f.number gone_with.1
-      (inr (in_layers f.number t.0 t.1 (mount_numbered nat_eq world gone_with.0).filesystem gone_with.2 parts.0)))))
+      (inr (in_layers world f.number t.0 t.1 (mount_numbered nat_eq world gone_with.0).filesystem gone_with.2 parts.0)))))
       (stays_mounted t.0.number parts.1))
       (or_cases (is_mounted nat_eq world f.number) _ (passes (filesystem_lives nat_eq world) world.filesystems in_use.filesystems f m))
 
@@ -78,18 +72,12 @@ module _ (world : World ℕ) (mounts : List (Mount ℕ)) (master : ℕ → Optio
       all_pass (λ f. is_among nat_eq f.number losing || filesystem_lives nat_eq now f) filesystems
       (λ f m. ⊎_elim (old_filesystem f)
       (λ new. or_second (is_among nat_eq f.number losing) (filesystem_lives nat_eq now f) (or_first (is_mounted nat_eq now f.number) _
-      (shown_is_mounted world mounts master filesystems namespaces tasks gone left groups in_use stand loses hears come f.number new.0 new.1.0 new.1.1.0 new.1.1.1.0)))
+      (shown_is_mounted world mounts master filesystems namespaces tasks gone left groups in_use stand loses hears come f.number new.0
+      new.1.0 new.1.1.0 new.1.1.1.0)))
       (come.new f m))
 
   layers_kept : (filesystem number : ℕ) → Among number (layers_in nat_eq world filesystem) → Among number (layers_in nat_eq now filesystem)
-  layers_kept filesystem number m =
-      let one = among-from_map (λ (layer : Layer ℕ). layer.directory) (filter (λ layer. nat_eq filesystem layer.filesystem) (flat_map (of_overlay [] layers_of) world.filesystems)) number m in
-      let two = among-from_filter (λ layer. nat_eq filesystem layer.filesystem) (flat_map (of_overlay [] layers_of) world.filesystems) one.0 one.1 in
-      let three = among-from_flat_map (of_overlay [] layers_of) world.filesystems one.0 two.0 in
-      subst (λ n. Among n (layers_in nat_eq now filesystem)) (sym one.2)
-      (among-map (λ (layer : Layer ℕ). layer.directory) (filter (λ layer. nat_eq filesystem layer.filesystem) (flat_map (of_overlay [] layers_of) filesystems)) one.0
-      (among-filter (λ layer. nat_eq filesystem layer.filesystem) (flat_map (of_overlay [] layers_of) filesystems) one.0
-      (among-flat_map (of_overlay [] layers_of) filesystems three.0 one.0 (come.kept three.0 three.1) three.2) two.1))
+  layers_kept = layers_stay world (record now { filesystems = filesystems }) (λ f m. (f, come.kept f m, refl))
 
   objects_kept : (filesystem number : ℕ) → Among number (flat_map (objects_of_overlay nat_eq filesystem) world.filesystems)
       → Among number (flat_map (objects_of_overlay nat_eq filesystem) filesystems)
@@ -112,11 +100,14 @@ module _ (world : World ℕ) (mounts : List (Mount ℕ)) (master : ℕ → Optio
       (sym (list_any-append (nat_eq number) names (located_in nat_eq world f.number)) ∙ first)))
       (λ layer. used (is_among_left number (names ++ located_in nat_eq now f.number ++ layers_in nat_eq now f.number) objects
       (is_among_right number (names ++ located_in nat_eq now f.number) (layers_in nat_eq now f.number)
-      (is_among_numbers number (layers_in nat_eq now f.number) (layers_kept f.number number (among_numbers number (layers_in nat_eq world f.number) layer))))))
-      (or_cases (is_among nat_eq number (names ++ located_in nat_eq world f.number)) (is_among nat_eq number (layers_in nat_eq world f.number))
+      (is_among_numbers number (layers_in nat_eq now f.number)
+      (layers_kept f.number number (among_numbers number (layers_in nat_eq world f.number) layer))))))
+      (or_cases (is_among nat_eq number (names ++ located_in nat_eq world f.number))
+      (is_among nat_eq number (layers_in nat_eq world f.number))
       (sym (list_any-append (nat_eq number) (names ++ located_in nat_eq world f.number) (layers_in nat_eq world f.number)) ∙ front)))
       (λ object. used (is_among_right number (names ++ located_in nat_eq now f.number ++ layers_in nat_eq now f.number) objects
-      (is_among_numbers number objects (objects_kept f.number number (among_numbers number (flat_map (objects_of_overlay nat_eq f.number) world.filesystems) object)))))
+      (is_among_numbers number objects (objects_kept f.number number
+      (among_numbers number (flat_map (objects_of_overlay nat_eq f.number) world.filesystems) object)))))
       (or_cases (is_among nat_eq number (names ++ located_in nat_eq world f.number ++ layers_in nat_eq world f.number))
       (is_among nat_eq number (flat_map (objects_of_overlay nat_eq f.number) world.filesystems))
       (sym (list_any-append (nat_eq number) (names ++ located_in nat_eq world f.number ++ layers_in nat_eq world f.number)
@@ -155,7 +146,8 @@ module _ (world : World ℕ) (mounts : List (Mount ℕ)) (master : ℕ → Optio
   }
 
 -- what lost a use goes, if nothing uses it, and nothing else
-pub all_losers_go : (world : World ℕ) (mounts : List (Mount ℕ)) (master : ℕ → Option ℕ) (namespaces : List (Namespace ℕ)) (tasks : List (Task ℕ))
+pub all_losers_go : (world : World ℕ) (mounts : List (Mount ℕ)) (master : ℕ
+    → Option ℕ) (namespaces : List (Namespace ℕ)) (tasks : List (Task ℕ))
     (gone : List ℕ) (left : List (Location ℕ)) (groups : List ℕ) → IsSettled world
     → Loses world (changed world mounts master namespaces tasks) gone left
     → GroupsInUseBut groups (changed world mounts master namespaces tasks)
@@ -168,7 +160,8 @@ all_losers_go world mounts master namespaces tasks gone left groups settles lose
     (record { kept = λ f m. m; new = λ f m. inl m }))
 
 -- where only groups lost members, only they go
-pub only_groups_go : (world : World ℕ) (mounts : List (Mount ℕ)) (master : ℕ → Option ℕ) (filesystems : List (Filesystem ℕ)) (groups : List ℕ)
+pub only_groups_go : (world : World ℕ) (mounts : List (Mount ℕ)) (master : ℕ
+    → Option ℕ) (filesystems : List (Filesystem ℕ)) (groups : List ℕ)
     → AllInUse world → MountsStand world
     → Loses world (changed_with world mounts master filesystems world.namespaces world.tasks) [] []
     → GroupsInUseBut groups (changed_with world mounts master filesystems world.namespaces world.tasks)
@@ -198,7 +191,8 @@ only_groups_go world mounts master filesystems groups in_use stand loses hears c
     inodes = subst InodesInUse all but.inodes
 
 -- where nothing lost a use, nothing goes
-pub nothing_lost : (world : World ℕ) (mounts : List (Mount ℕ)) (master : ℕ → Option ℕ) (filesystems : List (Filesystem ℕ)) → AllInUse world → MountsStand world
+pub nothing_lost : (world : World ℕ) (mounts : List (Mount ℕ)) (master : ℕ → Option ℕ) (filesystems : List (Filesystem ℕ))
+    → AllInUse world → MountsStand world
     → Loses world (changed_with world mounts master filesystems world.namespaces world.tasks) [] []
     → GroupsInUse (changed_with world mounts master filesystems world.namespaces world.tasks)
     → Comes world (changed_with world mounts master filesystems world.namespaces world.tasks)

@@ -48,7 +48,8 @@ module _ (world : World ℕ) (gone : List ℕ) (namespaces : List (Namespace ℕ
       → part (after_going nat_eq world gone mount) ≡ part mount
   same_part part mount down up = by (is_going nat_eq gone mount.number)
     where
-      by : (c : Bool) → part (cond c (detached mount) (record mount { mount_point = option_map (mount_point_left nat_eq world gone) mount.mount_point })) ≡ part mount
+      by : (c : Bool) → part (cond c (detached mount)
+          (record mount { mount_point = option_map (mount_point_left nat_eq world gone) mount.mount_point })) ≡ part mount
       by true = down
       by false = up
 
@@ -64,7 +65,8 @@ module _ (world : World ℕ) (gone : List ℕ) (namespaces : List (Namespace ℕ
   same_filesystem true mount = same_part (λ m. m.filesystem) mount refl refl
   same_filesystem false mount = same_part (λ m. m.filesystem) mount refl refl
 
-  pub shows_the_same : (b : Bool) (number : ℕ) → (mount_in nat_eq (map (change b) world.mounts) number).filesystem ≡ (mount_in nat_eq world.mounts number).filesystem
+  pub shows_the_same : (b : Bool) (number : ℕ) → (mount_in nat_eq (map (change b) world.mounts) number).filesystem
+      ≡ (mount_in nat_eq world.mounts number).filesystem
   shows_the_same b number =
       ⊎_elim (λ e. e)
       (λ found. ap (λ x. x.filesystem) (found-map (change b) (same_number b) world.mounts number found.0 found.1 found.2 found.3)
@@ -73,10 +75,15 @@ module _ (world : World ℕ) (gone : List ℕ) (namespaces : List (Namespace ℕ
 
   -- a mount that does not go
   pub stays : (mount : Mount ℕ) → is_going nat_eq gone mount.number ≡ false
-      → after_going nat_eq world gone mount ≡ record mount { mount_point = option_map (mount_point_left nat_eq world gone) mount.mount_point }
-  stays mount isnt = ap (λ c. cond c (detached mount) (record mount { mount_point = option_map (mount_point_left nat_eq world gone) mount.mount_point })) isnt
+      → after_going nat_eq world gone mount ≡ record mount {
+        mount_point = option_map
+            (mount_point_left nat_eq world gone) mount.mount_point;
+      }
+  stays mount isnt = ap (λ c. cond c (detached mount)
+      (record mount { mount_point = option_map (mount_point_left nat_eq world gone) mount.mount_point })) isnt
 
-  pub same_namespace : (b : Bool) (mount : Mount ℕ) → is_going nat_eq gone mount.number ≡ false → (change b mount).namespace ≡ mount.namespace
+  pub same_namespace : (b : Bool) (mount : Mount ℕ) → is_going nat_eq gone mount.number ≡ false
+      → (change b mount).namespace ≡ mount.namespace
   same_namespace true mount isnt = ap (λ m. m.namespace) (stays mount isnt)
   same_namespace false mount isnt = ap (λ m. m.namespace) (stays mount isnt)
 
@@ -89,9 +96,11 @@ module _ (world : World ℕ) (gone : List ℕ) (namespaces : List (Namespace ℕ
       by : (n : ℕ) → last_or place (chain n (mount_point_of_parent nat_eq world gone) place) ≡ place
       by zero = refl
       by (suc n) =
-          ap (λ (o : Option (Location ℕ)). last_or place (elim o [ None ↦ place ∷ [] | Some b ↦ place ∷ chain n (mount_point_of_parent nat_eq world gone) b ])) ends
+          ap (λ (o : Option (Location ℕ)). last_or place
+          (elim o [ None ↦ place ∷ [] | Some b ↦ place ∷ chain n (mount_point_of_parent nat_eq world gone) b ])) ends
 
-  pub same_place : (b : Bool) (mount : Mount ℕ) (place : Location ℕ) → mount.mount_point ≡ Some place → is_going nat_eq gone mount.number ≡ false
+  pub same_place : (b : Bool) (mount : Mount ℕ) (place : Location ℕ) → mount.mount_point ≡ Some place
+      → is_going nat_eq gone mount.number ≡ false
       → is_going nat_eq gone place.mount ≡ false → (change b mount).mount_point ≡ Some place
   same_place true mount place p isnt on =
       ap (λ m. m.mount_point) (stays mount isnt) ∙ ap (option_map (mount_point_left nat_eq world gone)) p ∙ ap Some (stays_at place on)
@@ -112,7 +121,8 @@ module _ (world : World ℕ) (gone : List ℕ) (namespaces : List (Namespace ℕ
       no_place None e = refl
       no_place (Some place) e = absurd (true≢false e)
 
-      whole : (propagation : Propagation ℕ) → (is_private mount.propagation ≡ true → is_private propagation ≡ true) → (n : Bool) → is_some mount.namespace ≡ n
+      whole : (propagation : Propagation ℕ) → (is_private mount.propagation ≡ true → is_private propagation ≡ true) → (n : Bool)
+          → is_some mount.namespace ≡ n
           → (n || (not (is_some (option_map (mount_point_left nat_eq world gone) mount.mount_point)) && is_private propagation)) ≡ true
       whole propagation same true e = refl
       whole propagation same false e =
@@ -120,8 +130,10 @@ module _ (world : World ℕ) (gone : List ℕ) (namespaces : List (Namespace ℕ
           ap (λ t. t && is_private propagation) (no_place mount.mount_point parts.0) ∙ same parts.1
 
       by : (b c : Bool) → is_going nat_eq gone mount.number ≡ c → is_nowhere_or_attached (change b mount) ≡ true
-      by true true e = ap (λ d. is_nowhere_or_attached (inheriting nat_eq without (cond d (detached mount) (record mount { mount_point = option_map (mount_point_left nat_eq world gone) mount.mount_point })))) e
-      by false true e = ap (λ d. is_nowhere_or_attached (cond d (detached mount) (record mount { mount_point = option_map (mount_point_left nat_eq world gone) mount.mount_point }))) e
+      by true true e = ap (λ d. is_nowhere_or_attached (inheriting nat_eq without
+          (cond d (detached mount) (record mount { mount_point = option_map (mount_point_left nat_eq world gone) mount.mount_point })))) e
+      by false true e = ap (λ d. is_nowhere_or_attached (cond d (detached mount)
+          (record mount { mount_point = option_map (mount_point_left nat_eq world gone) mount.mount_point }))) e
       by true false e =
           ap (λ m. is_nowhere_or_attached (inheriting nat_eq without m)) (stays mount e)
           ∙ whole (inherited nat_eq without mount.propagation) (private_still mount.propagation) (is_some mount.namespace) refl
@@ -133,7 +145,8 @@ module _ (world : World ℕ) (gone : List ℕ) (namespaces : List (Namespace ℕ
       images = λ mount m. (change b mount, (among-map (change b) world.mounts mount m, (same_root b mount, same_filesystem b mount)));
       shown = λ location m. shows_the_same b location.mount;
       live = λ last m isnt. let from = among-from_map (change b) world.mounts last m in
-          let other : is_going nat_eq gone from.0.number ≡ false = ap (λ n. is_among nat_eq n gone) (sym (same_number b from.0) ∙ ap (λ x. x.number) (sym from.2)) ∙ isnt in
+          let other : is_going nat_eq gone from.0.number ≡ false = ap (λ n. is_among nat_eq n gone)
+          (sym (same_number b from.0) ∙ ap (λ x. x.number) (sym from.2)) ∙ isnt in
           ap (mount_lives nat_eq world) from.2
           ∙ (λ i. is_some (same_namespace b from.0 other i) || is_located nat_eq world (same_number b from.0 i))
           ∙ passes (mount_lives nat_eq world) world.mounts in_use.mounts from.0 from.1;
@@ -141,7 +154,8 @@ module _ (world : World ℕ) (gone : List ℕ) (namespaces : List (Namespace ℕ
       places = λ mount m place p. ⊎_elim
           (λ is. inr (among-filter_map (λ x. x.mount_point) (filter (loses_its_place gone) world.mounts) mount place
           (among-filter (loses_its_place gone) world.mounts mount m is) p))
-          (λ isnt. let parts = or_parts (is_going nat_eq gone mount.number) (holds_of (λ l. is_going nat_eq gone l.mount) mount.mount_point) isnt in
+          (λ isnt. let parts = or_parts (is_going nat_eq gone mount.number)
+          (holds_of (λ l. is_going nat_eq gone l.mount) mount.mount_point) isnt in
           let on : is_going nat_eq gone place.mount ≡ false = sym (ap (holds_of (λ l. is_going nat_eq gone l.mount)) p) ∙ parts.1 in
           inl (change b mount, (among-map (change b) world.mounts mount m, (same_place b mount place p parts.0 on, inl on))))
           (decided (loses_its_place gone mount));
@@ -162,16 +176,28 @@ taken_with_namespaces world gone groups namespaces settles hears =
     taken : Bool → World ℕ
     taken b = record (regrouped_by nat_eq b (without world gone namespaces)) { namespaces = namespaces }
 
-    by : (b : Bool) → GroupsInUseBut groups (taken b) → settled nat_eq (taken b) ≡ let_go (taken b) (used_by_mounts world gone (places_lost world gone) groups)
+    by : (b : Bool) → GroupsInUseBut groups (taken b) → settled nat_eq (taken b)
+        ≡ let_go (taken b) (used_by_mounts world gone (places_lost world gone) groups)
     by b h =
-        subst (λ w. settled nat_eq w ≡ let_go w (used_by_mounts world gone (places_lost world gone) groups)) (sym (is_changed world gone namespaces b))
+        subst (λ w. settled nat_eq w ≡ let_go w (used_by_mounts world gone (places_lost world gone) groups))
+        (sym (is_changed world gone namespaces b))
         (losers_go world (map (change world gone namespaces b) world.mounts) (masters world gone namespaces b) namespaces world.tasks gone
         (places_lost world gone) groups settles (loses world gone namespaces settles.in_use settles.mounts b)
         (subst (GroupsInUseBut groups) (is_changed world gone namespaces b) h))
 
-pub same_namespaces : (world : World ℕ) (b : Bool) → record (regrouped_by nat_eq b world) { namespaces = world.namespaces } ≡ regrouped_by nat_eq b world
+pub same_namespaces : (world : World ℕ) (b : Bool) → record (regrouped_by nat_eq b world) { namespaces = world.namespaces }
+    ≡ regrouped_by nat_eq b world
 same_namespaces world true = refl
 same_namespaces world false = refl
+
+-- the event in which mounts are taken away is a change of each mount
+abbrev pub hands_on : World ℕ → List ℕ → Bool
+hands_on world gone = list_any (lost_a_group nat_eq (without world gone world.namespaces)) (without world gone world.namespaces).mounts
+
+pub taken_is : (world : World ℕ) (gone : List ℕ) → taken_away nat_eq world gone ≡ after world gone world.namespaces (hands_on world gone)
+taken_is world gone =
+    sym (same_namespaces (without world gone world.namespaces) (hands_on world gone))
+    ∙ is_changed world gone world.namespaces (hands_on world gone)
 
 pub taking_away_lets_go : TakingAwayLetsGo
 taking_away_lets_go world gone groups settles hears =

@@ -29,7 +29,8 @@ use Rattle.vt_letting_go.proofs.Pivoted
 taken_with_namespaces : (world : World ℕ) (gone groups : List ℕ) (namespaces : List (Namespace ℕ)) → IsSettled world
     → GroupsInUseBut groups (record (taken_away nat_eq world gone) { namespaces = namespaces })
     → settled nat_eq (record (taken_away nat_eq world gone) { namespaces = namespaces })
-    ≡ let_go_all (record (taken_away nat_eq world gone) { namespaces = namespaces }) (used_by_mounts_with_layers world gone (places_lost world gone) groups)
+    ≡ let_go_all (record (taken_away nat_eq world gone) { namespaces = namespaces })
+    (used_by_mounts_with_layers world gone (places_lost world gone) groups)
 taken_with_namespaces world gone groups namespaces settles hears =
     by (list_any (lost_a_group nat_eq (without world gone namespaces)) (without world gone namespaces).mounts) hears
   where
@@ -41,7 +42,8 @@ taken_with_namespaces world gone groups namespaces settles hears =
     by b h =
         subst (λ w. settled nat_eq w ≡ let_go_all w (used_by_mounts_with_layers world gone (places_lost world gone) groups))
         (sym (is_changed world gone namespaces b))
-        (all_losers_go world (map (change world gone namespaces b) world.mounts) (masters world gone namespaces b) namespaces world.tasks gone
+        (all_losers_go world (map (change world gone namespaces b) world.mounts)
+        (masters world gone namespaces b) namespaces world.tasks gone
         (places_lost world gone) groups settles (loses world gone namespaces settles.in_use settles.mounts b)
         (subst (GroupsInUseBut groups) (is_changed world gone namespaces b) h))
 
@@ -69,7 +71,8 @@ one_event world gone settles =
     taking_away_with_overlays_lets_go world gone (groups_of_mounts world gone) settles (event_groups world gone settles.in_use.groups)
 
 pub unmounts_with_overlays_let_go : UnmountsWithOverlaysLetGo
-unmounts_with_overlays_let_go fresh world task mount settles = one_event world (going nat_eq world (mount_numbered nat_eq world mount)) settles
+unmounts_with_overlays_let_go fresh world task mount settles = one_event world
+    (going nat_eq world (mount_numbered nat_eq world mount)) settles
 
 pub mounts_on_directories_with_overlays_let_go : MountsOnDirectoriesWithOverlaysLetGo
 mounts_on_directories_with_overlays_let_go world directory settles =
@@ -78,8 +81,10 @@ mounts_on_directories_with_overlays_let_go world directory settles =
 pub lazy_unmounts_with_overlays_let_go : LazyUnmountsWithOverlaysLetGo
 lazy_unmounts_with_overlays_let_go fresh world task number settles =
     subst (λ w. settled nat_eq w ≡ let_go_all w (used_by_gone_with_layers world gone)) (sym faded.is)
-    (all_losers_go world (map faded.change world.mounts) now.master world.namespaces world.tasks gone (places_lost world gone) (groups_of_mounts world gone)
-    settles (Unmounted.loses world now settles.in_use settles.mounts faded) (Unmounted.groups world now settles.in_use settles.mounts faded))
+    (all_losers_go world (map faded.change world.mounts) now.master world.namespaces world.tasks gone (places_lost world gone)
+    (groups_of_mounts world gone)
+    settles (Unmounted.loses world now settles.in_use settles.mounts faded)
+    (Unmounted.groups world now settles.in_use settles.mounts faded))
   where
     now : World ℕ
     now = lazily_unmounted nat_eq world number
@@ -107,7 +112,8 @@ moves_with_overlays_let_go fresh world task number place settles located at_atta
     moves rest there =
         all_losers_go world after.mounts after.master world.namespaces world.tasks [] (option_to_list mount.mount_point) [] settles
         (attached_loses world world.filesystems new place true mount rest settles.in_use settles.mounts located at_attached (λ e. there))
-        (λ group among none. attached_groups world world.filesystems new place true mount rest settles.in_use settles.mounts located at_attached (λ e. there) group none)
+        (λ group among none. attached_groups world world.filesystems new place true mount rest settles.in_use settles.mounts located
+        at_attached (λ e. there) group none)
         ∙ ap (let_go_all_inodes after) (no_more (inodes_of_mount_point world mount))
       where
         new : Copies ℕ
@@ -117,15 +123,19 @@ moves_with_overlays_let_go fresh world task number place settles located at_atta
         after = attach nat_eq world fresh place true (mount ∷ rest)
 
     by : (depth : ℕ) → settled nat_eq (attach nat_eq world fresh place true (tree_from nat_eq depth world.mounts mount))
-        ≡ let_go_all_inodes (attach nat_eq world fresh place true (tree_from nat_eq depth world.mounts mount)) (inodes_of_mount_point world mount)
+        ≡ let_go_all_inodes (attach nat_eq world fresh place true (tree_from nat_eq depth world.mounts mount))
+        (inodes_of_mount_point world mount)
     by zero = moves [] (of_tree world number is zero)
-    by (suc depth) = moves (flat_map (tree_from nat_eq depth world.mounts) (children nat_eq world.mounts mount.number)) (of_tree world number is (suc depth))
+    by (suc depth) = moves (flat_map (tree_from nat_eq depth world.mounts) (children nat_eq world.mounts mount.number))
+        (of_tree world number is (suc depth))
 
 pub pivots_with_overlays_let_go : PivotsWithOverlaysLetGo
 pivots_with_overlays_let_go fresh world task new put settles old_attached new_attached =
-    all_losers_go world after.mounts world.master world.namespaces after.tasks [] (option_to_list (mount_numbered nat_eq world new).mount_point) [] settles
+    all_losers_go world after.mounts world.master world.namespaces after.tasks []
+    (option_to_list (mount_numbered nat_eq world new).mount_point) [] settles
     (Pivoted.loses world task.namespace task.root.mount new put settles.in_use settles.mounts old_attached new_attached)
-    (λ group among none. Pivoted.groups world task.namespace task.root.mount new put settles.in_use settles.mounts old_attached new_attached group none)
+    (λ group among none. Pivoted.groups world task.namespace task.root.mount new put settles.in_use settles.mounts old_attached
+    new_attached group none)
     ∙ ap (let_go_all_inodes after) (no_more (inodes_of_mount_point world (mount_numbered nat_eq world new)))
   where
     after : World ℕ

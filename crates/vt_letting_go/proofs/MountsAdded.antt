@@ -20,7 +20,8 @@ found_before [] added number h = absurd (true≢false (sym h))
 found_before (first ∷ rest) added number h = by (nat_eq number first.number) h (found_before rest added number)
   where
     by : (b : Bool) → (b || is_among nat_eq number (map (λ mount. mount.number) rest)) ≡ true
-        → (is_among nat_eq number (map (λ mount. mount.number) rest) ≡ true → mount_in nat_eq (rest ++ added) number ≡ mount_in nat_eq rest number)
+        → (is_among nat_eq number (map (λ mount. mount.number) rest) ≡ true → mount_in nat_eq (rest ++ added) number
+        ≡ mount_in nat_eq rest number)
         → unwrap_or (cond b (Some first) (find (λ x. nat_eq number x.number) (rest ++ added))) (no_mount number)
         ≡ unwrap_or (cond b (Some first) (find (λ x. nat_eq number x.number) rest)) (no_mount number)
     by true g later = refl
@@ -48,16 +49,19 @@ module _ (world : World ℕ) (mounts : List (Mount ℕ)) (filesystems : List (Fi
   loses : Loses world after [] []
   loses = record {
     images = λ mount m. (mount, (still_there mount m, (refl, refl)));
-    shown = λ location m. ap (λ x. x.filesystem) (found_before world.mounts mounts location.mount (places_stand world stand located location m));
+    shown = λ location m. ap (λ x. x.filesystem) (found_before world.mounts mounts location.mount
+        (places_stand world stand located location m));
     live = λ mount m isnt. lives mount m;
     locations = λ location m. inl (inl m);
     places = λ mount m place p. inl (mount, (still_there mount m, (p, inl refl)));
     nowhere = all_pass is_nowhere_or_attached after.mounts (λ mount m.
-        ⊎_elim (passes is_nowhere_or_attached world.mounts stand.nowhere mount) (λ new. or_first (is_some mount.namespace) _ (in_one mount new))
+        ⊎_elim (passes is_nowhere_or_attached world.mounts stand.nowhere mount)
+        (λ new. or_first (is_some mount.namespace) _ (in_one mount new))
         (among-append world.mounts mounts mount m));
   }
 
-  come : list_all (λ filesystem. is_mounted nat_eq after filesystem.number) filesystems ≡ true → list_all has_only_named filesystems ≡ true → Comes world after
+  come : list_all (λ filesystem. is_mounted nat_eq after filesystem.number) filesystems ≡ true
+      → list_all has_only_named filesystems ≡ true → Comes world after
   come shown named = record {
     kept = λ f m. among-append_left world.filesystems filesystems f m;
     new = λ f m. ⊎_elim inl

@@ -40,13 +40,15 @@ below_each name (x ∷ xs) h e m =
     ⊎_elim (λ same. ap (λ (y : Entry). is_lt (name_cmp name y.0)) same ∙ parts.0) (below_each name xs parts.1 e) m
 
 -- each entry is the one that its name leads to
-found_entry : (entries : Entries ℕ) → is_sorted name_cmp entries ≡ true → (e : Entry) → Among e entries → entry_named e.0 entries ≡ Some e.1
+pub found_entry : (entries : Entries ℕ) → is_sorted name_cmp entries ≡ true → (e : Entry) → Among e entries
+    → entry_named e.0 entries ≡ Some e.1
 found_entry [] sorted e m = absurd m
 found_entry (x ∷ xs) sorted e m =
     let parts = and_parts (below_all name_cmp x.0 xs) (is_sorted name_cmp xs) sorted in
     ⊎_elim
     (λ same. ap (λ (y : Entry). entry_named y.0 (x ∷ xs)) same
-    ∙ ap (λ o. cond (is_eq o) (Some x.1) (entry_named x.0 xs)) (tied_itself nat_list_cmp_total x.0) ∙ ap (λ (y : Entry). Some y.1) (sym same))
+    ∙ ap (λ o. cond (is_eq o) (Some x.1) (entry_named x.0 xs)) (tied_itself nat_list_cmp_total x.0)
+    ∙ ap (λ (y : Entry). Some y.1) (sym same))
     (λ later. ap (λ b. cond b (Some x.1) (entry_named e.0 xs)) (apart (below_each x.0 xs parts.0 e later)) ∙ found_entry xs parts.1 e later)
     m
   where
@@ -118,7 +120,8 @@ node_has name number None is = absurd (true≢false (sym is))
 node_has name number (Some node) is = by node.content is
   where
     by : (content : Content ℕ) → is_directory_node (Some (record { attr = node.attr; content = content })) ≡ true
-        → (e : Entry) × Among e (entries_in (node_with_entry name number (Some (record { attr = node.attr; content = content })))) × (e.1 ≡ number)
+        → (e : Entry) × Among e (entries_in (node_with_entry name number (Some (record { attr = node.attr; content = content }))))
+        × (e.1 ≡ number)
     by (Directory parent entries opaque) n = put_has name number entries
     by (Regular bytes) n = absurd (true≢false (sym n))
     by (Symlink text) n = absurd (true≢false (sym n))
@@ -159,23 +162,26 @@ sorted_without name (Some node) e = by node.content e
     by Whiteout h = refl
 
 -- what a name leads to where another one is taken, it led to before
-named_before : (old name : List ℕ) (o : Option (Node ℕ)) (number : ℕ) → entry_named name (entries_in (node_without_entry old o)) ≡ Some number
+named_before : (old name : List ℕ) (o : Option (Node ℕ)) (number : ℕ)
+    → entry_named name (entries_in (node_without_entry old o)) ≡ Some number
     → entry_named name (entries_in o) ≡ Some number
 named_before old name None number e = e
 named_before old name (Some node) number e = by node.content e
   where
-    of_name : (entries : Entries ℕ) (b : Bool) → cond (not b) (entry_named name entries) None ≡ Some number → entry_named name entries ≡ Some number
+    of_name : (entries : Entries ℕ) (b : Bool) → cond (not b) (entry_named name entries) None ≡ Some number
+        → entry_named name entries ≡ Some number
     of_name entries true h = none_is_not None number refl h
     of_name entries false h = h
 
-    by : (content : Content ℕ) → entry_named name (entries_in (node_without_entry old (Some (record { attr = node.attr; content = content })))) ≡ Some number
+    by : (content : Content ℕ) → entry_named name
+        (entries_in (node_without_entry old (Some (record { attr = node.attr; content = content })))) ≡ Some number
         → entry_named name (entries_in (Some (record { attr = node.attr; content = content }))) ≡ Some number
     by (Directory parent entries opaque) h = of_name entries (bytes_eq name old) (sym (entry_named-without_entry name old entries) ∙ h)
     by (Regular bytes) h = h
     by (Symlink text) h = h
     by Whiteout h = h
 
-same_entries_parent : (parent : ℕ) (o : Option (Node ℕ)) → entries_in (node_with_parent parent o) ≡ entries_in o
+pub same_entries_parent : (parent : ℕ) (o : Option (Node ℕ)) → entries_in (node_with_parent parent o) ≡ entries_in o
 same_entries_parent parent None = refl
 same_entries_parent parent (Some node) = by node.content
   where
@@ -186,7 +192,7 @@ same_entries_parent parent (Some node) = by node.content
     by (Symlink text) = refl
     by Whiteout = refl
 
-same_entries_bytes : (bytes : List ℕ) (o : Option (Node ℕ)) → entries_in (node_with_bytes bytes o) ≡ entries_in o
+pub same_entries_bytes : (bytes : List ℕ) (o : Option (Node ℕ)) → entries_in (node_with_bytes bytes o) ≡ entries_in o
 same_entries_bytes bytes None = refl
 same_entries_bytes bytes (Some node) = by node.content
   where
@@ -197,7 +203,7 @@ same_entries_bytes bytes (Some node) = by node.content
     by (Symlink text) = refl
     by Whiteout = refl
 
-same_entries_mark : (opaque : Bool) (o : Option (Node ℕ)) → entries_in (node_with_mark opaque o) ≡ entries_in o
+pub same_entries_mark : (opaque : Bool) (o : Option (Node ℕ)) → entries_in (node_with_mark opaque o) ≡ entries_in o
 same_entries_mark opaque None = refl
 same_entries_mark opaque (Some node) = by node.content
   where
@@ -208,7 +214,7 @@ same_entries_mark opaque (Some node) = by node.content
     by (Symlink text) = refl
     by Whiteout = refl
 
-same_entries_attr : (attr : Attr) (o : Option (Node ℕ)) → entries_in (node_with_attr attr o) ≡ entries_in o
+pub same_entries_attr : (attr : Attr) (o : Option (Node ℕ)) → entries_in (node_with_attr attr o) ≡ entries_in o
 same_entries_attr attr None = refl
 same_entries_attr attr (Some node) = refl
 
@@ -217,7 +223,8 @@ same_entries_attr attr (Some node) = refl
 abbrev entries_at : FileTree ℕ → ℕ → Entries ℕ
 entries_at files directory = entries_in (files.tree.node directory)
 
-same_entries : (files : FileTree ℕ) (number : ℕ) (change : Option (Node ℕ) → Option (Node ℕ)) → ((o : Option (Node ℕ)) → entries_in (change o) ≡ entries_in o)
+same_entries : (files : FileTree ℕ) (number : ℕ) (change : Option (Node ℕ) → Option (Node ℕ))
+    → ((o : Option (Node ℕ)) → entries_in (change o) ≡ entries_in o)
     → (directory : ℕ) → entries_at (changed_node nat_eq files number change) directory ≡ entries_at files directory
 same_entries files number change same directory =
     part_kept entries_in files.tree number (change (files.tree.node number)) (same (files.tree.node number)) directory
@@ -225,23 +232,31 @@ same_entries files number change same directory =
 same_entries_unparented : (files : FileTree ℕ) (object : Option ℕ) (directory : ℕ)
     → entries_at (without_parent nat_eq files object) directory ≡ entries_at files directory
 same_entries_unparented files None directory = refl
-same_entries_unparented files (Some object) directory = same_entries files object (node_with_parent object) (same_entries_parent object) directory
+same_entries_unparented files (Some object) directory = same_entries files object (node_with_parent object)
+    (same_entries_parent object) directory
 
 -- an entry stays, or it was the one of the name
 one_changed : (files : FileTree ℕ) (directory : ℕ) (name : List ℕ) (change : Option (Node ℕ) → Option (Node ℕ))
     → ((e : Entry) → Among e (entries_at files directory) → Among e (entries_in (change (files.tree.node directory))) ⊎ (e.0 ≡ name))
     → is_sorted name_cmp (entries_at files directory) ≡ true
     → (d : ℕ) (e : Entry) → Among e (entries_at files d)
-    → Among e (entries_at (changed_node nat_eq files directory change) d) ⊎ ((d ≡ directory) × (entry_at files.tree directory name ≡ Some e.1))
+    → Among e (entries_at (changed_node nat_eq files directory change) d)
+    ⊎ ((d ≡ directory) × (entry_at files.tree directory name ≡ Some e.1))
 one_changed files directory name change keeps sorted d e m =
     ⊎_elim
     (λ at. let here : Among e (entries_at files directory) = subst (λ x. Among e (entries_at files x)) at.1 m in
     ⊎_elim
     (λ still. inl (subst (λ o. Among e (entries_in o))
-    (sym (ap (changed_node nat_eq files directory change).tree.node at.1 ∙ node_set files.tree directory (change (files.tree.node directory)))) still))
-    (λ named. inr (at.1, ap (λ n. entry_named n (entries_at files directory)) (sym named) ∙ found_entry (entries_at files directory) sorted e here))
+    (sym (ap (changed_node nat_eq files directory change).tree.node at.1
+    ∙ node_set files.tree directory (change (files.tree.node directory)))) still))
+    (λ named. inr (
+      at.1,
+      ap (λ n. entry_named n (entries_at files directory)) (sym named)
+          ∙ found_entry (entries_at files directory) sorted e here,
+    ))
     (keeps e here))
-    (λ other. inl (subst (λ o. Among e (entries_in o)) (sym (node_other files.tree directory (change (files.tree.node directory)) d other.1)) m))
+    (λ other. inl (subst (λ o. Among e (entries_in o))
+    (sym (node_other files.tree directory (change (files.tree.node directory)) d other.1)) m))
     (eqb_tells d directory)
 
 -- All names, by those of each directory
@@ -250,12 +265,15 @@ one_changed files directory name change keeps sorted d e m =
 abbrev Left : FileTree ℕ → List ℕ → Entry → Type 0
 Left after lost e = ((d : ℕ) × (f : Entry) × Among d after.numbers × Among f (entries_at after d) × (f.1 ≡ e.1)) ⊎ Among e.1 lost
 
-named_by : (after : FileTree ℕ) (d : ℕ) (e : Entry) → Among d after.numbers → Among e (entries_at after d) → is_among nat_eq e.1 (named_in after) ≡ true
+named_by : (after : FileTree ℕ) (d : ℕ) (e : Entry) → Among d after.numbers → Among e (entries_at after d)
+    → is_among nat_eq e.1 (named_in after) ≡ true
 named_by after d e m n =
     is_among_numbers e.1 (named_in after)
-    (among-flat_map (λ directory. targets_in (after.tree.node directory)) after.numbers d e.1 m (among-map (λ (x : Entry). x.1) (entries_at after d) e n))
+    (among-flat_map (λ directory. targets_in (after.tree.node directory)) after.numbers d e.1 m
+    (among-map (λ (x : Entry). x.1) (entries_at after d) e n))
 
-all_names : (files after : FileTree ℕ) (lost : List ℕ) → ((d : ℕ) → Among d files.numbers → (e : Entry) → Among e (entries_at files d) → Left after lost e)
+all_names : (files after : FileTree ℕ) (lost : List ℕ) → ((d : ℕ) → Among d files.numbers → (e : Entry) → Among e (entries_at files d)
+    → Left after lost e)
     → list_all (λ number. is_among nat_eq number (named_in after) || is_among nat_eq number lost) (named_in files) ≡ true
 all_names files after lost left =
     all_pass (λ number. is_among nat_eq number (named_in after) || is_among nat_eq number lost) (named_in files) (λ number m.
@@ -305,7 +323,8 @@ module _ (files : FileTree ℕ) (listed : IsListedTree files) where
     inodes = same_numbers files (with_name nat_eq files directory name object) refl;
     names = all_names files (with_name nat_eq files directory name object) (option_to_list (entry_at files.tree directory name)) (λ d m e n.
         ⊎_elim (λ still. inl (d, e, m, still, refl)) (λ lost. inr (some_lost (entry_at files.tree directory name) e.1 lost.1))
-        (one_changed files directory name (node_with_entry name object) (node_keeps_given name object (files.tree.node directory)) (sorted directory) d e n));
+        (one_changed files directory name (node_with_entry name object) (node_keeps_given name object (files.tree.node directory))
+        (sorted directory) d e n));
   }
 
   taken : (directory : ℕ) (name : List ℕ) (object : ℕ) → IsListedTree (changed nat_eq files (Remove directory name object))
@@ -314,7 +333,8 @@ module _ (files : FileTree ℕ) (listed : IsListedTree files) where
     tree = after;
     root = refl;
     inodes = same_numbers files (changed nat_eq files (Remove directory name object)) refl;
-    names = all_names files (changed nat_eq files (Remove directory name object)) (option_to_list (entry_at files.tree directory name)) (λ d m e n.
+    names = all_names files (changed nat_eq files (Remove directory name object)) (option_to_list (entry_at files.tree directory name))
+        (λ d m e n.
         ⊎_elim
         (λ still. inl (
           d,
@@ -324,7 +344,8 @@ module _ (files : FileTree ℕ) (listed : IsListedTree files) where
           refl,
         ))
         (λ lost. inr (some_lost (entry_at files.tree directory name) e.1 lost.1))
-        (one_changed files directory name (node_without_entry name) (node_keeps_taken name (files.tree.node directory)) (sorted directory) d e n));
+        (one_changed files directory name (node_without_entry name) (node_keeps_taken name (files.tree.node directory))
+        (sorted directory) d e n));
   }
 
   -- A new inode
@@ -352,7 +373,8 @@ module _ (files : FileTree ℕ) (listed : IsListedTree files) where
         let has = node_has name number (with_it.tree.node directory) (ap is_directory_node of_directory ∙ made.in_directory) in
         ap (λ n. is_among nat_eq n (named_in named)) (sym has.2)
         ∙ named_by named directory has.0 (inr (there directory made.in_directory))
-        (subst (λ o. Among has.0 (entries_in o)) (sym (node_set with_it.tree directory (node_with_entry name number (with_it.tree.node directory)))) has.1)
+        (subst (λ o. Among has.0 (entries_in o))
+        (sym (node_set with_it.tree directory (node_with_entry name number (with_it.tree.node directory)))) has.1)
 
     makes : IsListedTree named → ChangesTree files named (option_to_list (entry_at files.tree directory name))
     makes after = record {
@@ -360,12 +382,14 @@ module _ (files : FileTree ℕ) (listed : IsListedTree files) where
       root = refl;
       inodes = all_pass (λ k. is_among nat_eq k files.numbers || is_among nat_eq k (named_in named)) named.numbers (λ k m.
           ⊎_elim
-          (λ new. or_second (is_among nat_eq k files.numbers) (is_among nat_eq k (named_in named)) (ap (λ n. is_among nat_eq n (named_in named)) new ∙ new_is_named))
+          (λ new. or_second (is_among nat_eq k files.numbers) (is_among nat_eq k (named_in named))
+          (ap (λ n. is_among nat_eq n (named_in named)) new ∙ new_is_named))
           (λ old. or_first (is_among nat_eq k files.numbers) (is_among nat_eq k (named_in named)) (is_among_numbers k files.numbers old))
           m);
       names = all_names files named (option_to_list (entry_at files.tree directory name)) (λ d m e n.
           ⊎_elim (λ still. inl (d, e, inr m, still, refl))
-          (λ lost. inr (some_lost (entry_at files.tree directory name) e.1 (ap (λ o. entry_named name (entries_in o)) (sym of_directory) ∙ lost.1)))
+          (λ lost. inr (some_lost (entry_at files.tree directory name) e.1
+          (ap (λ o. entry_named name (entries_in o)) (sym of_directory) ∙ lost.1)))
           (one_changed with_it directory name (node_with_entry name number) (node_keeps_given name number (with_it.tree.node directory))
           (ap (λ o. is_sorted name_cmp (entries_in o)) of_directory ∙ sorted directory) d e
           (subst (λ o. Among e (entries_in o)) (sym (others d (has_some (files.tree.node d) e n))) n)));
@@ -411,29 +435,36 @@ module _ (files : FileTree ℕ) (listed : IsListedTree files) where
         ⊎_elim
         (λ here. ap (entry_named new) (sym (same_apart to)) ∙ ap (λ d. entry_named new (entries_at apart d)) here.1
         ∙ named_before old new (apart.tree.node from) number
-        (sym (ap (λ o. entry_named new (entries_in o)) (ap left.tree.node here.1 ∙ node_set apart.tree from (node_without_entry old (apart.tree.node from)))) ∙ e))
+        (sym (ap (λ o. entry_named new (entries_in o)) (ap left.tree.node here.1
+        ∙ node_set apart.tree from (node_without_entry old (apart.tree.node from)))) ∙ e))
         (λ other. ap (entry_named new) (sym (same_apart to))
-        ∙ ap (λ o. entry_named new (entries_in o)) (sym (node_other apart.tree from (node_without_entry old (apart.tree.node from)) to other.1)) ∙ e)
+        ∙ ap (λ o. entry_named new (entries_in o))
+        (sym (node_other apart.tree from (node_without_entry old (apart.tree.node from)) to other.1)) ∙ e)
         (eqb_tells to from)
 
     sorted_left : is_sorted name_cmp (entries_at left to) ≡ true
     sorted_left =
         ⊎_elim
-        (λ here. ap (λ o. is_sorted name_cmp (entries_in o)) (ap left.tree.node here.1 ∙ node_set apart.tree from (node_without_entry old (apart.tree.node from)))
+        (λ here. ap (λ o. is_sorted name_cmp (entries_in o)) (ap left.tree.node here.1
+        ∙ node_set apart.tree from (node_without_entry old (apart.tree.node from)))
         ∙ sorted_without old (apart.tree.node from) (ap (is_sorted name_cmp) (same_apart from) ∙ sorted from))
-        (λ other. ap (λ o. is_sorted name_cmp (entries_in o)) (node_other apart.tree from (node_without_entry old (apart.tree.node from)) to other.1)
+        (λ other. ap (λ o. is_sorted name_cmp (entries_in o))
+        (node_other apart.tree from (node_without_entry old (apart.tree.node from)) to other.1)
         ∙ ap (is_sorted name_cmp) (same_apart to) ∙ sorted to)
         (eqb_tells to from)
 
     directory_left : is_directory_node (left.tree.node to) ≡ true
     directory_left =
-        part_kept is_directory_node apart.tree from (node_without_entry old (apart.tree.node from)) (kind_without old (apart.tree.node from)) to
+        part_kept is_directory_node apart.tree from (node_without_entry old (apart.tree.node from))
+        (kind_without old (apart.tree.node from)) to
         ∙ kind_apart replaced ∙ moves.in_directory
       where
-        kind_apart : (o : Option ℕ) → is_directory_node ((without_parent nat_eq files o).tree.node to) ≡ is_directory_node (files.tree.node to)
+        kind_apart : (o : Option ℕ) → is_directory_node ((without_parent nat_eq files o).tree.node to)
+            ≡ is_directory_node (files.tree.node to)
         kind_apart None = refl
         kind_apart (Some one) =
-            part_kept is_directory_node files.tree one (node_with_parent one (files.tree.node one)) (kind_with_parent one (files.tree.node one)) to
+            part_kept is_directory_node files.tree one (node_with_parent one (files.tree.node one))
+            (kind_with_parent one (files.tree.node one)) to
 
     to_last : (d : ℕ) (e : Entry) → Among e (entries_at placed d) → Among e (entries_at last d)
     to_last d e m = subst (Among e) (sym (same_last d)) m
@@ -445,7 +476,8 @@ module _ (files : FileTree ℕ) (listed : IsListedTree files) where
           to,
           has.0,
           subst (Among to) (sym numbers_last) (there to moves.in_directory),
-          to_last to has.0 (subst (λ o. Among has.0 (entries_in o)) (sym (node_set left.tree to (node_with_entry new object (left.tree.node to)))) has.1),
+          to_last to has.0 (subst (λ o. Among has.0 (entries_in o))
+              (sym (node_set left.tree to (node_with_entry new object (left.tree.node to)))) has.1),
           has.2 ∙ sym same,
         )
 
@@ -474,9 +506,12 @@ changes_keep_names files (AddName directory name object) listed after may = give
 changes_keep_names files (Remove directory name object) listed after may = taken files listed directory name object after
 changes_keep_names files (Move from old to new object) listed after may = moves_so files listed from old to new object may after
 changes_keep_names files (SetBytes file bytes) listed after may =
-    all_stay files (changed nat_eq files (SetBytes file bytes)) after refl refl (same_entries files file (node_with_bytes bytes) (same_entries_bytes bytes))
+    all_stay files (changed nat_eq files (SetBytes file bytes)) after refl refl
+    (same_entries files file (node_with_bytes bytes) (same_entries_bytes bytes))
 changes_keep_names files (SetAttr object attr) listed after may =
-    all_stay files (changed nat_eq files (SetAttr object attr)) after refl refl (same_entries files object (node_with_attr attr) (same_entries_attr attr))
+    all_stay files (changed nat_eq files (SetAttr object attr)) after refl refl
+    (same_entries files object (node_with_attr attr) (same_entries_attr attr))
 changes_keep_names files (SetMark directory opaque) listed after may =
-    all_stay files (changed nat_eq files (SetMark directory opaque)) after refl refl (same_entries files directory (node_with_mark opaque) (same_entries_mark opaque))
+    all_stay files (changed nat_eq files (SetMark directory opaque)) after refl refl
+    (same_entries files directory (node_with_mark opaque) (same_entries_mark opaque))
 changes_keep_names files (CopyUp object) listed after may = all_stay files files after refl refl (λ d. refl)

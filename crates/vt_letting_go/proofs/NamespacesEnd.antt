@@ -27,26 +27,31 @@ module _ (world : World ℕ) where
   pub nothing_taken : taken_away nat_eq world [] ≡ regrouped nat_eq world
   nothing_taken =
       ap (λ mounts. regrouped nat_eq (with_mounts world mounts))
-      (map_same (after_going nat_eq world []) world.mounts (λ mount m. ap (λ place. record mount { mount_point = place }) (same mount.mount_point)))
+      (map_same (after_going nat_eq world []) world.mounts
+      (λ mount m. ap (λ place. record mount { mount_point = place }) (same mount.mount_point)))
     where
       same : (o : Option (Location ℕ)) → option_map (mount_point_left nat_eq world []) o ≡ o
       same None = refl
       same (Some place) = ap Some (place_stays place)
 
   -- the namespace of a mount is there
-  its_namespace : (number : ℕ) → is_listed nat_eq world number ≡ true → (namespace : Namespace ℕ) × Among namespace world.namespaces × (number ≡ namespace.number)
-  its_namespace number e = among-from_map (λ n. n.number) world.namespaces number (among_numbers number (map (λ n. n.number) world.namespaces) e)
+  its_namespace : (number : ℕ) → is_listed nat_eq world number ≡ true
+      → (namespace : Namespace ℕ) × Among namespace world.namespaces × (number ≡ namespace.number)
+  its_namespace number e = among-from_map (λ n. n.number) world.namespaces number
+      (among_numbers number (map (λ n. n.number) world.namespaces) e)
 
   abbrev lives_on : ℕ → Bool
   lives_on number = list_any (λ namespace. nat_eq number namespace.number && has_tasks nat_eq world namespace) world.namespaces
 
-  its_tasks : (number : ℕ) (namespace : Namespace ℕ) → Among namespace world.namespaces → number ≡ namespace.number → has_tasks nat_eq world namespace ≡ true
+  its_tasks : (number : ℕ) (namespace : Namespace ℕ) → Among namespace world.namespaces → number ≡ namespace.number
+      → has_tasks nat_eq world namespace ≡ true
       → lives_on number ≡ true
   its_tasks number namespace m same has =
       any_passes (λ n. nat_eq number n.number && has_tasks nat_eq world n) world.namespaces namespace m
       (ap (λ b. b && has_tasks nat_eq world namespace) (eq-eqb number namespace.number same) ∙ has)
 
-  listed_of : MountsAreListed world → (mount : Mount ℕ) → Among mount world.mounts → (number : ℕ) → mount.namespace ≡ Some number → is_listed nat_eq world number ≡ true
+  listed_of : MountsAreListed world → (mount : Mount ℕ) → Among mount world.mounts → (number : ℕ) → mount.namespace ≡ Some number
+      → is_listed nat_eq world number ≡ true
   listed_of listed mount m number e =
       (and_parts (is_listed nat_eq world number) true
       (sym (ap (λ o. list_all (is_listed nat_eq world) (option_to_list o)) e)
@@ -67,7 +72,8 @@ no_namespace_ends world listed all =
     })
     ∙ (λ i. record (nothing_taken world i) { namespaces = same_namespaces i })
   where
-    by : (mount : Mount ℕ) → Among mount world.mounts → (o : Option ℕ) → mount.namespace ≡ o → holds_of (λ number. not (lives_on world number)) o ≡ false
+    by : (mount : Mount ℕ) → Among mount world.mounts → (o : Option ℕ) → mount.namespace ≡ o
+        → holds_of (λ number. not (lives_on world number)) o ≡ false
     by mount m None e = refl
     by mount m (Some number) e =
         let t = its_namespace world number (listed_of world listed mount m number e) in
@@ -80,20 +86,24 @@ no_namespace_ends world listed all =
     same_namespaces = sym (namespaces-regrouped world)
 
 pub one_namespace_ends : OneNamespaceEnds
-one_namespace_ends world number listed empty others = λ i. record (taken_away nat_eq world (map (λ (mount : Mount ℕ). mount.number) (same_mounts i))) {
-  namespaces = filter_alike (has_tasks nat_eq world) (λ namespace. not (nat_eq number namespace.number)) world.namespaces
-      (λ namespace m. has_or_is namespace m (nat_eq number namespace.number) refl) i;
-}
+one_namespace_ends world number listed empty others = λ i. record (taken_away nat_eq world
+    (map (λ (mount : Mount ℕ). mount.number) (same_mounts i))) {
+      namespaces = filter_alike (has_tasks nat_eq world) (λ namespace. not (nat_eq number namespace.number)) world.namespaces
+          (λ namespace m. has_or_is namespace m (nat_eq number namespace.number) refl) i;
+    }
   where
     no_tasks : (namespace : Namespace ℕ) → nat_eq number namespace.number ≡ true → has_tasks nat_eq world namespace ≡ false
-    no_tasks namespace e = ap (λ n. list_any (λ task. nat_eq n task.namespace) world.tasks) (sym (eqb-true number namespace.number e)) ∙ empty
+    no_tasks namespace e = ap (λ n. list_any (λ task. nat_eq n task.namespace) world.tasks) (sym (eqb-true number namespace.number e))
+        ∙ empty
 
-    its_others : (namespace : Namespace ℕ) → Among namespace world.namespaces → nat_eq number namespace.number ≡ false → has_tasks nat_eq world namespace ≡ true
+    its_others : (namespace : Namespace ℕ) → Among namespace world.namespaces → nat_eq number namespace.number ≡ false
+        → has_tasks nat_eq world namespace ≡ true
     its_others namespace m e =
         sym (ap (λ b. b || has_tasks nat_eq world namespace) e)
         ∙ passes (λ n. nat_eq number n.number || has_tasks nat_eq world n) world.namespaces others namespace m
 
-    has_or_is : (namespace : Namespace ℕ) → Among namespace world.namespaces → (b : Bool) → nat_eq number namespace.number ≡ b → has_tasks nat_eq world namespace ≡ not b
+    has_or_is : (namespace : Namespace ℕ) → Among namespace world.namespaces → (b : Bool) → nat_eq number namespace.number ≡ b
+        → has_tasks nat_eq world namespace ≡ not b
     has_or_is namespace m true e = no_tasks namespace e
     has_or_is namespace m false e = its_others namespace m e
 
@@ -115,7 +125,8 @@ one_namespace_ends world number listed empty others = λ i. record (taken_away n
             ap not (its_tasks world n t.0 t.1 t.2 (its_others t.0 t.1 (ap (nat_eq number) (sym t.2) ∙ f)))
 
     same_mounts : filter (is_in_ended nat_eq world) world.mounts ≡ mounts_of nat_eq world number
-    same_mounts = filter_alike (is_in_ended nat_eq world) (λ mount. holds_of (nat_eq number) mount.namespace) world.mounts (λ mount m. ends mount m mount.namespace refl)
+    same_mounts = filter_alike (is_in_ended nat_eq world) (λ mount. holds_of (nat_eq number) mount.namespace) world.mounts
+        (λ mount m. ends mount m mount.namespace refl)
 
 -- How many mounts
 count_added : (p : Mount ℕ → Bool) (before added : List (Mount ℕ)) → list_all p added ≡ true
@@ -140,7 +151,8 @@ too_many_is_of_one world after namespace few same listed others =
     ap (list_any (λ n. nat_lt most_mounts (mount_count after n.number))) same
     ∙ by (nat_lt most_mounts (mount_count after namespace)) refl
   where
-    by : (b : Bool) → nat_lt most_mounts (mount_count after namespace) ≡ b → list_any (λ n. nat_lt most_mounts (mount_count after n.number)) world.namespaces ≡ b
+    by : (b : Bool) → nat_lt most_mounts (mount_count after namespace) ≡ b
+        → list_any (λ n. nat_lt most_mounts (mount_count after n.number)) world.namespaces ≡ b
     by true e =
         let t = its_namespace world namespace listed in
         any_passes (λ n. nat_lt most_mounts (mount_count after n.number)) world.namespaces t.0 t.1

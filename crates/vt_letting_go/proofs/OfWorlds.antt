@@ -1,8 +1,8 @@
 -- What a world is by its conditions.
-use Rattle.std.proofs.Common.{◌≡◌, refl, sym, ap, subst, ◌∙◌, ◌⊎◌, inl, inr, ⊎_elim, ℕ, nat_eq, eqb-true, eq-eqb, Bool, true, false, cond, not, ◌&&◌, ◌++◌, List, [], ◌∷◌, find, map, true≢false, Option, Some, None, is_some, option_to_list, unwrap_or}
+use Rattle.std.proofs.Common.{◌≡◌, refl, sym, ap, subst, ◌∙◌, ◌⊎◌, inl, inr, ⊎_elim, ℕ, nat_eq, eqb-true, Bool, true, false, cond, not, ◌&&◌, ◌++◌, List, [], ◌∷◌, find, map, true≢false, Option, Some, None, is_some, option_to_list, unwrap_or}
 use Rattle.std.specs.Prelude.{All}
-use Rattle.std.specs.List.{list_all, list_any}
-use Rattle.std.proofs.lemmas.Bool.{and_parts, not-true, or_parts}
+use Rattle.std.specs.List.{list_all}
+use Rattle.std.proofs.lemmas.Bool.{and_parts, not-true}
 use Rattle.vt_spec.specs.Lists.{any_pair, holds_of, is_among}
 use Rattle.vt_spec.specs.Machine.Locked.{of_overlay, overlay_or}
 use Rattle.vt_spec.specs.Machine.Mounts.{Location, Mount, mount_in, no_mount}
@@ -14,7 +14,7 @@ use Rattle.vt_letting_go.specs.Leaving.{stands_on_attached}
 use Rattle.vt_letting_go.specs.Overlays.{real_in}
 use Rattle.vt_letting_go.specs.Worlds.{LocationsOfWorldsStand, MountsOfWorldsStand, PlainWorldsAreSettled, RealsOfWorldsAreThere, UppersOfWorldsArePlain, WorldsAreSettled, WorldsHaveTrees}
 use Rattle.vt_letting_go.proofs.InUse.{what_is_left_is_in_use}
-use Rattle.vt_letting_go.proofs.Lists.{Among, all_from_among, all_pass, among-append_left, among_from_all, fails, passes}
+use Rattle.vt_letting_go.proofs.Lists.{found_by, Among, all_from_among, all_pass, among-append_left, among_from_all, passes}
 use Rattle.vt_letting_go.proofs.PlacesLeft.{found_itself, nowhere_parts}
 use Rattle.std.proofs.lemmas.Option.{same_Some}
 use Rattle.vt_spec.specs.Machine.WorldLaws.Stands.{at_root, on_parent}
@@ -27,7 +27,8 @@ worlds_have_trees world is =
     })
 
 -- what is found is there, or stands for none
-found_or_none : (mounts : List (Mount ℕ)) (number : ℕ) → Among (mount_in nat_eq mounts number) mounts ⊎ (mount_in nat_eq mounts number ≡ no_mount number)
+found_or_none : (mounts : List (Mount ℕ)) (number : ℕ) → Among (mount_in nat_eq mounts number) mounts
+    ⊎ (mount_in nat_eq mounts number ≡ no_mount number)
 found_or_none [] number = inr refl
 found_or_none (first ∷ rest) number = by (nat_eq number first.number) (found_or_none rest number)
   where
@@ -79,28 +80,15 @@ mounts_of_worlds_stand world is = record {
 -- Filesystems by their numbers
 pub found_filesystem : (filesystems : List (Filesystem ℕ)) → any_pair (λ (a b : Filesystem ℕ). nat_eq a.number b.number) filesystems ≡ false
     → (f : Filesystem ℕ) → Among f filesystems → unwrap_or (find (λ x. nat_eq f.number x.number) filesystems) (no_filesystem f.number) ≡ f
-found_filesystem [] one f m = absurd m
-found_filesystem (first ∷ rest) one f m =
-    let parts = or_parts (list_any (λ b. nat_eq first.number b.number) rest) (any_pair (λ (a b : Filesystem ℕ). nat_eq a.number b.number) rest) one in
-    by parts.0 (nat_eq f.number first.number) refl m (λ n. found_filesystem rest parts.1 f n)
-  where
-    by : list_any (λ b. nat_eq first.number b.number) rest ≡ false → (b : Bool) → nat_eq f.number first.number ≡ b → Among f (first ∷ rest)
-        → (Among f rest → unwrap_or (find (λ x. nat_eq f.number x.number) rest) (no_filesystem f.number) ≡ f)
-        → unwrap_or (cond b (Some first) (find (λ x. nat_eq f.number x.number) rest)) (no_filesystem f.number) ≡ f
-    by others true e n next =
-        ⊎_elim (λ same. sym same)
-        (λ later. absurd (true≢false
-        (sym (eq-eqb first.number f.number (sym (eqb-true f.number first.number e)))
-        ∙ fails (λ x. nat_eq first.number x.number) rest others f later))) n
-    by others false e n next =
-        ⊎_elim (λ same. absurd (true≢false (sym (eq-eqb f.number first.number (ap (λ x. x.number) same)) ∙ e))) next n
+found_filesystem filesystems one f m = found_by (λ (x : Filesystem ℕ). x.number) (no_filesystem f.number) filesystems one f m
 
 pub uppers_of_worlds_are_plain : UppersOfWorldsArePlain
 uppers_of_worlds_are_plain world is =
     all_from_among (λ f. is_overlay f ≡ true → All (λ merged. has_upper_in f.number merged ≡ false) world.filesystems) world.filesystems
     (λ f m overlay. all_from_among (λ merged. has_upper_in f.number merged ≡ false) world.filesystems
     (λ merged n. by f m overlay merged.overlay
-    (passes (of_overlay true (λ o. list_all (is_plain_layer nat_eq world) (layers_of o))) world.filesystems is.overlays.plain_layers merged n)))
+    (passes (of_overlay true (λ o. list_all (is_plain_layer nat_eq world)
+    (layers_of o))) world.filesystems is.overlays.plain_layers merged n)))
   where
     by : (f : Filesystem ℕ) → Among f world.filesystems → is_overlay f ≡ true → (o : Option (Overlay ℕ))
         → overlay_or true (λ overlay. list_all (is_plain_layer nat_eq world) (layers_of overlay)) o ≡ true
@@ -108,7 +96,8 @@ uppers_of_worlds_are_plain world is =
     by f m is_one None h = refl
     by f m is_one (Some overlay) h = upper overlay.upper refl
       where
-        plain_layer : (layer : Layer ℕ) → overlay.upper ≡ Some layer → is_overlay (filesystem_numbered nat_eq world layer.filesystem) ≡ false
+        plain_layer : (layer : Layer ℕ) → overlay.upper ≡ Some layer
+            → is_overlay (filesystem_numbered nat_eq world layer.filesystem) ≡ false
         plain_layer layer e =
             let parts = and_parts (not (is_overlay (filesystem_numbered nat_eq world layer.filesystem))) _
             (passes (is_plain_layer nat_eq world) (layers_of overlay) h layer

@@ -42,7 +42,8 @@ mounts_folded world (number ∷ rest) =
 pub mounts_go_one_by_one : MountsGoOneByOne
 mounts_go_one_by_one world losers others =
     ap (with_mounts world)
-    (filter_alike (mount_lives nat_eq world) (λ mount. not (is_among nat_eq mount.number losers) || mount_lives nat_eq world mount) world.mounts
+    (filter_alike (mount_lives nat_eq world) (λ mount. not (is_among nat_eq mount.number losers)
+    || mount_lives nat_eq world mount) world.mounts
     (λ mount m. kept_alike (is_among nat_eq mount.number losers) (mount_lives nat_eq world mount)
     (passes (λ x. is_among nat_eq x.number losers || mount_lives nat_eq world x) world.mounts others mount m)))
     ∙ sym (mounts_folded world losers)
@@ -55,7 +56,8 @@ filesystem_by_others world number filesystem =
     (any-filter (λ merged. has_layer_on nat_eq filesystem.number merged && is_mounted nat_eq world merged.number)
     (λ other. not (nat_eq other.number number) || filesystem_lives nat_eq world other) world.filesystems
     (λ other m gone. ap (λ b. has_layer_on nat_eq filesystem.number other && b)
-    (or_parts (is_mounted nat_eq world other.number) _ (or_parts (not (nat_eq other.number number)) (filesystem_lives nat_eq world other) gone).1).0
+    (or_parts (is_mounted nat_eq world other.number) _
+    (or_parts (not (nat_eq other.number number)) (filesystem_lives nat_eq world other) gone).1).0
     ∙ never (has_layer_on nat_eq filesystem.number other)))
   where
     never : (b : Bool) → (b && false) ≡ false
@@ -64,24 +66,32 @@ filesystem_by_others world number filesystem =
 
 filesystems_folded : (world : World ℕ) (losers : List ℕ)
     → let_go_filesystems world losers
-    ≡ record world { filesystems = filter (λ filesystem. not (is_among nat_eq filesystem.number losers) || filesystem_lives nat_eq world filesystem) world.filesystems }
+    ≡ record world {
+      filesystems = filter (λ filesystem. not (is_among nat_eq filesystem.number losers)
+          || filesystem_lives nat_eq world filesystem) world.filesystems;
+    }
 filesystems_folded world [] =
-    ap (λ filesystems. record world { filesystems = filesystems }) (sym (filter_all (λ filesystem. true) world.filesystems (λ filesystem m. refl)))
+    ap (λ filesystems. record world { filesystems = filesystems })
+    (sym (filter_all (λ filesystem. true) world.filesystems (λ filesystem m. refl)))
 filesystems_folded world (number ∷ rest) =
     filesystems_folded (let_go_filesystem world number) rest
     ∙ ap (λ filesystems. record world { filesystems = filesystems })
-    (filter_alike (λ filesystem. not (is_among nat_eq filesystem.number rest) || filesystem_lives nat_eq (let_go_filesystem world number) filesystem)
-    (λ filesystem. not (is_among nat_eq filesystem.number rest) || filesystem_lives nat_eq world filesystem) (let_go_filesystem world number).filesystems
+    (filter_alike (λ filesystem. not (is_among nat_eq filesystem.number rest)
+    || filesystem_lives nat_eq (let_go_filesystem world number) filesystem)
+    (λ filesystem. not (is_among nat_eq filesystem.number rest) || filesystem_lives nat_eq world filesystem)
+    (let_go_filesystem world number).filesystems
     (λ filesystem m. ap (λ b. not (is_among nat_eq filesystem.number rest) || b) (filesystem_by_others world number filesystem))
     ∙ filter_twice (λ filesystem. not (is_among nat_eq filesystem.number rest) || filesystem_lives nat_eq world filesystem)
     (λ filesystem. not (nat_eq filesystem.number number) || filesystem_lives nat_eq world filesystem)
     (λ filesystem. not (is_among nat_eq filesystem.number (number ∷ rest)) || filesystem_lives nat_eq world filesystem)
-    (λ filesystem. looked_at (nat_eq filesystem.number number) (is_among nat_eq filesystem.number rest) (filesystem_lives nat_eq world filesystem)) world.filesystems)
+    (λ filesystem. looked_at (nat_eq filesystem.number number) (is_among nat_eq filesystem.number rest)
+    (filesystem_lives nat_eq world filesystem)) world.filesystems)
 
 pub filesystems_go_one_by_one : FilesystemsGoOneByOne
 filesystems_go_one_by_one world losers others =
     ap (λ filesystems. record world { filesystems = filesystems })
-    (filter_alike (filesystem_lives nat_eq world) (λ filesystem. not (is_among nat_eq filesystem.number losers) || filesystem_lives nat_eq world filesystem) world.filesystems
+    (filter_alike (filesystem_lives nat_eq world) (λ filesystem. not (is_among nat_eq filesystem.number losers)
+    || filesystem_lives nat_eq world filesystem) world.filesystems
     (λ filesystem m. kept_alike (is_among nat_eq filesystem.number losers) (filesystem_lives nat_eq world filesystem)
     (passes (λ x. is_among nat_eq x.number losers || filesystem_lives nat_eq world x) world.filesystems others filesystem m)))
     ∙ sym (filesystems_folded world losers)
@@ -89,11 +99,17 @@ filesystems_go_one_by_one world losers others =
 -- Groups
 groups_folded : (world : World ℕ) (losers : List ℕ)
     → let_go_groups world losers
-    ≡ record world { master = λ other. cond (is_among nat_eq other losers && not (has_members nat_eq world.mounts other)) None (world.master other) }
+    ≡ record world {
+      master = λ other. cond (is_among nat_eq other losers && not (has_members nat_eq world.mounts other)) None
+          (world.master other);
+    }
 groups_folded world [] = refl
 groups_folded world (group ∷ rest) =
     groups_folded (let_go_group world group) rest
-    ∙ (λ i. record world { master = λ other. by (nat_eq other group) (is_among nat_eq other rest) (not (has_members nat_eq world.mounts other)) (world.master other) i })
+    ∙ (λ i. record world {
+      master = λ other. by (nat_eq other group) (is_among nat_eq other rest)
+          (not (has_members nat_eq world.mounts other)) (world.master other) i;
+    })
   where
     by : (here later empty : Bool) (master : Option ℕ)
         → cond (later && empty) None (cond (here && empty) None master) ≡ cond ((here || later) && empty) None master

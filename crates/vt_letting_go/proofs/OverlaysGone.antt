@@ -21,7 +21,8 @@ module _ (world : World ℕ) (losers : List ℕ) (others : FilesystemsInUseBut l
   taken = used_by_filesystems world losers
 
   -- a filesystem lives, or what it used is named
-  lives_or_named : (g : Filesystem ℕ) → Among g world.filesystems → (filesystem_lives nat_eq world g ≡ true) ⊎ (is_among nat_eq g.number losers ≡ true)
+  lives_or_named : (g : Filesystem ℕ) → Among g world.filesystems
+      → (filesystem_lives nat_eq world g ≡ true) ⊎ (is_among nat_eq g.number losers ≡ true)
   lives_or_named g m =
       ⊎_elim inr inl
       (or_cases (is_among nat_eq g.number losers) (filesystem_lives nat_eq world g)
@@ -43,19 +44,22 @@ module _ (world : World ℕ) (losers : List ℕ) (others : FilesystemsInUseBut l
   layer_left : (filesystem number : ℕ) → Among number (layers_in nat_eq world filesystem)
       → Among number (layers_in nat_eq living filesystem) ⊎ (is_inode_among filesystem number taken ≡ true)
   layer_left filesystem number m =
-      let one = among-from_map (λ (layer : Layer ℕ). layer.directory) (filter (is_on filesystem) (flat_map (of_overlay [] layers_of) world.filesystems)) number m in
+      let one = among-from_map (λ (layer : Layer ℕ). layer.directory)
+      (filter (is_on filesystem) (flat_map (of_overlay [] layers_of) world.filesystems)) number m in
       let two = among-from_filter (is_on filesystem) (flat_map (of_overlay [] layers_of) world.filesystems) one.0 one.1 in
       let three = among-from_flat_map (of_overlay [] layers_of) world.filesystems one.0 two.0 in
       ⊎_elim
       (λ lives. inl (subst (λ n. Among n (layers_in nat_eq living filesystem)) (sym one.2)
-      (among-map (λ (layer : Layer ℕ). layer.directory) (filter (is_on filesystem) (flat_map (of_overlay [] layers_of) living.filesystems)) one.0
+      (among-map (λ (layer : Layer ℕ). layer.directory)
+      (filter (is_on filesystem) (flat_map (of_overlay [] layers_of) living.filesystems)) one.0
       (among-filter (is_on filesystem) (flat_map (of_overlay [] layers_of) living.filesystems) one.0
       (among-flat_map (of_overlay [] layers_of) living.filesystems three.0 one.0
       (among-filter (filesystem_lives nat_eq world) world.filesystems three.0 three.1 lives) three.2) two.1))))
       (λ loses. inr (named_use three.0 three.1 loses filesystem number one.0.filesystem two.1
       (among-append_left (map (λ (layer : Layer ℕ). (layer.filesystem, layer.directory)) (of_overlay [] layers_of three.0))
       (flat_map (λ k. of_overlay [] (uppers_in k) three.0) three.0.files.numbers) (one.0.filesystem, number)
-      (subst (λ n. Among {A = Inode} (one.0.filesystem, n) (map (λ (layer : Layer ℕ). (layer.filesystem, layer.directory)) (of_overlay [] layers_of three.0))) (sym one.2)
+      (subst (λ n. Among {A = Inode} (one.0.filesystem, n)
+      (map (λ (layer : Layer ℕ). (layer.filesystem, layer.directory)) (of_overlay [] layers_of three.0))) (sym one.2)
       (among-map (λ (layer : Layer ℕ). (layer.filesystem, layer.directory)) (of_overlay [] layers_of three.0) one.0 three.2)))))
       (lives_or_named three.0 three.1)
 
@@ -83,7 +87,8 @@ module _ (world : World ℕ) (losers : List ℕ) (others : FilesystemsInUseBut l
   still_used f number h =
       ⊎_elim
       (λ before. ⊎_elim
-      (λ a. inl (is_among_left number (front ++ layers_in nat_eq living f.number) objects (is_among_left number front (layers_in nat_eq living f.number) a)))
+      (λ a. inl (is_among_left number (front ++ layers_in nat_eq living f.number) objects
+      (is_among_left number front (layers_in nat_eq living f.number) a)))
       (λ a. ⊎_elim
       (λ there. inl (is_among_left number (front ++ layers_in nat_eq living f.number) objects
       (is_among_right number front (layers_in nat_eq living f.number) (is_among_numbers number (layers_in nat_eq living f.number) there))))
@@ -95,7 +100,8 @@ module _ (world : World ℕ) (losers : List ℕ) (others : FilesystemsInUseBut l
       inr (object_left f.number number (among_numbers number (flat_map (objects_of_overlay nat_eq f.number) world.filesystems) a)))
       (or_cases (is_among nat_eq number (front ++ layers_in nat_eq world f.number))
       (is_among nat_eq number (flat_map (objects_of_overlay nat_eq f.number) world.filesystems))
-      (sym (list_any-append (nat_eq number) (front ++ layers_in nat_eq world f.number) (flat_map (objects_of_overlay nat_eq f.number) world.filesystems)) ∙ h))
+      (sym (list_any-append (nat_eq number) (front ++ layers_in nat_eq world f.number)
+      (flat_map (objects_of_overlay nat_eq f.number) world.filesystems)) ∙ h))
     where
       front : List ℕ
       front = f.files.tree.root ∷ (named_in f.files ++ located_in nat_eq world f.number)
@@ -105,17 +111,21 @@ module _ (world : World ℕ) (losers : List ℕ) (others : FilesystemsInUseBut l
 
 pub filesystems_take_their_uses : FilesystemsTakeTheirUses
 filesystems_take_their_uses world losers inodes others used =
-    all_from_among (λ f. list_all (is_used_or_among (inodes ++ used_by_filesystems world losers) (without_dead_filesystems nat_eq world) f) f.files.numbers ≡ true)
+    all_from_among (λ f. list_all (is_used_or_among (inodes ++ used_by_filesystems world losers)
+    (without_dead_filesystems nat_eq world) f) f.files.numbers ≡ true)
     (without_dead_filesystems nat_eq world).filesystems
-    (λ f m. all_pass (is_used_or_among (inodes ++ used_by_filesystems world losers) (without_dead_filesystems nat_eq world) f) f.files.numbers
+    (λ f m. all_pass (is_used_or_among (inodes ++ used_by_filesystems world losers)
+    (without_dead_filesystems nat_eq world) f) f.files.numbers
     (λ number n. each f number
     (passes (is_used_or_among inodes world f) f.files.numbers
     (among_from_all (λ x. list_all (is_used_or_among inodes world x) x.files.numbers ≡ true) world.filesystems used f
     (among-from_filter (filesystem_lives nat_eq world) world.filesystems f m).0) number n)))
   where
-    more : (f : Filesystem ℕ) (number : ℕ) → (is_inode_among f.number number inodes || is_inode_among f.number number (used_by_filesystems world losers)) ≡ true
+    more : (f : Filesystem ℕ) (number : ℕ) → (is_inode_among f.number number inodes
+        || is_inode_among f.number number (used_by_filesystems world losers)) ≡ true
         → is_inode_among f.number number (inodes ++ used_by_filesystems world losers) ≡ true
-    more f number h = list_any-append (λ inode. nat_eq f.number inode.0 && nat_eq number inode.1) inodes (used_by_filesystems world losers) ∙ h
+    more f number h = list_any-append (λ inode. nat_eq f.number inode.0 && nat_eq number inode.1) inodes
+        (used_by_filesystems world losers) ∙ h
 
     each : (f : Filesystem ℕ) (number : ℕ) → is_used_or_among inodes world f number ≡ true
         → is_used_or_among (inodes ++ used_by_filesystems world losers) (without_dead_filesystems nat_eq world) f number ≡ true

@@ -42,12 +42,14 @@ module _ (world : World ℕ) (namespace old new : ℕ) (put : Location ℕ) (in_
       ∙ found_itself world.mounts stand.one_number b n
 
   -- a mount keeps all but its place
-  keeps : {A : Type 0} (part : Mount ℕ → A) → ((mount : Mount ℕ) (at : Option (Location ℕ)) → part (record mount { mount_point = at }) ≡ part mount)
+  keeps : {A : Type 0} (part : Mount ℕ → A) → ((mount : Mount ℕ) (at : Option (Location ℕ))
+      → part (record mount { mount_point = at }) ≡ part mount)
       → (mount : Mount ℕ) → part (change mount) ≡ part mount
   keeps part same mount = by (nat_eq mount.number target.number) (nat_eq mount.number root.number)
     where
       by : (a b : Bool)
-          → part (cond a (record mount { mount_point = root.mount_point }) (cond b (record mount { mount_point = Some put }) mount)) ≡ part mount
+          → part (cond a (record mount { mount_point = root.mount_point }) (cond b (record mount { mount_point = Some put }) mount))
+          ≡ part mount
       by true b = same mount root.mount_point
       by false true = same mount (Some put)
       by false false = refl
@@ -57,7 +59,8 @@ module _ (world : World ℕ) (namespace old new : ℕ) (put : Location ℕ) (in_
 
   target_gets : (change target).mount_point ≡ root.mount_point
   target_gets =
-      ap (λ b. (cond b (record target { mount_point = root.mount_point }) (cond (nat_eq target.number root.number) (record target { mount_point = Some put }) target)).mount_point)
+      ap (λ b. (cond b (record target { mount_point = root.mount_point })
+      (cond (nat_eq target.number root.number) (record target { mount_point = Some put }) target)).mount_point)
       (eq-eqb target.number target.number refl)
 
   -- the new root mount, the old one, or one that stays
@@ -73,7 +76,8 @@ module _ (world : World ℕ) (namespace old new : ℕ) (put : Location ℕ) (in_
       by true e b f = is_target (itself mount target m target_there e)
       by false e true f = is_root (itself mount root m root_there f)
       by false e false f =
-          is_other (ap (λ a. cond a (record mount { mount_point = root.mount_point }) (cond (nat_eq mount.number root.number) (record mount { mount_point = Some put }) mount)) e
+          is_other (ap (λ a. cond a (record mount { mount_point = root.mount_point })
+          (cond (nat_eq mount.number root.number) (record mount { mount_point = Some put }) mount)) e
           ∙ ap (λ b. cond b (record mount { mount_point = Some put }) mount) f)
 
   -- a location is one still, or it was the root of the old root mount
@@ -90,14 +94,23 @@ module _ (world : World ℕ) (namespace old new : ℕ) (put : Location ℕ) (in_
   of_task task location m = by (nat_eq namespace task.namespace)
     where
       moves : Among location (locations_of task)
-          → Among location (locations_of (record task { root = pivoted_location nat_eq root target task.root; directory = pivoted_location nat_eq root target task.directory }))
+          → Among location (locations_of (record task {
+            root = pivoted_location nat_eq root target task.root;
+            directory
+                = pivoted_location nat_eq root target task.directory;
+          }))
           ⊎ (location ≡ root_of root)
       moves (inl e) = ⊎_elim (λ same. inl (inl (e ∙ same))) (λ was. inr (e ∙ was)) (left_or_same task.root)
       moves (inr (inl e)) = ⊎_elim (λ same. inl (inr (inl (e ∙ same)))) (λ was. inr (e ∙ was)) (left_or_same task.directory)
       moves (inr (inr l)) = inl (inr (inr l))
 
       by : (b : Bool)
-          → Among location (locations_of (cond b (record task { root = pivoted_location nat_eq root target task.root; directory = pivoted_location nat_eq root target task.directory }) task))
+          → Among location (locations_of (cond b
+          (record task {
+            root = pivoted_location nat_eq root target task.root;
+            directory = pivoted_location nat_eq root target
+                task.directory;
+          }) task))
           ⊎ (location ≡ root_of root)
       by true = moves m
       by false = inl m
@@ -128,7 +141,8 @@ module _ (world : World ℕ) (namespace old new : ℕ) (put : Location ℕ) (in_
       (λ there. or_second (is_some mount.namespace) (is_located nat_eq after mount.number)
       (any_passes (λ l. nat_eq mount.number l.mount) (all_locations after) t.0 there t.2))
       (λ was. or_first (is_some mount.namespace) (is_located nat_eq after mount.number)
-      (ap (λ (x : Mount ℕ). is_some x.namespace) (itself mount root m root_there (sym (ap (λ (l : Location ℕ). nat_eq mount.number l.mount) was) ∙ t.2))
+      (ap (λ (x : Mount ℕ). is_some x.namespace) (itself mount root m root_there
+      (sym (ap (λ (l : Location ℕ). nat_eq mount.number l.mount) was) ∙ t.2))
       ∙ old_attached))
       (still t.0 t.1))
       (or_cases (is_some mount.namespace) (is_located nat_eq world mount.number)
@@ -153,7 +167,13 @@ module _ (world : World ℕ) (namespace old new : ℕ) (put : Location ℕ) (in_
       by (is_target e) =
           inr (subst (λ o. Among place (option_to_list o)) (sym p ∙ ap (λ (x : Mount ℕ). x.mount_point) e) (inl refl))
       by (is_root e) =
-          inl (change target, (among-map change world.mounts target target_there, (target_gets ∙ ap (λ (x : Mount ℕ). x.mount_point) (sym e) ∙ p, inl refl)))
+          inl (
+            change target,
+            (
+              among-map change world.mounts target target_there,
+              (target_gets ∙ ap (λ (x : Mount ℕ). x.mount_point) (sym e) ∙ p, inl refl),
+            ),
+          )
       by (is_other e) = inl (change mount, (among-map change world.mounts mount m, (ap (λ (x : Mount ℕ). x.mount_point) e ∙ p, inl refl)))
 
   pub loses : Loses world after [] (option_to_list target.mount_point)
@@ -166,7 +186,8 @@ module _ (world : World ℕ) (namespace old new : ℕ) (put : Location ℕ) (in_
         (λ found. ap (λ x. x.filesystem) (found-map change number_kept world.mounts location.mount found.0 found.1 found.2 found.3)
         ∙ keeps (λ x. x.filesystem) (λ x at. refl) (mount_in nat_eq world.mounts location.mount))
         (not_found-map change number_kept world.mounts location.mount);
-    live = λ last m isnt. let from = among-from_map change world.mounts last m in ap (mount_lives nat_eq after) from.2 ∙ lives from.0 from.1;
+    live = λ last m isnt. let from = among-from_map change world.mounts last m in ap (mount_lives nat_eq after) from.2
+        ∙ lives from.0 from.1;
     locations = λ location m. inl (still_used location m);
     places = place_still;
     nowhere = all_pass is_nowhere_or_attached after.mounts (λ last m.
@@ -176,11 +197,13 @@ module _ (world : World ℕ) (namespace old new : ℕ) (put : Location ℕ) (in_
   pub groups : GroupsInUse after
   groups group none =
       in_use.groups group
-      (sym (any-map (is_member_of nat_eq group) change world.mounts (λ mount. keeps (is_member_of nat_eq group) (λ x at. refl) mount)) ∙ none)
+      (sym (any-map (is_member_of nat_eq group) change world.mounts (λ mount. keeps (is_member_of nat_eq group) (λ x at. refl) mount))
+      ∙ none)
 
 pub pivoted_lets_go : PivotedLetsGo
 pivoted_lets_go world namespace old new put settles old_attached new_attached =
-    losers_go world last.mounts world.master world.namespaces last.tasks [] (option_to_list (mount_numbered nat_eq world new).mount_point) [] settles
+    losers_go world last.mounts world.master world.namespaces last.tasks []
+    (option_to_list (mount_numbered nat_eq world new).mount_point) [] settles
     (loses world namespace old new put settles.in_use settles.mounts old_attached new_attached)
     (λ group among none. groups world namespace old new put settles.in_use settles.mounts old_attached new_attached group none)
   where

@@ -14,29 +14,22 @@ use Rattle.vt_spec.specs.Machine.World.{Filesystem, Overlay, Task, World, all_lo
 use Rattle.vt_letting_go.specs.InUse.{AllInUse, is_inode_used}
 use Rattle.vt_letting_go.specs.Leaving.{LeavingLetsGo, MountsStand, StayingKeepsAll, inodes_of_location, is_location_among, only_these_are_left, stands_on_attached, used_by_locations, with_tasks}
 use Rattle.vt_letting_go.specs.OneByOne.{FilesystemsInUseBut, GroupsInUseBut, InodesInUseBut, IsPlain, Losers, MountsInUseBut, is_inode_among, is_used_or_among}
-use Rattle.vt_letting_go.proofs.InUse.{no_objects}
+use Rattle.vt_letting_go.proofs.InUse.{no_objects, used_at}
 use Rattle.vt_letting_go.proofs.Inodes.{all_goes_one_by_one}
-use Rattle.vt_letting_go.proofs.Lists.{Among, all_from_among, all_pass, among-append, among-append_left, among-append_right, among-filter, among-filter_map, among-flat_map, among-from_filter, among-from_filter_map, among-from_map, among-map, among_from_all, among_numbers, any-filter, any_passes, decided, fails, flat_map_none, is_among_left, is_among_numbers, is_among_right, none_passes, one_passes, or_first, or_second, passes}
+use Rattle.vt_letting_go.proofs.Lists.{Among, all_from_among, all_pass, among-append, among-append_left, among-append_right, among-filter, among-filter_map, among-flat_map, among-from_filter, among-from_filter_map, among-from_map, among-map, among_from_all, among_numbers, any-filter, any_passes, decided, fails, flat_map_none, found_by, is_among_left, is_among_numbers, none_passes, one_passes, or_first, or_second, passes}
 
 -- Mounts by their numbers
 pub found_itself : (mounts : List (Mount ℕ)) → any_pair (λ (a b : Mount ℕ). nat_eq a.number b.number) mounts ≡ false
     → (mount : Mount ℕ) → Among mount mounts → mount_in nat_eq mounts mount.number ≡ mount
-found_itself [] one mount m = absurd m
-found_itself (first ∷ rest) one mount m =
-    let parts = or_parts (list_any (λ b. nat_eq first.number b.number) rest) (any_pair (λ (a b : Mount ℕ). nat_eq a.number b.number) rest) one in
-    by parts.0 (nat_eq mount.number first.number) refl m (λ n. found_itself rest parts.1 mount n)
-  where
-    by : list_any (λ b. nat_eq first.number b.number) rest ≡ false → (b : Bool) → nat_eq mount.number first.number ≡ b → Among mount (first ∷ rest)
-        → (Among mount rest → mount_in nat_eq rest mount.number ≡ mount)
-        → unwrap_or (cond b (Some first) (find (λ x. nat_eq mount.number x.number) rest)) (no_mount mount.number) ≡ mount
-    by others true e n next =
-        ⊎_elim (λ same. sym same)
-        (λ later. absurd (true≢false
-        (sym (eq-eqb first.number mount.number (sym (eqb-true mount.number first.number e)))
-        ∙ fails (λ x. nat_eq first.number x.number) rest others mount later))) n
-    by others false e n next =
-        ⊎_elim (λ same. absurd (true≢false (sym (eq-eqb mount.number first.number (ap (λ x. x.number) same)) ∙ e)))
-        next n
+found_itself mounts one mount m = found_by (λ (x : Mount ℕ). x.number) (no_mount mount.number) mounts one mount m
+
+-- a mount point is on a mount in a namespace
+pub place_attached : (world : World ℕ) → MountsStand world → (mount : Mount ℕ) → Among mount world.mounts → (place : Location ℕ)
+    → mount.mount_point ≡ Some place → is_some (mount_at nat_eq world place).namespace ≡ true
+place_attached world stand mount m place p =
+    (and_parts (is_some (mount_at nat_eq world place).namespace) true
+    (sym (ap (λ o. list_all (λ l. is_some (mount_at nat_eq world l).namespace) (option_to_list o)) p)
+    ∙ passes (stands_on_attached world) world.mounts stand.on_attached mount m)).0
 
 -- a mount of a shorter list, where those of its number stay
 pub found_in_filter : (stays : Mount ℕ → Bool) (mounts : List (Mount ℕ)) (number : ℕ)
@@ -50,9 +43,11 @@ found_in_filter stays (first ∷ rest) number h =
         → mount_in nat_eq (filter stays rest) number ≡ mount_in nat_eq rest number
         → mount_in nat_eq (cond c (first ∷ filter stays rest) (filter stays rest)) number
         ≡ unwrap_or (cond b (Some first) (find (λ x. nat_eq number x.number) rest)) (no_mount number)
-    by true e true f later = ap (λ b. unwrap_or (cond b (Some first) (find (λ x. nat_eq number x.number) (filter stays rest))) (no_mount number)) e
+    by true e true f later = ap (λ b. unwrap_or (cond b (Some first) (find (λ x. nat_eq number x.number) (filter stays rest)))
+        (no_mount number)) e
     by true e false f later = absurd (true≢false (sym (h first (inl refl) (sym (eqb-true number first.number e))) ∙ f))
-    by false e true f later = ap (λ b. unwrap_or (cond b (Some first) (find (λ x. nat_eq number x.number) (filter stays rest))) (no_mount number)) e ∙ later
+    by false e true f later = ap (λ b. unwrap_or (cond b (Some first) (find (λ x. nat_eq number x.number) (filter stays rest)))
+        (no_mount number)) e ∙ later
     by false e false f later = later
 
 -- a mount in a namespace that is found is there
@@ -117,10 +112,12 @@ no_layers number other filesystems plain =
     none_passes (λ merged. has_layer_on nat_eq number merged && is_mounted nat_eq other merged.number) filesystems
     (λ merged m. by merged (fails is_overlay filesystems plain merged m))
   where
-    by : (merged : Filesystem ℕ) → is_overlay merged ≡ false → (has_layer_on nat_eq number merged && is_mounted nat_eq other merged.number) ≡ false
+    by : (merged : Filesystem ℕ) → is_overlay merged ≡ false
+        → (has_layer_on nat_eq number merged && is_mounted nat_eq other merged.number) ≡ false
     by merged e = ap (λ b. b && is_mounted nat_eq other merged.number) (none merged.overlay e)
       where
-        none : (o : Option (Overlay ℕ)) → is_some o ≡ false → overlay_or false (λ overlay. list_any (λ layer. nat_eq number layer.filesystem) (layers_of overlay)) o ≡ false
+        none : (o : Option (Overlay ℕ)) → is_some o ≡ false
+            → overlay_or false (λ overlay. list_any (λ layer. nat_eq number layer.filesystem) (layers_of overlay)) o ≡ false
         none None f = refl
         none (Some overlay) f = absurd (true≢false f)
 
@@ -141,7 +138,8 @@ no_layers_of world plain number =
 
 -- In a world of plain filesystems an inode is used as the root, by a name, or at a place.
 pub plain_uses : (world : World ℕ) → IsPlain world → (filesystem : Filesystem ℕ) (number : ℕ) → is_inode_used world filesystem number ≡ true
-    → (number ≡ filesystem.files.tree.root) ⊎ ((is_among nat_eq number (named_in filesystem.files) ≡ true) ⊎ Among number (located_in nat_eq world filesystem.number))
+    → (number ≡ filesystem.files.tree.root) ⊎ ((is_among nat_eq number (named_in filesystem.files) ≡ true)
+    ⊎ Among number (located_in nat_eq world filesystem.number))
 plain_uses world plain filesystem number is_used =
     ⊎_elim (λ root. inl (eqb-true number filesystem.files.tree.root root))
     (λ rest. inr (⊎_elim
@@ -149,7 +147,8 @@ plain_uses world plain filesystem number is_used =
     (λ before. ⊎_elim (λ named. inl (is_among_numbers number (named_in filesystem.files) named)) inr
     (among-append (named_in filesystem.files) (located_in nat_eq world filesystem.number) number before))
     (λ layer. absurd (subst (Among number) (no_layers_of world plain filesystem.number) layer))
-    (among-append (named_in filesystem.files ++ located_in nat_eq world filesystem.number) (layers_in nat_eq world filesystem.number) number front))
+    (among-append (named_in filesystem.files ++ located_in nat_eq world filesystem.number)
+    (layers_in nat_eq world filesystem.number) number front))
     (λ object. absurd (subst (Among number) (no_objects_of world plain filesystem.number) object))
     (among-append (named_in filesystem.files ++ located_in nat_eq world filesystem.number ++ layers_in nat_eq world filesystem.number)
     (flat_map (objects_of_overlay nat_eq filesystem.number) world.filesystems) number (among_numbers number _ rest))))
@@ -204,7 +203,8 @@ module _ (world : World ℕ) (tasks : List (Task ℕ)) (left : List (Location �
   found_mount mount m = found_itself world.mounts stand.one_number mount m
 
   -- where a mount stays, it is found as before
-  found_still : (number : ℕ) → ((mount : Mount ℕ) → Among mount world.mounts → mount.number ≡ number → mount_lives nat_eq after mount ≡ true)
+  found_still : (number : ℕ) → ((mount : Mount ℕ) → Among mount world.mounts → mount.number ≡ number
+      → mount_lives nat_eq after mount ≡ true)
       → mount_in nat_eq mounted.mounts number ≡ mount_in nat_eq world.mounts number
   found_still number stays = found_in_filter (mount_lives nat_eq after) world.mounts number stays
 
@@ -214,7 +214,8 @@ module _ (world : World ℕ) (tasks : List (Task ℕ)) (left : List (Location �
       ap (mount_lives nat_eq after) (sym (found_mount other n) ∙ ap (mount_in nat_eq world.mounts) e ∙ found_mount mount m) ∙ lives
 
   -- the filesystem of a mount that went was left
-  pub filesystem_left : (mount : Mount ℕ) → Among mount world.mounts → (location : Location ℕ) → Among location left → mount.number ≡ location.mount
+  pub filesystem_left : (mount : Mount ℕ) → Among mount world.mounts → (location : Location ℕ) → Among location left
+      → mount.number ≡ location.mount
       → (mount_at nat_eq world location) ≡ mount
   filesystem_left mount m location n e = ap (mount_in nat_eq world.mounts) (sym e) ∙ found_mount mount m
 
@@ -230,7 +231,8 @@ module _ (world : World ℕ) (tasks : List (Task ℕ)) (left : List (Location �
 
   filesystems_but : IsPlain world → FilesystemsInUseBut losers.filesystems mounted
   filesystems_but plain =
-      all_pass (λ filesystem. is_among nat_eq filesystem.number losers.filesystems || filesystem_lives nat_eq mounted filesystem) world.filesystems
+      all_pass (λ filesystem. is_among nat_eq filesystem.number losers.filesystems
+      || filesystem_lives nat_eq mounted filesystem) world.filesystems
       (λ filesystem m.
       let lived = passes (filesystem_lives nat_eq world) world.filesystems in_use.filesystems filesystem m in
       let was = ⊎_elim (λ e. e) (λ layered. absurd (true≢false (sym layered ∙ no_layers filesystem.number world world.filesystems plain)))
@@ -245,7 +247,8 @@ module _ (world : World ℕ) (tasks : List (Task ℕ)) (left : List (Location �
       or_first (is_among nat_eq filesystem.number losers.filesystems) (filesystem_lives nat_eq mounted filesystem)
       (ap (λ n. is_among nat_eq n losers.filesystems)
       (eqb-true filesystem.number t.0.filesystem t.2 ∙ ap (λ x. x.filesystem) (sym (filesystem_left t.0 t.1 gone.0 gone.1 gone.2)))
-      ∙ is_among_numbers (mount_at nat_eq world gone.0).filesystem losers.filesystems (among-map (λ l. (mount_at nat_eq world l).filesystem) left gone.0 gone.1)))
+      ∙ is_among_numbers (mount_at nat_eq world gone.0).filesystem losers.filesystems
+      (among-map (λ l. (mount_at nat_eq world l).filesystem) left gone.0 gone.1)))
       (decided (mount_lives nat_eq after t.0)))
 
   pub groups_but : GroupsInUseBut losers.groups mounted
@@ -266,18 +269,7 @@ module _ (world : World ℕ) (tasks : List (Task ℕ)) (left : List (Location �
     used_still : (location : Location ℕ)
         → Among location (all_locations after ++ map root_of mounted.mounts ++ filter_map (λ mount. mount.mount_point) mounted.mounts)
         → filesystem.number ≡ (mount_at nat_eq mounted location).filesystem → is_inode_used swept filesystem location.node ≡ true
-    used_still location m e =
-        or_second (nat_eq location.node filesystem.files.tree.root) _
-        (is_among_left location.node (named_in filesystem.files ++ located_in nat_eq swept filesystem.number ++ layers_in nat_eq swept filesystem.number)
-        (flat_map (objects_of_overlay nat_eq filesystem.number) swept.filesystems)
-        (is_among_left location.node (named_in filesystem.files ++ located_in nat_eq swept filesystem.number) (layers_in nat_eq swept filesystem.number)
-        (is_among_right location.node (named_in filesystem.files) (located_in nat_eq swept filesystem.number)
-        (is_among_numbers location.node (located_in nat_eq swept filesystem.number)
-        (among-map (λ l. l.node) (filter (λ l. nat_eq filesystem.number (mount_at nat_eq mounted l).filesystem)
-        (all_locations after ++ map root_of mounted.mounts ++ filter_map (λ mount. mount.mount_point) mounted.mounts)) location
-        (among-filter (λ l. nat_eq filesystem.number (mount_at nat_eq mounted l).filesystem)
-        (all_locations after ++ map root_of mounted.mounts ++ filter_map (λ mount. mount.mount_point) mounted.mounts) location m
-        (eq-eqb filesystem.number (mount_at nat_eq mounted location).filesystem e)))))))
+    used_still location m e = used_at swept filesystem location m e
 
     -- what was left may go
     may_go : (location : Location ℕ) → Among location left → filesystem.number ≡ (mount_at nat_eq world location).filesystem
@@ -292,7 +284,8 @@ module _ (world : World ℕ) (tasks : List (Task ℕ)) (left : List (Location �
         (both number location.node node))
         (λ root. any_passes (λ inode. nat_eq filesystem.number inode.0 && nat_eq number inode.1) losers.inodes
         ((mount_at nat_eq world location).filesystem, (mount_at nat_eq world location).root)
-        (among-flat_map (inodes_of_location world) left location ((mount_at nat_eq world location).filesystem, (mount_at nat_eq world location).root) m (inr (inl refl)))
+        (among-flat_map (inodes_of_location world) left location
+        ((mount_at nat_eq world location).filesystem, (mount_at nat_eq world location).root) m (inr (inl refl)))
         (both number (mount_at nat_eq world location).root root))
         at)
       where
@@ -300,12 +293,14 @@ module _ (world : World ℕ) (tasks : List (Task ℕ)) (left : List (Location �
         both a b same = ap (λ t. t && nat_eq a b) (eq-eqb filesystem.number (mount_at nat_eq world location).filesystem e) ∙ eq-eqb a b same
 
     -- each location, root of a mount and place
-    by_location : (location : Location ℕ) → Among location (all_locations world) → filesystem.number ≡ (mount_at nat_eq world location).filesystem
+    by_location : (location : Location ℕ) → Among location (all_locations world)
+        → filesystem.number ≡ (mount_at nat_eq world location).filesystem
         → is_used_or_among losers.inodes swept filesystem location.node ≡ true
     by_location location m e =
         ⊎_elim
         (λ stays. or_second (is_inode_among filesystem.number location.node losers.inodes) _
-        (used_still location (among-append_left (all_locations after ++ map root_of mounted.mounts) (filter_map (λ mount. mount.mount_point) mounted.mounts) location
+        (used_still location (among-append_left (all_locations after ++ map root_of mounted.mounts)
+        (filter_map (λ mount. mount.mount_point) mounted.mounts) location
         (among-append_left (all_locations after) (map root_of mounted.mounts) location stays))
         (e ∙ ap (λ x. x.filesystem) (sym (found_still location.mount (λ mount n same. located_lives mount location stays same))))))
         (λ gone. may_go location gone e location.node (inl refl))
@@ -317,7 +312,8 @@ module _ (world : World ℕ) (tasks : List (Task ℕ)) (left : List (Location �
         ⊎_elim
         (λ lives. or_second (is_inode_among filesystem.number mount.root losers.inodes) _
         (used_still (root_of mount)
-        (among-append_left (all_locations after ++ map root_of mounted.mounts) (filter_map (λ x. x.mount_point) mounted.mounts) (root_of mount)
+        (among-append_left (all_locations after ++ map root_of mounted.mounts) (filter_map (λ x. x.mount_point) mounted.mounts)
+        (root_of mount)
         (among-append_right (all_locations after) (map root_of mounted.mounts) (root_of mount)
         (among-map root_of mounted.mounts mount (among-filter (mount_lives nat_eq after) world.mounts mount m lives))))
         (e ∙ ap (λ x. x.filesystem) (sym (found_still mount.number (only_one mount m lives))))))
@@ -333,7 +329,8 @@ module _ (world : World ℕ) (tasks : List (Task ℕ)) (left : List (Location �
         (used_still place
         (among-append_right (all_locations after ++ map root_of mounted.mounts) (filter_map (λ x. x.mount_point) mounted.mounts) place
         (among-filter_map (λ x. x.mount_point) mounted.mounts mount place
-        (among-filter (mount_lives nat_eq after) world.mounts mount m (attached_lives mount (is_attached (is_some mount.namespace) refl))) p))
+        (among-filter (mount_lives nat_eq after) world.mounts mount m
+        (attached_lives mount (is_attached (is_some mount.namespace) refl))) p))
         (e ∙ ap (λ x. x.filesystem) (sym (found_still place.mount (λ other n same.
         only_one on there (attached_lives on on_attached) other n (same ∙ sym (number_found world.mounts place.mount)))))))
       where
@@ -343,25 +340,25 @@ module _ (world : World ℕ) (tasks : List (Task ℕ)) (left : List (Location �
         is_attached : (b : Bool) → is_some mount.namespace ≡ b → is_some mount.namespace ≡ true
         is_attached true f = f
         is_attached false f =
-            absurd (true≢false (sym (ap is_some p) ∙ (nowhere_parts mount (passes is_nowhere_or_attached world.mounts stand.nowhere mount m) f).0))
+            absurd (true≢false (sym (ap is_some p)
+            ∙ (nowhere_parts mount (passes is_nowhere_or_attached world.mounts stand.nowhere mount m) f).0))
 
         on_attached : is_some (mount_at nat_eq world place).namespace ≡ true
-        on_attached =
-            (and_parts (is_some (mount_at nat_eq world place).namespace) true
-            (sym (ap (λ o. list_all (λ l. is_some (mount_at nat_eq world l).namespace) (option_to_list o)) p)
-            ∙ passes (stands_on_attached world) world.mounts stand.on_attached mount m)).0
+        on_attached = place_attached world stand mount m place p
 
         there : Among (mount_at nat_eq world place) world.mounts
         there = found_is_there world.mounts place.mount on_attached
 
     -- what the world had places at
-    pub by_located : (number : ℕ) → Among number (located_in nat_eq world filesystem.number) → is_used_or_among losers.inodes swept filesystem number ≡ true
+    pub by_located : (number : ℕ) → Among number (located_in nat_eq world filesystem.number)
+        → is_used_or_among losers.inodes swept filesystem number ≡ true
     by_located number m =
         let from = among-from_map (λ l. l.node) (filter (λ l. nat_eq filesystem.number (mount_at nat_eq world l).filesystem)
         (all_locations world ++ map root_of world.mounts ++ filter_map (λ mount. mount.mount_point) world.mounts)) number m in
         let here = among-from_filter (λ l. nat_eq filesystem.number (mount_at nat_eq world l).filesystem)
         (all_locations world ++ map root_of world.mounts ++ filter_map (λ mount. mount.mount_point) world.mounts) from.0 from.1 in
-        let e : filesystem.number ≡ (mount_at nat_eq world from.0).filesystem = eqb-true filesystem.number (mount_at nat_eq world from.0).filesystem here.1 in
+        let e : filesystem.number ≡ (mount_at nat_eq world from.0).filesystem = eqb-true filesystem.number
+        (mount_at nat_eq world from.0).filesystem here.1 in
         ap (is_used_or_among losers.inodes swept filesystem) from.2
         ∙ ⊎_elim
         (λ other. ⊎_elim
@@ -372,10 +369,12 @@ module _ (world : World ℕ) (tasks : List (Task ℕ)) (left : List (Location �
         (among-append (all_locations world) (map root_of world.mounts) from.0 other))
         (λ place. let mount = among-from_filter_map (λ x. x.mount_point) world.mounts from.0 place in
         by_place mount.0 mount.1 from.0 mount.2 e)
-        (among-append (all_locations world ++ map root_of world.mounts) (filter_map (λ mount. mount.mount_point) world.mounts) from.0 here.0)
+        (among-append (all_locations world ++ map root_of world.mounts)
+        (filter_map (λ mount. mount.mount_point) world.mounts) from.0 here.0)
 
     -- what the world used is used still, or may go
-    by_use : IsPlain world → (number : ℕ) → is_inode_used world filesystem number ≡ true → is_used_or_among losers.inodes swept filesystem number ≡ true
+    by_use : IsPlain world → (number : ℕ) → is_inode_used world filesystem number ≡ true
+        → is_used_or_among losers.inodes swept filesystem number ≡ true
     by_use plain number is_used =
         ⊎_elim
         (λ root. or_second (is_inode_among filesystem.number number losers.inodes) _
@@ -383,9 +382,11 @@ module _ (world : World ℕ) (tasks : List (Task ℕ)) (left : List (Location �
         (λ rest. ⊎_elim
         (λ named. or_second (is_inode_among filesystem.number number losers.inodes) _
         (or_second (nat_eq number filesystem.files.tree.root) _
-        (is_among_left number (named_in filesystem.files ++ located_in nat_eq swept filesystem.number ++ layers_in nat_eq swept filesystem.number)
+        (is_among_left number (named_in filesystem.files ++ located_in nat_eq swept filesystem.number
+        ++ layers_in nat_eq swept filesystem.number)
         (flat_map (objects_of_overlay nat_eq filesystem.number) swept.filesystems)
-        (is_among_left number (named_in filesystem.files ++ located_in nat_eq swept filesystem.number) (layers_in nat_eq swept filesystem.number)
+        (is_among_left number (named_in filesystem.files ++ located_in nat_eq swept filesystem.number)
+        (layers_in nat_eq swept filesystem.number)
         (is_among_left number (named_in filesystem.files) (located_in nat_eq swept filesystem.number) named)))))
         (by_located number) rest)
         (plain_uses world plain filesystem number is_used)
@@ -397,7 +398,8 @@ module _ (world : World ℕ) (tasks : List (Task ℕ)) (left : List (Location �
       all_pass (is_used_or_among losers.inodes living filesystem) filesystem.files.numbers
       (λ number n. by_use living.filesystems filesystem plain number
       (passes (is_inode_used world filesystem) filesystem.files.numbers
-      (among_from_all (λ f. list_all (is_inode_used world f) f.files.numbers ≡ true) world.filesystems in_use.inodes filesystem was.0) number n)))
+      (among_from_all (λ f. list_all (is_inode_used world f) f.files.numbers
+      ≡ true) world.filesystems in_use.inodes filesystem was.0) number n)))
 
 pub leaving_lets_go : LeavingLetsGo
 leaving_lets_go world tasks left settles only =

@@ -51,14 +51,16 @@ tree_attached world stand (suc depth) top is mount m =
     placed child n on =
         ⊎_elim (λ in_one. in_one)
         (λ out. absurd (true≢false
-        (sym (has_place child.mount_point on) ∙ (nowhere_parts child (passes is_nowhere_or_attached world.mounts stand.nowhere child n) out).0)))
+        (sym (has_place child.mount_point on) ∙ (nowhere_parts child
+        (passes is_nowhere_or_attached world.mounts stand.nowhere child n) out).0)))
         (decided (is_some child.namespace))
       where
         has_place : (place : Option (Location ℕ)) → holds_of (λ l. nat_eq top.number l.mount) place ≡ true → is_some place ≡ true
         has_place None e = absurd (true≢false (sym e))
         has_place (Some place) e = refl
 
-module _ (fresh : Fresh ℕ) (world : World ℕ) (number : ℕ) (word : TypeWord) (recursive : Bool) (in_use : AllInUse world) (stand : MountsStand world)
+module _ (fresh : Fresh ℕ) (world : World ℕ) (number : ℕ) (word : TypeWord) (recursive : Bool) (in_use : AllInUse world)
+    (stand : MountsStand world)
     (attached : is_attached world number ≡ true) where
   abbrev named : List (Mount ℕ)
   named = named_mounts nat_eq world number recursive
@@ -84,41 +86,52 @@ module _ (fresh : Fresh ℕ) (world : World ℕ) (number : ℕ) (word : TypeWord
   last b = changed world (map (change b) world.mounts) (masters b) world.namespaces world.tasks
 
   retyped_so : (b : Bool) → regrouped_by nat_eq b base ≡ last b
-  retyped_so true = ap (λ mounts. changed world mounts (masters true) world.namespaces world.tasks) (map_twice (inheriting nat_eq base) retype world.mounts)
+  retyped_so true = ap (λ mounts. changed world mounts (masters true) world.namespaces world.tasks)
+      (map_twice (inheriting nat_eq base) retype world.mounts)
   retyped_so false = refl
 
   -- a mount keeps all but its type
-  keeps : {A : Type 0} (part : Mount ℕ → A) → ((mount : Mount ℕ) (kind : Propagation ℕ) → part (record mount { propagation = kind }) ≡ part mount)
+  keeps : {A : Type 0} (part : Mount ℕ → A) → ((mount : Mount ℕ) (kind : Propagation ℕ)
+      → part (record mount { propagation = kind }) ≡ part mount)
       → (b : Bool) (mount : Mount ℕ) → part (change b mount) ≡ part mount
   keeps part same b mount = by b
     where
-      retyped : (c : Bool) → part (cond c (record mount { propagation = type_after (group mount.number) word mount.propagation }) mount) ≡ part mount
+      retyped : (c : Bool) → part (cond c (record mount { propagation = type_after (group mount.number) word mount.propagation }) mount)
+          ≡ part mount
       retyped true = same mount (type_after (group mount.number) word mount.propagation)
       retyped false = refl
 
       by : (c : Bool) → part (change c mount) ≡ part mount
-      by true = same (retype mount) (inherited nat_eq base (retype mount).propagation) ∙ retyped (list_any (λ other. nat_eq mount.number other.number) named)
+      by true = same (retype mount) (inherited nat_eq base (retype mount).propagation)
+          ∙ retyped (list_any (λ other. nat_eq mount.number other.number) named)
       by false = retyped (list_any (λ other. nat_eq mount.number other.number) named)
 
   abbrev is_named : Mount ℕ → Bool
   is_named mount = list_any (λ other. nat_eq mount.number other.number) named
 
   unnamed_stays : (mount : Mount ℕ) → is_named mount ≡ false → retype mount ≡ mount
-  unnamed_stays mount isnt = ap (λ c. cond c (record mount { propagation = type_after (group mount.number) word mount.propagation }) mount) isnt
+  unnamed_stays mount isnt = ap (λ c. cond c (record mount {
+    propagation = type_after
+        (group mount.number) word mount.propagation;
+  }) mount) isnt
 
   -- those that change are in namespaces
   named_of_world : (mount : Mount ℕ) → Among mount named → Among mount world.mounts × (is_some mount.namespace ≡ true)
   named_of_world = by recursive
     where
-      by : (b : Bool) → (mount : Mount ℕ) → Among mount (named_mounts nat_eq world number b) → Among mount world.mounts × (is_some mount.namespace ≡ true)
+      by : (b : Bool) → (mount : Mount ℕ) → Among mount (named_mounts nat_eq world number b)
+          → Among mount world.mounts × (is_some mount.namespace ≡ true)
       by true mount m = (
         of_tree world number attached (length world.mounts) mount m,
         tree_attached world stand (length world.mounts) (mount_numbered nat_eq world number) attached mount m,
       )
       by false mount m =
           ⊎_elim
-          (λ e.
-          (subst (λ x. Among x world.mounts) (sym e) (found_is_there world.mounts number attached), ap (λ (x : Mount ℕ). is_some x.namespace) e ∙ attached))
+          (λ e. (
+            subst (λ x. Among x world.mounts) (sym e) (found_is_there world.mounts number attached),
+            ap
+                (λ (x : Mount ℕ). is_some x.namespace) e ∙ attached,
+          ))
           (λ none. absurd none) m
 
   named_attached : (mount : Mount ℕ) → Among mount world.mounts → is_named mount ≡ true → is_some mount.namespace ≡ true
@@ -149,14 +162,22 @@ module _ (fresh : Fresh ℕ) (world : World ℕ) (number : ℕ) (word : TypeWord
       outside : (c : Bool) → is_some mount.namespace ≡ false → is_named mount ≡ false → is_nowhere_or_attached (change c mount) ≡ true
       outside true out isnt =
           ap (λ x. is_nowhere_or_attached (inheriting nat_eq base x)) (unnamed_stays mount isnt)
-          ∙ ap (λ kind. is_nowhere_or_attached (record mount { propagation = kind })) (private_stays mount.propagation (nowhere_parts mount was out).1) ∙ was
+          ∙ ap (λ kind. is_nowhere_or_attached (record mount { propagation = kind }))
+          (private_stays mount.propagation (nowhere_parts mount was out).1) ∙ was
       outside false out isnt = ap is_nowhere_or_attached (unnamed_stays mount isnt) ∙ was
 
   loses : (b : Bool) → Loses world (last b) [] []
   loses b = record {
     images = λ mount m. (
       change b mount,
-      (among-map (change b) world.mounts mount m, (keeps root_of (λ x kind. refl) b mount, keeps (λ x. x.filesystem) (λ x kind. refl) b mount)),
+      (
+        among-map (change b) world.mounts mount m,
+        (
+          keeps root_of (λ x kind. refl) b mount,
+          keeps (λ x. x.filesystem)
+              (λ x kind. refl) b mount,
+        ),
+      ),
     );
     shown = λ location m. ⊎_elim (λ e. e)
         (λ found. ap (λ x. x.filesystem)
@@ -169,7 +190,13 @@ module _ (fresh : Fresh ℕ) (world : World ℕ) (number : ℕ) (word : TypeWord
         ∙ passes (mount_lives nat_eq world) world.mounts in_use.mounts from.0 from.1;
     locations = λ location m. inl (inl m);
     places = λ mount m place p.
-        inl (change b mount, (among-map (change b) world.mounts mount m, (keeps (λ x. x.mount_point) (λ x kind. refl) b mount ∙ p, inl refl)));
+        inl (
+          change b mount,
+          (
+            among-map (change b) world.mounts mount m,
+            (keeps (λ x. x.mount_point) (λ x kind. refl) b mount ∙ p, inl refl),
+          ),
+        );
     nowhere = all_pass is_nowhere_or_attached (last b).mounts (λ x m.
         let from = among-from_map (change b) world.mounts x m in ap is_nowhere_or_attached from.2 ∙ nowhere b from.0 from.1);
   }
@@ -177,7 +204,8 @@ module _ (fresh : Fresh ℕ) (world : World ℕ) (number : ℕ) (word : TypeWord
   abbrev numbers : List ℕ
   numbers = map (λ mount. mount.number) named
 
-  unnamed_member : (b : Bool) (mount : Mount ℕ) → is_among nat_eq mount.number numbers ≡ false → (one : ℕ) → is_member_of nat_eq one mount ≡ true
+  unnamed_member : (b : Bool) (mount : Mount ℕ) → is_among nat_eq mount.number numbers ≡ false → (one : ℕ)
+      → is_member_of nat_eq one mount ≡ true
       → is_member_of nat_eq one (change b mount) ≡ true
   unnamed_member b mount isnt one is = by b
     where
@@ -186,25 +214,30 @@ module _ (fresh : Fresh ℕ) (world : World ℕ) (number : ℕ) (word : TypeWord
           unnamed_stays mount (false_from_ne_true (is_named mount) (λ h.
           let t = one_passes (λ other. nat_eq mount.number other.number) named h in
           true≢false (sym (is_among_numbers mount.number numbers
-          (subst (λ n. Among n numbers) (sym (eqb-true mount.number t.0.number t.2)) (among-map (λ (x : Mount ℕ). x.number) named t.0 t.1))) ∙ isnt)))
+          (subst (λ n. Among n numbers) (sym (eqb-true mount.number t.0.number t.2))
+          (among-map (λ (x : Mount ℕ). x.number) named t.0 t.1))) ∙ isnt)))
 
-      shared : (kind : Propagation ℕ) → holds_of (nat_eq one) (group_of kind) ≡ true → holds_of (nat_eq one) (group_of (inherited nat_eq base kind)) ≡ true
+      shared : (kind : Propagation ℕ) → holds_of (nat_eq one) (group_of kind) ≡ true
+          → holds_of (nat_eq one) (group_of (inherited nat_eq base kind)) ≡ true
       shared (Shared own) e = e
       shared (Slave up) e = absurd (true≢false (sym e))
       shared Private e = absurd (true≢false (sym e))
       shared Unbindable e = absurd (true≢false (sym e))
 
       by : (c : Bool) → is_member_of nat_eq one (change c mount) ≡ true
-      by true = ap (λ (x : Mount ℕ). holds_of (nat_eq one) (group_of (inherited nat_eq base x.propagation))) same ∙ shared mount.propagation is
+      by true = ap (λ (x : Mount ℕ). holds_of (nat_eq one) (group_of (inherited nat_eq base x.propagation))) same
+          ∙ shared mount.propagation is
       by false = ap (is_member_of nat_eq one) same ∙ is
 
-  no_master : (b : Bool) (one : ℕ) → is_among nat_eq one (map (λ mount. group mount.number) named) ≡ false → world.master one ≡ None → masters b one ≡ None
+  no_master : (b : Bool) (one : ℕ) → is_among nat_eq one (map (λ mount. group mount.number) named) ≡ false → world.master one ≡ None
+      → masters b one ≡ None
   no_master b one old e = by b
     where
       before : base.master one ≡ None
       before =
           old_masters group named world.master one (λ mount m. false_from_ne_true (nat_eq one (group mount.number)) (λ same.
-          true≢false (sym (any_passes (nat_eq one) (map (λ x. group x.number) named) (group mount.number) (among-map (λ x. group x.number) named mount m) same) ∙ old)))
+          true≢false (sym (any_passes (nat_eq one) (map (λ x. group x.number) named) (group mount.number)
+          (among-map (λ x. group x.number) named mount m) same) ∙ old)))
           ∙ e
 
       by : (c : Bool) → masters c one ≡ None
@@ -213,22 +246,26 @@ module _ (fresh : Fresh ℕ) (world : World ℕ) (number : ℕ) (word : TypeWord
 
   hears : (b : Bool) → GroupsInUseBut (groups_of_types fresh world number recursive) (last b)
   hears b one among none =
-      let parts = or_parts (is_among nat_eq one (groups_of_mounts world numbers)) (is_among nat_eq one (map (λ mount. group mount.number) named))
+      let parts = or_parts (is_among nat_eq one (groups_of_mounts world numbers))
+      (is_among nat_eq one (map (λ mount. group mount.number) named))
       (sym (list_any-append (nat_eq one) (groups_of_mounts world numbers) (map (λ mount. group mount.number) named)) ∙ among) in
       no_master b one parts.1
       (no_members world (last b) numbers in_use.groups
-      (λ mount m isnt other is. any_passes (is_member_of nat_eq other) (last b).mounts (change b mount) (among-map (change b) world.mounts mount m)
+      (λ mount m isnt other is. any_passes (is_member_of nat_eq other) (last b).mounts (change b mount)
+      (among-map (change b) world.mounts mount m)
       (unnamed_member b mount isnt other is)) one parts.0 none)
 
 pub set_types_let_go : SetTypesLetGo
 set_types_let_go fresh world task number word recursive in_use stand attached =
-    subst (λ w. settled nat_eq w ≡ let_go_groups w (groups_of_types fresh world number recursive)) (sym (retyped_so fresh world number word recursive in_use stand attached b))
+    subst (λ w. settled nat_eq w ≡ let_go_groups w (groups_of_types fresh world number recursive))
+    (sym (retyped_so fresh world number word recursive in_use stand attached b))
     (only_groups_go world now.mounts now.master world.filesystems (groups_of_types fresh world number recursive) in_use stand
     (loses fresh world number word recursive in_use stand attached b) (hears fresh world number word recursive in_use stand attached b)
     (record { kept = λ f m. m; new = λ f m. inl m }))
   where
     b : Bool
-    b = list_any (lost_a_group nat_eq (base fresh world number word recursive in_use stand attached)) (base fresh world number word recursive in_use stand attached).mounts
+    b = list_any (lost_a_group nat_eq (base fresh world number word recursive in_use stand attached))
+        (base fresh world number word recursive in_use stand attached).mounts
 
     now : World ℕ
     now = last fresh world number word recursive in_use stand attached b

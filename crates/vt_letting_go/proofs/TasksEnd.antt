@@ -1,7 +1,7 @@
 -- What goes when tasks leave locations and namespaces at once.
-use Rattle.std.proofs.Common.{◌≡◌, refl, sym, ap, subst, ◌∙◌, ◌⊎◌, inl, inr, ⊎_elim, ℕ, nat_eq, eqb-true, Bool, true, false, cond, not, ◌||◌, List, filter, map, true≢false, flat_map, ◌++◌, Some, is_some, option_to_list}
-use Rattle.std.specs.List.{list_all, list_any}
-use Rattle.std.proofs.lemmas.Bool.{and_parts, or_cases, or_parts}
+use Rattle.std.proofs.Common.{◌≡◌, refl, sym, ap, subst, ◌∙◌, ◌⊎◌, inl, inr, ⊎_elim, ℕ, nat_eq, eqb-true, Bool, true, false, cond, not, ◌||◌, List, filter, map, true≢false, flat_map, ◌++◌, Some, is_some}
+use Rattle.std.specs.List.{list_any}
+use Rattle.std.proofs.lemmas.Bool.{or_cases, or_parts}
 use Rattle.std.proofs.lemmas.List.Folds.{list_any-append}
 use Rattle.vt_spec.specs.Language.Calls.{TaskName, same_name}
 use Rattle.vt_spec.specs.Lists.{Fresh, evens, holds_of, is_among, odds}
@@ -16,7 +16,7 @@ use Rattle.vt_letting_go.specs.EndingTasks.{EntersLetGo, EntersWithOverlaysLetGo
 use Rattle.vt_letting_go.specs.InUse.{AllInUse, GroupsInUse}
 use Rattle.vt_letting_go.specs.Keeping.{LocationsStand}
 use Rattle.vt_letting_go.specs.Unmounting.{groups_of_mounts}
-use Rattle.vt_letting_go.specs.Leaving.{IsSettledPlain, MountsStand, is_location_among, only_these_are_left, stands_on_attached}
+use Rattle.vt_letting_go.specs.Leaving.{IsSettledPlain, MountsStand, is_location_among, only_these_are_left}
 use Rattle.vt_letting_go.specs.LeavingOverlays.{IsSettled}
 use Rattle.vt_letting_go.specs.Mounting.{ended_mounts, loses_its_place, places_lost}
 use Rattle.vt_letting_go.specs.OneByOne.{GroupsInUseBut, let_go}
@@ -29,14 +29,15 @@ use Rattle.vt_letting_go.proofs.MountingOverlays.{all_losers_go}
 use Rattle.vt_letting_go.proofs.MountingTaken
 use Rattle.vt_letting_go.proofs.MountingTaken.{is_changed, nowhere_after, same_filesystem, same_namespace, same_number, same_place, same_root}
 use Rattle.vt_letting_go.proofs.MountsAdded.{found_before}
-use Rattle.vt_letting_go.proofs.PlacesLeft.{found_itself, is_it}
+use Rattle.vt_letting_go.proofs.PlacesLeft.{found_itself, is_it, place_attached}
 
 -- A world with more mounts, other tasks and other namespaces, in which namespaces end
 module _ (world : World ℕ) (all : List (Mount ℕ)) (tasks : List (Task ℕ)) (namespaces : List (Namespace ℕ)) (left : List (Location ℕ))
     (in_use : AllInUse world) (stand : MountsStand world)
     (kept : (mount : Mount ℕ) → Among mount world.mounts → Among mount all)
     (new : (mount : Mount ℕ) → Among mount all → Among mount world.mounts ⊎ (is_some mount.namespace ≡ true))
-    (found : (location : Location ℕ) → Among location (places_of world) → mount_in nat_eq all location.mount ≡ mount_in nat_eq world.mounts location.mount)
+    (found : (location : Location ℕ) → Among location (places_of world) → mount_in nat_eq all location.mount
+    ≡ mount_in nat_eq world.mounts location.mount)
     (stay : (location : Location ℕ) → Among location (all_locations world)
     → Among location (flat_map locations_of tasks) ⊎ Among location left) where
   abbrev pub base : World ℕ
@@ -76,13 +77,16 @@ module _ (world : World ℕ) (all : List (Mount ℕ)) (tasks : List (Task ℕ)) 
       (or_parts (is_among nat_eq number (map (λ location. location.mount) left)) (is_among nat_eq number ended)
       (sym (list_any-append (nat_eq number) (map (λ location. location.mount) left) ended) ∙ isnt)).0
 
-  attached_still : (mount : Mount ℕ) → is_going nat_eq ended mount.number ≡ false → is_some mount.namespace ≡ true → is_some (change mount).namespace ≡ true
+  attached_still : (mount : Mount ℕ) → is_going nat_eq ended mount.number ≡ false → is_some mount.namespace ≡ true
+      → is_some (change mount).namespace ≡ true
   attached_still mount isnt e = ap is_some (same_namespace base ended lasting b mount isnt) ∙ e
 
-  old_lives : (mount : Mount ℕ) → Among mount world.mounts → is_among nat_eq mount.number gone ≡ false → mount_lives nat_eq last (change mount) ≡ true
+  old_lives : (mount : Mount ℕ) → Among mount world.mounts → is_among nat_eq mount.number gone ≡ false
+      → mount_lives nat_eq last (change mount) ≡ true
   old_lives mount m isnt =
       ⊎_elim
-      (λ in_one. or_first (is_some (change mount).namespace) (is_located nat_eq last (change mount).number) (attached_still mount (not_ended mount.number isnt) in_one))
+      (λ in_one. or_first (is_some (change mount).namespace) (is_located nat_eq last (change mount).number)
+      (attached_still mount (not_ended mount.number isnt) in_one))
       (λ at. let t = one_passes (λ l. nat_eq mount.number l.mount) (all_locations world) at in
       ⊎_elim
       (λ there. or_second (is_some (change mount).namespace) (is_located nat_eq last (change mount).number)
@@ -94,27 +98,27 @@ module _ (world : World ℕ) (all : List (Mount ℕ)) (tasks : List (Task ℕ)) 
       (among-map (λ (location : Location ℕ). location.mount) left t.0 gone_from)))
       ∙ not_left mount.number isnt)))
       (stay t.0 t.1))
-      (or_cases (is_some mount.namespace) (is_located nat_eq world mount.number) (passes (mount_lives nat_eq world) world.mounts in_use.mounts mount m))
+      (or_cases (is_some mount.namespace) (is_located nat_eq world mount.number)
+      (passes (mount_lives nat_eq world) world.mounts in_use.mounts mount m))
 
   lives : (mount : Mount ℕ) → Among mount all → is_among nat_eq mount.number gone ≡ false → mount_lives nat_eq last (change mount) ≡ true
   lives mount m isnt =
       ⊎_elim
       (λ was. old_lives mount was isnt)
-      (λ in_one. or_first (is_some (change mount).namespace) (is_located nat_eq last (change mount).number) (attached_still mount (not_ended mount.number isnt) in_one))
+      (λ in_one. or_first (is_some (change mount).namespace) (is_located nat_eq last (change mount).number)
+      (attached_still mount (not_ended mount.number isnt) in_one))
       (new mount m)
 
   nowhere : (mount : Mount ℕ) → Among mount all → is_nowhere_or_attached (change mount) ≡ true
   nowhere mount m =
       nowhere_after base ended lasting b mount
-      (⊎_elim (passes is_nowhere_or_attached world.mounts stand.nowhere mount) (λ in_one. or_first (is_some mount.namespace) _ in_one) (new mount m))
+      (⊎_elim (passes is_nowhere_or_attached world.mounts stand.nowhere mount) (λ in_one. or_first (is_some mount.namespace) _ in_one)
+      (new mount m))
 
   -- what a mount stands on is in a namespace
   stands_in_one : (mount : Mount ℕ) → Among mount world.mounts → (at : Location ℕ) → mount.mount_point ≡ Some at
       → is_some (mount_at nat_eq world at).namespace ≡ true
-  stands_in_one mount m at p =
-      (and_parts (is_some (mount_at nat_eq world at).namespace) true
-      (sym (ap (λ o. list_all (λ l. is_some (mount_at nat_eq world l).namespace) (option_to_list o)) p)
-      ∙ passes (stands_on_attached world) world.mounts stand.on_attached mount m)).0
+  stands_in_one = place_attached world stand
 
   on_attached : (number : ℕ) → is_some (mount_numbered nat_eq world number).namespace ≡ true → is_going nat_eq ended number ≡ false
       → (other : Mount ℕ) → Among other last.mounts → other.number ≡ number → is_some other.namespace ≡ true
@@ -124,7 +128,8 @@ module _ (world : World ℕ) (all : List (Mount ℕ)) (tasks : List (Task ℕ)) 
       ap (λ (x : Mount ℕ). is_some x.namespace) from.2
       ∙ attached_still from.0 (ap (is_going nat_eq ended) same ∙ isnt)
       (⊎_elim
-      (λ was. ap (λ (x : Mount ℕ). is_some x.namespace) (sym (found_itself world.mounts stand.one_number from.0 was) ∙ ap (mount_in nat_eq world.mounts) same) ∙ in_one)
+      (λ was. ap (λ (x : Mount ℕ). is_some x.namespace) (sym (found_itself world.mounts stand.one_number from.0 was)
+      ∙ ap (mount_in nat_eq world.mounts) same) ∙ in_one)
       (λ is. is)
       (new from.0 from.1))
 
@@ -135,7 +140,8 @@ module _ (world : World ℕ) (all : List (Mount ℕ)) (tasks : List (Task ℕ)) 
       (λ is. inr (among-append_left (places_lost world ended) left at
       (among-filter_map (λ x. x.mount_point) (filter (loses_its_place ended) world.mounts) mount at
       (among-filter (loses_its_place ended) world.mounts mount m is) p)))
-      (λ isnt. let parts = or_parts (is_going nat_eq ended mount.number) (holds_of (λ l. is_going nat_eq ended l.mount) mount.mount_point) isnt in
+      (λ isnt. let parts = or_parts (is_going nat_eq ended mount.number)
+      (holds_of (λ l. is_going nat_eq ended l.mount) mount.mount_point) isnt in
       let on : is_going nat_eq ended at.mount ≡ false = sym (ap (holds_of (λ l. is_going nat_eq ended l.mount)) p) ∙ parts.1 in
       inl (
         change mount,
@@ -167,8 +173,10 @@ module _ (world : World ℕ) (all : List (Mount ℕ)) (tasks : List (Task ℕ)) 
     shown = shows_the_same;
     live = λ other m isnt. let from = among-from_map change all other m in
         ap (mount_lives nat_eq last) from.2
-        ∙ lives from.0 from.1 (ap (λ n. is_among nat_eq n gone) (sym (number_kept from.0) ∙ ap (λ (x : Mount ℕ). x.number) (sym from.2)) ∙ isnt);
-    locations = λ location m. ⊎_elim (λ there. inl (inl there)) (λ gone_from. inr (among-append_right (places_lost world ended) left location gone_from))
+        ∙ lives from.0 from.1 (ap (λ n. is_among nat_eq n gone) (sym (number_kept from.0) ∙ ap (λ (x : Mount ℕ). x.number) (sym from.2))
+        ∙ isnt);
+    locations = λ location m. ⊎_elim (λ there. inl (inl there))
+        (λ gone_from. inr (among-append_right (places_lost world ended) left location gone_from))
         (stay location m);
     places = place_still;
     nowhere = all_pass is_nowhere_or_attached last.mounts (λ other m.
@@ -197,8 +205,10 @@ module _ (world : World ℕ) (all : List (Mount ℕ)) (tasks : List (Task ℕ)) 
   ended_lets_go : IsSettledPlain world
       → ((mount : Mount ℕ) → Among mount world.mounts → Among mount all)
       → ((mount : Mount ℕ) → Among mount all → Among mount world.mounts ⊎ (is_some mount.namespace ≡ true))
-      → ((location : Location ℕ) → Among location (places_of world) → mount_in nat_eq all location.mount ≡ mount_in nat_eq world.mounts location.mount)
-      → ((location : Location ℕ) → Among location (all_locations world) → Among location (flat_map locations_of tasks) ⊎ Among location left)
+      → ((location : Location ℕ) → Among location (places_of world) → mount_in nat_eq all location.mount
+      ≡ mount_in nat_eq world.mounts location.mount)
+      → ((location : Location ℕ) → Among location (all_locations world) → Among location (flat_map locations_of tasks)
+      ⊎ Among location left)
       → settled nat_eq (namespaces_ended nat_eq ending) ≡ let_go (namespaces_ended nat_eq ending) (used_by_ended world left ending)
   ended_lets_go settles kept new found stay =
       subst (λ w. settled nat_eq w ≡ let_go w (used_by_ended world left ending))
@@ -214,13 +224,17 @@ module _ (world : World ℕ) (all : List (Mount ℕ)) (tasks : List (Task ℕ)) 
   all_ended_lets_go : IsSettled world
       → ((mount : Mount ℕ) → Among mount world.mounts → Among mount all)
       → ((mount : Mount ℕ) → Among mount all → Among mount world.mounts ⊎ (is_some mount.namespace ≡ true))
-      → ((location : Location ℕ) → Among location (places_of world) → mount_in nat_eq all location.mount ≡ mount_in nat_eq world.mounts location.mount)
-      → ((location : Location ℕ) → Among location (all_locations world) → Among location (flat_map locations_of tasks) ⊎ Among location left)
-      → settled nat_eq (namespaces_ended nat_eq ending) ≡ let_go_all (namespaces_ended nat_eq ending) (used_by_ended_with_layers world left ending)
+      → ((location : Location ℕ) → Among location (places_of world) → mount_in nat_eq all location.mount
+      ≡ mount_in nat_eq world.mounts location.mount)
+      → ((location : Location ℕ) → Among location (all_locations world) → Among location (flat_map locations_of tasks)
+      ⊎ Among location left)
+      → settled nat_eq (namespaces_ended nat_eq ending) ≡ let_go_all (namespaces_ended nat_eq ending)
+      (used_by_ended_with_layers world left ending)
   all_ended_lets_go settles kept new found stay =
       subst (λ w. settled nat_eq w ≡ let_go_all w (used_by_ended_with_layers world left ending))
       (sym (ends_so world all tasks namespaces left settles.in_use settles.mounts kept new found stay))
-      (all_losers_go world now.mounts now.master now.namespaces tasks (gone_with left ending) (places_lost world (ended_mounts ending) ++ left)
+      (all_losers_go world now.mounts now.master now.namespaces tasks (gone_with left ending)
+      (places_lost world (ended_mounts ending) ++ left)
       (groups_of_mounts ending (ended_mounts ending)) settles
       (ends_losing world all tasks namespaces left settles.in_use settles.mounts kept new found stay)
       (ends_hearing world all tasks namespaces left settles.in_use settles.mounts kept new found stay))
@@ -248,7 +262,8 @@ leaving_namespaces_with_overlays_lets_go world tasks left settles only =
 
 -- One task that goes, or is another
 module _ (world : World ℕ) (name : TaskName) where
-  of_named : (task : Task ℕ) → Among task world.tasks → same_name name task.name ≡ true → (location : Location ℕ) → Among location (locations_of task)
+  of_named : (task : Task ℕ) → Among task world.tasks → same_name name task.name ≡ true → (location : Location ℕ)
+      → Among location (locations_of task)
       → Among location (locations_of_named world name)
   of_named task m is location n =
       among-flat_map locations_of (filter (λ other. same_name name other.name) world.tasks) task location
@@ -288,23 +303,27 @@ exits_with_overlays_let_go fresh world task settles =
 
 pub enters_let_go : EntersLetGo
 enters_let_go fresh world task namespace settles =
-    ended_lets_go world world.mounts (namespace_entered nat_eq world task namespace).tasks world.namespaces (locations_of_named world task.name) settles
+    ended_lets_go world world.mounts (namespace_entered nat_eq world task namespace).tasks world.namespaces
+    (locations_of_named world task.name) settles
     (λ mount m. m) (λ mount m. inl m) (λ location m. refl) (with_another world task.name _ refl)
 
 pub enters_with_overlays_let_go : EntersWithOverlaysLetGo
 enters_with_overlays_let_go fresh world task namespace settles =
-    all_ended_lets_go world world.mounts (namespace_entered nat_eq world task namespace).tasks world.namespaces (locations_of_named world task.name) settles
+    all_ended_lets_go world world.mounts (namespace_entered nat_eq world task namespace).tasks world.namespaces
+    (locations_of_named world task.name) settles
     (λ mount m. m) (λ mount m. inl m) (λ location m. refl) (with_another world task.name _ refl)
 
 -- Copies in a new namespace
 module _ (world : World ℕ) (fresh : Fresh ℕ) (task : Task ℕ) where
   abbrev copies : List (Mount ℕ)
-  copies = map (copied_mount (numbers_by nat_eq (odds fresh) (mounts_of nat_eq world task.namespace)) (evens fresh 0)) (mounts_of nat_eq world task.namespace)
+  copies = map (copied_mount (numbers_by nat_eq (odds fresh) (mounts_of nat_eq world task.namespace)) (evens fresh 0))
+      (mounts_of nat_eq world task.namespace)
 
   was_or_copy : (mount : Mount ℕ) → Among mount (world.mounts ++ copies) → Among mount world.mounts ⊎ (is_some mount.namespace ≡ true)
   was_or_copy mount m =
       ⊎_elim inl
-      (λ copy. let from = among-from_map (copied_mount (numbers_by nat_eq (odds fresh) (mounts_of nat_eq world task.namespace)) (evens fresh 0))
+      (λ copy. let from = among-from_map (copied_mount (numbers_by nat_eq (odds fresh) (mounts_of nat_eq world task.namespace))
+      (evens fresh 0))
       (mounts_of nat_eq world task.namespace) mount copy in
       inr (ap (λ (x : Mount ℕ). is_some x.namespace) from.2))
       (among-append world.mounts copies mount m)
@@ -315,12 +334,14 @@ module _ (world : World ℕ) (fresh : Fresh ℕ) (task : Task ℕ) where
 
 pub unshares_let_go : UnsharesLetGo
 unshares_let_go fresh world task settles located =
-    ended_lets_go world (world.mounts ++ copies world fresh task) (unshared nat_eq world fresh task).tasks (unshared nat_eq world fresh task).namespaces
+    ended_lets_go world (world.mounts ++ copies world fresh task) (unshared nat_eq world fresh task).tasks
+    (unshared nat_eq world fresh task).namespaces
     (locations_of_named world task.name) settles (λ mount m. among-append_left world.mounts (copies world fresh task) mount m)
     (was_or_copy world fresh task) (found_with_copies world fresh task settles.mounts located) (with_another world task.name _ refl)
 
 pub unshares_with_overlays_let_go : UnsharesWithOverlaysLetGo
 unshares_with_overlays_let_go fresh world task settles located =
-    all_ended_lets_go world (world.mounts ++ copies world fresh task) (unshared nat_eq world fresh task).tasks (unshared nat_eq world fresh task).namespaces
+    all_ended_lets_go world (world.mounts ++ copies world fresh task) (unshared nat_eq world fresh task).tasks
+    (unshared nat_eq world fresh task).namespaces
     (locations_of_named world task.name) settles (λ mount m. among-append_left world.mounts (copies world fresh task) mount m)
     (was_or_copy world fresh task) (found_with_copies world fresh task settles.mounts located) (with_another world task.name _ refl)

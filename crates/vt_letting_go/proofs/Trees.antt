@@ -21,7 +21,8 @@ among_targets name (entry ∷ entries) number e = by (eq_by_cmp name_cmp name en
     by : (b : Bool) → (entry_named name entries ≡ Some number → is_among nat_eq number (map (λ e. e.1) entries) ≡ true)
         → cond b (Some entry.1) (entry_named name entries) ≡ Some number
         → (nat_eq number entry.1 || is_among nat_eq number (map (λ e. e.1) entries)) ≡ true
-    by true rest is = ap (λ b. b || is_among nat_eq number (map (λ e. e.1) entries)) (eq-eqb number entry.1 (sym (same_Some entry.1 number is)))
+    by true rest is = ap (λ b. b || is_among nat_eq number (map (λ e. e.1) entries))
+        (eq-eqb number entry.1 (sym (same_Some entry.1 number is)))
     by false rest is = or_second (nat_eq number entry.1) _ (rest is)
 
 -- what has an entry is there

@@ -60,7 +60,8 @@ module _ (world : World ℕ) (number : ℕ) (files : FileTree ℕ) (unnamed : Li
       let from = among-from_map (replaced_if_numbered nat_eq new) world.filesystems filesystem m in
       by (nat_eq new.number from.0.number) from.0 from.1 from.2
     where
-      by : (b : Bool) (f : Filesystem ℕ) → Among f world.filesystems → filesystem ≡ cond b new f → (filesystem ≡ new) ⊎ Among filesystem world.filesystems
+      by : (b : Bool) (f : Filesystem ℕ) → Among f world.filesystems → filesystem ≡ cond b new f
+          → (filesystem ≡ new) ⊎ Among filesystem world.filesystems
       by true f n e = inl e
       by false f n e = inr (subst (λ g. Among g world.filesystems) (sym e) n)
 
@@ -73,17 +74,20 @@ module _ (world : World ℕ) (number : ℕ) (files : FileTree ℕ) (unnamed : Li
 
   plain_after : IsPlain after
   plain_after =
-      none_passes is_overlay after.filesystems (for_each (λ f. is_overlay f ≡ false) plain_old (λ f m. fails is_overlay world.filesystems settles.plain f m))
+      none_passes is_overlay after.filesystems (for_each (λ f. is_overlay f ≡ false) plain_old
+      (λ f m. fails is_overlay world.filesystems settles.plain f m))
 
   trees_after : HasTrees after
   trees_after =
       all_from_among (λ f. IsListedTree f.files) after.filesystems
-      (for_each (λ f. IsListedTree f.files) changes.tree (λ f m. among_from_all (λ g. IsListedTree g.files) world.filesystems settles.trees f m))
+      (for_each (λ f. IsListedTree f.files) changes.tree
+      (λ f m. among_from_all (λ g. IsListedTree g.files) world.filesystems settles.trees f m))
 
   mounted_old : (f : Filesystem ℕ) → Among f world.filesystems → is_mounted nat_eq world f.number ≡ true
   mounted_old f m =
       ⊎_elim (λ e. e) (λ layered. absurd (true≢false (sym layered ∙ no_layers f.number world world.filesystems settles.plain)))
-      (or_cases (is_mounted nat_eq world f.number) _ (passes (filesystem_lives nat_eq world) world.filesystems settles.in_use.filesystems f m))
+      (or_cases (is_mounted nat_eq world f.number) _
+      (passes (filesystem_lives nat_eq world) world.filesystems settles.in_use.filesystems f m))
 
   filesystems_after : FilesystemsInUse after
   filesystems_after =
@@ -117,7 +121,8 @@ module _ (world : World ℕ) (number : ℕ) (files : FileTree ℕ) (unnamed : Li
       by h =
           ⊎_elim (λ root. or_first (nat_eq inode f.files.tree.root) _ (eq-eqb inode f.files.tree.root root))
           (λ rest. ⊎_elim (λ named. under (is_among_left inode (named_in f.files) (located_in nat_eq world f.number) named))
-          (λ located. under (is_among_right inode (named_in f.files) (located_in nat_eq world f.number) (is_among_numbers inode _ located))) rest) h
+          (λ located. under (is_among_right inode (named_in f.files) (located_in nat_eq world f.number)
+          (is_among_numbers inode _ located))) rest) h
 
   -- an inode of the changed tree is used, or may go
   of_new : (inode : ℕ) → Among inode files.numbers → is_used_or_among losers.inodes after new inode ≡ true
@@ -145,7 +150,8 @@ module _ (world : World ℕ) (number : ℕ) (files : FileTree ℕ) (unnamed : Li
       (or_cases (is_among nat_eq inode old.files.numbers) (is_among nat_eq inode (named_in files))
       (passes (λ k. is_among nat_eq k old.files.numbers || is_among nat_eq k (named_in files)) files.numbers changes.inodes inode m))
     where
-      still : (inode ≡ new.files.tree.root) ⊎ (is_among nat_eq inode (named_in new.files) ≡ true) ⊎ Among inode (located_in nat_eq world new.number)
+      still : (inode ≡ new.files.tree.root) ⊎ (is_among nat_eq inode (named_in new.files) ≡ true)
+          ⊎ Among inode (located_in nat_eq world new.number)
           → is_used_or_among losers.inodes after new inode ≡ true
       still how = or_second (is_inode_among new.number inode losers.inodes) _ (used_after new inode how)
 

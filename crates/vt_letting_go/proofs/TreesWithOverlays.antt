@@ -1,5 +1,5 @@
 -- What goes when trees change, in worlds with overlays.
-use Rattle.std.proofs.Common.{◌≡◌, None, Option, Some, is_some, refl, sym, ap, subst, ◌∙◌, ◌⊎◌, inl, inr, ⊎_elim, ℕ, nat_eq, eqb-true, eq-eqb, Bool, true, false, cond, ◌||◌, ◌&&◌, List, [], ◌∷◌, filter, map, flat_map, ◌++◌, true≢false}
+use Rattle.std.proofs.Common.{◌≡◌, None, Option, Some, is_some, refl, sym, ap, subst, ◌∙◌, ◌⊎◌, inl, inr, ⊎_elim, ℕ, nat_eq, eqb-true, eq-eqb, Bool, true, false, cond, ◌||◌, ◌&&◌, List, [], ◌∷◌, map, ◌++◌, true≢false}
 use Rattle.std.specs.List.{list_all, list_any}
 use Rattle.std.specs.Prelude.{All}
 use Rattle.std.proofs.lemmas.Bool.{or_cases}
@@ -7,11 +7,10 @@ use Rattle.std.proofs.lemmas.List.Folds.{list_any-append}
 use Rattle.vt_spec.specs.FileTree.{FileTree}
 use Rattle.vt_spec.specs.Lists.{any_pair, is_among}
 use Rattle.vt_spec.specs.Machine.Detach.{taken_away}
-use Rattle.vt_spec.specs.Machine.Receives.{lost_a_group}
 use Rattle.vt_spec.specs.Machine.Filesystems.{with_files}
 use Rattle.vt_spec.specs.Machine.Locked.{of_overlay, overlay_or}
 use Rattle.vt_spec.specs.Machine.Settled.{filesystem_lives, has_layer_on, is_mounted, layers_in, located_in, named_in, objects_of_overlay, settled, without_dead_filesystems, without_dead_mounts}
-use Rattle.vt_spec.specs.Machine.World.{Filesystem, Layer, Overlay, World, filesystem_numbered, is_overlay, layers_of, replaced_if_numbered}
+use Rattle.vt_spec.specs.Machine.World.{Filesystem, Overlay, World, filesystem_numbered, is_overlay, layers_of, replaced_if_numbered}
 use Rattle.vt_letting_go.specs.InUse.{FilesystemsInUse, HasTrees, IsListedTree, UppersArePlain, has_upper_in, is_inode_used}
 use Rattle.vt_letting_go.specs.LeavingOverlays.{IsSettled, used_with_layers}
 use Rattle.vt_letting_go.specs.Leaving.{with_tasks}
@@ -22,13 +21,13 @@ use Rattle.vt_letting_go.specs.OneByOne.{AllInUseBut, FilesystemsInUseBut, Group
 use Rattle.vt_letting_go.specs.Overlays.{RealsAreThere, let_go_all_inodes, real_in}
 use Rattle.vt_letting_go.specs.TreeChanges.{ChangesTree}
 use Rattle.vt_letting_go.specs.TreesOverlays.{ChangedTreesKeepAll, ChangedTreesLetGo, ChangesFilesystem, LeftAndChangedLetsGo, OpenedKeepsAll, TakenAndChangedLetsGo, UnnamedGoWithOverlays, in_use_of, upper_objects, with_filesystems, with_lost}
-use Rattle.vt_letting_go.proofs.InUse.{filesystems_stay, layers_on, mounts_stay, no_objects}
+use Rattle.vt_letting_go.proofs.InUse.{layers_stay, filesystems_stay, layers_on, mounts_stay, no_objects}
 use Rattle.vt_letting_go.proofs.LeftWithOverlays.{leaving_but}
 use Rattle.vt_letting_go.proofs.Lists.{Among, all_from_among, all_pass, among-filter, among-flat_map, among-from_filter, among-from_flat_map, among-from_map, among-map, among_from_all, among_numbers, any_passes, is_among_left, is_among_numbers, is_among_right, or_first, or_second, passes}
 use Rattle.vt_letting_go.proofs.Unmounted.{event_groups}
 use Rattle.vt_letting_go.proofs.MountingOverlays.{all_but_those}
 use Rattle.vt_letting_go.proofs.MountingTaken
-use Rattle.vt_letting_go.proofs.MountingTaken.{is_changed, loses, same_namespaces, without}
+use Rattle.vt_letting_go.proofs.MountingTaken.{hands_on, loses, taken_is}
 use Rattle.vt_letting_go.proofs.OfWorlds.{found_filesystem}
 use Rattle.vt_letting_go.proofs.WithOverlays.{with_overlays_all_goes}
 
@@ -43,14 +42,17 @@ any_changed change p q (x ∷ xs) same =
 module _ (world : World ℕ) (change : Filesystem ℕ → Filesystem ℕ)
     (number_kept : (f : Filesystem ℕ) → Among f world.filesystems → (change f).number ≡ f.number)
     (layers_kept : (f : Filesystem ℕ) → Among f world.filesystems → of_overlay [] layers_of (change f) ≡ of_overlay [] layers_of f) where
-  same_layers_on : (number : ℕ) (f : Filesystem ℕ) → Among f world.filesystems → has_layer_on nat_eq number (change f) ≡ has_layer_on nat_eq number f
+  same_layers_on : (number : ℕ) (f : Filesystem ℕ) → Among f world.filesystems
+      → has_layer_on nat_eq number (change f) ≡ has_layer_on nat_eq number f
   same_layers_on number f m =
-      layers_on world number (change f) ∙ ap (list_any (λ layer. nat_eq number layer.filesystem)) (layers_kept f m) ∙ sym (layers_on world number f)
+      layers_on world number (change f) ∙ ap (list_any (λ layer. nat_eq number layer.filesystem)) (layers_kept f m)
+      ∙ sym (layers_on world number f)
 
   pub lives_alike : (f : Filesystem ℕ) → Among f world.filesystems
       → filesystem_lives nat_eq (with_filesystems world change) (change f) ≡ filesystem_lives nat_eq world f
   lives_alike f m =
-      ap (λ n. is_mounted nat_eq world n || list_any (λ merged. has_layer_on nat_eq n merged && is_mounted nat_eq world merged.number) (map change world.filesystems))
+      ap (λ n. is_mounted nat_eq world n || list_any (λ merged. has_layer_on nat_eq n merged && is_mounted nat_eq world merged.number)
+      (map change world.filesystems))
       (number_kept f m)
       ∙ ap (λ b. is_mounted nat_eq world f.number || b)
       (any_changed change (λ merged. has_layer_on nat_eq f.number merged && is_mounted nat_eq world merged.number)
@@ -86,12 +88,15 @@ module _ (world : World ℕ) (losers : Losers) (but : AllInUseBut losers world) 
 
   filesystems_but : FilesystemsInUseBut losers.filesystems (without_dead_mounts nat_eq after)
   filesystems_but =
-      all_pass (λ f. is_among nat_eq f.number losers.filesystems || filesystem_lives nat_eq (without_dead_mounts nat_eq after) f) after.filesystems
+      all_pass (λ f. is_among nat_eq f.number losers.filesystems || filesystem_lives nat_eq
+      (without_dead_mounts nat_eq after) f) after.filesystems
       (λ x m. let from = among-from_map change world.filesystems x m in
       ap (λ f. is_among nat_eq f.number losers.filesystems || filesystem_lives nat_eq (without_dead_mounts nat_eq after) f) from.2
       ∙ ap (λ b. is_among nat_eq (change from.0).number losers.filesystems || b) (same_lives from.0 from.1)
-      ∙ ap (λ n. is_among nat_eq n losers.filesystems || filesystem_lives nat_eq mounted from.0) (ChangesFilesystem.number (changed_so from.0 from.1))
-      ∙ passes (λ f. is_among nat_eq f.number losers.filesystems || filesystem_lives nat_eq mounted f) world.filesystems but.filesystems from.0 from.1)
+      ∙ ap (λ n. is_among nat_eq n losers.filesystems || filesystem_lives nat_eq mounted from.0)
+      (ChangesFilesystem.number (changed_so from.0 from.1))
+      ∙ passes (λ f. is_among nat_eq f.number losers.filesystems
+      || filesystem_lives nat_eq mounted f) world.filesystems but.filesystems from.0 from.1)
 
   -- what lives is what lived
   from_living : (f : Filesystem ℕ) → Among f living.filesystems → Among f world.filesystems × (filesystem_lives nat_eq mounted f ≡ true)
@@ -100,7 +105,8 @@ module _ (world : World ℕ) (losers : Losers) (but : AllInUseBut losers world) 
   lives_still : (f : Filesystem ℕ) → Among f living.filesystems → Among (change f) last.filesystems
   lives_still f m =
       let was = from_living f m in
-      among-filter (filesystem_lives nat_eq (without_dead_mounts nat_eq after)) after.filesystems (change f) (among-map change world.filesystems f was.0)
+      among-filter (filesystem_lives nat_eq (without_dead_mounts nat_eq after)) after.filesystems (change f)
+      (among-map change world.filesystems f was.0)
       (same_lives f was.0 ∙ was.1)
 
   lived : (x : Filesystem ℕ) → Among x last.filesystems → (f : Filesystem ℕ) × Among f living.filesystems × (x ≡ change f)
@@ -116,16 +122,9 @@ module _ (world : World ℕ) (losers : Losers) (but : AllInUseBut losers world) 
   so_living : (f : Filesystem ℕ) → Among f living.filesystems → ChangesFilesystem last lost f (change f)
   so_living f m = changed_so f (from_living f m).0
 
-  layers_still : (filesystem number : ℕ) → Among number (layers_in nat_eq living filesystem) → Among number (layers_in nat_eq last filesystem)
-  layers_still filesystem number m =
-      let one = among-from_map (λ (layer : Layer ℕ). layer.directory) (filter (λ layer. nat_eq filesystem layer.filesystem) (flat_map (of_overlay [] layers_of) living.filesystems)) number m in
-      let two = among-from_filter (λ layer. nat_eq filesystem layer.filesystem) (flat_map (of_overlay [] layers_of) living.filesystems) one.0 one.1 in
-      let three = among-from_flat_map (of_overlay [] layers_of) living.filesystems one.0 two.0 in
-      subst (λ n. Among n (layers_in nat_eq last filesystem)) (sym one.2)
-      (among-map (λ (layer : Layer ℕ). layer.directory) (filter (λ layer. nat_eq filesystem layer.filesystem) (flat_map (of_overlay [] layers_of) last.filesystems)) one.0
-      (among-filter (λ layer. nat_eq filesystem layer.filesystem) (flat_map (of_overlay [] layers_of) last.filesystems) one.0
-      (among-flat_map (of_overlay [] layers_of) last.filesystems (change three.0) one.0 (lives_still three.0 three.1)
-      (subst (Among one.0) (sym (ChangesFilesystem.layers (so_living three.0 three.1))) three.2)) two.1))
+  layers_still : (filesystem number : ℕ) → Among number (layers_in nat_eq living filesystem)
+      → Among number (layers_in nat_eq last filesystem)
+  layers_still = layers_stay living last (λ f m. (change f, lives_still f m, ChangesFilesystem.layers (so_living f m)))
 
   -- a real object is one still, or may go
   object_left : (filesystem number : ℕ) → Among number (upper_objects living filesystem)
@@ -137,7 +136,8 @@ module _ (world : World ℕ) (losers : Losers) (but : AllInUseBut losers world) 
       (among_numbers number (objects_of_overlay nat_eq filesystem (change one.0)) still)))
       inr
       (or_cases (is_among nat_eq number (objects_of_overlay nat_eq filesystem (change one.0))) (is_inode_among filesystem number lost)
-      (passes (λ object. is_among nat_eq object (objects_of_overlay nat_eq filesystem (change one.0)) || is_inode_among filesystem object lost)
+      (passes (λ object. is_among nat_eq object (objects_of_overlay nat_eq filesystem (change one.0))
+      || is_inode_among filesystem object lost)
       (objects_of_overlay nat_eq filesystem one.0) (ChangesFilesystem.objects (so_living one.0 one.1) filesystem) number one.2))
 
   module _ (f : Filesystem ℕ) (there : Among f living.filesystems) where
@@ -181,7 +181,8 @@ module _ (world : World ℕ) (losers : Losers) (but : AllInUseBut losers world) 
         used number (is_among_left number (names ++ located ++ layers) (upper_objects last now.number)
         (is_among_left number (names ++ located) layers (is_among_left number names located h)))
 
-    by_object : (number : ℕ) → is_among nat_eq number (upper_objects last now.number) ≡ true → is_used_or_among inodes last now number ≡ true
+    by_object : (number : ℕ) → is_among nat_eq number (upper_objects last now.number) ≡ true
+        → is_used_or_among inodes last now number ≡ true
     by_object number h = used number (is_among_right number (names ++ located ++ layers) (upper_objects last now.number) h)
 
     -- what was used is used, or may go
@@ -196,7 +197,8 @@ module _ (world : World ℕ) (losers : Losers) (but : AllInUseBut losers world) 
         (λ still. by_name number (or_second (nat_eq number now.files.tree.root) (is_among nat_eq number (named_in now.files)) still))
         (may_go number)
         (or_cases (is_among nat_eq number (named_in now.files)) (is_inode_among f.number number lost)
-        (passes (λ k. is_among nat_eq k (named_in now.files) || is_inode_among f.number k lost) (named_in f.files) (ChangesFilesystem.names so) number
+        (passes (λ k. is_among nat_eq k (named_in now.files) || is_inode_among f.number k lost) (named_in f.files)
+        (ChangesFilesystem.names so) number
         (among_numbers number (named_in f.files) name))))
         (or_cases (nat_eq number f.files.tree.root) (is_among nat_eq number (named_in f.files)) named))
         (λ at. used number (is_among_left number (names ++ located ++ layers) (upper_objects last now.number)
@@ -207,17 +209,22 @@ module _ (world : World ℕ) (losers : Losers) (but : AllInUseBut losers world) 
         (λ layer. used number (is_among_left number (names ++ located ++ layers) (upper_objects last now.number)
         (is_among_right number (names ++ located) layers
         (ap (λ n. is_among nat_eq number (layers_in nat_eq last n)) (ChangesFilesystem.number so)
-        ∙ is_among_numbers number (layers_in nat_eq last f.number) (layers_still f.number number (among_numbers number (layers_in nat_eq living f.number) layer))))))
-        (or_cases (is_among nat_eq number (old_names ++ located_in nat_eq living f.number)) (is_among nat_eq number (layers_in nat_eq living f.number))
-        (sym (list_any-append (nat_eq number) (old_names ++ located_in nat_eq living f.number) (layers_in nat_eq living f.number)) ∙ front)))
+        ∙ is_among_numbers number (layers_in nat_eq last f.number)
+        (layers_still f.number number (among_numbers number (layers_in nat_eq living f.number) layer))))))
+        (or_cases (is_among nat_eq number (old_names ++ located_in nat_eq living f.number))
+        (is_among nat_eq number (layers_in nat_eq living f.number))
+        (sym (list_any-append (nat_eq number) (old_names ++ located_in nat_eq living f.number) (layers_in nat_eq living f.number))
+        ∙ front)))
         (λ object. ⊎_elim
         (λ still. by_object number
-        (ap (λ n. is_among nat_eq number (upper_objects last n)) (ChangesFilesystem.number so) ∙ is_among_numbers number (upper_objects last f.number) still))
+        (ap (λ n. is_among nat_eq number (upper_objects last n)) (ChangesFilesystem.number so)
+        ∙ is_among_numbers number (upper_objects last f.number) still))
         (may_go number)
         (object_left f.number number (among_numbers number (upper_objects living f.number) object)))
         (or_cases (is_among nat_eq number (old_names ++ located_in nat_eq living f.number ++ layers_in nat_eq living f.number))
         (is_among nat_eq number (upper_objects living f.number))
-        (sym (list_any-append (nat_eq number) (old_names ++ located_in nat_eq living f.number ++ layers_in nat_eq living f.number) (upper_objects living f.number)) ∙ is))
+        (sym (list_any-append (nat_eq number) (old_names ++ located_in nat_eq living f.number ++ layers_in nat_eq living f.number)
+        (upper_objects living f.number)) ∙ is))
       where
         old_names : List ℕ
         old_names = f.files.tree.root ∷ named_in f.files
@@ -229,13 +236,16 @@ module _ (world : World ℕ) (losers : Losers) (but : AllInUseBut losers world) 
         (λ was. ⊎_elim (could_go number) (use_left number)
         (or_cases (is_inode_among f.number number losers.inodes) (is_inode_used living f number)
         (passes (is_used_or_among losers.inodes living f) f.files.numbers
-        (among_from_all (λ x. list_all (is_used_or_among losers.inodes living x) x.files.numbers ≡ true) living.filesystems but.inodes f there) number
+        (among_from_all (λ x. list_all (is_used_or_among losers.inodes living x) x.files.numbers
+        ≡ true) living.filesystems but.inodes f there) number
         (among_numbers number f.files.numbers was))))
         (λ named. by_name number (or_second (nat_eq number now.files.tree.root) (is_among nat_eq number (named_in now.files)) named))
         (or_cases (is_among nat_eq number f.files.numbers) (is_among nat_eq number (named_in now.files)) first))
         (by_object number)
-        (or_cases (is_among nat_eq number f.files.numbers || is_among nat_eq number (named_in now.files)) (is_among nat_eq number (upper_objects last now.number))
-        (passes (λ k. is_among nat_eq k f.files.numbers || is_among nat_eq k (named_in now.files) || is_among nat_eq k (upper_objects last now.number))
+        (or_cases (is_among nat_eq number f.files.numbers || is_among nat_eq number (named_in now.files))
+        (is_among nat_eq number (upper_objects last now.number))
+        (passes (λ k. is_among nat_eq k f.files.numbers || is_among nat_eq k (named_in now.files)
+        || is_among nat_eq k (upper_objects last now.number))
         now.files.numbers (ChangesFilesystem.inodes so) number m))
 
   inodes_but : InodesInUseBut inodes last
@@ -256,7 +266,8 @@ module _ (world : World ℕ) (losers : Losers) (but : AllInUseBut losers world) 
 module _ (world : World ℕ) (change : Filesystem ℕ → Filesystem ℕ) (lost : List Inode) (settles : IsSettled world)
     (trees : HasTrees (with_filesystems world change)) (uppers : UppersArePlain (with_filesystems world change))
     (reals : RealsAreThere (with_filesystems world change))
-    (changes : All (λ filesystem. ChangesFilesystem (with_filesystems world change) lost filesystem (change filesystem)) world.filesystems) where
+    (changes : All (λ filesystem. ChangesFilesystem (with_filesystems world change) lost filesystem
+    (change filesystem)) world.filesystems) where
   abbrev changed : World ℕ
   changed = with_filesystems world change
 
@@ -274,14 +285,16 @@ module _ (world : World ℕ) (change : Filesystem ℕ → Filesystem ℕ) (lost 
     mounts = settles.in_use.mounts;
     filesystems = subst (FilesystemsInUseBut []) (sym (mounts_stay world settles.in_use.mounts)) settles.in_use.filesystems;
     inodes = subst (InodesInUseBut []) (sym stays) settles.in_use.inodes;
-    groups = subst (GroupsInUseBut []) (sym (mounts_stay world settles.in_use.mounts)) (λ group among none. settles.in_use.groups group none);
+    groups = subst (GroupsInUseBut []) (sym (mounts_stay world settles.in_use.mounts))
+        (λ group among none. settles.in_use.groups group none);
   }
 
   filesystems_after : FilesystemsInUse changed
   filesystems_after =
       all_pass (filesystem_lives nat_eq changed) changed.filesystems (λ x m. let from = among-from_map change world.filesystems x m in
       ap (filesystem_lives nat_eq changed) from.2
-      ∙ lives_alike world change (λ g n. ChangesFilesystem.number (so_changed g n)) (λ g n. ChangesFilesystem.layers (so_changed g n)) from.0 from.1
+      ∙ lives_alike world change (λ g n. ChangesFilesystem.number (so_changed g n))
+      (λ g n. ChangesFilesystem.layers (so_changed g n)) from.0 from.1
       ∙ passes (filesystem_lives nat_eq world) world.filesystems settles.in_use.filesystems from.0 from.1)
 
   all_stay : in_use_of changed ≡ changed
@@ -294,13 +307,14 @@ module _ (world : World ℕ) (change : Filesystem ℕ → Filesystem ℕ) (lost 
       (subst (λ w. All (λ f. ChangesFilesystem w lost f (change f)) world.filesystems) (sym all_stay) changes))
 
 pub changed_trees_let_go : ChangedTreesLetGo
-changed_trees_let_go world change lost settles trees uppers reals changes = trees_change world change lost settles trees uppers reals changes
+changed_trees_let_go world change lost settles trees uppers reals changes =
+    trees_change world change lost settles trees uppers reals changes
 
 pub changed_trees_keep_all : ChangedTreesKeepAll
 changed_trees_keep_all world change settles trees uppers reals changes = trees_change world change [] settles trees uppers reals changes
 
 -- a plain filesystem has no real objects
-no_real : (f : Filesystem ℕ) → is_overlay f ≡ false → (number : ℕ) → real_in f number ≡ None
+pub no_real : (f : Filesystem ℕ) → is_overlay f ≡ false → (number : ℕ) → real_in f number ≡ None
 no_real f plain number = by f.overlay plain
   where
     by : (o : Option (Overlay ℕ)) → is_some o ≡ false → overlay_or None (λ overlay. overlay.real number) o ≡ None
@@ -308,17 +322,20 @@ no_real f plain number = by f.overlay plain
     by (Some overlay) e = absurd (true≢false e)
 
 -- a filesystem that does not change
-unchanged : (after : World ℕ) (lost : List Inode) (f : Filesystem ℕ) → ChangesFilesystem after lost f f
+pub unchanged : (after : World ℕ) (lost : List Inode) (f : Filesystem ℕ) → ChangesFilesystem after lost f f
 unchanged after lost f = record {
   number = refl;
   root = refl;
   layers = refl;
-  inodes = all_pass (λ k. is_among nat_eq k f.files.numbers || is_among nat_eq k (named_in f.files) || is_among nat_eq k (upper_objects after f.number))
-      f.files.numbers (λ k m. or_first (is_among nat_eq k f.files.numbers || is_among nat_eq k (named_in f.files)) (is_among nat_eq k (upper_objects after f.number))
+  inodes = all_pass (λ k. is_among nat_eq k f.files.numbers || is_among nat_eq k (named_in f.files)
+      || is_among nat_eq k (upper_objects after f.number))
+      f.files.numbers (λ k m. or_first (is_among nat_eq k f.files.numbers || is_among nat_eq k (named_in f.files))
+      (is_among nat_eq k (upper_objects after f.number))
       (or_first (is_among nat_eq k f.files.numbers) (is_among nat_eq k (named_in f.files)) (is_among_numbers k f.files.numbers m)));
   names = all_pass (λ k. is_among nat_eq k (named_in f.files) || is_inode_among f.number k lost) (named_in f.files) (λ k m.
       or_first (is_among nat_eq k (named_in f.files)) (is_inode_among f.number k lost) (is_among_numbers k (named_in f.files) m));
-  objects = λ number. all_pass (λ k. is_among nat_eq k (objects_of_overlay nat_eq number f) || is_inode_among number k lost) (objects_of_overlay nat_eq number f)
+  objects = λ number. all_pass (λ k. is_among nat_eq k (objects_of_overlay nat_eq number f) || is_inode_among number k lost)
+      (objects_of_overlay nat_eq number f)
       (λ k m. or_first (is_among nat_eq k (objects_of_overlay nat_eq number f)) (is_inode_among number k lost)
       (is_among_numbers k (objects_of_overlay nat_eq number f) m));
 }
@@ -370,7 +387,8 @@ module _ (world : World ℕ) (number : ℕ) (files : FileTree ℕ) (unnamed : Li
       by : (b : Bool) → nat_eq new.number f.number ≡ b → Is f
       by true e =
           is_the_one
-          (sym (found_filesystem world.filesystems one f m) ∙ ap (filesystem_numbered nat_eq world) (sym (eqb-true new.number f.number e) ∙ old_number))
+          (sym (found_filesystem world.filesystems one f m) ∙ ap (filesystem_numbered nat_eq world)
+          (sym (eqb-true new.number f.number e) ∙ old_number))
           (ap (λ b. cond b new f) e)
       by false e = is_another (ap (λ b. cond b new f) e)
 
@@ -389,7 +407,8 @@ module _ (world : World ℕ) (number : ℕ) (files : FileTree ℕ) (unnamed : Li
 
   pub trees_after : HasTrees then_
   trees_after =
-      for_all (λ f. IsListedTree f.files) changes.tree (λ f m. among_from_all (λ g. IsListedTree g.files) world.filesystems settles.trees f m)
+      for_all (λ f. IsListedTree f.files) changes.tree
+      (λ f m. among_from_all (λ g. IsListedTree g.files) world.filesystems settles.trees f m)
 
   pub reals_after : RealsAreThere then_
   reals_after =
@@ -401,7 +420,8 @@ module _ (world : World ℕ) (number : ℕ) (files : FileTree ℕ) (unnamed : Li
       for_all (λ f. is_overlay f ≡ true → All (λ g. has_upper_in f.number g ≡ false) then_.filesystems)
       (λ is. absurd (true≢false (sym is ∙ plain)))
       (λ f m is.
-      let was = among_from_all (λ x. is_overlay x ≡ true → All (λ g. has_upper_in x.number g ≡ false) world.filesystems) world.filesystems settles.uppers f m is in
+      let was = among_from_all (λ x. is_overlay x ≡ true
+      → All (λ g. has_upper_in x.number g ≡ false) world.filesystems) world.filesystems settles.uppers f m is in
       for_all (λ g. has_upper_in f.number g ≡ false)
       (among_from_all (λ g. has_upper_in f.number g ≡ false) world.filesystems was old old_there)
       (among_from_all (λ g. has_upper_in f.number g ≡ false) world.filesystems was))
@@ -417,15 +437,18 @@ module _ (world : World ℕ) (number : ℕ) (files : FileTree ℕ) (unnamed : Li
     number = refl;
     root = changes.root;
     layers = refl;
-    inodes = all_pass (λ k. is_among nat_eq k old.files.numbers || is_among nat_eq k (named_in files) || is_among nat_eq k (upper_objects after new.number))
-        files.numbers (λ k m. or_first (is_among nat_eq k old.files.numbers || is_among nat_eq k (named_in files)) (is_among nat_eq k (upper_objects after new.number))
+    inodes = all_pass (λ k. is_among nat_eq k old.files.numbers || is_among nat_eq k (named_in files)
+        || is_among nat_eq k (upper_objects after new.number))
+        files.numbers (λ k m. or_first (is_among nat_eq k old.files.numbers || is_among nat_eq k (named_in files))
+        (is_among nat_eq k (upper_objects after new.number))
         (passes (λ n. is_among nat_eq n old.files.numbers || is_among nat_eq n (named_in files)) files.numbers changes.inodes k m));
     names = all_pass (λ k. is_among nat_eq k (named_in files) || is_inode_among old.number k without_name) (named_in old.files) (λ k m.
         ⊎_elim (or_first (is_among nat_eq k (named_in files)) (is_inode_among old.number k without_name))
         (λ lost. or_second (is_among nat_eq k (named_in files)) (is_inode_among old.number k without_name) (lost_name k lost))
         (or_cases (is_among nat_eq k (named_in files)) (is_among nat_eq k unnamed)
         (passes (λ n. is_among nat_eq n (named_in files) || is_among nat_eq n unnamed) (named_in old.files) changes.names k m)));
-    objects = λ target. ap (list_all (λ k. is_among nat_eq k (objects_of_overlay nat_eq target new) || is_inode_among target k without_name))
+    objects = λ target. ap (list_all (λ k. is_among nat_eq k (objects_of_overlay nat_eq target new)
+        || is_inode_among target k without_name))
         (no_objects world target old plain);
   }
 
@@ -434,7 +457,8 @@ module _ (world : World ℕ) (number : ℕ) (files : FileTree ℕ) (unnamed : Li
     where
       by : (f : Filesystem ℕ) → Is f → ChangesFilesystem after without_name f (swap f)
       by f (is_the_one e s) =
-          subst (λ x. ChangesFilesystem after without_name x (swap f)) (sym e) (subst (ChangesFilesystem after without_name old) (sym s) (of_old after))
+          subst (λ x. ChangesFilesystem after without_name x (swap f)) (sym e)
+          (subst (ChangesFilesystem after without_name old) (sym s) (of_old after))
       by f (is_another s) = subst (ChangesFilesystem after without_name f) (sym s) (unchanged after without_name f)
 
   unnamed_goes : settled nat_eq then_ ≡ let_go_all_inodes then_ without_name
@@ -448,32 +472,30 @@ unnamed_go_with_overlays world number files unnamed settles one there plain chan
 pub taken_and_changed_lets_go : TakenAndChangedLetsGo
 taken_and_changed_lets_go world gone change lost settles trees uppers reals changes =
     with_overlays_all_goes then_ (with_lost (used_by_gone_with_layers world gone) lost) trees uppers reals
-    (subst (λ w. AllInUseBut (with_lost (used_by_gone_with_layers world gone) lost) (with_filesystems w change)) (sym event)
+    (subst (λ w. AllInUseBut (with_lost (used_by_gone_with_layers world gone) lost) (with_filesystems w change)) (sym (taken_is world gone))
     (all_but_changed taken (used_by_gone_with_layers world gone)
-    (all_but_those world taken.mounts taken.master world.filesystems world.namespaces world.tasks gone (places_lost world gone) (groups_of_mounts world gone)
-    settles.in_use settles.mounts (loses world gone world.namespaces settles.in_use settles.mounts b)
-    (subst (GroupsInUseBut (groups_of_mounts world gone)) event (event_groups world gone settles.in_use.groups))
+    (all_but_those world taken.mounts taken.master world.filesystems world.namespaces world.tasks gone (places_lost world gone)
+    (groups_of_mounts world gone)
+    settles.in_use settles.mounts (loses world gone world.namespaces settles.in_use settles.mounts (hands_on world gone))
+    (subst (GroupsInUseBut (groups_of_mounts world gone)) (taken_is world gone) (event_groups world gone settles.in_use.groups))
     (record { kept = λ f m. m; new = λ f m. inl m }))
     change lost
-    (subst (λ w. All (λ f. ChangesFilesystem (in_use_of (with_filesystems w change)) lost f (change f)) world.filesystems) event changes)))
+    (subst (λ w. All (λ f. ChangesFilesystem (in_use_of (with_filesystems w change)) lost f (change f)) world.filesystems)
+    (taken_is world gone) changes)))
   where
     then_ : World ℕ
     then_ = with_filesystems (taken_away nat_eq world gone) change
 
-    b : Bool
-    b = list_any (lost_a_group nat_eq (without world gone world.namespaces)) (without world gone world.namespaces).mounts
-
     taken : World ℕ
-    taken = MountingTaken.after world gone world.namespaces b
-
-    event : taken_away nat_eq world gone ≡ taken
-    event = sym (same_namespaces (without world gone world.namespaces) b) ∙ is_changed world gone world.namespaces b
+    taken = MountingTaken.after world gone world.namespaces (hands_on world gone)
 
 -- Tasks that go to other locations, and trees that change, at once
 pub left_and_changed_lets_go : LeftAndChangedLetsGo
 left_and_changed_lets_go world tasks left change lost settles only trees uppers reals changes =
-    with_overlays_all_goes (with_filesystems (with_tasks world tasks) change) (with_lost (used_with_layers world left) lost) trees uppers reals
-    (all_but_changed (with_tasks world tasks) (used_with_layers world left) (leaving_but world tasks left settles.in_use settles.mounts only) change lost changes)
+    with_overlays_all_goes (with_filesystems (with_tasks world tasks) change)
+    (with_lost (used_with_layers world left) lost) trees uppers reals
+    (all_but_changed (with_tasks world tasks) (used_with_layers world left)
+    (leaving_but world tasks left settles.in_use settles.mounts only) change lost changes)
 
 pub opened_keeps_all : OpenedKeepsAll
 opened_keeps_all world tasks change settles only trees uppers reals changes =

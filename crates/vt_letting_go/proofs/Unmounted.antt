@@ -1,7 +1,7 @@
 -- What goes after unmounts, one or several after one another.
-use Rattle.std.proofs.Common.{◌≡◌, refl, sym, ap, subst, ◌∙◌, ◌⊎◌, inl, inr, ⊎_elim, ℕ, nat_eq, eqb-true, Bool, true, false, cond, not, ◌&&◌, List, [], ◌∷◌, filter, map, true≢false, Option, Some, None, is_some, option_map, option_to_list}
-use Rattle.std.specs.List.{list_all, list_any}
-use Rattle.std.proofs.lemmas.Bool.{and_parts, false_from_ne_true, or_cases}
+use Rattle.std.proofs.Common.{◌≡◌, refl, sym, ap, subst, ◌∙◌, ◌⊎◌, inl, inr, ⊎_elim, ℕ, nat_eq, eqb-true, Bool, true, false, cond, not, ◌&&◌, List, [], ◌∷◌, filter, map, true≢false, Option, Some, None, is_some, option_map}
+use Rattle.std.specs.List.{list_any}
+use Rattle.std.proofs.lemmas.Bool.{false_from_ne_true, or_cases}
 use Rattle.vt_spec.specs.Lists.{folded, holds_of, is_among}
 use Rattle.vt_spec.specs.Machine.Detach.{deepest_first, going, is_going, lazily_unmounted, mount_point_left, mounts_on, taken_away, unmounted, unmounted_if_there}
 use Rattle.vt_spec.specs.Machine.Mounts.{Location, Mount, Propagation, detached, group_of, mount_in, mount_tree, root_of}
@@ -12,7 +12,7 @@ use Rattle.vt_spec.specs.Machine.World.{World, mount_at, mount_numbered}
 use Rattle.vt_spec.specs.Machine.WorldLaws.{is_nowhere_or_attached}
 use Rattle.vt_letting_go.specs.InUse.{AllInUse, GroupsInUse}
 use Rattle.vt_letting_go.specs.Unmounting.{LazyUnmountsLetGo, MountsOnDirectoriesLetGo, TreesLetGo, UnmountsLetGo, detached_between, groups_of_mounts, is_detached_in, numbers_of_trees, used_by_gone}
-use Rattle.vt_letting_go.specs.Leaving.{IsSettledPlain, MountsStand, stands_on_attached}
+use Rattle.vt_letting_go.specs.Leaving.{IsSettledPlain, MountsStand}
 use Rattle.vt_letting_go.specs.Mounting.{loses_its_place, places_lost}
 use Rattle.vt_letting_go.specs.OneByOne.{GroupsInUseBut, let_go}
 use Rattle.vt_letting_go.proofs.Detached.{found-map, not_found-map}
@@ -20,7 +20,7 @@ use Rattle.vt_letting_go.proofs.Lists.{Among, all_pass, among-filter, among-filt
 use Rattle.vt_letting_go.proofs.MountingLosers.{Loses, StillAPlace, changed, losers_go}
 use Rattle.vt_letting_go.proofs.MountingTaken.{is_changed, nowhere_after, same_filesystem, same_namespace, same_namespaces, same_number, same_place, same_root, stays, taking_away_lets_go}
 use Rattle.vt_letting_go.proofs.MountingTaken
-use Rattle.vt_letting_go.proofs.PlacesLeft.{found_is_there, found_itself, nowhere_parts, number_found, private_is_no_member}
+use Rattle.vt_letting_go.proofs.PlacesLeft.{found_is_there, found_itself, nowhere_parts, number_found, private_is_no_member, place_attached}
 use Rattle.std.proofs.lemmas.Bool.{or_parts}
 
 -- Where the other mounts stay in their groups, a group that is none of those of the mounts that went and has no members
@@ -66,15 +66,22 @@ module _ (world : World ℕ) (gone : List ℕ) where
   hands_on = list_any (lost_a_group nat_eq without) without.mounts
 
   -- an event is a change of each mount
-  one_event : (b : Bool) → regrouped_by nat_eq b without ≡ changed world (map (change b) world.mounts) (masters b) world.namespaces world.tasks
+  one_event : (b : Bool) → regrouped_by nat_eq b without ≡ changed world (map (change b) world.mounts)
+      (masters b) world.namespaces world.tasks
   one_event b = sym (same_namespaces without b) ∙ is_changed world gone world.namespaces b
 
   -- one that goes is in no namespace then
   outside : (b : Bool) (mount : Mount ℕ) → is_going nat_eq gone mount.number ≡ true → is_some (change b mount).namespace ≡ false
   outside true mount is =
-      ap (λ c. is_some (cond c (detached mount) (record mount { mount_point = option_map (mount_point_left nat_eq world gone) mount.mount_point })).namespace) is
+      ap (λ c. is_some (cond c (detached mount) (record mount {
+        mount_point = option_map
+            (mount_point_left nat_eq world gone) mount.mount_point;
+      })).namespace) is
   outside false mount is =
-      ap (λ c. is_some (cond c (detached mount) (record mount { mount_point = option_map (mount_point_left nat_eq world gone) mount.mount_point })).namespace) is
+      ap (λ c. is_some (cond c (detached mount) (record mount {
+        mount_point = option_map
+            (mount_point_left nat_eq world gone) mount.mount_point;
+      })).namespace) is
 
   -- one that is in a namespace then does not go
   does_not_go : (b : Bool) (mount : Mount ℕ) → is_some (change b mount).namespace ≡ true → is_going nat_eq gone mount.number ≡ false
@@ -99,7 +106,8 @@ module _ (world : World ℕ) (gone : List ℕ) where
   masters_end true group e = ap (heir nat_eq without) e
   masters_end false group e = e
 
-pub event_groups : (world : World ℕ) (gone : List ℕ) → GroupsInUse world → GroupsInUseBut (groups_of_mounts world gone) (taken_away nat_eq world gone)
+pub event_groups : (world : World ℕ) (gone : List ℕ) → GroupsInUse world
+    → GroupsInUseBut (groups_of_mounts world gone) (taken_away nat_eq world gone)
 event_groups world gone in_use = subst (GroupsInUseBut (groups_of_mounts world gone)) (sym (one_event world gone b)) then_
   where
     b : Bool
@@ -112,7 +120,8 @@ event_groups world gone in_use = subst (GroupsInUseBut (groups_of_mounts world g
     then_ =
         groups_but world after gone in_use
         (λ mount m isnt group is.
-        any_passes (is_member_of nat_eq group) after.mounts (change world gone b mount) (among-map (change world gone b) world.mounts mount m)
+        any_passes (is_member_of nat_eq group) after.mounts (change world gone b mount)
+        (among-map (change world gone b) world.mounts mount m)
         (stays_member world gone b mount isnt group is))
         (masters_end world gone b)
 
@@ -151,7 +160,8 @@ pub record Faded (world now : World ℕ) : Type 0 where
 begun : (world : World ℕ) → MountsStand world → Faded world world
 begun world stand = record {
   change = λ mount. mount;
-  is = ap (λ mounts. changed world mounts world.master world.namespaces world.tasks) (sym (map_same (λ mount. mount) world.mounts (λ mount m. refl)));
+  is = ap (λ mounts. changed world mounts world.master world.namespaces world.tasks)
+      (sym (map_same (λ mount. mount) world.mounts (λ mount m. refl)));
   number = λ mount. refl;
   root = λ mount. refl;
   filesystem = λ mount. refl;
@@ -251,7 +261,8 @@ module _ (world now : World ℕ) (in_use : AllInUse world) (stand : MountsStand 
       ∙ isnt)))
       (decided (is_some (faded.change mount).namespace))
 
-  placed_in_one : (mount : Mount ℕ) → Among mount world.mounts → (at : Location ℕ) → mount.mount_point ≡ Some at → is_some mount.namespace ≡ true
+  placed_in_one : (mount : Mount ℕ) → Among mount world.mounts → (at : Location ℕ) → mount.mount_point ≡ Some at
+      → is_some mount.namespace ≡ true
   placed_in_one mount m at p =
       ⊎_elim (λ is. is)
       (λ out. absurd (true≢false
@@ -260,25 +271,27 @@ module _ (world now : World ℕ) (in_use : AllInUse world) (stand : MountsStand 
 
   stands_in_one : (mount : Mount ℕ) → Among mount world.mounts → (at : Location ℕ) → mount.mount_point ≡ Some at
       → is_some (mount_at nat_eq world at).namespace ≡ true
-  stands_in_one mount m at p =
-      (and_parts (is_some (mount_at nat_eq world at).namespace) true
-      (sym (ap (λ o. list_all (λ l. is_some (mount_at nat_eq world l).namespace) (option_to_list o)) p)
-      ∙ passes (stands_on_attached world) world.mounts stand.on_attached mount m)).0
+  stands_in_one = place_attached world stand
 
-  member_is_in_one : (mount : Mount ℕ) → Among mount world.mounts → (group : ℕ) → is_member_of nat_eq group mount ≡ true → is_some mount.namespace ≡ true
+  member_is_in_one : (mount : Mount ℕ) → Among mount world.mounts → (group : ℕ) → is_member_of nat_eq group mount ≡ true
+      → is_some mount.namespace ≡ true
   member_is_in_one mount m group is =
       ⊎_elim (λ in_one. in_one)
       (λ out. absurd (true≢false
-      (sym is ∙ private_is_no_member group mount (nowhere_parts mount (passes is_nowhere_or_attached world.mounts stand.nowhere mount m) out).1)))
+      (sym is ∙ private_is_no_member group mount
+      (nowhere_parts mount (passes is_nowhere_or_attached world.mounts stand.nowhere mount m) out).1)))
       (decided (is_some mount.namespace))
 
-  lives : (mount : Mount ℕ) → Among mount world.mounts → is_among nat_eq mount.number lost ≡ false → mount_lives nat_eq last (faded.change mount) ≡ true
+  lives : (mount : Mount ℕ) → Among mount world.mounts → is_among nat_eq mount.number lost ≡ false
+      → mount_lives nat_eq last (faded.change mount) ≡ true
   lives mount m isnt =
       ⊎_elim
-      (λ in_one. or_first (is_some (faded.change mount).namespace) (is_located nat_eq last (faded.change mount).number) (in_one_still mount m in_one isnt))
+      (λ in_one. or_first (is_some (faded.change mount).namespace) (is_located nat_eq last (faded.change mount).number)
+      (in_one_still mount m in_one isnt))
       (λ at. or_second (is_some (faded.change mount).namespace) (is_located nat_eq last (faded.change mount).number)
       (ap (is_located nat_eq world) (faded.number mount) ∙ at))
-      (or_cases (is_some mount.namespace) (is_located nat_eq world mount.number) (passes (mount_lives nat_eq world) world.mounts in_use.mounts mount m))
+      (or_cases (is_some mount.namespace) (is_located nat_eq world mount.number)
+      (passes (mount_lives nat_eq world) world.mounts in_use.mounts mount m))
 
   place_still : (mount : Mount ℕ) → Among mount world.mounts → (at : Location ℕ) → mount.mount_point ≡ Some at
       → StillAPlace last.mounts lost at ⊎ Among at (places_lost world lost)
@@ -286,7 +299,8 @@ module _ (world now : World ℕ) (in_use : AllInUse world) (stand : MountsStand 
       ⊎_elim
       (λ loses. inr (among-filter_map (λ x. x.mount_point) (filter (loses_its_place lost) world.mounts) mount at
       (among-filter (loses_its_place lost) world.mounts mount m loses) p))
-      (λ keeps. let parts = or_parts (is_going nat_eq lost mount.number) (holds_of (λ l. is_going nat_eq lost l.mount) mount.mount_point) keeps in
+      (λ keeps. let parts = or_parts (is_going nat_eq lost mount.number)
+      (holds_of (λ l. is_going nat_eq lost l.mount) mount.mount_point) keeps in
       let on : is_going nat_eq lost at.mount ≡ false = sym (ap (holds_of (λ l. is_going nat_eq lost l.mount)) p) ∙ parts.1 in
       let parent = stands_in_one mount m at p in
       inl (
@@ -312,7 +326,8 @@ module _ (world now : World ℕ) (in_use : AllInUse world) (stand : MountsStand 
         (not_found-map faded.change faded.number world.mounts location.mount);
     live = λ x m isnt. let from = among-from_map faded.change world.mounts x m in
         ap (mount_lives nat_eq last) from.2
-        ∙ lives from.0 from.1 (ap (λ n. is_among nat_eq n lost) (sym (faded.number from.0) ∙ ap (λ (y : Mount ℕ). y.number) (sym from.2)) ∙ isnt);
+        ∙ lives from.0 from.1 (ap (λ n. is_among nat_eq n lost) (sym (faded.number from.0) ∙ ap (λ (y : Mount ℕ). y.number) (sym from.2))
+        ∙ isnt);
     locations = λ location m. inl (inl m);
     places = place_still;
     nowhere = all_pass is_nowhere_or_attached last.mounts (λ x m.
@@ -331,7 +346,8 @@ pub faded_lets_go : (world now : World ℕ) → IsSettledPlain world → Faded w
     → settled nat_eq now ≡ let_go now (used_by_gone world (detached_between world now))
 faded_lets_go world now settles faded =
     subst (λ w. settled nat_eq w ≡ let_go w (used_by_gone world gone)) (sym faded.is)
-    (losers_go world (map faded.change world.mounts) now.master world.namespaces world.tasks gone (places_lost world gone) (groups_of_mounts world gone) settles
+    (losers_go world (map faded.change world.mounts) now.master world.namespaces world.tasks gone (places_lost world gone)
+    (groups_of_mounts world gone) settles
     (loses world now settles.in_use settles.mounts faded) (groups world now settles.in_use settles.mounts faded))
   where
     gone : List ℕ
@@ -340,7 +356,8 @@ faded_lets_go world now settles faded =
 -- a lazy unmount is several events
 pub lazily_fades : (world : World ℕ) (number : ℕ) → MountsStand world → Faded world (lazily_unmounted nat_eq world number)
 lazily_fades world number stand =
-    all_events world (deepest_first nat_eq world (mount_tree nat_eq world.mounts (mount_numbered nat_eq world number))) world (begun world stand)
+    all_events world (deepest_first nat_eq world (mount_tree nat_eq world.mounts (mount_numbered nat_eq world number))) world
+    (begun world stand)
 
 pub lazy_unmounts_let_go : LazyUnmountsLetGo
 lazy_unmounts_let_go fresh world task number settles =

@@ -23,7 +23,8 @@ module _ {A : Type 0} where
       again x y z = omega arith
 
 module _ {A B : Type 0} where
-  flat_map_one : (g : A → List B) (front back : List A) (x y : A) → g x ≡ g y → flat_map g (front ++ (x ∷ back)) ≡ flat_map g (front ++ (y ∷ back))
+  flat_map_one : (g : A → List B) (front back : List A) (x y : A) → g x ≡ g y
+      → flat_map g (front ++ (x ∷ back)) ≡ flat_map g (front ++ (y ∷ back))
   flat_map_one g [] back x y e = ap (λ l. l ++ flat_map g back) e
   flat_map_one g (z ∷ front) back x y e = ap (λ l. g z ++ l) (flat_map_one g front back x y e)
 
@@ -66,9 +67,11 @@ module _ (overlay : Overlay ℕ) (inode object number : ℕ) (upper : overlay.re
       count = times (nat_eq number)
 
       by : (same : Bool) → nat_eq k inode ≡ same
-          → times (nat_eq number) (filter_map before numbers) ≡ times (nat_eq number) (left numbers) + cond b (times (nat_eq inode) numbers) 0
+          → times (nat_eq number) (filter_map before numbers) ≡ times (nat_eq number) (left numbers) + cond b
+          (times (nat_eq inode) numbers) 0
           → times (nat_eq number) (cons_option (before k) (filter_map before numbers))
-          ≡ times (nat_eq number) (filter_map after (cond (not (nat_eq k inode)) (k ∷ filter (λ other. not (nat_eq other inode)) numbers) (filter (λ other. not (nat_eq other inode)) numbers)))
+          ≡ times (nat_eq number) (filter_map after (cond (not (nat_eq k inode)) (k ∷ filter (λ other. not (nat_eq other inode)) numbers)
+          (filter (λ other. not (nat_eq other inode)) numbers)))
           + cond b (cond (nat_eq inode k) 1 0 + times (nat_eq inode) numbers) 0
       by true same later =
           ap (λ o. times (nat_eq number) (cons_option o (filter_map before numbers)))
@@ -78,7 +81,8 @@ module _ (overlay : Overlay ℕ) (inode object number : ℕ) (upper : overlay.re
           ∙ sum b (times (nat_eq number) (left numbers)) (times (nat_eq inode) numbers)
           ∙ ap (λ c. times (nat_eq number) (left numbers) + cond b (cond c 1 0 + times (nat_eq inode) numbers) 0)
           (sym (eq-eqb inode k (sym (eqb-true k inode same))))
-          ∙ ap (λ c. times (nat_eq number) (filter_map after (cond (not c) (k ∷ filter (λ other. not (nat_eq other inode)) numbers) (filter (λ other. not (nat_eq other inode)) numbers)))
+          ∙ ap (λ c. times (nat_eq number) (filter_map after
+          (cond (not c) (k ∷ filter (λ other. not (nat_eq other inode)) numbers) (filter (λ other. not (nat_eq other inode)) numbers)))
           + cond b (cond (nat_eq inode k) 1 0 + times (nat_eq inode) numbers) 0) (sym same)
         where
           sum : (c : Bool) (r t : ℕ) → cond c 1 0 + (r + cond c t 0) ≡ r + cond c (1 + t) 0
@@ -91,7 +95,8 @@ module _ (overlay : Overlay ℕ) (inode object number : ℕ) (upper : overlay.re
           ∙ ap (λ n. times (nat_eq number) (cons_option (after k) (left numbers)) + cond b n 0) (zero_first (times (nat_eq inode) numbers))
           ∙ ap (λ c. times (nat_eq number) (cons_option (after k) (left numbers)) + cond b (cond c 1 0 + times (nat_eq inode) numbers) 0)
           (sym (differ (nat_eq inode k) refl))
-          ∙ ap (λ c. times (nat_eq number) (filter_map after (cond (not c) (k ∷ filter (λ other. not (nat_eq other inode)) numbers) (filter (λ other. not (nat_eq other inode)) numbers)))
+          ∙ ap (λ c. times (nat_eq number) (filter_map after
+          (cond (not c) (k ∷ filter (λ other. not (nat_eq other inode)) numbers) (filter (λ other. not (nat_eq other inode)) numbers)))
           + cond b (cond (nat_eq inode k) 1 0 + times (nat_eq inode) numbers) 0) (sym same)
         where
           differ : (c : Bool) → nat_eq inode k ≡ c → nat_eq inode k ≡ false
@@ -110,10 +115,13 @@ module _ (overlay : Overlay ℕ) (inode object number : ℕ) (upper : overlay.re
 
 pub one_upper_use_less : OneUpperUseLess
 one_upper_use_less world front back merged overlay layer inode object all is upper real once filesystem number =
-    ap (λ n. first + n) (times_append (nat_eq number) (others (layers_in nat_eq world filesystem.number)) (flat_map objects world.filesystems))
+    ap (λ n. first + n) (times_append (nat_eq number) (others (layers_in nat_eq world filesystem.number))
+    (flat_map objects world.filesystems))
     ∙ ap (λ (n : ℕ). first + (times (nat_eq number) (others (layers_in nat_eq world filesystem.number)) + n)) objects_one
-    ∙ ap (λ l. first + (times (nat_eq number) (others l) + (times (nat_eq number) (flat_map objects (front ++ (gone ∷ back))) + less))) layers
-    ∙ over first (times (nat_eq number) (others (layers_in nat_eq later filesystem.number))) (times (nat_eq number) (flat_map objects (front ++ (gone ∷ back)))) less
+    ∙ ap (λ l. first + (times (nat_eq number) (others l) +
+    (times (nat_eq number) (flat_map objects (front ++ (gone ∷ back))) + less))) layers
+    ∙ over first (times (nat_eq number) (others (layers_in nat_eq later filesystem.number)))
+    (times (nat_eq number) (flat_map objects (front ++ (gone ∷ back)))) less
     ∙ ap (λ n. (first + n) + less)
     (sym (times_append (nat_eq number) (others (layers_in nat_eq later filesystem.number)) (flat_map objects (front ++ (gone ∷ back)))))
   where
@@ -153,17 +161,21 @@ one_upper_use_less world front back merged overlay layer inode object all is upp
     of_upper : Option (Layer ℕ) → List ℕ → List ℕ
     of_upper u list = cond (holds_of (λ l. nat_eq filesystem.number l.filesystem) u) list []
 
-    objects_merged : objects merged ≡ cond (nat_eq filesystem.number layer.filesystem) (filter_map (λ k. upper_object (overlay.real k)) merged.files.numbers) []
+    objects_merged : objects merged ≡ cond (nat_eq filesystem.number layer.filesystem)
+        (filter_map (λ k. upper_object (overlay.real k)) merged.files.numbers) []
     objects_merged =
         ap (overlay_or [] (λ o. of_upper o.upper (filter_map (λ k. upper_object (o.real k)) merged.files.numbers))) is
         ∙ ap (λ u. of_upper u (filter_map (λ k. upper_object (overlay.real k)) merged.files.numbers)) upper
 
     objects_gone : objects gone ≡ cond (nat_eq filesystem.number layer.filesystem)
-        (filter_map (λ k. upper_object ((without_real inode overlay).real k)) (filter (λ other. not (nat_eq other inode)) merged.files.numbers)) []
+        (filter_map (λ k. upper_object ((without_real inode overlay).real k))
+        (filter (λ other. not (nat_eq other inode)) merged.files.numbers)) []
     objects_gone =
-        ap (λ x. overlay_or [] (λ o. of_upper o.upper (filter_map (λ k. upper_object (o.real k)) (filter (λ other. not (nat_eq other inode)) merged.files.numbers)))
+        ap (λ x. overlay_or [] (λ o. of_upper o.upper (filter_map (λ k. upper_object (o.real k))
+        (filter (λ other. not (nat_eq other inode)) merged.files.numbers)))
         (option_map (without_real inode) x)) is
-        ∙ ap (λ u. of_upper u (filter_map (λ k. upper_object ((without_real inode overlay).real k)) (filter (λ other. not (nat_eq other inode)) merged.files.numbers))) upper
+        ∙ ap (λ u. of_upper u (filter_map (λ k. upper_object ((without_real inode overlay).real k))
+        (filter (λ other. not (nat_eq other inode)) merged.files.numbers))) upper
 
     of_merged : times (nat_eq number) (objects merged) ≡ times (nat_eq number) (objects gone) + less
     of_merged =
@@ -172,15 +184,18 @@ one_upper_use_less world front back merged overlay layer inode object all is upp
       where
         by : (b : Bool)
             → times (nat_eq number) (cond b (filter_map (λ k. upper_object (overlay.real k)) merged.files.numbers) [])
-            ≡ times (nat_eq number) (cond b (filter_map (λ k. upper_object ((without_real inode overlay).real k)) (filter (λ other. not (nat_eq other inode)) merged.files.numbers)) [])
+            ≡ times (nat_eq number) (cond b (filter_map (λ k. upper_object ((without_real inode overlay).real k))
+            (filter (λ other. not (nat_eq other inode)) merged.files.numbers)) [])
             + cond (b && nat_eq number object) 1 0
         by true =
             objects_less overlay inode object number real (nat_eq number object) refl merged.files.numbers
-            ∙ ap (λ n. times (nat_eq number) (filter_map (λ k. upper_object ((without_real inode overlay).real k)) (filter (λ other. not (nat_eq other inode)) merged.files.numbers))
+            ∙ ap (λ n. times (nat_eq number) (filter_map (λ k. upper_object ((without_real inode overlay).real k))
+            (filter (λ other. not (nat_eq other inode)) merged.files.numbers))
             + cond (nat_eq number object) n 0) once
         by false = refl
 
-    objects_one : times (nat_eq number) (flat_map objects world.filesystems) ≡ times (nat_eq number) (flat_map objects (front ++ (gone ∷ back))) + less
+    objects_one : times (nat_eq number) (flat_map objects world.filesystems)
+        ≡ times (nat_eq number) (flat_map objects (front ++ (gone ∷ back))) + less
     objects_one =
         ap (λ list. times (nat_eq number) (flat_map objects list)) all
         ∙ times_one (nat_eq number) objects front back merged gone less of_merged

@@ -19,14 +19,17 @@ module _ {A : Type 0} where
   any_counted test [] = refl
   any_counted test (a ∷ rest) = by (test a) (any_counted test rest)
     where
-      by : (b : Bool) → list_any test rest ≡ nat_lt 0 (times test rest) → (b || list_any test rest) ≡ nat_lt 0 (cond b 1 0 + times test rest)
+      by : (b : Bool) → list_any test rest ≡ nat_lt 0 (times test rest)
+          → (b || list_any test rest) ≡ nat_lt 0 (cond b 1 0 + times test rest)
       by true e = counted (times test rest)
       by false e = e ∙ not_counted (times test rest)
 
-  one_less : (test : A → Bool) (front back : List A) (a : A) → times test (front ++ (a ∷ back)) ≡ times test (front ++ back) + cond (test a) 1 0
+  one_less : (test : A → Bool) (front back : List A) (a : A)
+      → times test (front ++ (a ∷ back)) ≡ times test (front ++ back) + cond (test a) 1 0
   one_less test [] back a = omega arith
   one_less test (b ∷ front) back a =
-      ap (λ n. cond (test b) 1 0 + n) (one_less test front back a) ∙ again (cond (test b) 1 0) (times test (front ++ back)) (cond (test a) 1 0)
+      ap (λ n. cond (test b) 1 0 + n) (one_less test front back a) ∙ again (cond (test b) 1 0) (times test (front ++ back))
+      (cond (test a) 1 0)
     where
       again : (x y z : ℕ) → x + (y + z) ≡ (x + y) + z
       again x y z = omega arith

@@ -26,7 +26,8 @@ module _ (world : World ℕ) (change : Mount ℕ → Mount ℕ) (master : ℕ �
       ∙ map_alike (λ mount. root_of (change mount)) root_of world.mounts
       (λ mount m. λ i. record { mount = keeps.number mount i; node = keeps.root mount i })
 
-  same_places : (mounts : List (Mount ℕ)) → filter_map (λ mount. mount.mount_point) (map change mounts) ≡ filter_map (λ mount. mount.mount_point) mounts
+  same_places : (mounts : List (Mount ℕ)) → filter_map (λ mount. mount.mount_point) (map change mounts)
+      ≡ filter_map (λ mount. mount.mount_point) mounts
   same_places [] = refl
   same_places (mount ∷ rest) = λ i. cons_option (keeps.mount_point mount i) (same_places rest i)
 
@@ -39,17 +40,20 @@ module _ (world : World ℕ) (change : Mount ℕ → Mount ℕ) (master : ℕ �
 
   same_located : (number : ℕ) → located_in nat_eq after number ≡ located_in nat_eq world number
   same_located number = λ i. map (λ location. location.node)
-      (filter (λ location. nat_eq number (same_filesystem location.mount i)) (all_locations world ++ same_roots i ++ same_places world.mounts i))
+      (filter (λ location. nat_eq number (same_filesystem location.mount i))
+      (all_locations world ++ same_roots i ++ same_places world.mounts i))
 
   same_mounted : (number : ℕ) → is_mounted nat_eq after number ≡ is_mounted nat_eq world number
-  same_mounted number = any-map (λ mount. nat_eq number mount.filesystem) change world.mounts (λ mount. ap (nat_eq number) (keeps.filesystem mount))
+  same_mounted number = any-map (λ mount. nat_eq number mount.filesystem) change world.mounts
+      (λ mount. ap (nat_eq number) (keeps.filesystem mount))
 
   same_lives : (filesystem : Filesystem ℕ) → filesystem_lives nat_eq after filesystem ≡ filesystem_lives nat_eq world filesystem
   same_lives filesystem = λ i. same_mounted filesystem.number i
       || list_any (λ merged. has_layer_on nat_eq filesystem.number merged && same_mounted merged.number i) world.filesystems
 
   same_used : (filesystem : Filesystem ℕ) (number : ℕ) → is_inode_used after filesystem number ≡ is_inode_used world filesystem number
-  same_used filesystem number = λ i. is_among nat_eq number (filesystem.files.tree.root ∷ (named_in filesystem.files ++ same_located filesystem.number i
+  same_used filesystem number = λ i. is_among nat_eq number
+      (filesystem.files.tree.root ∷ (named_in filesystem.files ++ same_located filesystem.number i
       ++ layers_in nat_eq world filesystem.number ++ flat_map (objects_of_overlay nat_eq filesystem.number) world.filesystems))
 
   pub still_in_use : AllInUse world → GroupsInUse after → AllInUse after
@@ -63,7 +67,8 @@ module _ (world : World ℕ) (change : Mount ℕ → Mount ℕ) (master : ℕ �
     inodes = all_from_among (λ f. list_all (is_inode_used after f) f.files.numbers ≡ true) world.filesystems (λ filesystem m.
         all_pass (is_inode_used after filesystem) filesystem.files.numbers (λ number n. same_used filesystem number
         ∙ passes (is_inode_used world filesystem) filesystem.files.numbers
-        (among_from_all (λ f. list_all (is_inode_used world f) f.files.numbers ≡ true) world.filesystems all.inodes filesystem m) number n));
+        (among_from_all (λ f. list_all (is_inode_used world f) f.files.numbers
+        ≡ true) world.filesystems all.inodes filesystem m) number n));
     groups = groups;
   }
 
@@ -76,15 +81,18 @@ pub flags_are_of_one : FlagsAreOfOne
 flags_are_of_one world here flags one =
     ap (with_mounts world)
     (map_alike (replaced_if_same nat_eq (record (mount_at nat_eq world here) { flags = flags })) (flags_if here.mount flags) world.mounts
-    (λ mount m. ap (λ n. cond (nat_eq n mount.number) (record (mount_at nat_eq world here) { flags = flags }) mount) (number_found world.mounts here.mount)
+    (λ mount m. ap (λ n. cond (nat_eq n mount.number) (record (mount_at nat_eq world here) { flags = flags }) mount)
+    (number_found world.mounts here.mount)
     ∙ by mount m (nat_eq here.mount mount.number) refl))
   where
     by : (mount : Mount ℕ) → Among mount world.mounts → (b : Bool) → nat_eq here.mount mount.number ≡ b
-        → cond b (record (mount_at nat_eq world here) { flags = flags }) mount ≡ cond (nat_eq mount.number here.mount) (record mount { flags = flags }) mount
+        → cond b (record (mount_at nat_eq world here) { flags = flags }) mount
+        ≡ cond (nat_eq mount.number here.mount) (record mount { flags = flags }) mount
     by mount m true e =
         ap (λ (x : Mount ℕ). record x { flags = flags })
         (ap (mount_in nat_eq world.mounts) (eqb-true here.mount mount.number e) ∙ found_itself world.mounts one mount m)
-        ∙ ap (λ b. cond b (record mount { flags = flags }) mount) (sym (eq-eqb mount.number here.mount (sym (eqb-true here.mount mount.number e))))
+        ∙ ap (λ b. cond b (record mount { flags = flags }) mount)
+        (sym (eq-eqb mount.number here.mount (sym (eqb-true here.mount mount.number e))))
     by mount m false e = ap (λ b. cond b (record mount { flags = flags }) mount) (sym (differs (nat_eq mount.number here.mount) refl))
       where
         differs : (b : Bool) → nat_eq mount.number here.mount ≡ b → b ≡ false
@@ -105,10 +113,13 @@ keeps_flags number flags = record {
     by mount part same true = same mount
     by mount part same false = refl
 
-same_members : (number group : ℕ) (flags : MountFlags) (mounts : List (Mount ℕ)) → has_members nat_eq (map (flags_if number flags) mounts) group ≡ has_members nat_eq mounts group
-same_members number group flags mounts = any-map (is_member_of nat_eq group) (flags_if number flags) mounts (λ mount. by mount (nat_eq mount.number number))
+same_members : (number group : ℕ) (flags : MountFlags) (mounts : List (Mount ℕ))
+    → has_members nat_eq (map (flags_if number flags) mounts) group ≡ has_members nat_eq mounts group
+same_members number group flags mounts = any-map (is_member_of nat_eq group) (flags_if number flags) mounts
+    (λ mount. by mount (nat_eq mount.number number))
   where
-    by : (mount : Mount ℕ) (b : Bool) → is_member_of nat_eq group (cond b (record mount { flags = flags }) mount) ≡ is_member_of nat_eq group mount
+    by : (mount : Mount ℕ) (b : Bool) → is_member_of nat_eq group (cond b (record mount { flags = flags }) mount)
+        ≡ is_member_of nat_eq group mount
     by mount true = refl
     by mount false = refl
 

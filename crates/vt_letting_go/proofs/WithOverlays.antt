@@ -32,7 +32,8 @@ plain_without gone f = ap not (overlay_without gone f)
 upper_without : (number : ℕ) (gone : ℕ → Bool) (f : Filesystem ℕ) → has_upper_in number (without_all gone f) ≡ has_upper_in number f
 upper_without number gone f = by f.overlay
   where
-    by : (o : Option (Overlay ℕ)) → overlay_or false (λ overlay. holds_of (λ layer. nat_eq number layer.filesystem) overlay.upper) (option_map (reals_without gone) o)
+    by : (o : Option (Overlay ℕ)) → overlay_or false (λ overlay. holds_of (λ layer. nat_eq number layer.filesystem) overlay.upper)
+        (option_map (reals_without gone) o)
         ≡ overlay_or false (λ overlay. holds_of (λ layer. nat_eq number layer.filesystem) overlay.upper) o
     by None = refl
     by (Some overlay) = refl
@@ -42,7 +43,8 @@ overlays_apart : (world : World ℕ) → UppersArePlain world → Apart is_overl
 unfolding Apart
 overlays_apart world plain f g m is n are gone =
     let none = among_from_all (λ other. has_upper_in f.number other ≡ false) world.filesystems
-    (among_from_all (λ x. is_overlay x ≡ true → All (λ other. has_upper_in x.number other ≡ false) world.filesystems) world.filesystems plain f m is) g n in
+    (among_from_all (λ x. is_overlay x ≡ true → All (λ other. has_upper_in x.number other
+    ≡ false) world.filesystems) world.filesystems plain f m is) g n in
     no_upper_objects world f.number (without_all gone g) (upper_without f.number gone g ∙ none)
     ∙ sym (no_upper_objects world f.number g none)
 
@@ -63,40 +65,47 @@ merged_go_one_by_one world losers trees plain reals others =
     (λ f m is. (
       among_from_all (λ x. IsListedTree x.files) world.filesystems trees f m,
       among_from_all HasReals world.filesystems reals f m,
-      among_from_all (λ x. is_overlay x ≡ true → list_all (is_used_or_among losers world x) x.files.numbers ≡ true) world.filesystems others f m is,
+      among_from_all (λ x. is_overlay x ≡ true → list_all (is_used_or_among losers world x) x.files.numbers
+          ≡ true) world.filesystems others f m is,
     ))
 
 -- An upper object is that of an inode of an overlay with its upper layer there
 pub object_parts : (number object : ℕ) (g : Filesystem ℕ) → Among object (objects_of_overlay nat_eq number g)
-    → (overlay : Overlay ℕ) × (g.overlay ≡ Some overlay) × (layer : Layer ℕ) × (overlay.upper ≡ Some layer) × (nat_eq number layer.filesystem ≡ true)
+    → (overlay : Overlay ℕ) × (g.overlay ≡ Some overlay) × (layer : Layer ℕ) × (overlay.upper ≡ Some layer)
+    × (nat_eq number layer.filesystem ≡ true)
     × (k : ℕ) × Among k g.files.numbers × (upper_object (overlay.real k) ≡ Some object)
 object_parts number object g m = by g.overlay refl m
   where
     by : (o : Option (Overlay ℕ)) → g.overlay ≡ o
         → Among object (overlay_or [] (λ overlay. cond (holds_of (λ layer. nat_eq number layer.filesystem) overlay.upper)
         (filter_map (λ k. upper_object (overlay.real k)) g.files.numbers) []) o)
-        → (overlay : Overlay ℕ) × (g.overlay ≡ Some overlay) × (layer : Layer ℕ) × (overlay.upper ≡ Some layer) × (nat_eq number layer.filesystem ≡ true)
+        → (overlay : Overlay ℕ) × (g.overlay ≡ Some overlay) × (layer : Layer ℕ) × (overlay.upper ≡ Some layer)
+        × (nat_eq number layer.filesystem ≡ true)
         × (k : ℕ) × Among k g.files.numbers × (upper_object (overlay.real k) ≡ Some object)
     by None e n = absurd n
     by (Some overlay) e n = upper overlay.upper refl n
       where
         upper : (u : Option (Layer ℕ)) → overlay.upper ≡ u
-            → Among object (cond (holds_of (λ layer. nat_eq number layer.filesystem) u) (filter_map (λ k. upper_object (overlay.real k)) g.files.numbers) [])
-            → (overlay : Overlay ℕ) × (g.overlay ≡ Some overlay) × (layer : Layer ℕ) × (overlay.upper ≡ Some layer) × (nat_eq number layer.filesystem ≡ true)
+            → Among object (cond (holds_of (λ layer. nat_eq number layer.filesystem) u)
+            (filter_map (λ k. upper_object (overlay.real k)) g.files.numbers) [])
+            → (overlay : Overlay ℕ) × (g.overlay ≡ Some overlay) × (layer : Layer ℕ) × (overlay.upper ≡ Some layer)
+            × (nat_eq number layer.filesystem ≡ true)
             × (k : ℕ) × Among k g.files.numbers × (upper_object (overlay.real k) ≡ Some object)
         upper None d l = absurd l
         upper (Some layer) d l = here (nat_eq number layer.filesystem) refl l
           where
             here : (b : Bool) → nat_eq number layer.filesystem ≡ b
                 → Among object (cond b (filter_map (λ k. upper_object (overlay.real k)) g.files.numbers) [])
-                → (overlay : Overlay ℕ) × (g.overlay ≡ Some overlay) × (layer : Layer ℕ) × (overlay.upper ≡ Some layer) × (nat_eq number layer.filesystem ≡ true)
+                → (overlay : Overlay ℕ) × (g.overlay ≡ Some overlay) × (layer : Layer ℕ) × (overlay.upper ≡ Some layer)
+                × (nat_eq number layer.filesystem ≡ true)
                 × (k : ℕ) × Among k g.files.numbers × (upper_object (overlay.real k) ≡ Some object)
             here true c a =
                 let t = among-from_filter_map (λ k. upper_object (overlay.real k)) g.files.numbers object a in
                 (overlay, e, layer, d, c, t.0, t.1, t.2)
             here false c a = absurd a
 
-pub object_there : (number object : ℕ) (g : Filesystem ℕ) (overlay : Overlay ℕ) (layer : Layer ℕ) → g.overlay ≡ Some overlay → overlay.upper ≡ Some layer
+pub object_there : (number object : ℕ) (g : Filesystem ℕ) (overlay : Overlay ℕ) (layer : Layer ℕ) → g.overlay ≡ Some overlay
+    → overlay.upper ≡ Some layer
     → nat_eq number layer.filesystem ≡ true → (k : ℕ) → Among k g.files.numbers → upper_object (overlay.real k) ≡ Some object
     → Among object (objects_of_overlay nat_eq number g)
 object_there number object g overlay layer e d c k m r =
@@ -104,8 +113,10 @@ object_there number object g overlay layer e d c k m r =
   where
     here : objects_of_overlay nat_eq number g ≡ filter_map (λ n. upper_object (overlay.real n)) g.files.numbers
     here =
-        ap (overlay_or [] (λ o. cond (holds_of (λ l. nat_eq number l.filesystem) o.upper) (filter_map (λ n. upper_object (o.real n)) g.files.numbers) [])) e
-        ∙ ap (λ u. cond (holds_of (λ l. nat_eq number l.filesystem) u) (filter_map (λ n. upper_object (overlay.real n)) g.files.numbers) []) d
+        ap (overlay_or [] (λ o. cond (holds_of (λ l. nat_eq number l.filesystem) o.upper)
+        (filter_map (λ n. upper_object (o.real n)) g.files.numbers) [])) e
+        ∙ ap (λ u. cond (holds_of (λ l. nat_eq number l.filesystem) u)
+        (filter_map (λ n. upper_object (overlay.real n)) g.files.numbers) []) d
         ∙ ap (λ b. cond b (filter_map (λ n. upper_object (overlay.real n)) g.files.numbers) []) c
 
 -- the upper inode of an inode that is looked at is looked at
@@ -125,14 +136,16 @@ upper_looked_at world losers number object k g overlay layer m e d c r among =
     listed : Option (Layer ℕ) → Option ℕ → List Inode
     listed u o = flat_map (λ l. map (λ x. (l.filesystem, x)) (option_to_list o)) (option_to_list u)
 
-    there : (inode : Inode) → nat_eq g.number inode.0 ≡ true → nat_eq k inode.1 ≡ true → uppers_of_inode_in inode g ≡ (layer.filesystem, object) ∷ []
+    there : (inode : Inode) → nat_eq g.number inode.0 ≡ true → nat_eq k inode.1 ≡ true
+        → uppers_of_inode_in inode g ≡ (layer.filesystem, object) ∷ []
     there inode f n =
         ap (λ b. cond b (of_overlay [] (uppers_in inode.1) g) []) f
         ∙ ap (overlay_or [] (uppers_in inode.1)) e
         ∙ ap (λ x. uppers_in x overlay) (sym (eqb-true k inode.1 n))
         ∙ (λ i. listed (d i) (r i))
 
-module _ (world : World ℕ) (losers : List Inode) (trees : HasTrees world) (reals : RealsAreThere world) (others : InodesInUseBut losers world) where
+module _ (world : World ℕ) (losers : List Inode) (trees : HasTrees world) (reals : RealsAreThere world)
+    (others : InodesInUseBut losers world) where
   abbrev after : World ℕ
   after = without_dead_in nat_eq is_overlay world
 
@@ -167,16 +180,19 @@ module _ (world : World ℕ) (losers : List Inode) (trees : HasTrees world) (rea
 
   -- an upper object is one still, or is looked at
   object_left : (number object : ℕ) → Among object (flat_map (objects_of_overlay nat_eq number) world.filesystems)
-      → Among object (flat_map (objects_of_overlay nat_eq number) after.filesystems) ⊎ (is_inode_among number object (uppers_of world losers) ≡ true)
+      → Among object (flat_map (objects_of_overlay nat_eq number) after.filesystems)
+      ⊎ (is_inode_among number object (uppers_of world losers) ≡ true)
   object_left number object m =
       let t = among-from_flat_map (objects_of_overlay nat_eq number) world.filesystems object m in
       let p = object_parts number object t.0 t.2 in
       by t.0 t.1 p.0 p.1 p.2 p.3 p.4 p.5 p.6 p.7 (is_inode_used world t.0 p.5) refl
     where
-      by : (g : Filesystem ℕ) → Among g world.filesystems → (overlay : Overlay ℕ) → g.overlay ≡ Some overlay → (layer : Layer ℕ) → overlay.upper ≡ Some layer
+      by : (g : Filesystem ℕ) → Among g world.filesystems → (overlay : Overlay ℕ) → g.overlay ≡ Some overlay → (layer : Layer ℕ)
+          → overlay.upper ≡ Some layer
           → nat_eq number layer.filesystem ≡ true → (k : ℕ) → Among k g.files.numbers → upper_object (overlay.real k) ≡ Some object
           → (u : Bool) → is_inode_used world g k ≡ u
-          → Among object (flat_map (objects_of_overlay nat_eq number) after.filesystems) ⊎ (is_inode_among number object (uppers_of world losers) ≡ true)
+          → Among object (flat_map (objects_of_overlay nat_eq number) after.filesystems)
+          ⊎ (is_inode_among number object (uppers_of world losers) ≡ true)
       by g n overlay e layer d c k l r true used =
           inl (among-flat_map (objects_of_overlay nat_eq number) after.filesystems (first g) object (among-map first world.filesystems g n)
           (subst (λ x. Among object (objects_of_overlay nat_eq number x)) (sym itself)
@@ -196,7 +212,8 @@ module _ (world : World ℕ) (losers : List Inode) (trees : HasTrees world) (rea
           inr (upper_looked_at world losers number object k g overlay layer n e d c r
           (looked (is_inode_among g.number k losers) (is_inode_used world g k)
           (passes (is_used_or_among losers world g) g.files.numbers
-          (among_from_all (λ x. list_all (is_used_or_among losers world x) x.files.numbers ≡ true) world.filesystems others g n) k l) unused))
+          (among_from_all (λ x. list_all (is_used_or_among losers world x) x.files.numbers
+          ≡ true) world.filesystems others g n) k l) unused))
         where
           looked : (a b : Bool) → (a || b) ≡ true → b ≡ false → a ≡ true
           looked true b h f = refl
@@ -220,7 +237,8 @@ module _ (world : World ℕ) (losers : List Inode) (trees : HasTrees world) (rea
       (object_left f.number number (among_numbers number (flat_map (objects_of_overlay nat_eq f.number) world.filesystems) object)))
       (or_cases (is_among nat_eq number (front (layers_in nat_eq world f.number)))
       (is_among nat_eq number (flat_map (objects_of_overlay nat_eq f.number) world.filesystems))
-      (sym (list_any-append (nat_eq number) (front (layers_in nat_eq world f.number)) (flat_map (objects_of_overlay nat_eq f.number) world.filesystems)) ∙ u)))
+      (sym (list_any-append (nat_eq number) (front (layers_in nat_eq world f.number))
+      (flat_map (objects_of_overlay nat_eq f.number) world.filesystems)) ∙ u)))
       (or_cases (is_inode_among f.number number losers) (is_inode_used world f number) h)
     where
       front : List ℕ → List ℕ
@@ -231,7 +249,8 @@ module _ (world : World ℕ) (losers : List Inode) (trees : HasTrees world) (rea
           list_any-append (λ inode. nat_eq f.number inode.0 && nat_eq number inode.1) losers (uppers_of world losers)
           ∙ or_first _ _ a
 
-      more_right : is_inode_among f.number number (uppers_of world losers) ≡ true → is_inode_among f.number number (losers ++ uppers_of world losers) ≡ true
+      more_right : is_inode_among f.number number (uppers_of world losers) ≡ true
+          → is_inode_among f.number number (losers ++ uppers_of world losers) ≡ true
       more_right a =
           list_any-append (λ inode. nat_eq f.number inode.0 && nat_eq number inode.1) losers (uppers_of world losers)
           ∙ or_second _ _ a
@@ -249,7 +268,8 @@ module _ (world : World ℕ) (losers : List Inode) (trees : HasTrees world) (rea
         all_pass (is_used_or_among (losers ++ uppers_of world losers) after f) f.files.numbers
             (λ number n. still_used f number
             (passes (is_used_or_among losers world f) f.files.numbers
-            (among_from_all (λ x. list_all (is_used_or_among losers world x) x.files.numbers ≡ true) world.filesystems others f was) number n)),
+            (among_from_all (λ x. list_all (is_used_or_among losers world x) x.files.numbers
+            ≡ true) world.filesystems others f was) number n)),
       ))
 
 pub all_inodes_go_one_by_one : AllInodesGoOneByOne
@@ -265,7 +285,8 @@ pub with_overlays_all_goes : WithOverlaysAllGoes
 with_overlays_all_goes world losers trees plain reals others =
     let mounted = without_dead_mounts nat_eq world in
     let living = without_dead_filesystems nat_eq mounted in
-    let trees_living : HasTrees living = All-filter (filesystem_lives nat_eq mounted) (λ filesystem. IsListedTree filesystem.files) world.filesystems trees in
+    let trees_living : HasTrees living = All-filter (filesystem_lives nat_eq mounted)
+    (λ filesystem. IsListedTree filesystem.files) world.filesystems trees in
     let reals_living : RealsAreThere living = All-filter (filesystem_lives nat_eq mounted) HasReals world.filesystems reals in
     let plain_living : UppersArePlain living =
     all_from_among (λ f. is_overlay f ≡ true → All (λ g. has_upper_in f.number g ≡ false) living.filesystems) living.filesystems

@@ -5,7 +5,7 @@ use Rattle.vt_spec.specs.Machine.Mounts.{Location}
 use Rattle.vt_spec.specs.Machine.Settled.{settled}
 use Rattle.vt_spec.specs.Machine.World.{Task, World, layers_of, mount_at}
 use Rattle.vt_letting_go.specs.InUse.{AllInUse, HasTrees, UppersArePlain}
-use Rattle.vt_letting_go.specs.Leaving.{MountsStand, inodes_of_location, only_these_are_left, with_tasks}
+use Rattle.vt_letting_go.specs.Leaving.{MountsStand, comes_nowhere, inodes_of_location, only_these_are_left, with_tasks}
 use Rattle.vt_letting_go.specs.OneByOne.{Losers}
 use Rattle.vt_letting_go.specs.Overlays.{RealsAreThere, let_go_all, used_by_filesystems}
 
@@ -50,3 +50,10 @@ abbrev pub StayingKeepsOverlays : Type 0
 StayingKeepsOverlays =
     (world : World ℕ) (tasks : List (Task ℕ)) → IsSettled world → only_these_are_left world tasks [] ≡ true
     → settled nat_eq (with_tasks world tasks) ≡ with_tasks world tasks
+
+-- Where tasks only leave places, a sweep in between changes nothing.
+abbrev pub OneSweepForSeveralWithOverlays : Type 0
+OneSweepForSeveralWithOverlays =
+    (world : World ℕ) (tasks : List (Task ℕ)) → HasTrees world → UppersArePlain world → RealsAreThere world
+    → MountsStand world → comes_nowhere world tasks ≡ true
+    → settled nat_eq (with_tasks (settled nat_eq world) tasks) ≡ settled nat_eq (with_tasks world tasks)

@@ -19,3 +19,4 @@ pub mod MountingOverlays
 pub mod EndingTasks
 pub mod Retyping
 pub mod FileChanges
+pub mod TaskCalls

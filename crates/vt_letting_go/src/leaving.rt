@@ -3,8 +3,9 @@ ghost use Rattle.vt_letting_go.specs.Detaching.{DetachingLetsGo, UnmountIsOfOne}
 ghost use Rattle.vt_letting_go.specs.FileChanges.{ChangesKeepNames, FileChangesLetGo, MadeKeepsAll, OpenedNewKeepsAll, RemovedDirectoriesLetGo, ReplacingLetsGo, TakenAndFileChangesLetGo};
 ghost use Rattle.vt_letting_go.specs.Keeping.{FlagsAreOfOne, FlagsKeepAll, NewMountsKeepAll, TypesKeepAll};
 ghost use Rattle.vt_letting_go.specs.Leaving.{LeavingLetsGo, OneSweepForSeveral, StayingKeepsAll};
-ghost use Rattle.vt_letting_go.specs.LeavingOverlays.{LeavingOverlaysLetsGo, StayingKeepsOverlays};
+ghost use Rattle.vt_letting_go.specs.LeavingOverlays.{LeavingOverlaysLetsGo, OneSweepForSeveralWithOverlays, StayingKeepsOverlays};
 ghost use Rattle.vt_letting_go.specs.Retyping.{SetTypesLetGo};
+ghost use Rattle.vt_letting_go.specs.TaskCalls.{ChangedDirectoriesLetGo, ChangedRootsLetGo, ClosesLetGo, ForksKeepAll, NewCredentialsKeepAll, NewUmasksKeepAll, OpenedFilesKeepAll};
 ghost use Rattle.vt_letting_go.specs.TreeChanges.{NamedStay, UnnamedGo};
 ghost use Rattle.vt_letting_go.specs.TreesOverlays.{ChangedTreesKeepAll, ChangedTreesLetGo, LeftAndChangedLetsGo, OpenedKeepsAll, TakenAndChangedLetsGo, UnnamedGoWithOverlays};
 
@@ -21,6 +22,22 @@ pub fn what_tasks_leave_goes()
 pub fn what_tasks_leave_goes_with_overlays()
     ensures left { LeavingOverlaysLetsGo }
     ensures stayed { StayingKeepsOverlays }
+    ensures several { OneSweepForSeveralWithOverlays }
+{}
+
+/// After a call by which a task leaves locations, that goes which nothing uses any more of what it used there.
+pub fn what_a_call_of_a_task_leaves_goes()
+    ensures close { ClosesLetGo }
+    ensures chdir { ChangedDirectoriesLetGo }
+    ensures chroot { ChangedRootsLetGo }
+{}
+
+/// After a call by which a task leaves none, nothing goes.
+pub fn what_a_call_of_a_task_keeps()
+    ensures fork { ForksKeepAll }
+    ensures umask { NewUmasksKeepAll }
+    ensures credentials { NewCredentialsKeepAll }
+    ensures open { OpenedFilesKeepAll }
 {}
 
 /// Where a plain tree changed, the inodes go that lost their last name and where nothing is, and nothing else.

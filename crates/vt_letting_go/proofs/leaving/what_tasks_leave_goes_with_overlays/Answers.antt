@@ -1,4 +1,5 @@
 use Rattle.vt_letting_go.proofs.LeftWithOverlays.{leaving_overlays_lets_go, staying_keeps_overlays}
+use Rattle.vt_letting_go.proofs.LeftOneByOne.{one_sweep_with_overlays}
 use Rattle.vt_letting_go.proofs.leaving.what_tasks_leave_goes_with_overlays.Goals as goal
 
 pub returns-clause-left : goal.returns-clause-left
@@ -6,3 +7,6 @@ returns-clause-left c = leaving_overlays_lets_go
 
 pub returns-clause-stayed : goal.returns-clause-stayed
 returns-clause-stayed c = staying_keeps_overlays
+
+pub returns-clause-several : goal.returns-clause-several
+returns-clause-several c = one_sweep_with_overlays

@@ -1,0 +1,4 @@
+pub mod NewOverlays
+pub mod OverlayChanges
+pub mod OverlayCalls
+pub mod OverlayNames

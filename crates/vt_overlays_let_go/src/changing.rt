@@ -1,0 +1,24 @@
+//! What goes when an overlay changes.
+ghost use Rattle.vt_overlays_let_go.specs.OverlayCalls.{MadeInOverlaysLetsGo, OpenedNewInOverlaysLetsGo, RemovedFromOverlaysLetGo, ReplacedInOverlaysLetGo, TakenAndOverlayChangesLetGo};
+ghost use Rattle.vt_overlays_let_go.specs.OverlayChanges.{OverlayChangesLetGo};
+ghost use Rattle.vt_overlays_let_go.specs.OverlayNames.{OnlyTheseLoseNames, OpenedCopiesKeepAll, OverlayChangesKeepAll};
+
+/// After a call that changed an overlay at the most the inode goes that lost a name there, and those that lost their
+/// last name in the upper layer: a whiteout, what was removed or replaced, and the whiteouts in it. With a directory that
+/// was removed or replaced that goes which only the mounts on it used.
+pub fn what_a_change_of_an_overlay_leaves_goes()
+    ensures names { OnlyTheseLoseNames }
+    ensures change { OverlayChangesLetGo }
+    ensures kept { OverlayChangesKeepAll }
+    ensures make { MadeInOverlaysLetsGo }
+    ensures with_mounts { TakenAndOverlayChangesLetGo }
+    ensures rmdir { RemovedFromOverlaysLetGo }
+    ensures rename { ReplacedInOverlaysLetGo }
+{}
+
+/// After a call that made a file in an overlay and opened it, at the most those inodes go. After one that copied it up
+/// nothing goes.
+pub fn what_is_opened_in_an_overlay_stays()
+    ensures new { OpenedNewInOverlaysLetsGo }
+    ensures copied_up { OpenedCopiesKeepAll }
+{}
