@@ -20,3 +20,4 @@ pub mod LinkedSeen
 pub mod AttrSeen
 pub mod WaysFiles
 pub mod WrittenSeen
+pub mod RenamedSeen

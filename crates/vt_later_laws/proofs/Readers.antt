@@ -137,7 +137,7 @@ module _ (world : World ℕ) (fresh : Fresh ℕ) (name : TaskName) (call : Call)
         Known world left is plain is_left.0 is_left.1 did.task reader
         (called_own world fresh name call answer is plain serves other few did) called stands Refused stays here
 
-    known_there : (here : Location ℕ) → KnownToo here → is_some (node_in left (mount_at nat_eq world here).filesystem here.node) ≡ true
+    pub known_there : (here : Location ℕ) → KnownToo here → is_some (node_in left (mount_at nat_eq world here).filesystem here.node) ≡ true
     known_there here known =
         ap is_some (sym (node_here world left is plain is_left.0 is_left.1 did.task reader
         (called_own world fresh name call answer is plain serves other few did) called stands Refused stays here))
