@@ -2,12 +2,11 @@
 use Rattle.std.proofs.Common.{◌≡◌, ◌≢◌, refl, sym, ap, subst, ◌∙◌, inl, inr, ◌⊎◌, ⊎_elim, true≢false, ℕ, nat_eq, Bool, true, false, not, ◌&&◌, List, [], ◌∷◌, Option, Some, None, is_some, option_map, Ok, Err}
 use Rattle.std.specs.Prelude.{option_to_list, unwrap_or}
 use Rattle.std.proofs.lemmas.Option.{same_Some}
-use Rattle.vt_spec.specs.declared.errors.Deny.{Deny}
 use Rattle.vt_spec.specs.declared.errors.Rule.TheVariants.{W3, W6}
 use Rattle.vt_spec.specs.Errors.{denial}
 use Rattle.vt_spec.specs.Language.Answers.{StatLine}
 use Rattle.vt_spec.specs.Language.Answers.Answer.{Done, Told}
-use Rattle.vt_spec.specs.Language.Calls.{Call, TaskName}
+use Rattle.vt_spec.specs.Language.Calls.{TaskName}
 use Rattle.vt_spec.specs.Language.Calls.Call.{Lstat, Rename}
 use Rattle.vt_spec.specs.Language.Changes.{Change, changed}
 use Rattle.vt_spec.specs.Language.Changes.Change.{Move}
@@ -24,11 +23,11 @@ use Rattle.vt_spec.specs.Machine.Policy.{policy, raised_task}
 use Rattle.vt_spec.specs.Machine.Rightful.{mounter_allows}
 use Rattle.vt_spec.specs.Machine.Rules.Removing.{is_one_object, object_there, old_word_rules, rename_new_walk, rename_rules}
 use Rattle.vt_spec.specs.Machine.Run.{Serves}
-use Rattle.vt_spec.specs.Machine.Walking.{Here, LastWord, Place, Stop, is_directory_there, is_special, name_of, new_walk, old_leaf_walk, old_walk, place_walk, stepped, symlink_walk, walk_end}
+use Rattle.vt_spec.specs.Machine.Walking.{Place, is_directory_there, is_special, name_of, new_walk, old_leaf_walk, old_walk, place_walk, stepped, walk_end}
 use Rattle.vt_spec.specs.Machine.World.{Task, World, files_at, is_directory_at, mount_at, node_at, task_called}
 use Rattle.vt_spec.specs.Machine.WorldLaws.{IsWorld}
 use Rattle.vt_spec.specs.Rights.{execute_right}
-use Rattle.vt_spec.specs.Tree.{Node, entries_in, entry_named, is_directory_node}
+use Rattle.vt_spec.specs.Tree.{entries_in, entry_named, is_directory_node}
 use Rattle.vt_spec.specs.TreeLaws.{entry_at}
 use Rattle.vt_spec.proofs.Nodes.{directory_used}
 use Rattle.vt_call_laws.specs.Inodes.{change_of}
@@ -42,7 +41,7 @@ use Rattle.vt_world_laws.specs.Worlds.Kept.{IsPlain}
 use Rattle.vt_world_laws.proofs.Plain.{plain_numbered}
 use Rattle.vt_world_laws.proofs.Reached.{IsFound, directory_found, step_found}
 use Rattle.vt_world_laws.proofs.ReachedWalks.{own_directory_found, root_found}
-use Rattle.vt_later_laws.specs.LaterPaths.{LooksFrom, RenameThenLstat}
+use Rattle.vt_later_laws.specs.LaterPaths.{RenameThenLstat}
 use Rattle.vt_later_laws.proofs.AfterChange.{all_stays, later_mounts, node_changed, spent}
 use Rattle.vt_later_laws.proofs.Granted.{IsPermitted, permitted}
 use Rattle.vt_later_laws.proofs.Looked.{lstat_of, lstat_refused}
@@ -55,7 +54,7 @@ use Rattle.vt_later_laws.proofs.Stays.{called_own}
 use Rattle.vt_later_laws.proofs.Unlinked.{Missing, old_parts}
 use Rattle.vt_later_laws.proofs.Ways.{LeadsToo, both_walked, same_end, walk_passing}
 use Rattle.vt_later_laws.proofs.WaysChanges.{RightsStay, TreeStays, moved_entry, moved_missing, moved_object, rights_moved, ways_moved}
-use Rattle.vt_later_laws.proofs.WaysPlaces.{EndsThere, named_place, symlink_missing, symlink_named_too}
+use Rattle.vt_later_laws.proofs.WaysPlaces.{named_place, symlink_missing, symlink_named_too}
 use Rattle.vt_later_laws.proofs.WaysStay.{StandsAs, node_in}
 
 -- walks of a world lead where they lead

@@ -1,5 +1,5 @@
 -- What changes of a tree leave of the ways through it.
-use Rattle.std.proofs.Common.{◌≡◌, ◌≢◌, refl, sym, ap, subst, ◌∙◌, inl, inr, ◌⊎◌, ⊎_elim, true≢false, ℕ, nat_eq, eqb-true, eq-eqb, ne_eqb, Bool, true, false, cond, not, List, Option, Some, None, is_some}
+use Rattle.std.proofs.Common.{◌≡◌, ◌≢◌, refl, sym, ap, ◌∙◌, inl, inr, ◌⊎◌, ⊎_elim, true≢false, ℕ, nat_eq, eqb-true, ne_eqb, Bool, true, false, cond, not, List, Option, Some, None, is_some}
 use Rattle.std.proofs.lemmas.Bool.Decides.{eqb_tells}
 use Rattle.std.specs.Cmp.{tied_itself}
 use Rattle.std.specs.Cmp.Lexicographic.{bytes_decides, nat_list_cmp_total}
@@ -10,7 +10,7 @@ use Rattle.vt_spec.specs.declared.errors.Deny.{Deny}
 use Rattle.vt_spec.specs.declared.errors.Rule.TheVariants.{W6}
 use Rattle.vt_spec.specs.Errors.{denial}
 use Rattle.vt_spec.specs.FileTree.{FileTree, symlink_text}
-use Rattle.vt_spec.specs.Language.Changes.{changed, changed_node, content_with_parent, node_with_attr, node_with_parent, node_without_entry, with_inode, with_name, without_entry, without_name, without_parent}
+use Rattle.vt_spec.specs.Language.Changes.{changed, changed_node, content_with_parent, node_with_attr, node_with_parent, node_without_entry, with_name, without_entry, without_name, without_parent}
 use Rattle.vt_spec.specs.Language.Changes.Change.{Make, Move, Remove}
 use Rattle.vt_spec.specs.Machine.Rightful.{node_allows}
 use Rattle.vt_spec.specs.Rights.{Credentials, allows}
@@ -416,11 +416,15 @@ module _ (files : FileTree ℕ) (Refused : Deny → Type 0) (from : ℕ) (old : 
           inl (ap (λ o. entry_named other (entries_in o)) (moved_node here)
           ∙ entry_stays less Refused to new object less_directory less_free here other next (less_entry here other ∙ same))
       by here other next e (inr lost) =
-          inr (ap (λ o. entry_named other (entries_in o)) (moved_node here)
-          ∙ missing_stays here other (less_entry here other ∙ lost.0)
-          (λ same_directory same_word.
-          none_is_not (entry_at files.tree to new) next free
-          ((λ i. entry_at files.tree (sym same_directory i) (sym same_word i)) ∙ e)), lost.1, lost.2)
+          inr (
+            ap (λ o. entry_named other (entries_in o)) (moved_node here)
+                ∙ missing_stays here other (less_entry here other ∙ lost.0)
+                (λ same_directory same_word.
+                none_is_not (entry_at files.tree to new) next free
+                ((λ i. entry_at files.tree (sym same_directory i) (sym same_word i)) ∙ e)),
+            lost.1,
+            lost.2,
+          )
 
   pub rights_moved : RightsStay files.tree moved.tree
   rights_moved who wanted n is =
