@@ -97,7 +97,7 @@ module _ (world : World ℕ) (inodes : List Inode) where
       ∙ let_go_mounts_stay is_overlay inodes world
 
 -- a filesystem that shows something is one of the list
-listed : (number : ℕ) (list : List (Filesystem ℕ)) (object : ℕ) → is_some ((numbered number list).files.tree.node object) ≡ true
+pub listed : (number : ℕ) (list : List (Filesystem ℕ)) (object : ℕ) → is_some ((numbered number list).files.tree.node object) ≡ true
     → is_among nat_eq number (map (λ (f : Filesystem ℕ). f.number) list) ≡ true
 listed number [] object there = absurd (true≢false (sym there))
 listed number (first ∷ rest) object there = by (nat_eq number first.number) there (listed number rest object)

@@ -21,3 +21,4 @@ pub mod AttrSeen
 pub mod WaysFiles
 pub mod WrittenSeen
 pub mod RenamedSeen
+pub mod CreatedSeen

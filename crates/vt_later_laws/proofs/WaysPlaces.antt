@@ -232,7 +232,7 @@ module _ (looks later : Looks ℕ) (task reader : Task ℕ) (Refused : Deny → 
     parent_known : Known parts.here.location → Known place.parent
     parent_known known = subst Known parts.parent_is known
 
-    front_too : EndsSo (words_walked nat_eq later reader (followed nat_eq later reader) (walk_start reader path) parts.front) parts.here
+    pub front_too : EndsSo (words_walked nat_eq later reader (followed nat_eq later reader) (walk_start reader path) parts.front) parts.here
     front_too = words_from path parts.front parts.here parts.walked
 
     -- the walk of all words, and of all but the last and then that one
