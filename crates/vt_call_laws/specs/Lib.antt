@@ -1,3 +1,4 @@
 pub mod Given
 pub mod Inodes
 pub mod Tasks
+pub mod Effects

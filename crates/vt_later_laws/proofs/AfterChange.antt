@@ -1,27 +1,26 @@
 -- The world that a granted call leaves which changed a tree: mounts are as they were, and each inode is as the change left
 -- it, or is gone.
-use Rattle.std.proofs.Common.{◌≡◌, refl, sym, ap, subst, ◌∙◌, inl, inr, ◌⊎◌, ⊎_elim, true≢false, ℕ, nat_eq, eqb-true, Bool, true, false, cond, ◌||◌, ◌++◌, List, [], ◌∷◌, map, find, Option, Some, None, is_some}
-use Rattle.std.specs.Prelude.{option_to_list, unwrap_or}
+use Rattle.std.proofs.Common.{◌≡◌, refl, sym, ap, subst, ◌∙◌, inl, inr, ◌⊎◌, ⊎_elim, true≢false, ℕ, nat_eq, eqb-true, Bool, true, false, cond, ◌||◌, ◌++◌, List, [], ◌∷◌, map, find, Some, None, is_some}
+use Rattle.std.specs.Prelude.{unwrap_or}
 use Rattle.vt_spec.specs.declared.errors.Deny.{Deny}
 use Rattle.vt_spec.specs.declared.errors.Rule.TheVariants.{W6}
 use Rattle.vt_spec.specs.Errors.{denial}
 use Rattle.vt_spec.specs.FileTree.{FileTree, symlink_text}
 use Rattle.vt_spec.specs.Language.Answers.{Answer}
-use Rattle.vt_spec.specs.Language.Calls.{Call, TaskName, same_name}
+use Rattle.vt_spec.specs.Language.Calls.{Call, TaskName}
 use Rattle.vt_spec.specs.Language.Changes.{Change, changed}
 use Rattle.vt_spec.specs.Lists.{Fresh, folded, is_among}
 use Rattle.vt_spec.specs.Machine.Apply.{apply, filesystems_changed}
 use Rattle.vt_spec.specs.Machine.Filesystems.{raised, with_change}
-use Rattle.vt_spec.specs.Machine.Mounts.{Location, Mount}
-use Rattle.vt_spec.specs.Machine.Policy.{numbers_raised, policy, raised_task}
+use Rattle.vt_spec.specs.Machine.Mounts.{Location}
+use Rattle.vt_spec.specs.Machine.Policy.{numbers_raised, policy}
 use Rattle.vt_spec.specs.Machine.Run.{Serves}
 use Rattle.vt_spec.specs.Machine.Settled.{settled}
-use Rattle.vt_spec.specs.Machine.World.{Filesystem, Task, World, files_at, filesystem_at, filesystem_numbered, is_overlay, mount_at, no_filesystem, node_at, task_called}
+use Rattle.vt_spec.specs.Machine.World.{Filesystem, World, files_at, filesystem_numbered, is_overlay, mount_at, no_filesystem, node_at}
 use Rattle.vt_spec.specs.Machine.WorldLaws.{IsWorld}
 use Rattle.vt_spec.specs.Rights.{Credentials}
 use Rattle.vt_spec.specs.Machine.Rightful.{node_allows}
-use Rattle.vt_spec.specs.Tree.{Node, entries_in, entry_named, is_directory_node, parent_in}
-use Rattle.vt_spec.specs.TreeLaws.{IsTree, entry_at}
+use Rattle.vt_spec.specs.Tree.{entries_in, entry_named, is_directory_node, parent_in}
 use Rattle.vt_call_laws.proofs.InodesSettled.{settled_holds}
 use Rattle.vt_call_laws.specs.Inodes.{change_of}
 use Rattle.vt_letting_go.specs.FileChanges.{MayChange, inodes_lost, names_lost}
@@ -31,22 +30,21 @@ use Rattle.vt_letting_go.specs.Overlays.{is_plain, let_go_all_inodes, let_go_in,
 use Rattle.vt_letting_go.proofs.FilesChanged.{file_changes_let_go}
 use Rattle.vt_letting_go.proofs.OfWorlds.{worlds_are_settled}
 use Rattle.vt_permit_laws.proofs.SeesFit.{given_changes_are_proper}
-use Rattle.vt_permit_laws.proofs.SeesNames.{tree_here}
 use Rattle.vt_tree_laws.specs.Trees.{IsFileTree}
 use Rattle.vt_tree_laws.specs.Trees.Calls.{mounts_overlay}
 use Rattle.vt_tree_laws.specs.Trees.Limits.{names_few_groups}
 use Rattle.vt_tree_laws.proofs.ChangesKeepTrees.{changes_keep_numbers, changes_keep_trees}
-use Rattle.vt_tree_laws.proofs.TreesOfWorlds.{numbered, numbered_all}
+use Rattle.vt_tree_laws.proofs.TreesOfWorlds.{numbered}
 use Rattle.vt_world_laws.specs.Worlds.Kept.{IsPlain}
 use Rattle.vt_world_laws.proofs.Plain.{plain_numbered}
 use Rattle.vt_world_laws.proofs.Raised.{FilesBy, same_files}
-use Rattle.vt_world_laws.proofs.RaisedInUse.{namespace_if, number_if, numbers_raised_are, raising_numbers_keeps_world, task_if, unsettled_of}
-use Rattle.vt_world_laws.proofs.SeenTrees.{change_mounts, change_tasks}
-use Rattle.vt_world_laws.proofs.SettledTasks.{file_trees, settling_leaves_a_world}
+use Rattle.vt_world_laws.proofs.RaisedInUse.{namespace_if, number_if, numbers_raised_are, raising_numbers_keeps_world, task_if}
+use Rattle.vt_world_laws.proofs.SeenTrees.{change_mounts}
+use Rattle.vt_world_laws.proofs.SettledTasks.{settling_leaves_a_world}
 use Rattle.vt_later_laws.proofs.Changed.{files_changed, files_other}
 use Rattle.vt_later_laws.proofs.Granted.{IsPermitted}
 use Rattle.vt_later_laws.proofs.OpenedNew.{given_of}
-use Rattle.vt_later_laws.proofs.Stays.{spent_unsettled, still_called}
+use Rattle.vt_later_laws.proofs.Stays.{spent_unsettled}
 use Rattle.vt_later_laws.proofs.WaysChanges.{RightsStay, TreeStays}
 use Rattle.vt_later_laws.proofs.WaysStay.{WorldStays, node_in, tree_in}
 
@@ -99,7 +97,7 @@ module _ (world : World ℕ) (inodes : List Inode) where
       ∙ let_go_mounts_stay is_overlay inodes world
 
 -- a filesystem that shows something is one of the list
-listed : (number : ℕ) (list : List (Filesystem ℕ)) (object : ℕ) → is_some ((numbered number list).files.tree.node object) ≡ true
+pub listed : (number : ℕ) (list : List (Filesystem ℕ)) (object : ℕ) → is_some ((numbered number list).files.tree.node object) ≡ true
     → is_among nat_eq number (map (λ (f : Filesystem ℕ). f.number) list) ≡ true
 listed number [] object there = absurd (true≢false (sym there))
 listed number (first ∷ rest) object there = by (nat_eq number first.number) there (listed number rest object)

@@ -20,3 +20,5 @@ pub mod LinkedSeen
 pub mod AttrSeen
 pub mod WaysFiles
 pub mod WrittenSeen
+pub mod RenamedSeen
+pub mod CreatedSeen

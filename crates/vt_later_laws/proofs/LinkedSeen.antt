@@ -1,21 +1,18 @@
 -- A name more leads to the object of the old one.
-use Rattle.std.proofs.Common.{◌≡◌, ◌≢◌, refl, sym, ap, subst, ◌∙◌, inl, inr, true≢false, ℕ, nat_eq, eqb-true, Bool, true, false, not, List, [], ◌∷◌, Option, Some, None, is_some, Ok}
+use Rattle.std.proofs.Common.{◌≡◌, ◌≢◌, refl, sym, ap, subst, ◌∙◌, inl, inr, true≢false, ℕ, nat_eq, eqb-true, Bool, true, false, not, List, [], ◌∷◌, Some, is_some, Ok}
 use Rattle.std.specs.Prelude.{option_to_list}
 use Rattle.std.proofs.lemmas.Option.{same_Some}
 use Rattle.vt_spec.specs.declared.errors.Rule.TheVariants.{E1}
-use Rattle.vt_spec.specs.Language.Answers.{StatLine}
 use Rattle.vt_spec.specs.Language.Answers.Answer.{Done, Told}
-use Rattle.vt_spec.specs.Language.Calls.{Call, TaskName}
+use Rattle.vt_spec.specs.Language.Calls.{TaskName}
 use Rattle.vt_spec.specs.Language.Calls.Call.{LinkTo, Lstat}
 use Rattle.vt_spec.specs.Language.Changes.{Change, changed}
-use Rattle.vt_spec.specs.Language.Changes.Change.{AddName}
 use Rattle.vt_spec.specs.Lists.{Fresh}
 use Rattle.vt_spec.specs.Machine.Apply.{apply}
 use Rattle.vt_spec.specs.Machine.Filesystems.{with_change}
 use Rattle.vt_spec.specs.Machine.Judge.{hard_link_permit}
 use Rattle.vt_spec.specs.Machine.Looks.{Looks, looks_of}
 use Rattle.vt_spec.specs.Machine.Looks as Look
-
 use Rattle.vt_spec.specs.Machine.Mounts.{Location, topmost}
 use Rattle.vt_spec.specs.Machine.Outcome.Looking.{stat_line}
 use Rattle.vt_spec.specs.Machine.Outcome.Making.{linking}
@@ -24,10 +21,10 @@ use Rattle.vt_spec.specs.Machine.Permits.Permit.{ToChange}
 use Rattle.vt_spec.specs.Machine.Policy.{policy, raised_task}
 use Rattle.vt_spec.specs.Machine.Rules.Making.{hard_link_rules}
 use Rattle.vt_spec.specs.Machine.Run.{Serves}
-use Rattle.vt_spec.specs.Machine.Walking.{Here, Place, is_special, name_of, new_leaf_walk, place_walk, stepped, symlink_walk, walk_end}
-use Rattle.vt_spec.specs.Machine.World.{Task, World, files_at, is_directory_at, mount_at, node_at, task_called}
+use Rattle.vt_spec.specs.Machine.Walking.{Here, Place, is_special, name_of, new_leaf_walk, place_walk, symlink_walk, walk_end}
+use Rattle.vt_spec.specs.Machine.World.{Task, World, files_at, is_directory_at, node_at, task_called}
 use Rattle.vt_spec.specs.Machine.WorldLaws.{IsWorld}
-use Rattle.vt_spec.specs.Tree.{Node, entries_in, entry_named, is_directory_node}
+use Rattle.vt_spec.specs.Tree.{entries_in, entry_named, is_directory_node}
 use Rattle.vt_spec.proofs.Nodes.{directory_used}
 use Rattle.vt_call_laws.specs.Inodes.{change_of}
 use Rattle.vt_permit_laws.specs.Sees.{SeesTo}
@@ -35,7 +32,7 @@ use Rattle.vt_permit_laws.proofs.SeesNames.{tree_here}
 use Rattle.vt_permit_laws.proofs.SeesTasks.{given_permits_are_seen_to}
 use Rattle.vt_tree_laws.specs.Trees.{IsFileTree}
 use Rattle.vt_world_laws.specs.Worlds.Kept.{IsPlain}
-use Rattle.vt_later_laws.specs.LaterPaths.{LinkThenLstat, LooksFrom}
+use Rattle.vt_later_laws.specs.LaterPaths.{LinkThenLstat}
 use Rattle.vt_later_laws.specs.Later.{IsAnswered}
 use Rattle.vt_later_laws.proofs.AfterChange.{all_stays, later_mounts, spent}
 use Rattle.vt_later_laws.proofs.Granted.{IsPermitted, permitted}

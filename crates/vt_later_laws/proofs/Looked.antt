@@ -1,5 +1,5 @@
 -- What calls that look answer where their walks end.
-use Rattle.std.proofs.Common.{◌≡◌, refl, ap, ◌∙◌, inl, inr, ◌⊎◌, ℕ, nat_eq, Bool, true, false, cond, not, ◌||◌, ◌&&◌, List, [], ◌∷◌, Option, Some, None, Result, Ok, Err, ok_or}
+use Rattle.std.proofs.Common.{◌≡◌, refl, ap, ◌∙◌, ℕ, nat_eq, Bool, true, false, cond, not, ◌||◌, ◌&&◌, List, [], ◌∷◌, Option, Some, None, Ok, Err, ok_or}
 use Rattle.vt_spec.specs.declared.attributes.Attr.{Attr}
 use Rattle.vt_spec.specs.declared.attributes.Kind.TheVariants.{File, Link, White}
 use Rattle.vt_spec.specs.declared.errors.Rule.TheVariants.{B1, C1, E2, E5, E9, S2}
@@ -10,7 +10,6 @@ use Rattle.vt_spec.specs.Language.Calls.{Call, TaskName}
 use Rattle.vt_spec.specs.Language.Calls.Call.{Ls, Lstat, Read, Readlink, Stat}
 use Rattle.vt_spec.specs.Lists.{Fresh}
 use Rattle.vt_spec.specs.Machine.Judge.{judge_in}
-use Rattle.vt_spec.specs.Machine.Mounts.{Location}
 use Rattle.vt_spec.specs.Machine.Outcome.Looking.{list_outcome, list_rules, lstat_outcome, read_outcome, read_rules, readlink_outcome, readlink_rules, stat_line, stat_outcome}
 use Rattle.vt_spec.specs.Machine.Outcomes.{Outcome, after, granted, judged}
 use Rattle.vt_spec.specs.Machine.Policy.{call_outcome, filesystems_changed_by, finished, policy}

@@ -1,5 +1,5 @@
 -- A new object is found at its path.
-use Rattle.std.proofs.Common.{◌≡◌, refl, sym, ap, subst, ◌∙◌, inl, inr, ◌⊎◌, true≢false, ℕ, nat_eq, Bool, true, false, cond, not, ◌&&◌, List, [], ◌∷◌, ◌++◌, Option, Some, None, is_some, Ok, Err, ok_or, option_map, Result}
+use Rattle.std.proofs.Common.{◌≡◌, refl, sym, ap, subst, ◌∙◌, inl, inr, ◌⊎◌, true≢false, ℕ, nat_eq, Bool, true, false, cond, not, ◌&&◌, List, [], ◌∷◌, ◌++◌, Option, Some, None, is_some, Ok, Err, Result}
 use Rattle.std.specs.Prelude.{option_to_list, unwrap_or}
 use Rattle.std.proofs.lemmas.Option.{same_Some}
 use Rattle.vt_spec.specs.declared.attributes.Kind.TheVariants.{Link}
@@ -13,11 +13,11 @@ use Rattle.vt_spec.specs.Language.Calls.{Call, TaskName}
 use Rattle.vt_spec.specs.Language.Calls.Call.{Ls, Mkdir, Readlink, SymlinkAt}
 use Rattle.vt_spec.specs.Language.Changes.{Change, changed}
 use Rattle.vt_spec.specs.Language.Changes.Change.{Make}
-use Rattle.vt_spec.specs.Lists.{Fresh, evens, odds}
+use Rattle.vt_spec.specs.Lists.{Fresh, odds}
 use Rattle.vt_spec.specs.Machine.Apply.{apply}
 use Rattle.vt_spec.specs.Machine.Filesystems.{with_change}
 use Rattle.vt_spec.specs.Machine.Judge.{make_permit, mkdir_permit, symlink_permit, unnumbered}
-use Rattle.vt_spec.specs.Machine.Looks.{Looks, is_directory_at, looks_of}
+use Rattle.vt_spec.specs.Machine.Looks.{Looks, looks_of}
 use Rattle.vt_spec.specs.Machine.Mounts.{Location, topmost}
 use Rattle.vt_spec.specs.Machine.Outcome.Making.{directory_mode, symlink_mode}
 use Rattle.vt_spec.specs.Machine.Permits.{Permit}
@@ -27,10 +27,9 @@ use Rattle.vt_spec.specs.Machine.Rightful.{node_allows}
 use Rattle.vt_spec.specs.Machine.Rows.{exact_attr, new_attr}
 use Rattle.vt_spec.specs.Machine.Rules.Making.{link_text_rules, make_rules, new_word_rules}
 use Rattle.vt_spec.specs.Machine.Run.{Serves}
-use Rattle.vt_spec.specs.Machine.Walking.{Here, LastWord, Place, Stop, directory_walk, is_special, name_of, new_leaf_walk, new_name_rules, new_walk, place_walk, stepped, symlink_walk, walk_end}
+use Rattle.vt_spec.specs.Machine.Walking.{Here, LastWord, Place, Stop, is_special, name_of, new_leaf_walk, new_name_rules, new_walk, place_walk, stepped, walk_end}
 use Rattle.vt_spec.specs.Machine.World.{Task, World, files_at, mount_at, node_at, task_called}
 use Rattle.vt_spec.specs.Machine.WorldLaws.{IsWorld}
-use Rattle.vt_spec.specs.PathText.{ends_in_slash}
 use Rattle.vt_spec.specs.Rights.{read_right}
 use Rattle.vt_spec.specs.Tree.{Node, bytes_in, entries_in, entry_named, is_directory_node, names_in, new_directory}
 use Rattle.vt_spec.specs.Tree.Content.{Symlink}
@@ -45,7 +44,7 @@ use Rattle.vt_tree_laws.specs.Trees.Calls.{mounts_overlay}
 use Rattle.vt_tree_laws.specs.Trees.Limits.{names_few_groups}
 use Rattle.vt_world_laws.specs.Worlds.Kept.{IsPlain}
 use Rattle.vt_world_laws.proofs.SeenTrees.{unused_inode}
-use Rattle.vt_later_laws.specs.LaterPaths.{IsAnsweredUnless, IsSeenByAll, LooksFrom, MkdirThenList, SymlinkThenReadlink}
+use Rattle.vt_later_laws.specs.LaterPaths.{MkdirThenList, SymlinkThenReadlink}
 use Rattle.vt_later_laws.specs.Later.{IsAnswered}
 use Rattle.vt_later_laws.proofs.AfterChange.{all_stays, later_is, later_mounts, spent}
 use Rattle.vt_later_laws.proofs.Granted.{IsPermitted, permitted}
@@ -53,10 +52,10 @@ use Rattle.vt_later_laws.proofs.Looked.{list_of, read_all, readlink_of}
 use Rattle.vt_later_laws.proofs.Opened.{walk_ended}
 use Rattle.vt_later_laws.proofs.OpenedNew.{given_of, made_node}
 use Rattle.vt_later_laws.proofs.Readers.{KnownToo, MayLook, all_stands, caller, leads, own_name, raised_credentials, raised_stands, seen_at, seen_there, stepped_by, uncovered}
-use Rattle.vt_later_laws.proofs.Steps.{AllPass, both_gave, passing, same_ok}
+use Rattle.vt_later_laws.proofs.Steps.{both_gave, passing, same_ok}
 use Rattle.vt_later_laws.proofs.Ways.{EndsAt, LeadsToo, both_walked, walk_passing}
 use Rattle.vt_later_laws.proofs.WaysChanges.{RightsStay, TreeStays, made_entry, rights_made, ways_made}
-use Rattle.vt_later_laws.proofs.WaysPlaces.{EndsThere, NamedPlace, directory_named_too, named_place, symlink_named_too}
+use Rattle.vt_later_laws.proofs.WaysPlaces.{EndsThere, directory_named_too, named_place, symlink_named_too}
 use Rattle.vt_later_laws.proofs.WaysStay.{StandsAs}
 
 -- no refusal

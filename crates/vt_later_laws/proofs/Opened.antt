@@ -28,7 +28,6 @@ use Rattle.vt_spec.specs.Machine.World.{Descriptor, Task, World, mount_at, node_
 use Rattle.vt_spec.specs.Machine.WorldLaws.{are_ascending_from, is_within_limits}
 use Rattle.vt_spec.specs.Tree.{bytes_in}
 use Rattle.vt_letting_go.proofs.Lists.{passes}
-use Rattle.vt_one_tree_laws.proofs.OneTreeLater.{both_gave, passing, same_ok}
 use Rattle.vt_world_laws.specs.Worlds.Kept.{IsPlain}
 use Rattle.vt_world_laws.proofs.CallsKept.{name_found}
 use Rattle.vt_world_laws.proofs.PermitsPlaced.{found_among}
@@ -36,6 +35,7 @@ use Rattle.vt_world_laws.proofs.Plain.{plain_numbered}
 use Rattle.vt_later_laws.specs.Later.{OpenThenPread}
 use Rattle.vt_later_laws.proofs.Granted.{IsPermitted, permitted}
 use Rattle.vt_later_laws.proofs.Stays.{still_called, still_seen}
+use Rattle.vt_later_laws.proofs.Steps.{both_gave, passing, same_ok}
 use Rattle.vt_later_laws.proofs.Through.{descriptor_located, pread_of, raised_descriptors}
 
 -- The least free number is that of no descriptor, so the new one is found by it

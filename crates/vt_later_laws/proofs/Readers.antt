@@ -1,6 +1,6 @@
 -- Who looks after a call that changed a tree, and where walks lead for him: for the caller himself, and for each task that
 -- stands where he does and may search everything.
-use Rattle.std.proofs.Common.{◌≡◌, refl, sym, ap, subst, ◌∙◌, inl, inr, ◌⊎◌, true≢false, ℕ, zero, suc, nat_eq, Bool, true, false, cond, List, [], ◌∷◌, length, Option, Some, None, is_some, option_map, ok_or, find, Ok, Err}
+use Rattle.std.proofs.Common.{◌≡◌, refl, sym, ap, ◌∙◌, inl, inr, ◌⊎◌, true≢false, ℕ, zero, suc, nat_eq, Bool, true, false, cond, [], ◌∷◌, length, Option, Some, None, is_some, option_map, ok_or, find}
 use Rattle.vt_spec.specs.declared.errors.Deny.{Deny}
 use Rattle.vt_spec.specs.declared.errors.Rule.TheVariants.{W4, W6}
 use Rattle.vt_spec.specs.Errors.{denial}
@@ -10,7 +10,7 @@ use Rattle.vt_spec.specs.Language.Changes.{Change, changed}
 use Rattle.vt_spec.specs.Lists.{Fresh, chain, last_or}
 use Rattle.vt_spec.specs.Machine.Filesystems.{raised, with_change}
 use Rattle.vt_spec.specs.Machine.Looks.{looks_of, may}
-use Rattle.vt_spec.specs.Machine.Mounts.{Location, Mount, child_at, mounts_over, root_of, stands_at, topmost}
+use Rattle.vt_spec.specs.Machine.Mounts.{Location, Mount, child_at, root_of, stands_at, topmost}
 use Rattle.vt_spec.specs.Machine.Policy.{policy, raised_task}
 use Rattle.vt_spec.specs.Machine.Rightful.{node_allows}
 use Rattle.vt_spec.specs.Machine.Run.{Serves}
@@ -33,7 +33,7 @@ use Rattle.vt_world_laws.specs.Worlds.Kept.{IsPlain}
 use Rattle.vt_world_laws.proofs.CallsKept.{name_found}
 use Rattle.vt_world_laws.proofs.SeenTrees.{change_tasks}
 use Rattle.vt_later_laws.specs.LaterPaths.{LooksFrom, reads_all}
-use Rattle.vt_later_laws.proofs.AfterChange.{later, later_is, node_changed, spent, world_rights, world_stays}
+use Rattle.vt_later_laws.proofs.AfterChange.{later_is, node_changed, spent, world_rights, world_stays}
 use Rattle.vt_later_laws.proofs.Granted.{IsPermitted}
 use Rattle.vt_later_laws.proofs.Looked.{search_all}
 use Rattle.vt_later_laws.proofs.Stays.{called_own, still_called}
@@ -93,8 +93,10 @@ uncovered world is location no_directory = by (child_at nat_eq world.mounts loca
         → last_or location (chain most (λ here. option_map root_of (child_at nat_eq world.mounts here)) location) ≡ location
     over zero none = refl
     over (suc most) none =
-        ap (λ o. last_or location (elim (option_map root_of o) [ None ↦ location ∷ []
-        | Some b ↦ location ∷ chain most (λ here. option_map root_of (child_at nat_eq world.mounts here)) b ])) none
+        ap (λ o. last_or location (elim (option_map root_of o) [
+          | None ↦ location ∷ []
+          | Some b ↦ location ∷ chain most (λ here. option_map root_of (child_at nat_eq world.mounts here)) b
+        ])) none
 
     by : (o : Option (Mount ℕ)) → child_at nat_eq world.mounts location ≡ o → topmost nat_eq world.mounts location ≡ location
     by None e = over (length world.mounts) e
@@ -137,7 +139,7 @@ module _ (world : World ℕ) (fresh : Fresh ℕ) (name : TaskName) (call : Call)
         Known world left is plain is_left.0 is_left.1 did.task reader
         (called_own world fresh name call answer is plain serves other few did) called stands Refused stays here
 
-    known_there : (here : Location ℕ) → KnownToo here → is_some (node_in left (mount_at nat_eq world here).filesystem here.node) ≡ true
+    pub known_there : (here : Location ℕ) → KnownToo here → is_some (node_in left (mount_at nat_eq world here).filesystem here.node) ≡ true
     known_there here known =
         ap is_some (sym (node_here world left is plain is_left.0 is_left.1 did.task reader
         (called_own world fresh name call answer is plain serves other few did) called stands Refused stays here))

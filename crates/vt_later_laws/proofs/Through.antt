@@ -1,5 +1,8 @@
 -- Bytes that were written by a descriptor are read by one.
-use Rattle.std.proofs.Common.{◌≡◌, refl, sym, ap, ◌∙◌, ⊎_elim, ℕ, nat_eq, eq-eqb, Bool, true, false, cond, List, [], ◌∷◌, length, take, drop, Option, Some, None, Ok, ok_or, option_to_list, find, true≢false, inr}
+use Rattle.std.proofs.Common.{◌≡◌, refl, sym, ap, ◌∙◌, ⊎_elim, ℕ, nat_eq, eq-eqb, Bool, true, false, cond, List, [], ◌∷◌, length, take, drop, Option, Some, None, Ok, ok_or, option_to_list, find, true≢false, inr, ◌+◌, ◌-◌, ◌++◌, arith}
+use Rattle.std.specs.Prelude.{replicate}
+use Rattle.std.proofs.Math.Seq.{drop-append_seam, take-append_seam}
+use Rattle.std.proofs.lemmas.List.{append_assoc, length-append, length-replicate, length-take-le}
 use Rattle.std.proofs.lemmas.Option.{same_Some}
 use Rattle.vt_spec.specs.declared.attributes.Kind.TheVariants.{File}
 use Rattle.vt_spec.specs.declared.errors.Rule.TheVariants.{S2, S4}
@@ -14,7 +17,7 @@ use Rattle.vt_spec.specs.Machine.Judge.{judge_in, pwrite_permit}
 use Rattle.vt_spec.specs.Lists.{Fresh}
 use Rattle.vt_spec.specs.Machine.Looks.{Looks, looks_of}
 use Rattle.vt_spec.specs.Machine.Mounts.{Location}
-use Rattle.vt_spec.specs.Machine.Outcome.Descriptors.{overwritten, pread_outcome, pwritten}
+use Rattle.vt_spec.specs.Machine.Outcome.Descriptors.{overwritten, padded, pread_outcome, pwritten}
 use Rattle.vt_spec.specs.Machine.Outcomes.{after, granted}
 use Rattle.vt_spec.specs.Language.Answers.Answer.{Bytes, Done}
 use Rattle.vt_spec.specs.Machine.Permits.{Permit}
@@ -26,8 +29,6 @@ use Rattle.vt_spec.specs.Machine.WorldLaws.{IsWorld, has_regular_files_open}
 use Rattle.vt_spec.specs.Tree.{Content, Node, bytes_in, node_with_bytes}
 use Rattle.vt_spec.specs.Tree.Content.{Directory, Regular, Symlink, Whiteout}
 use Rattle.vt_letting_go.proofs.Lists.{Among, among-map, passes}
-use Rattle.vt_one_tree_laws.proofs.OneTreeLater.{both_gave, passing, same_ok}
-use Rattle.vt_one_tree_laws.proofs.OneTreeLaterThrough.{written_over}
 use Rattle.vt_world_laws.specs.Worlds.Kept.{IsPlain}
 use Rattle.vt_world_laws.proofs.PermitsPlaced.{found_among}
 use Rattle.vt_world_laws.proofs.SeenTrees.{change_of_plain, change_tasks, changed_one, found_new, old_number}
@@ -35,6 +36,26 @@ use Rattle.vt_tree_laws.proofs.TreesOfWorlds.{numbered}
 use Rattle.vt_later_laws.specs.Later.{IsOneInode, PwriteThenPread}
 use Rattle.vt_later_laws.proofs.Granted.{IsPermitted, permitted}
 use Rattle.vt_later_laws.proofs.Stays.{still_called, still_seen}
+use Rattle.vt_later_laws.proofs.Steps.{both_gave, passing, same_ok}
+
+-- bytes with zeros after them, as long as they must be
+padded_long : (offset : ℕ) (old : List ℕ) → length (padded offset old) ≡ length old + (offset - length old)
+padded_long offset old =
+    length-append old (replicate {A = ℕ} (offset - length old) 0)
+    ∙ ap (λ n. length old + n) (length-replicate {A = ℕ} (offset - length old) 0)
+
+-- what was written over is at its offset
+written_over : (offset : ℕ) (new old : List ℕ) → take (length new) (drop offset (overwritten offset new old)) ≡ new
+written_over offset new old =
+    let long : length (padded offset old) ≡ length old + (offset - length old) = padded_long offset old in
+    let front : length (take offset (padded offset old)) ≡ offset =
+    length-take-le offset (padded offset old) (omega arith) in
+    ap (λ n. take (length new) (drop n (overwritten offset new old))) (sym front)
+    ∙ ap (λ bytes. take (length new) (drop (length (take offset (padded offset old))) bytes))
+    (append_assoc (take offset (padded offset old)) new (drop (offset + length new) old))
+    ∙ ap (take (length new))
+    (drop-append_seam (take offset (padded offset old)) (new ++ drop (offset + length new) old))
+    ∙ take-append_seam new (drop (offset + length new) old)
 
 -- a descriptor that is there and may do it is found
 descriptor_found : (o : Option (Descriptor ℕ)) (may : Descriptor ℕ → Bool) (descriptor : Descriptor ℕ)

@@ -1,26 +1,24 @@
 -- A name that was removed is missing.
-use Rattle.std.proofs.Common.{◌≡◌, refl, sym, ap, subst, ◌∙◌, inl, inr, ⊎_elim, true≢false, ℕ, nat_eq, Bool, true, false, not, ◌&&◌, List, [], ◌∷◌, Option, Some, None, is_some, Ok, Err}
+use Rattle.std.proofs.Common.{◌≡◌, refl, sym, ap, subst, ◌∙◌, inl, inr, ℕ, nat_eq, true, false, not, ◌&&◌, List, [], ◌∷◌, Some, None, is_some, Ok, Err}
 use Rattle.std.proofs.lemmas.Option.{same_Some}
 use Rattle.vt_spec.specs.declared.errors.Deny.{Deny}
 use Rattle.vt_spec.specs.declared.errors.Rule.TheVariants.{E2, W3, W6}
 use Rattle.vt_spec.specs.Errors.{denial}
 use Rattle.vt_spec.specs.Language.Answers.Answer.{Done}
-use Rattle.vt_spec.specs.Language.Calls.{Call, TaskName}
+use Rattle.vt_spec.specs.Language.Calls.{TaskName}
 use Rattle.vt_spec.specs.Language.Calls.Call.{Lstat, Unlink}
 use Rattle.vt_spec.specs.Language.Changes.{Change}
-use Rattle.vt_spec.specs.Language.Changes.Change.{Remove}
 use Rattle.vt_spec.specs.Lists.{Fresh}
 use Rattle.vt_spec.specs.Machine.Apply.{apply}
 use Rattle.vt_spec.specs.Machine.Judge.{unlink_permit}
 use Rattle.vt_spec.specs.Machine.Looks.{Looks, looks_of}
-use Rattle.vt_spec.specs.Machine.Mounts.{Location}
 use Rattle.vt_spec.specs.Machine.Permits.{Permit}
 use Rattle.vt_spec.specs.Machine.Permits.Permit.{ToChange}
 use Rattle.vt_spec.specs.Machine.Policy.{policy, raised_task}
 use Rattle.vt_spec.specs.Machine.Run.{Serves}
 use Rattle.vt_spec.specs.Machine.Rules.Removing.{object_there, removing, unlink_rules}
 use Rattle.vt_spec.specs.Machine.Walking.{Place, is_directory_there, is_special, name_of, old_leaf_walk, old_walk, place_walk, walk_end}
-use Rattle.vt_spec.specs.Machine.World.{Task, World, files_at, is_directory_at, mount_at, node_at, task_called}
+use Rattle.vt_spec.specs.Machine.World.{Task, World, files_at, is_directory_at, node_at, task_called}
 use Rattle.vt_spec.specs.Machine.WorldLaws.{IsWorld}
 use Rattle.vt_spec.specs.Tree.{entries_in, entry_named}
 use Rattle.vt_spec.proofs.Nodes.{directory_used}
@@ -31,17 +29,16 @@ use Rattle.vt_permit_laws.proofs.SeesTasks.{given_permits_are_seen_to}
 use Rattle.vt_tree_laws.specs.Trees.{IsFileTree}
 use Rattle.vt_tree_laws.proofs.TreesRearranged.{node_with_entries}
 use Rattle.vt_world_laws.specs.Worlds.Kept.{IsPlain}
-use Rattle.vt_later_laws.specs.LaterPaths.{LooksFrom, UnlinkThenLstat}
-use Rattle.vt_later_laws.proofs.AfterChange.{node_changed}
+use Rattle.vt_later_laws.specs.LaterPaths.{UnlinkThenLstat}
 use Rattle.vt_later_laws.proofs.Granted.{IsPermitted, permitted}
 use Rattle.vt_later_laws.proofs.Looked.{lstat_refused}
 use Rattle.vt_later_laws.proofs.Opened.{walk_ended}
 use Rattle.vt_later_laws.proofs.OpenedNew.{given_of}
 use Rattle.vt_later_laws.proofs.Readers.{MayLook, all_stands, caller, leads, own_name, raised_credentials, raised_stands, seen_there, stepped_by}
 use Rattle.vt_later_laws.proofs.Steps.{both_gave, passing, same_ok}
-use Rattle.vt_later_laws.proofs.Ways.{both_walked, same_end, walk_passing}
+use Rattle.vt_later_laws.proofs.Ways.{both_walked, walk_passing}
 use Rattle.vt_later_laws.proofs.WaysChanges.{name_missing, rights_removed, ways_removed}
-use Rattle.vt_later_laws.proofs.WaysPlaces.{NamedPlace, named_place, symlink_missing}
+use Rattle.vt_later_laws.proofs.WaysPlaces.{named_place, symlink_missing}
 use Rattle.vt_later_laws.proofs.WaysStay.{StandsAs}
 
 -- a name may be missing

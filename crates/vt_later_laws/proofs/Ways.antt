@@ -1,5 +1,5 @@
 -- Walks in what a call left: they lead where they led, or stop where what it left stops them.
-use Rattle.std.proofs.Common.{◌≡◌, refl, sym, ap, subst, ◌∙◌, inl, inr, ◌⊎◌, ℕ, zero, suc, ◌+◌, ◌-◌, ◌==◌, ◌≤◌, nat_eq, Bool, true, false, cond, not, ◌&&◌, List, [], ◌∷◌, reverse, Option, Some, None, Result, Ok, Err, arith}
+use Rattle.std.proofs.Common.{◌≡◌, refl, sym, ap, subst, ◌∙◌, inl, inr, ◌⊎◌, ℕ, zero, suc, ◌-◌, ◌==◌, ◌≤◌, nat_eq, Bool, true, false, cond, not, List, [], ◌∷◌, reverse, Option, Some, None, Result, Ok, Err, arith}
 use Rattle.vt_spec.specs.declared.errors.Deny.{Deny}
 use Rattle.vt_spec.specs.declared.errors.Rule.TheVariants.{W3, W4, W5}
 use Rattle.vt_spec.specs.Errors.{Rules, and_then, denial, unless}
@@ -114,9 +114,12 @@ module _ (looks later : Looks ℕ) (task reader : Task ℕ) (Refused : Deny → 
           → unless (search_rules nat_eq later reader here) answer ≡ Err (denial W4)))
       by (inl may_search) =
           inl (ap not (leads.directory here known is), (ap not may_search, (ap not (leads.mounter here), tt)))
-      by (inr lost) = inr (lost.1, λ answer i.
-          unless ((not (leads.directory here known is i), W3) ∷ (not (lost.0 i), W4)
-          ∷ (not (mounter_may later here execute_right), W5) ∷ []) answer)
+      by (inr lost) = inr (
+        lost.1,
+        λ answer i.
+            unless ((not (leads.directory here known is i), W3) ∷ (not (lost.0 i), W4)
+            ∷ (not (mounter_may later here execute_right), W5) ∷ []) answer,
+      )
 
   abbrev on : Here ℕ → List (List ℕ) → LastWord → Location ℕ → Result (Here ℕ) Deny
   on here steps word reached =
@@ -137,16 +140,19 @@ module _ (looks later : Looks ℕ) (task reader : Task ℕ) (Refused : Deny → 
           ⊎ ((deny : Deny) × Refused deny × (stepped nat_eq later reader here.location word ≡ Err deny))
           → Ends (word_walked nat_eq later reader (at here steps) word) next
       by (inl may_search) (inl found) =
-          inl ((
-            steps_with nat_eq later reader (at here steps) word,
-            ap (λ r. stopped_by (steps_with nat_eq later reader (at here steps) word) (and_then r (on here steps word)))
-                (passed (search_rules nat_eq later reader here.location) (stepped nat_eq later reader here.location word) may_search ∙ found.0)
-                ∙ (λ i. Ok (record {
-                  location = next.location;
-                  left = sym left i;
-                  steps = steps_with nat_eq later reader (at here steps) word;
-                })),
-          ), found.1)
+          inl (
+            (
+              steps_with nat_eq later reader (at here steps) word,
+              ap (λ r. stopped_by (steps_with nat_eq later reader (at here steps) word) (and_then r (on here steps word)))
+                  (passed (search_rules nat_eq later reader here.location) (stepped nat_eq later reader here.location word) may_search ∙ found.0)
+                  ∙ (λ i. Ok (record {
+                    location = next.location;
+                    left = sym left i;
+                    steps = steps_with nat_eq later reader (at here steps) word;
+                  })),
+            ),
+            found.1,
+          )
       by (inl may_search) (inr lost) =
           inr (
             record { deny = lost.0; steps = steps_with nat_eq later reader (at here steps) word },
@@ -282,11 +288,14 @@ module _ (looks later : Looks ℕ) (task reader : Task ℕ) (Refused : Deny → 
             (λ inside next inner. symlink_walked nat_eq other later reader inside next inner) (at begun now.steps) (reverse (words text))) _ reached end
             (walked.1 (start_known directory text known) now.steps)
             (λ steps_there known_there.
-            inl ((
-              steps_there,
-              walk_passed steps_there (slash_rules nat_eq later text reached.location) (at reached steps_there)
-                  (slash_too text reached.location known_there ends.0) ∙ (λ i. Ok (at (same i) steps_there)),
-            ), subst (λ (h : Here ℕ). Known h.location) same known_there))),
+            inl (
+              (
+                steps_there,
+                walk_passed steps_there (slash_rules nat_eq later text reached.location) (at reached steps_there)
+                    (slash_too text reached.location known_there ends.0) ∙ (λ i. Ok (at (same i) steps_there)),
+              ),
+              subst (λ (h : Here ℕ). Known h.location) same known_there,
+            ))),
       )
 
   -- Words lead where they led, from where there are fewer links left than may be followed.

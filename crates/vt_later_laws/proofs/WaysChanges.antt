@@ -1,5 +1,5 @@
 -- What changes of a tree leave of the ways through it.
-use Rattle.std.proofs.Common.{◌≡◌, ◌≢◌, refl, sym, ap, subst, ◌∙◌, inl, inr, ◌⊎◌, ⊎_elim, true≢false, ℕ, nat_eq, eqb-true, eq-eqb, ne_eqb, Bool, true, false, cond, not, List, Option, Some, None, is_some}
+use Rattle.std.proofs.Common.{◌≡◌, ◌≢◌, refl, sym, ap, ◌∙◌, inl, inr, ◌⊎◌, ⊎_elim, true≢false, ℕ, nat_eq, eqb-true, ne_eqb, Bool, true, false, cond, not, List, Option, Some, None, is_some}
 use Rattle.std.proofs.lemmas.Bool.Decides.{eqb_tells}
 use Rattle.std.specs.Cmp.{tied_itself}
 use Rattle.std.specs.Cmp.Lexicographic.{bytes_decides, nat_list_cmp_total}
@@ -10,8 +10,8 @@ use Rattle.vt_spec.specs.declared.errors.Deny.{Deny}
 use Rattle.vt_spec.specs.declared.errors.Rule.TheVariants.{W6}
 use Rattle.vt_spec.specs.Errors.{denial}
 use Rattle.vt_spec.specs.FileTree.{FileTree, symlink_text}
-use Rattle.vt_spec.specs.Language.Changes.{changed, changed_node, content_with_parent, node_with_attr, node_with_parent, node_without_entry, with_inode, with_name, without_entry, without_name}
-use Rattle.vt_spec.specs.Language.Changes.Change.{Make, Remove}
+use Rattle.vt_spec.specs.Language.Changes.{changed, changed_node, content_with_parent, node_with_attr, node_with_parent, node_without_entry, with_name, without_entry, without_name, without_parent}
+use Rattle.vt_spec.specs.Language.Changes.Change.{Make, Move, Remove}
 use Rattle.vt_spec.specs.Machine.Rightful.{node_allows}
 use Rattle.vt_spec.specs.Rights.{Credentials, allows}
 use Rattle.vt_spec.specs.Tree.{Content, Node, Tree, entries_in, entries_of, entry_named, is_directory_node, kind_of, name_cmp, node_with_bytes, node_with_entry, parent_in, with_bytes, with_entries, with_entry}
@@ -310,3 +310,128 @@ module _ (files : FileTree ℕ) (Refused : Deny → Type 0) where
 
     pub rights_removed : RightsStay files.tree removed.tree
     rights_removed who wanted n is = removed_part (node_allows who wanted) (allows_without name who wanted) n
+
+-- An object that is no directory leaves one name for another, which was free
+module _ (files : FileTree ℕ) (Refused : Deny → Type 0) (from : ℕ) (old : List ℕ) (to : ℕ) (new : List ℕ) (object : ℕ)
+    (named_so : entry_at files.tree from old ≡ Some object) (no_directory : is_directory_node (files.tree.node object) ≡ false)
+    (in_directory : IsDirectory files.tree to) (free : entry_at files.tree to new ≡ None) where
+  abbrev less : FileTree ℕ
+  less = without_name nat_eq files from old
+
+  abbrev renamed : FileTree ℕ
+  renamed = with_name nat_eq less to new object
+
+  abbrev moved : FileTree ℕ
+  moved = changed nat_eq files (Move from old to new object)
+
+  -- it is the loss of one name and the gain of another
+  less_removed : (n : ℕ) → less.tree.node n ≡ (changed nat_eq files (Remove from old object)).tree.node n
+  less_removed n = sym (removed_node files Refused from old object named_so no_directory n)
+
+  less_kind : (n : ℕ) → is_directory_node (less.tree.node n) ≡ is_directory_node (files.tree.node n)
+  less_kind n = part_stays files from (node_without_entry old) is_directory_node (kind-node_without_entry old) n
+
+  less_directory : IsDirectory less.tree to
+  less_directory = less_kind to ∙ in_directory
+
+  less_entry : (here : ℕ) (other : List ℕ) → entry_at less.tree here other ≡ entry_at (changed nat_eq files (Remove from old object)).tree here other
+  less_entry here other = ap (λ o. entry_named other (entries_in o)) (less_removed here)
+
+  less_free : entry_at less.tree to new ≡ None
+  less_free = ⊎_elim
+      (λ t. ap (λ m. entry_at less.tree m new) t.1 ∙ less_entry from new ∙ entry_less files Refused from old object named_so no_directory new
+      ∙ by (bytes_eq new old) (ap (λ m. entry_at files.tree m new) (sym t.1) ∙ free))
+      (λ t. ap (λ o. entry_named new (entries_in o)) (elsewhere files from (node_without_entry old) to t.1) ∙ free)
+      (eqb_tells to from)
+    where
+      by : (b : Bool) → entry_at files.tree from new ≡ None → cond (not b) (entry_at files.tree from new) None ≡ None
+      by true e = refl
+      by false e = e
+
+  moved_node : (n : ℕ) → moved.tree.node n ≡ renamed.tree.node n
+  moved_node n =
+      ap (λ o. (changed_node nat_eq (with_name nat_eq (without_name nat_eq (without_parent nat_eq files o) from old) to new object)
+      object (node_with_parent to)).tree.node n) free
+      ∙ by (nat_eq n object) refl
+    where
+      kept : is_directory_node (renamed.tree.node object) ≡ false
+      kept =
+          part_stays less to (node_with_entry new object) is_directory_node (is_directory-node_with_entry new object) object
+          ∙ less_kind object ∙ no_directory
+
+      by : (b : Bool) → nat_eq n object ≡ b
+          → cond b (node_with_parent to (renamed.tree.node object)) (renamed.tree.node n) ≡ renamed.tree.node n
+      by true e = no_parent files Refused to (renamed.tree.node object) kept ∙ ap renamed.tree.node (sym (eqb-true n object e))
+      by false e = refl
+
+  pub moved_entry : entry_at moved.tree to new ≡ Some object
+  moved_entry = ap (λ o. entry_named new (entries_in o)) (moved_node to) ∙ name_leads less Refused to new object less_directory less_free
+
+  -- a name that is missing is missing still
+  missing_stays : (here : ℕ) (other : List ℕ) → entry_at less.tree here other ≡ None → (here ≡ to → other ≡ new → ⊥)
+      → entry_at renamed.tree here other ≡ None
+  missing_stays here other e apart = ⊎_elim
+      (λ t. ap (λ m. entry_at renamed.tree m other) t.1 ∙ entry_now less Refused to new object less_directory less_free other
+      ∙ by t.1 (eq_by_cmp name_cmp other new) refl (ap (λ m. entry_at less.tree m other) (sym t.1) ∙ e))
+      (λ t. ap (λ o. entry_named other (entries_in o)) (elsewhere less to (node_with_entry new object) here t.1) ∙ e)
+      (eqb_tells here to)
+    where
+      by : here ≡ to → (b : Bool) → eq_by_cmp name_cmp other new ≡ b → entry_at less.tree to other ≡ None
+          → cond b (Some object) (entry_at less.tree to other) ≡ None
+      by same true tie h = absurd (apart same (same_name other new tie))
+      by same false tie h = h
+
+  pub moved_missing : entry_at moved.tree from old ≡ None
+  moved_missing =
+      ap (λ o. entry_named old (entries_in o)) (moved_node from)
+      ∙ missing_stays from old (less_entry from old ∙ name_missing files Refused from old object named_so no_directory)
+      (λ same_directory same_word.
+      none_is_not (entry_at files.tree to new) object free
+      ((λ i. entry_at files.tree (sym same_directory i) (sym same_word i)) ∙ named_so))
+
+  moved_part : {A : Type 0} (part : Option (Node ℕ) → A) → ((o : Option (Node ℕ)) → part (node_without_entry old o) ≡ part o)
+      → ((o : Option (Node ℕ)) → part (node_with_entry new object o) ≡ part o) → (n : ℕ) → part (moved.tree.node n) ≡ part (files.tree.node n)
+  moved_part part without with n =
+      ap part (moved_node n) ∙ part_stays less to (node_with_entry new object) part with n
+      ∙ part_stays files from (node_without_entry old) part without n
+
+  pub ways_moved : Refused (denial W6) → TreeStays files.tree moved.tree Refused
+  ways_moved missing = record {
+    root = ap (λ o. (changed_node nat_eq (with_name nat_eq (without_name nat_eq (without_parent nat_eq files o) from old) to new object)
+        object (node_with_parent to)).tree.root) free;
+    directory = λ n is. moved_part is_directory_node (kind-node_without_entry old) (is_directory-node_with_entry new object) n;
+    parent = λ n is. moved_part (parent_in n) (parent-node_without_entry old n) (parent-node_with_entry new object n) n;
+    link = λ n is. moved_part symlink_text (link_without old) (link_with_entry new object) n;
+    entry = λ here other next e.
+        by here other next e ((ways_removed files Refused from old object named_so no_directory missing).entry here other next e);
+  }
+    where
+      by : (here : ℕ) (other : List ℕ) (next : ℕ) → entry_at files.tree here other ≡ Some next
+          → (entry_at (changed nat_eq files (Remove from old object)).tree here other ≡ Some next)
+          ⊎ ((entry_at (changed nat_eq files (Remove from old object)).tree here other ≡ None)
+          × (is_directory_node (files.tree.node next) ≡ false) × Refused (denial W6))
+          → (entry_at moved.tree here other ≡ Some next)
+          ⊎ ((entry_at moved.tree here other ≡ None) × (is_directory_node (files.tree.node next) ≡ false) × Refused (denial W6))
+      by here other next e (inl same) =
+          inl (ap (λ o. entry_named other (entries_in o)) (moved_node here)
+          ∙ entry_stays less Refused to new object less_directory less_free here other next (less_entry here other ∙ same))
+      by here other next e (inr lost) =
+          inr (
+            ap (λ o. entry_named other (entries_in o)) (moved_node here)
+                ∙ missing_stays here other (less_entry here other ∙ lost.0)
+                (λ same_directory same_word.
+                none_is_not (entry_at files.tree to new) next free
+                ((λ i. entry_at files.tree (sym same_directory i) (sym same_word i)) ∙ e)),
+            lost.1,
+            lost.2,
+          )
+
+  pub rights_moved : RightsStay files.tree moved.tree
+  rights_moved who wanted n is =
+      moved_part (node_allows who wanted) (allows_without old who wanted) (allows_with_entry new object who wanted) n
+
+  -- the object is as it was
+  pub moved_object : object ≢ from → object ≢ to → moved.tree.node object ≡ files.tree.node object
+  moved_object not_from not_to =
+      moved_node object ∙ elsewhere less to (node_with_entry new object) object not_to
+      ∙ elsewhere files from (node_without_entry old) object not_from

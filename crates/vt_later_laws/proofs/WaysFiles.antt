@@ -1,5 +1,5 @@
 -- A file that write found or made is found again, by the symlinks that led to its place.
-use Rattle.std.proofs.Common.{◌≡◌, refl, sym, ap, subst, ◌∙◌, inl, inr, ◌⊎◌, true≢false, ℕ, zero, suc, ◌+◌, ◌-◌, ◌≤◌, nat_eq, Bool, true, false, cond, not, ◌&&◌, ◌||◌, List, [], ◌∷◌, reverse, Option, Some, None, option_map, Result, Ok, Err, arith, ok_or}
+use Rattle.std.proofs.Common.{◌≡◌, refl, sym, ap, subst, ◌∙◌, inl, inr, true≢false, ℕ, zero, suc, ◌-◌, ◌≤◌, nat_eq, Bool, true, false, cond, not, ◌||◌, List, [], ◌∷◌, reverse, Option, Some, None, option_map, Result, Ok, arith, ok_or}
 use Rattle.std.specs.Prelude.{unwrap_or}
 use Rattle.std.proofs.lemmas.Option.{same_Some}
 use Rattle.vt_spec.specs.declared.errors.Deny.{Deny}
@@ -9,14 +9,14 @@ use Rattle.vt_spec.specs.FileTree.{symlink_text}
 use Rattle.vt_spec.specs.Lists.{then_some}
 use Rattle.vt_spec.specs.Machine.Looks.{Looks, is_directory_at, topmost}
 use Rattle.vt_spec.specs.Machine.Mounts.{Location}
-use Rattle.vt_spec.specs.Machine.Walking.{Here, LastWord, Place, Stop, entered, entry_location, file_or_symlink, file_walk, file_walked, final_word, follow_rules, followed, front_walked, if_link, is_special, last_word, name_of, new_name_rules, object_named, object_walk, path_text, path_walked, placed, search_rules, slash_rules, start_of, stepped, steps_at, stopped_by, symlink_of, symlink_start, symlink_there, symlink_walked, then_walk, walk_start, walk_unless, word_walked, words_walked}
+use Rattle.vt_spec.specs.Machine.Walking.{Here, LastWord, Place, Stop, entered, entry_location, file_or_symlink, file_walked, final_word, follow_rules, followed, front_walked, if_link, is_special, last_word, name_of, object_named, placed, search_rules, slash_rules, start_of, stepped, steps_at, stopped_by, symlink_of, symlink_start, symlink_there, symlink_walked, then_walk, walk_unless, word_walked, words_walked}
 use Rattle.vt_spec.specs.Machine.Walking.LastWord.{Dot, DotDot, Named, NoWord}
 use Rattle.vt_spec.specs.Machine.World.{Task}
 use Rattle.vt_spec.specs.PathText.{ends_in_slash, is_absolute, words}
 use Rattle.vt_world_laws.proofs.Reached.{directory_no_link}
 use Rattle.vt_later_laws.proofs.Steps.{AllPass, both_gave, not_fails, passing, same_ok}
-use Rattle.vt_later_laws.proofs.Ways.{EndsAt, Ends, LeadsToo, Stops, at, both_walked, not_stopped, positive, same_end, start_known, start_same, then_too, walk_passed, walk_passing, word_too, words_lead}
-use Rattle.vt_later_laws.proofs.WaysPlaces.{EndsThere, IsPlacedAt, last_too, path_parsed, placed_at, through}
+use Rattle.vt_later_laws.proofs.Ways.{LeadsToo, at, both_walked, not_stopped, positive, same_end, start_known, start_same, walk_passed, walk_passing, word_too, words_lead}
+use Rattle.vt_later_laws.proofs.WaysPlaces.{EndsThere, last_too, placed_at, through}
 
 -- links are followed so deep
 abbrev pub followed_to : ℕ → Looks ℕ → Task ℕ → Location ℕ → Here ℕ → List ℕ → Result (Here ℕ) (Stop ℕ)
@@ -160,8 +160,12 @@ module _ (looks later : Looks ℕ) (task reader : Task ℕ) (Refused : Deny → 
                 ∙ ap (λ o. if_link (record { location = next; left = here.left; steps = e.0 }) o
                 (followed_to depth later reader here.location (record { location = next; left = here.left; steps = e.0 }))) no_link,
           )
-      by steps_there (inr stop) = inr (stop.0, stop.1, ap (λ r. then_walk r (λ there.
-          if_link there (symlink_text (later.node there.location)) (followed_to depth later reader here.location there))) stop.2)
+      by steps_there (inr stop) = inr (
+        stop.0,
+        stop.1,
+        ap (λ r. then_walk r (λ there.
+            if_link there (symlink_text (later.node there.location)) (followed_to depth later reader here.location there))) stop.2,
+      )
 
   -- words, of which the last leads to a link whose text leads there
   linked_from : (depth : ℕ) (start here : Here ℕ) (word : List ℕ) (front : List (List ℕ)) (link : Here ℕ) (inner : List ℕ)
@@ -210,8 +214,11 @@ module _ (looks later : Looks ℕ) (task reader : Task ℕ) (Refused : Deny → 
                 ∙ walk_passed e.0 (slash_rules nat_eq later inner next) (record { location = next; left = left; steps = e.0 })
                 (ap (λ b. cond b (not (is_directory_at later next)) false) no_slash, tt),
           )
-      finish r (inr stop) = inr (stop.0, stop.1,
-          ap (λ r. then_walk r (λ reached. walk_unless reached.steps (slash_rules nat_eq later inner reached.location) reached)) stop.2)
+      finish r (inr stop) = inr (
+        stop.0,
+        stop.1,
+        ap (λ r. then_walk r (λ reached. walk_unless reached.steps (slash_rules nat_eq later inner reached.location) reached)) stop.2,
+      )
 
       by : (steps_link : List (List ℕ))
           → walk_unless steps_link (follow_rules nat_eq later (at link steps_link) inner)

@@ -1,5 +1,5 @@
 -- Where the walks of paths end in what a call left: at the object where they ended, at what a name has now, or nowhere.
-use Rattle.std.proofs.Common.{◌≡◌, refl, sym, ap, subst, ◌∙◌, inl, inr, ◌⊎◌, true≢false, ℕ, ◌+◌, ◌≤◌, nat_eq, Bool, true, false, cond, not, ◌&&◌, List, [], ◌∷◌, reverse, Option, Some, None, Result, Ok, Err, arith}
+use Rattle.std.proofs.Common.{◌≡◌, refl, sym, ap, subst, ◌∙◌, inl, inr, ◌⊎◌, true≢false, ℕ, nat_eq, Bool, true, false, cond, not, List, [], ◌∷◌, reverse, None, Result, Ok, Err, arith}
 use Rattle.vt_spec.specs.declared.errors.Deny.{Deny}
 use Rattle.vt_spec.specs.declared.errors.Rule.TheVariants.{W3, W4}
 use Rattle.vt_spec.specs.Errors.{Rules, and_then, denial, unless}
@@ -7,11 +7,11 @@ use Rattle.vt_spec.specs.FileTree.{symlink_text}
 use Rattle.vt_spec.specs.Language.Limits.{most_symlinks}
 use Rattle.vt_spec.specs.Machine.Looks.{Looks, is_directory_at}
 use Rattle.vt_spec.specs.Machine.Mounts.{Location}
-use Rattle.vt_spec.specs.Machine.Walking.{Here, LastWord, Place, Stop, directory_walk, entry_location, final_word, followed, front_walked, if_link, is_special, last_walked, last_word, name_of, object_named, object_walk, path_text, path_walked, place_walk, placed, search_rules, slash_rules, stepped, steps_at, steps_with, stopped_by, symlink_walk, symlink_walk_by, symlink_walked, then_walk, walk_start, walk_unless, word_walked, words_walked}
+use Rattle.vt_spec.specs.Machine.Walking.{Here, LastWord, Place, Stop, directory_walk, final_word, followed, front_walked, if_link, is_special, last_walked, last_word, object_named, object_walk, path_text, path_walked, place_walk, placed, search_rules, slash_rules, stepped, steps_at, steps_with, stopped_by, symlink_walk, symlink_walk_by, then_walk, walk_start, walk_unless, word_walked, words_walked}
 use Rattle.vt_spec.specs.Machine.Walking.LastWord.{Dot, DotDot, Named, NoWord}
 use Rattle.vt_spec.specs.Machine.World.{Task}
 use Rattle.vt_spec.specs.PathText.{ends_in_slash, parsed_path, path_rules, words}
-use Rattle.vt_later_laws.proofs.Steps.{AllPass, both_gave, not_fails, passed, passing, same_ok}
+use Rattle.vt_later_laws.proofs.Steps.{AllPass, both_gave, passed, passing, same_ok}
 use Rattle.vt_later_laws.proofs.Ways.{EndsAt, Ends, LeadsToo, Stops, at, both_walked, not_stopped, same_end, search_too, slash_too, start_known, start_same, then_too, walk_passed, walk_passing, word_gave, word_too, words_lead}
 
 -- a text that may be walked is the path
@@ -154,12 +154,15 @@ module _ (looks later : Looks ℕ) (task reader : Task ℕ) (Refused : Deny → 
       let parts = walk_passing walks.0.steps (slash_rules nat_eq looks path walks.0.location) walks.0 end walks.2 in
       then_too looks later task reader Refused Known leads (path_walked nat_eq later reader path) _ walks.0 end
       (path_too path walks.0 walks.1) (λ steps known.
-      inl ((
-        steps,
-        walk_passed steps (slash_rules nat_eq later path walks.0.location) (at walks.0 steps)
-            (slash_too looks later task reader Refused Known leads path walks.0.location known parts.0)
-            ∙ (λ i. Ok (at (parts.1 i) steps)),
-      ), subst (λ (h : Here ℕ). Known h.location) parts.1 known))
+      inl (
+        (
+          steps,
+          walk_passed steps (slash_rules nat_eq later path walks.0.location) (at walks.0 steps)
+              (slash_too looks later task reader Refused Known leads path walks.0.location known parts.0)
+              ∙ (λ i. Ok (at (parts.1 i) steps)),
+        ),
+        subst (λ (h : Here ℕ). Known h.location) parts.1 known,
+      ))
 
   -- what is led through a walk that ends so
   pub through : {B : Type 0} (P : Result B (Stop ℕ) → Type 0) (first : Result (Here ℕ) (Stop ℕ)) (next : Here ℕ → Result B (Stop ℕ))
@@ -229,7 +232,7 @@ module _ (looks later : Looks ℕ) (task reader : Task ℕ) (Refused : Deny → 
     parent_known : Known parts.here.location → Known place.parent
     parent_known known = subst Known parts.parent_is known
 
-    front_too : EndsSo (words_walked nat_eq later reader (followed nat_eq later reader) (walk_start reader path) parts.front) parts.here
+    pub front_too : EndsSo (words_walked nat_eq later reader (followed nat_eq later reader) (walk_start reader path) parts.front) parts.here
     front_too = words_from path parts.front parts.here parts.walked
 
     -- the walk of all words, and of all but the last and then that one
@@ -279,8 +282,12 @@ module _ (looks later : Looks ℕ) (task reader : Task ℕ) (Refused : Deny → 
                     ∙ ap (λ o. if_link (record { location = next; left = parts.here.left; steps = e.0 }) o
                     (followed nat_eq later reader parts.here.location (record { location = next; left = parts.here.left; steps = e.0 }))) no_link,
               )
-          by steps (inr stop) = inr (stop.0, stop.1, ap (λ r. then_walk r (λ there.
-              if_link there (symlink_text (later.node there.location)) (followed nat_eq later reader parts.here.location there))) stop.2)
+          by steps (inr stop) = inr (
+            stop.0,
+            stop.1,
+            ap (λ r. then_walk r (λ there.
+                if_link there (symlink_text (later.node there.location)) (followed nat_eq later reader parts.here.location there))) stop.2,
+          )
 
       unfollowed_too : EndsThere Refused (symlink_walk_by nat_eq false later reader path) next parts.here.left
       unfollowed_too =
@@ -336,9 +343,12 @@ module _ (looks later : Looks ℕ) (task reader : Task ℕ) (Refused : Deny → 
           (through (Stops Refused)
           (words_walked nat_eq later reader (followed nat_eq later reader) (walk_start reader path) parts.front) _ parts.here front_too
           (λ steps known.
-          let stop = last_stops parts.here (last_word parts.word) deny steps known parts.searched (stepped_there (Err deny) (lost (parent_known known))) refused in
-          (stop.0, stop.1, ap (λ r. then_walk r (λ there.
-          if_link there (symlink_text (later.node there.location)) (followed nat_eq later reader parts.here.location there))) stop.2))
+          let stop = last_stops parts.here (last_word parts.word) deny steps known parts.searched (stepped_there (Err deny) (lost (parent_known known))) refused in (
+            stop.0,
+            stop.1,
+            ap (λ r. then_walk r (λ there.
+                if_link there (symlink_text (later.node there.location)) (followed nat_eq later reader parts.here.location there))) stop.2,
+          ))
           (λ stop refused. (stop, refused, refl)))
 
       unfollowed_missing : Stops Refused (symlink_walk_by nat_eq false later reader path)
@@ -353,6 +363,10 @@ module _ (looks later : Looks ℕ) (task reader : Task ℕ) (Refused : Deny → 
       symlink_missing = by (ends_in_slash path)
         where
           by : (b : Bool) → Stops Refused (symlink_walk_by nat_eq b later reader path)
-          by true = (missing_path_too.0, missing_path_too.1, ap (λ r. then_walk r (λ here.
-              walk_unless here.steps (slash_rules nat_eq later path here.location) here)) missing_path_too.2)
+          by true = (
+            missing_path_too.0,
+            missing_path_too.1,
+            ap (λ r. then_walk r (λ here.
+                walk_unless here.steps (slash_rules nat_eq later path here.location) here)) missing_path_too.2,
+          )
           by false = unfollowed_missing

@@ -7,15 +7,15 @@ use Rattle.vt_spec.specs.Errors.{denial, unless}
 use Rattle.vt_spec.specs.FileTree.{FileTree, is_directory_under, is_removed, symlink_text}
 use Rattle.vt_spec.specs.Lists.{chain, is_among, last_or}
 use Rattle.vt_spec.specs.Machine.Looks.{looks_of, may}
-use Rattle.vt_spec.specs.Machine.Mounts.{Location, Mount, mount_in, root_of, same_location, topmost}
-use Rattle.vt_spec.specs.Machine.Rightful.{mounter_allows, node_allows}
-use Rattle.vt_spec.specs.Machine.Walk.{LastWord, hop, hops, is_lost, is_top, parent_location, stepped, up_from}
+use Rattle.vt_spec.specs.Machine.Mounts.{Location, Mount, mount_in, same_location, topmost}
+use Rattle.vt_spec.specs.Machine.Rightful.{mounter_allows}
+use Rattle.vt_spec.specs.Machine.Walk.{LastWord, hop, is_lost, stepped}
 use Rattle.vt_spec.specs.Machine.Walk.LastWord.{Dot, DotDot, Named, NoWord}
-use Rattle.vt_spec.specs.Machine.World.{Task, World, files_at, filesystem_numbered, is_directory_at, mount_at, mount_numbered, node_at, task_called}
+use Rattle.vt_spec.specs.Machine.World.{Task, World, filesystem_numbered, is_directory_at, mount_at, mount_numbered, node_at, task_called}
 use Rattle.vt_spec.specs.Machine.WorldLaws.{IsWorld, has_its_root}
 use Rattle.vt_spec.specs.Rights.{execute_right}
 use Rattle.vt_spec.specs.Tree.{Node, Tree, entries_in, entry_named, is_directory_node, parent_in}
-use Rattle.vt_spec.specs.TreeLaws.{IsDirectory, entry_at}
+use Rattle.vt_spec.specs.TreeLaws.{entry_at}
 use Rattle.vt_spec.proofs.Nodes.{directory_used, none_is_not}
 use Rattle.vt_mount_laws.specs.Mounts.Attaching.{numbers_of}
 use Rattle.vt_mount_laws.proofs.MountsFound.{found_there}
@@ -25,7 +25,7 @@ use Rattle.vt_tree_laws.proofs.TreesEntered.{chain_ends}
 use Rattle.vt_permit_laws.proofs.SeesNames.{tree_here}
 use Rattle.vt_world_laws.specs.Worlds.Kept.{IsPlain}
 use Rattle.vt_world_laws.proofs.Plain.{plain_numbered}
-use Rattle.vt_world_laws.proofs.Reached.{IsFound, IsFoundDirectory, IsOn, directory_found, place_found, step_found, topmost_found}
+use Rattle.vt_world_laws.proofs.Reached.{IsFound, IsFoundDirectory, directory_found, place_found, step_found}
 use Rattle.vt_world_laws.proofs.ReachedWalks.{own_directory_found, root_found}
 use Rattle.vt_later_laws.proofs.Ways.{LeadsToo}
 use Rattle.vt_later_laws.proofs.WaysTrees.{DirectoryNamesStay, present_later, under_later}
@@ -319,12 +319,12 @@ module _ (world later : World ℕ) (is : IsWorld nat_eq world) (plain : IsPlain 
     root = stands.root;
     working = stands.directory;
     root_known = directory_known task.root (
-        root_found world is task called,
-        subst (IsFoundDirectory later is_later reader) stands.root (root_found later is_later reader called_later),
+      root_found world is task called,
+      subst (IsFoundDirectory later is_later reader) stands.root (root_found later is_later reader called_later),
     );
     working_known = directory_known task.directory (
-        own_directory_found world is task called,
-        subst (IsFoundDirectory later is_later reader) stands.directory (own_directory_found later is_later reader called_later),
+      own_directory_found world is task called,
+      subst (IsFoundDirectory later is_later reader) stands.directory (own_directory_found later is_later reader called_later),
     );
     directory = λ here known directory. directory_too here known ∙ directory;
     search = rights;

@@ -1,9 +1,9 @@
 -- Directories of a tree that are not lost are not lost where the names that lead to them stay.
-use Rattle.std.proofs.Common.{◌≡◌, refl, sym, ap, subst, ◌∙◌, inl, inr, ◌⊎◌, ⊎_elim, true≢false, ℕ, zero, suc, nat_eq, eqb-true, eq-eqb, Bool, true, false, cond, not, ◌||◌, List, [], ◌∷◌, ◌++◌, length, Option, Some, None, is_some, option_and_then}
+use Rattle.std.proofs.Common.{◌≡◌, refl, sym, ap, subst, ◌∙◌, ⊎_elim, true≢false, ℕ, zero, suc, nat_eq, eqb-true, eq-eqb, Bool, true, false, cond, not, ◌||◌, List, [], ◌∷◌, ◌++◌, length, Option, Some, None, is_some, option_and_then}
 use Rattle.vt_spec.specs.FileTree.{FileTree, has_entry_to, is_directory_under, is_removed, named_parent}
 use Rattle.vt_spec.specs.Lists.{chain, is_among, when}
 use Rattle.vt_spec.specs.Tree.{Tree, parent_in}
-use Rattle.vt_spec.specs.TreeLaws.{HasName, IsDirectory, IsReached, IsTree, entry_at, led}
+use Rattle.vt_spec.specs.TreeLaws.{IsDirectory, IsReached, IsTree, entry_at, led}
 use Rattle.vt_spec.proofs.Nodes.{directory_used, none_is_not}
 use Rattle.vt_spec.proofs.Trees.{found, led-append, parent_reached, reached_named}
 use Rattle.vt_tree_laws.specs.Trees.{IsFileTree}
@@ -106,10 +106,12 @@ module _ (files later : FileTree ℕ) (before : IsTree files.tree) (after : IsFi
   reached = not_removed_reached files.tree before d is present
 
   reached_later : IsReached later.tree d
-  reached_later =
-      (reached.0, ap (λ n. led later.tree n reached.0) root
-          ∙ led_stays files.tree later.tree before after.tree stay files.tree.root reached.0 d reached.1 is
-          (subst (λ n. is_some (later.tree.node n) ≡ true) root (directory_used later.tree later.tree.root after.tree.root_directory)))
+  reached_later = (
+    reached.0,
+    ap (λ n. led later.tree n reached.0) root
+        ∙ led_stays files.tree later.tree before after.tree stay files.tree.root reached.0 d reached.1 is
+        (subst (λ n. is_some (later.tree.node n) ≡ true) root (directory_used later.tree later.tree.root after.tree.root_directory)),
+  )
 
   pub present_later : is_removed nat_eq later.tree d ≡ false
   present_later = reached_not_removed later.tree after.tree d is_later reached_later

@@ -1,6 +1,5 @@
 -- Bytes that were written at a path are read there.
-use Rattle.std.proofs.Common.{◌≡◌, refl, sym, ap, subst, ◌∙◌, inl, inr, ◌⊎◌, true≢false, ℕ, ◌+◌, nat_eq, Bool, true, false, cond, not, ◌||◌, List, [], ◌∷◌, length, reverse, Option, Some, None, is_some, option_map, ok_or, Ok, Err, nat_lt, arith}
-use Rattle.std.specs.Prelude.{option_to_list}
+use Rattle.std.proofs.Common.{◌≡◌, refl, sym, ap, subst, ◌∙◌, inl, inr, ◌⊎◌, ℕ, nat_eq, Bool, true, false, cond, not, ◌||◌, List, [], ◌∷◌, length, reverse, Option, Some, None, is_some, ok_or, Ok, Err, nat_lt, arith}
 use Rattle.std.proofs.lemmas.Option.{same_Some}
 use Rattle.vt_spec.specs.declared.attributes.Attr.{Attr}
 use Rattle.vt_spec.specs.declared.attributes.Kind.TheVariants.{File, White}
@@ -8,9 +7,8 @@ use Rattle.vt_spec.specs.declared.errors.Deny.{Deny}
 use Rattle.vt_spec.specs.declared.errors.Rule.TheVariants.{C1, E6, W6}
 use Rattle.vt_spec.specs.Errors.{denial}
 use Rattle.vt_spec.specs.FileTree.{is_kind, is_kind_in, symlink_text}
-use Rattle.vt_spec.specs.Language.Answers.{Answer}
 use Rattle.vt_spec.specs.Language.Answers.Answer.{Bytes, Done}
-use Rattle.vt_spec.specs.Language.Calls.{Call, TaskName}
+use Rattle.vt_spec.specs.Language.Calls.{TaskName}
 use Rattle.vt_spec.specs.Language.Calls.Call.{Read, Write}
 use Rattle.vt_spec.specs.Language.Changes.{Change, changed}
 use Rattle.vt_spec.specs.Language.Changes.Change.{SetBytes}
@@ -21,17 +19,16 @@ use Rattle.vt_spec.specs.Machine.Filesystems.{with_change}
 use Rattle.vt_spec.specs.Machine.Judge.{make_permit, unnumbered, write_permit, written_permit}
 use Rattle.vt_spec.specs.Machine.Looks.{Looks, looks_of}
 use Rattle.vt_spec.specs.Machine.Looks as Look
-use Rattle.vt_spec.specs.Machine.Mounts.{Location, topmost}
+use Rattle.vt_spec.specs.Machine.Mounts.{Location}
 use Rattle.vt_spec.specs.Machine.Outcome.Making.{file_mode, new_file}
 use Rattle.vt_spec.specs.Machine.Permits.{Permit}
 use Rattle.vt_spec.specs.Machine.Permits.Permit.{ToChange}
 use Rattle.vt_spec.specs.Machine.Policy.{policy, raised_task}
 use Rattle.vt_spec.specs.Machine.Rows.{new_attr}
-use Rattle.vt_spec.specs.Machine.Rules.Conditions.{kind_at}
 use Rattle.vt_spec.specs.Machine.Rules.Making.{file_word_rules, make_rules, rewrite_rules}
 use Rattle.vt_spec.specs.Machine.Run.{Serves}
-use Rattle.vt_spec.specs.Machine.Walking.{Here, LastWord, Place, Stop, entry_location, file_walk, file_walked, is_special, name_of, new_name_rules, object_walk, path_text, path_walked, slash_rules, stepped, then_walk, walk_end, walk_start, walk_unless, words_walked}
-use Rattle.vt_spec.specs.Machine.World.{Task, World, files_at, is_directory_at, mount_at, node_at, task_called}
+use Rattle.vt_spec.specs.Machine.Walking.{Place, file_walk, file_walked, is_special, name_of, new_name_rules, object_walk, path_text, slash_rules, stepped, then_walk, walk_end, walk_start, walk_unless, words_walked}
+use Rattle.vt_spec.specs.Machine.World.{Task, World, files_at, is_directory_at, node_at, task_called}
 use Rattle.vt_spec.specs.Machine.WorldLaws.{IsWorld}
 use Rattle.vt_spec.specs.PathText.{ends_in_slash, is_absolute, words}
 use Rattle.vt_spec.specs.Rights.{allows, read_right}
@@ -45,18 +42,18 @@ use Rattle.vt_world_laws.specs.Worlds.Kept.{IsPlain}
 use Rattle.vt_world_laws.proofs.Reached.{others_are_files}
 use Rattle.vt_world_laws.proofs.ReachedPlaces.{IsEndPlace, file_walk_end}
 use Rattle.vt_world_laws.proofs.ReachedWalks.{own_directory_found, root_found}
-use Rattle.vt_later_laws.specs.LaterPaths.{IsAnsweredUnless, IsSeenByAll, LooksFrom, WriteThenRead}
+use Rattle.vt_later_laws.specs.LaterPaths.{IsAnsweredUnless, IsSeenByAll, WriteThenRead}
 use Rattle.vt_later_laws.proofs.AfterChange.{all_stays, later_is, spent}
 use Rattle.vt_later_laws.proofs.AttrSeen.{tree_there}
 use Rattle.vt_later_laws.proofs.Granted.{IsPermitted, permitted}
 use Rattle.vt_later_laws.proofs.Looked.{read_all, read_of}
-use Rattle.vt_later_laws.proofs.MadeSeen.{KnownHere, Never, made_leads, maker, new_location, new_stepped, node_seen, surely}
+use Rattle.vt_later_laws.proofs.MadeSeen.{Never, made_leads, maker, new_stepped, node_seen, surely}
 use Rattle.vt_later_laws.proofs.Opened.{walk_ended}
 use Rattle.vt_later_laws.proofs.Readers.{MayLook, all_stands, caller, leads, named_last, own_name, raised_credentials, raised_stands, seen_at, uncovered}
 use Rattle.vt_later_laws.proofs.Stays.{called_own}
 use Rattle.vt_later_laws.proofs.Steps.{both_gave, passing, same_ok}
 use Rattle.vt_later_laws.proofs.Ways.{EndsAt, LeadsToo, both_walked, start_known, walk_passed, walk_passing}
-use Rattle.vt_later_laws.proofs.WaysChanges.{RightsStay, TreeStays, rights_with_bytes, ways_with_bytes}
+use Rattle.vt_later_laws.proofs.WaysChanges.{TreeStays, rights_with_bytes, ways_with_bytes}
 use Rattle.vt_later_laws.proofs.WaysFiles.{IsFilePlace, either_false, file_place, file_too, followed_to}
 use Rattle.vt_later_laws.proofs.WaysPlaces.{EndsThere, begun, path_parsed}
 use Rattle.vt_later_laws.proofs.WaysStay.{StandsAs}

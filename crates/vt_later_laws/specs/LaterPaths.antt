@@ -1,18 +1,21 @@
 -- What later calls see at a path of an earlier one, in a world that has the invariants, and no overlay. The later call is at the
 -- same path; symlinks on the way are followed, and a final one where the call follows it.
-use Rattle.std.specs.Prelude.{Bool, Err, List, Ok, Option, Some, [], nat_eq, true, ℕ, ◌||◌, ◌≡◌, ◌⊎◌}
+use Rattle.std.specs.Prelude.{Bool, Err, List, None, Ok, Option, Some, [], false, length, nat_eq, nat_le, true, ℕ, ◌||◌, ◌≡◌, ◌⊎◌}
 use Rattle.vt_spec.specs.declared.attributes.Attr.{Attr}
 use Rattle.vt_spec.specs.declared.errors.Rule.{Rule}
-use Rattle.vt_spec.specs.declared.errors.Rule.TheVariants.{C1, W4, W6}
+use Rattle.vt_spec.specs.declared.errors.Rule.TheVariants.{C1, E1, W4, W6}
 use Rattle.vt_spec.specs.Errors.{denial}
 use Rattle.vt_spec.specs.Language.Answers.{Answer, StatLine}
-use Rattle.vt_spec.specs.Language.Answers.Answer.{Bytes, Done, Names, Told}
-use Rattle.vt_spec.specs.Language.Calls.{Call, TaskName}
-use Rattle.vt_spec.specs.Language.Calls.Call.{Chmod, Chown, LinkTo, Ls, Lstat, Mkdir, Read, Readlink, Stat, SymlinkAt, Unlink, Write}
+use Rattle.vt_spec.specs.Language.Answers.Answer.{Bytes, Done, Names, Opened, Told}
+use Rattle.vt_spec.specs.Language.Calls.{Access, Call, TaskName}
+use Rattle.vt_spec.specs.Language.Calls.Call.{Chmod, Chown, LinkTo, Ls, Lstat, Mkdir, OpenFile, Read, Readlink, Rename, Stat, SymlinkAt, Unlink, Write}
+use Rattle.vt_spec.specs.Language.Calls.Creation.{Exclusive}
+use Rattle.vt_spec.specs.Language.Limits.{most_descriptors}
 use Rattle.vt_spec.specs.Lists.{Fresh}
 use Rattle.vt_spec.specs.Machine.Outcome.Attributes.{attr_with_mode, attr_with_owner}
 use Rattle.vt_spec.specs.Machine.Policy.{policy}
 use Rattle.vt_spec.specs.Machine.Run.{Serves}
+use Rattle.vt_spec.specs.Machine.Walk.{Place, is_directory_there, new_walk, old_leaf_walk}
 use Rattle.vt_spec.specs.Machine.World.{Task, World, task_called}
 use Rattle.vt_spec.specs.Machine.WorldLaws.{IsWorld}
 use Rattle.vt_spec.specs.Rights.{Credentials, cap_dac_override, cap_dac_read_search, has_all}
@@ -115,3 +118,35 @@ ChmodThenStat = (path : List ℕ) (mode : ℕ) → TellsAfter (Chmod path mode) 
 abbrev pub ChownThenStat : Type 0
 ChownThenStat =
     (path : List ℕ) (uid gid : Option ℕ) → TellsAfter (Chown path uid gid) path (λ attr. attr_with_owner attr uid gid)
+
+-- An object that is no directory and was given a name that was free has this name: lstat tells of it what it told by the old
+-- one. The old name is missing. W6 refuses the new one only where its path led through the old one, which is a symlink's then.
+abbrev pub RenameThenLstat : Type 0
+RenameThenLstat =
+    (old new : List ℕ) (world : World ℕ) (fresh : Fresh ℕ) (name : TaskName) (task : Task ℕ) (from to : Place ℕ)
+    → IsWorld nat_eq world → IsPlain world → Serves nat_eq world fresh → task_called world name ≡ Some task
+    → old_leaf_walk nat_eq world task old ≡ Ok from → new_walk nat_eq world task new ≡ Ok to
+    → is_directory_there nat_eq world from ≡ false → to.object ≡ None
+    → (policy nat_eq fresh world name (Rename old new)).answer ≡ Ok Done
+    → (line : StatLine) × IsAnswered world name (Lstat old) (Told line)
+    × IsAnsweredUnless W6 (policy nat_eq fresh world name (Rename old new)).world name (Lstat new) (Told line)
+    × IsRefused W6 (policy nat_eq fresh world name (Rename old new)).world name (Lstat old)
+    × ((reader : TaskName) (reading : Task ℕ)
+    → LooksFrom (policy nat_eq fresh world name (Rename old new)).world task reader reading
+    → IsAnsweredUnless W6 (policy nat_eq fresh world name (Rename old new)).world reader (Lstat new) (Told line)
+    × IsRefused W6 (policy nat_eq fresh world name (Rename old new)).world reader (Lstat old))
+
+-- After a granted open with creat and excl another one of the path is refused by E1, where the task has a descriptor left.
+abbrev pub ExclusiveTwice : Type 0
+ExclusiveTwice =
+    (path : List ℕ) (world : World ℕ) (fresh : Fresh ℕ) (name : TaskName) (task : Task ℕ) (access again : Access)
+    (mode other number : ℕ)
+    → IsWorld nat_eq world → IsPlain world → Serves nat_eq world fresh → task_called world name ≡ Some task
+    → (policy nat_eq fresh world name (OpenFile path access (Exclusive mode))).answer ≡ Ok (Opened number)
+    → ((now : Task ℕ) → task_called (policy nat_eq fresh world name (OpenFile path access (Exclusive mode))).world name ≡ Some now
+    → nat_le most_descriptors (length now.descriptors) ≡ false
+    → IsRefused E1 (policy nat_eq fresh world name (OpenFile path access (Exclusive mode))).world name (OpenFile path again (Exclusive other)))
+    × ((reader : TaskName) (reading : Task ℕ)
+    → LooksFrom (policy nat_eq fresh world name (OpenFile path access (Exclusive mode))).world task reader reading
+    → nat_le most_descriptors (length reading.descriptors) ≡ false
+    → IsRefused E1 (policy nat_eq fresh world name (OpenFile path access (Exclusive mode))).world reader (OpenFile path again (Exclusive other)))

@@ -1,6 +1,8 @@
 use Rattle.vt_later_laws.proofs.AttrSeen.{chmod_then_stat, chown_then_stat}
+use Rattle.vt_later_laws.proofs.CreatedSeen.{exclusive_twice}
 use Rattle.vt_later_laws.proofs.LinkedSeen.{link_then_lstat}
 use Rattle.vt_later_laws.proofs.MadeSeen.{mkdir_then_list, symlink_then_readlink}
+use Rattle.vt_later_laws.proofs.RenamedSeen.{rename_then_lstat}
 use Rattle.vt_later_laws.proofs.Unlinked.{unlink_then_lstat}
 use Rattle.vt_later_laws.proofs.WrittenSeen.{write_then_read}
 use Rattle.vt_later_laws.proofs.later.later_calls_see_it_at_the_path.Goals as goal
@@ -25,3 +27,9 @@ returns-clause-named c = link_then_lstat
 
 pub returns-clause-unlinked : goal.returns-clause-unlinked
 returns-clause-unlinked c = unlink_then_lstat
+
+pub returns-clause-renamed : goal.returns-clause-renamed
+returns-clause-renamed c = rename_then_lstat
+
+pub returns-clause-created_once : goal.returns-clause-created_once
+returns-clause-created_once c = exclusive_twice
