@@ -10,7 +10,7 @@ use Rattle.vt_spec.specs.Machine.CopyUp.{Merge, Stack, emptied, hides_directory,
 use Rattle.vt_spec.specs.Machine.Layers.{Shown, has_lower_directory, view_of}
 use Rattle.vt_spec.specs.Machine.Views
 use Rattle.vt_spec.specs.Machine.Views.{View, cuts, hides, node_led, shown_from, shown_over}
-use Rattle.vt_spec.specs.Machine.World.{Real}
+use Rattle.vt_spec.specs.Machine.World.{Real, upper_object}
 use Rattle.vt_spec.specs.Machine.World.Real.{Below, Upper}
 use Rattle.vt_spec.specs.Machine.WorldLaws.{SameObject, number_at_path, same_content}
 use Rattle.vt_spec.specs.Rights.{is_directory}
@@ -562,6 +562,48 @@ module _ (fresh : Fresh ℕ) (stack : Stack ℕ) (merge : Merge ℕ) (whole : Is
 
       by : (b : Bool) → goes_through before ut new path ≡ b → then_some (number_at_path files path) merge.real ≡ real_seen stack later path
       by true g = let parts = through_is_split merge.upper stack.directory ut new path g in through parts.0 parts.1 parts.2 parts.3
+      by false g = else_by g (goes_through before uf old path) refl
+
+  -- behind the new name nothing shows from below
+  new_above : (to rest : List (List ℕ)) → led merge.upper.tree stack.directory to ≡ Some ut → (layer : ℕ) (place : List (List ℕ))
+      → real_seen stack later (to ++ new ∷ rest) ≡ Some (Below layer place) → ⊥
+  new_above to rest l layer place e = by (led merge.upper.tree uo rest) refl
+    where
+      white : (u : ℕ) (w : Bool) → real_by (to ++ new ∷ rest) (when (not w) (record { layer = 0; object = u })) ≡ Some (Below layer place) → ⊥
+      white u true q = none_is_some (Below layer place) q
+      white u false q = none_is_some u (sym (ap upper_object q))
+
+      none : (tail : List (List ℕ)) → led merge.upper.tree uo tail ≡ None → real_seen stack later (to ++ new ∷ tail) ≡ Some (Below layer place) → ⊥
+      none [] f q = none_is_some uo (sym f)
+      none (word ∷ tail) f q = none_is_some (Below layer place) (sym (ap (real_by (to ++ new ∷ word ∷ tail)) (none_new to word tail l f)) ∙ q)
+
+      by : (x : Option ℕ) → led merge.upper.tree uo rest ≡ x → ⊥
+      by None f = none rest f e
+      by (Some u) f =
+          white u (is_kind_in White (upper.tree.node u))
+          (sym (ap (real_by (to ++ new ∷ rest)) (on_top after lowers (to ++ new ∷ rest) u (is_kind_in White (upper.tree.node u)) (led_new to rest l ∙ f) refl)) ∙ e)
+
+  -- what lies below has the path that it had
+  pub below_stays : (path : List (List ℕ)) (n layer : ℕ) (place : List (List ℕ)) → number_at_path files path ≡ Some n → merge.real n ≡ Some (Below layer place)
+      → number_at_path merge.files path ≡ Some n
+  below_stays path n layer place e r = by (goes_through before ut new path) refl
+    where
+      old_by : goes_through before ut new path ≡ false → (b : Bool) → goes_through before uf old path ≡ b
+          → number_at_path files path ≡ cond b None (number_at_path merge.files path)
+      old_by no_new b g =
+          number_is path
+          ∙ old_leads_nowhere merge.files merge.files.tree.root f t o old new can path (same_through stack merge whole t ut real_t ut_directory new path ∙ no_new)
+          ∙ ap (λ x. cond x None (number_at_path merge.files path)) (same_through stack merge whole f uf real_f uf_directory old path ∙ g)
+
+      else_by : goes_through before ut new path ≡ false → (b : Bool) → goes_through before uf old path ≡ b → number_at_path merge.files path ≡ Some n
+      else_by no_new true g = none_is_some n (sym (old_by no_new true g) ∙ e)
+      else_by no_new false g = sym (old_by no_new false g) ∙ e
+
+      by : (b : Bool) → goes_through before ut new path ≡ b → number_at_path merge.files path ≡ Some n
+      by true g =
+          let parts = through_is_split merge.upper stack.directory ut new path g in
+          absurd (new_above parts.0 parts.1 parts.3 layer place
+          (ap (real_seen stack later) parts.2 ∙ sym (paths_later path) ∙ ap (λ x. then_some x merge.real) e ∙ r))
       by false g = else_by g (goes_through before uf old path) refl
 
   -- Inodes
