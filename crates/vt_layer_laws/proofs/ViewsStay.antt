@@ -56,7 +56,7 @@ attr_entries : (attr : Attr) (o : Option (Node ℕ)) → entries_in (node_with_a
 attr_entries attr None = refl
 attr_entries attr (Some node) = refl
 
-mark_entries : (opaque : Bool) (o : Option (Node ℕ)) → entries_in (node_with_mark opaque o) ≡ entries_in o
+pub mark_entries : (opaque : Bool) (o : Option (Node ℕ)) → entries_in (node_with_mark opaque o) ≡ entries_in o
 mark_entries opaque None = refl
 mark_entries opaque (Some node) = by node.content
   where

@@ -2,9 +2,12 @@ pub mod WholeAttributes
 pub mod WholeCopied
 pub mod WholeGrown
 pub mod WholeHidden
+pub mod WholeLeft
 pub mod WholeLines
 pub mod WholeLinked
 pub mod WholeMade
+pub mod WholeMoved
+pub mod WholeMovedTree
 pub mod WholeNames
 pub mod WholeNew
 pub mod WholeParts

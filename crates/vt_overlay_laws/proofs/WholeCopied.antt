@@ -7,7 +7,7 @@ use Rattle.vt_spec.specs.Language.Changes.{changed, with_inode}
 use Rattle.vt_spec.specs.Language.Changes.Change.{Make}
 use Rattle.vt_spec.specs.Laws.Trees.{IsNewIn}
 use Rattle.vt_spec.specs.Lists.{then_some, when}
-use Rattle.vt_spec.specs.Machine.CopyUp.{Merge, Stack, copied_content, copy_named, copy_parent, upper_of, with_real}
+use Rattle.vt_spec.specs.Machine.CopyUp.{Merge, Stack, copied_content, copy_named, copy_of_node, copy_parent, upper_of, with_real}
 use Rattle.vt_spec.specs.Machine.Layers.{OpenLayer, shown, view_of}
 use Rattle.vt_spec.specs.Machine.Views.{View, cuts, hides, node_led, shown_from}
 use Rattle.vt_spec.specs.Machine.World.{Real, upper_object}
@@ -437,3 +437,21 @@ copy_keeps_whole stack merge object copy node whole is low vacant parents = by (
         })
     by None e = beside_is_whole stack merge whole object copy node is low vacant e
     by (Some name) e = above_is_whole stack merge whole object copy node is low vacant name.0 name.1 (named_so merge.files whole.tree object name e) (parents name e)
+
+-- a copy of a directory cuts no path
+pub copy_cuts : (stack : Stack ℕ) (merge : Merge ℕ) (object copy : ℕ) (node : Node ℕ)
+    → IsWhole stack merge → merge.files.tree.node object ≡ Some node → upper_object (merge.real object) ≡ None → merge.upper.tree.node copy ≡ None
+    → ((name : ℕ × List ℕ) → a_name nat_eq merge.files object ≡ Some name → StandsInUpper merge name.0)
+    → is_directory (kind_of node.content) ≡ true → (path : List (List ℕ))
+    → cuts (view_in (copy_of_node nat_eq merge object copy node).upper stack.directory) path ≡ cuts (view_in merge.upper stack.directory) path
+copy_cuts stack merge object copy node whole is low vacant parents is_dir path = by (a_name nat_eq merge.files object) refl
+  where
+    by : (o : Option (ℕ × List ℕ)) → a_name nat_eq merge.files object ≡ o
+        → cuts (view_in (copy_named nat_eq merge copy o
+        (with_inode nat_eq merge.upper copy (record { attr = node.attr; content = copied_content (copy_parent merge copy o) node.content }))) stack.directory) path
+        ≡ cuts (view_in merge.upper stack.directory) path
+    by None e =
+        fronts_agree (λ front. hides (node_led (view_in merge.upper stack.directory) front)) _ path
+        (λ front f. ap hides (node_same stack merge whole object copy node is low vacant e front))
+    by (Some name) e =
+        cuts_same stack merge whole object copy node is low vacant name.0 name.1 (named_so merge.files whole.tree object name e) (parents name e) is_dir path

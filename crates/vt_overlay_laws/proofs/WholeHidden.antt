@@ -3,7 +3,7 @@ use Rattle.std.proofs.Common.{arith, ◌≡◌, refl, sym, ap, subst, ◌∙◌,
 use Rattle.vt_spec.specs.Language.Changes.{Change}
 use Rattle.vt_spec.specs.Language.Changes.Change.{AddName, CopyUp, Make, Move, Remove, SetAttr, SetBytes, SetMark}
 use Rattle.vt_spec.specs.Lists.{Fresh, odds, then_some}
-use Rattle.vt_spec.specs.Machine.CopyUp.{Merge, Stack, copied_up, merge_changed}
+use Rattle.vt_spec.specs.Machine.CopyUp.{Merge, Stack, copied_up, hides_directory, merge_changed, shown_below}
 use Rattle.vt_spec.specs.Machine.Layers.{Shown, at_path, shown}
 use Rattle.vt_spec.specs.Machine.Merging.{layer_node, real_object}
 use Rattle.vt_spec.specs.Machine.World.{Real, upper_object}
@@ -25,8 +25,9 @@ use Rattle.vt_overlay_laws.specs.WhatIsShown.{IsWhatIsShown, IsWhole, layers_und
 use Rattle.vt_overlay_laws.specs.WholeChanges.{HiddenStaysHidden, IsAskedWell}
 use Rattle.vt_overlay_laws.proofs.WholeLines.{below_before, object_copied}
 use Rattle.vt_overlay_laws.proofs.WholeMade.{new_bare}
+use Rattle.vt_overlay_laws.proofs.WholeMoved.{below_stays}
 use Rattle.vt_overlay_laws.proofs.WholeParts.{real_by}
-use Rattle.vt_overlay_laws.proofs.WholeTogether.{changes_keep_shown, copied, is_copied, odd_distinct, stands_now, still_unused}
+use Rattle.vt_overlay_laws.proofs.WholeTogether.{both_copied, twice, changes_keep_shown, copied, is_copied, odd_distinct, stands_now, still_unused}
 
 -- nothing comes to lie below, and what lies below gets no name
 pub record Uncovers (merge later : Merge ℕ) : Type 0 where
@@ -103,7 +104,7 @@ no_below merge n layer way h e = true≢false (sym h ∙ ap (λ o. is_some (uppe
 -- each change does so
 module _ (fresh : Fresh ℕ) (stack : Stack ℕ) (merge : Merge ℕ) (whole : IsWhole stack merge) (distinct : (j k : ℕ) → fresh j ≡ fresh k → j ≡ k)
     (unused : (k : ℕ) → merge.upper.tree.node (fresh k) ≡ None) where
-  uncovers : (change : Change ℕ) → IsAskedWell merge.files change → Uncovers merge (merge_changed nat_eq fresh stack merge change)
+  uncovers : (change : Change ℕ) → IsAskedWell stack merge change → Uncovers merge (merge_changed nat_eq fresh stack merge change)
   uncovers (Make d w number node) asked =
       let there = directory_used merge.files.tree d asked.0.name_is_free.in_directory in
       let is = is_copied fresh stack merge whole distinct unused d there in
@@ -163,7 +164,16 @@ module _ (fresh : Fresh ℕ) (stack : Stack ℕ) (merge : Merge ℕ) (whole : Is
           → cond b None (number_at_path one.files path) ≡ Some n → number_at_path merge.files path ≡ Some n
       by path n one files true f = none_is_some n f
       by path n one files false f = sym (ap (λ fs. number_at_path fs path) files) ∙ f
-  uncovers (Move from old to new object) asked = absurd asked
+  uncovers (Move f old t new o) asked =
+      let m = twice fresh stack merge whole distinct unused f old t new o asked.0 in
+      let two = both_copied fresh stack merge f old t new o in
+      record {
+        below = m.lower;
+        names = λ path n layer way e r.
+            sym (ap (λ fs. number_at_path fs path) m.files)
+            ∙ below_stays (odds (odds fresh)) stack two m.whole f old t new o m.from m.to m.object m.may m.vacant (λ d. m.cut d ∙ asked.1 (m.was_directory d))
+            (is_some (shown_below nat_eq stack two f old)) (hides_directory nat_eq stack two t new) refl refl path n layer way e r;
+      }
   uncovers (SetBytes file bytes) there =
       let is = (object_copied stack fresh distinct merge file whole unused there).copied in
       record {

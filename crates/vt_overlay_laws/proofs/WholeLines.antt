@@ -9,19 +9,21 @@ use Rattle.vt_spec.specs.Machine.CopyUp.{Merge, Stack, copied_content, copied_ea
 use Rattle.vt_spec.specs.Machine.World.{upper_object}
 use Rattle.vt_spec.specs.Machine.World.Real.{Below, Upper}
 use Rattle.vt_spec.specs.Machine.WorldLaws.{ListsNumbers}
-use Rattle.vt_spec.specs.Tree.{Node, node_with_entry}
-use Rattle.vt_spec.specs.TreeLaws.{IsTree}
+use Rattle.vt_spec.specs.Tree.{Node, is_directory_node, node_with_entry}
+use Rattle.vt_spec.specs.TreeLaws.{IsDirectory, IsTree}
 use Rattle.vt_spec.proofs.Nodes.{directory_used, is_some-node_with_entry, node_other}
 use Rattle.vt_tree_laws.proofs.TreesWalked.{no_some}
 use Rattle.vt_layer_laws.specs.Layers.ChangesUpper.{StandsInUpper}
 use Rattle.vt_layer_laws.specs.Layers.Upper.{IsThere}
+use Rattle.vt_layer_laws.specs.Layers.Views.{view_in}
+use Rattle.vt_spec.specs.Machine.Views.{cuts}
 use Rattle.vt_overlay_laws.specs.WhatIsShown.{CopiesKeepWhole, IsWhole}
 use Rattle.vt_layer_laws.proofs.CopyingParts.{kept_part}
 use Rattle.vt_layer_laws.proofs.ShownAtPath.{none_is_some, some_is_one}
 use Rattle.vt_layer_laws.proofs.ShownObjects.{Among}
 use Rattle.vt_layer_laws.proofs.UpperChain.{depth_bound, up_at_root, up_from}
-use Rattle.vt_layer_laws.proofs.UpperLine.{ReachedIn, is_reached_in, named_so, reached_directory}
-use Rattle.vt_overlay_laws.proofs.WholeCopied.{copy_keeps_whole}
+use Rattle.vt_layer_laws.proofs.UpperLine.{ReachedIn, has_entries, is_reached_in, named_so, reached_directory}
+use Rattle.vt_overlay_laws.proofs.WholeCopied.{copy_cuts, copy_keeps_whole}
 
 -- each object of a list comes after the directory of its name
 abbrev pub IsLine : FileTree ℕ → List ℕ → List ℕ → Type 0
@@ -61,14 +63,16 @@ pub record GoodLine (files : FileTree ℕ) (list : List ℕ) (last : ℕ) : Type
   pub line : IsLine files [] list
   pub ends : Among list last
   pub there : (x : ℕ) → Among list x → IsThere files x
+  pub directories : IsDirectory files.tree last → (x : ℕ) → Among list x → IsDirectory files.tree x
 
 module _ (files : FileTree ℕ) (tree : IsTree files.tree) (numbers : ListsNumbers nat_eq files) where
-  one_more : (list : List ℕ) (last next : ℕ) → GoodLine files list last → IsThere files next
+  one_more : (list : List ℕ) (last next : ℕ) → GoodLine files list last → IsDirectory files.tree last → IsThere files next
       → ((name : ℕ × List ℕ) → a_name nat_eq files next ≡ Some name → name.0 ≡ last) → GoodLine files (list ++ next ∷ []) next
-  one_more list last next good there named = record {
+  one_more list last next good is_dir there named = record {
     line = line_append files list [] (next ∷ []) good.line (λ name e. subst (Among (and_done [] list)) (sym (named name e)) (done_too list [] last good.ends), tt);
     ends = among_last list next;
     there = λ x m. ⊎_elim (λ l. good.there x l) (λ same. subst (IsThere files) same there) (from_longer list next x m);
+    directories = λ d x m. ⊎_elim (λ l. good.directories is_dir x l) (λ same. subst (IsDirectory files.tree) same d) (from_longer list next x m);
   }
 
   to_directory : (steps most directory : ℕ) → ReachedIn files.tree steps directory → steps ≤ most
@@ -78,6 +82,7 @@ module _ (files : FileTree ℕ) (tree : IsTree files.tree) (numbers : ListsNumbe
         line = (λ name e. absurd (tree.root_unnamed name.0 name.1 (named_so files tree directory name e ∙ ap Some r)), tt);
         ends = inl refl;
         there = λ x m. ⊎_elim (λ same. subst (IsThere files) same (directory_used files.tree directory (reached_directory files tree zero directory r))) (λ none. absurd none) m;
+        directories = λ d x m. ⊎_elim (λ same. subst (IsDirectory files.tree) same d) (λ none. absurd none) m;
       })
   to_directory (suc steps) zero directory r h = absurd (let no : ⊥ = omega arith in no)
   to_directory (suc steps) (suc most) directory r h =
@@ -85,6 +90,7 @@ module _ (files : FileTree ℕ) (tree : IsTree files.tree) (numbers : ListsNumbe
       (sym (ap (λ list. reverse list) (up_from files tree most steps directory r) ∙ reverse-cons directory (chain most (named_parent nat_eq files.tree) r.0)))
       (one_more (reverse (chain most (named_parent nat_eq files.tree) r.0)) r.0 directory
       (to_directory steps most r.0 r.2 (omega arith))
+      (has_entries files.tree r.0 r.1 directory r.3)
       (directory_used files.tree directory r.4)
       (λ name e. sym (tree.one_parent name.0 name.1 directory (named_so files tree directory name e) r.4) ∙ tree.one_parent r.0 r.1 directory r.3 r.4))
 
@@ -96,12 +102,13 @@ module _ (files : FileTree ℕ) (tree : IsTree files.tree) (numbers : ListsNumbe
         line = (λ name is. none_is_some name (sym e ∙ is), tt);
         ends = inl refl;
         there = λ x m. ⊎_elim (λ same. subst (IsThere files) same there) (λ none. absurd none) m;
+        directories = λ d x m. ⊎_elim (λ same. subst (IsDirectory files.tree) same d) (λ none. absurd none) m;
       }
       by (Some name) e =
           let reached = is_reached_in files tree name.0 name.1 object (named_so files tree object name e) in
           one_more (directories_to nat_eq files name.0) name.0 object
           (to_directory reached.0 (length files.numbers) name.0 reached.1 (depth_bound files tree numbers reached.0 name.0 reached.1))
-          there (λ other is. ap (λ n. n.0) (some_is_one other name (sym is ∙ e)))
+          (has_entries files.tree name.0 name.1 object (named_so files tree object name e)) there (λ other is. ap (λ n. n.0) (some_is_one other name (sym is ∙ e)))
 
 -- The copies of a line
 pub record IsCopied (stack : Stack ℕ) (fresh : Fresh ℕ) (merge later : Merge ℕ) : Type 0 where
@@ -114,6 +121,9 @@ pub record IsCopied (stack : Stack ℕ) (fresh : Fresh ℕ) (merge later : Merge
 pub record IsLineCopied (stack : Stack ℕ) (fresh : Fresh ℕ) (merge later : Merge ℕ) (list : List ℕ) : Type 0 where
   pub copied : IsCopied stack fresh merge later
   pub all : (n : ℕ) → Among list n → StandsInUpper later n
+  -- copies of directories cut no path
+  pub cut : ((x : ℕ) → Among list x → IsDirectory merge.files.tree x) → (path : List (List ℕ))
+      → cuts (view_in later.upper stack.directory) path ≡ cuts (view_in merge.upper stack.directory) path
 
 module _ (stack : Stack ℕ) (fresh : Fresh ℕ) (distinct : (j k : ℕ) → fresh j ≡ fresh k → j ≡ k) where
   -- a copy takes no other number
@@ -153,6 +163,7 @@ module _ (stack : Stack ℕ) (fresh : Fresh ℕ) (distinct : (j k : ℕ) → fre
   line_copied [] k merge done whole line up there unused = record {
     copied = record { whole = whole; files = refl; grows = λ n h. h; vacant = λ x none out. none; lower = λ n layer path e. e };
     all = λ n m. absurd m;
+    cut = λ d path. refl;
   }
   line_copied (object ∷ rest) k merge done whole line up there unused =
       by (merge.files.tree.node object) refl (is_in_upper merge object) refl (line_copied rest (k + 1))
@@ -168,6 +179,7 @@ module _ (stack : Stack ℕ) (fresh : Fresh ℕ) (distinct : (j k : ℕ) → fre
           record {
             copied = next.copied;
             all = λ n m. ⊎_elim (λ e. subst (StandsInUpper (copied_each nat_eq fresh (k + 1) merge rest)) e (next.copied.grows object stands)) (λ l. next.all n l) m;
+            cut = λ d path. next.cut (λ x m. d x (inr m)) path;
           }
 
       goes : (node : Node ℕ) → merge.files.tree.node object ≡ Some node → is_in_upper merge object ≡ false → Rest k rest
@@ -191,6 +203,10 @@ module _ (stack : Stack ℕ) (fresh : Fresh ℕ) (distinct : (j k : ℕ) → fre
               lower = λ n layer path e. below_before merge object (fresh k) n layer path (next.copied.lower n layer path e);
             };
             all = λ n m. ⊎_elim (λ e. subst (StandsInUpper (copied_each nat_eq fresh (k + 1) one rest)) e (next.copied.grows object stands)) (λ l. next.all n l) m;
+            cut = λ d path.
+                next.cut (λ x m. d x (inr m)) path
+                ∙ copy_cuts stack merge object (fresh k) node whole is (no_some (upper_object (merge.real object)) low) (unused k (omega arith)) (λ name e. up name.0 (line.0 name e))
+                (ap is_directory_node (sym is) ∙ d object (inl refl)) path;
           }
 
       by : (o : Option (Node ℕ)) → merge.files.tree.node object ≡ o → (b : Bool) → is_in_upper merge object ≡ b → Rest k rest

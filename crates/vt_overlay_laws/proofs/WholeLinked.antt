@@ -48,7 +48,7 @@ no_white_object (Some a) (Some b) s = by a.content b.content s.1
     by Whiteout Whiteout e = absurd (true≢false (sym e))
 
 -- what is there and is no directory hides what is below
-file_hides : (o : Option (Node ℕ)) → is_some o ≡ true → is_directory_node o ≡ false → hides o ≡ true
+pub file_hides : (o : Option (Node ℕ)) → is_some o ≡ true → is_directory_node o ≡ false → hides o ≡ true
 file_hides None t d = absurd (true≢false (sym t))
 file_hides (Some node) t d = ap (λ b. not b || opaque_of node.content) d
 

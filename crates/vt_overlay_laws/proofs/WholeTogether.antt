@@ -1,17 +1,31 @@
 -- A whole change of an overlay: copies first, and then what is asked.
-use Rattle.std.proofs.Common.{arith, ◌*◌, ◌+◌, ◌≡◌, ◌≢◌, sym, subst, ◌∙◌, ℕ, nat_eq, None}
+use Rattle.std.proofs.Common.{arith, ◌*◌, ◌+◌, ◌≡◌, ◌≢◌, sym, subst, ◌∙◌, ℕ, nat_eq, None, refl, ap, List, [], ◌∷◌, ◌++◌, ◌&&◌, ◌||◌, map, not, false, Option, Some, is_some, option_and_then, unwrap_or}
 use Rattle.vt_spec.specs.Language.Changes.Change.{AddName, CopyUp, Make, Move, Remove, SetAttr, SetBytes, SetMark}
 use Rattle.vt_spec.specs.Lists.{Fresh, evens, odds}
-use Rattle.vt_spec.specs.Machine.CopyUp.{Merge, Stack, copied_up}
+use Rattle.vt_spec.specs.Machine.CopyUp.{Merge, Stack, copied_up, path_to, upper_of}
 use Rattle.vt_spec.proofs.Nodes.{directory_used}
-use Rattle.vt_tree_laws.specs.Trees.{MayAddName, MayMake, MayRemove}
+use Rattle.vt_tree_laws.specs.Trees.{MayAddName, MayMake, MayMove, MayRemove}
 use Rattle.vt_layer_laws.specs.Layers.ChangesUpper.{StandsInUpper}
 use Rattle.vt_layer_laws.specs.Layers.Upper.{IsThere}
-use Rattle.vt_layer_laws.proofs.UpperLine.{has_entries}
+use Rattle.vt_layer_laws.proofs.UpperLine.{has_entries, is_reached_in}
+use Rattle.vt_layer_laws.proofs.UpperShown.{way_to}
+use Rattle.vt_layer_laws.proofs.ShownNames.{last_name}
+use Rattle.vt_layer_laws.proofs.ShownDirectories.{no_white_directory}
+use Rattle.vt_layer_laws.proofs.ShownAtPath.{none_is_some, some_is_one}
+use Rattle.vt_spec.proofs.Trees.{led-append}
+use Rattle.vt_spec.specs.FileTree.{path_down}
+use Rattle.vt_spec.specs.Machine.Layers.{has_lower_directory, view_of}
+use Rattle.vt_spec.specs.Machine.Views
+use Rattle.vt_spec.specs.Machine.World.{upper_object}
+use Rattle.vt_spec.specs.Machine.World.Real.{Below}
+use Rattle.vt_spec.specs.Machine.WorldLaws.{number_at_path}
+use Rattle.vt_spec.specs.TreeLaws.{IsDirectory, entry_at, led}
 use Rattle.vt_overlay_laws.specs.WhatIsShown.{IsWhole}
 use Rattle.vt_overlay_laws.specs.WholeChanges.{ChangesKeepShown}
-use Rattle.vt_overlay_laws.proofs.WholeAttributes.{attr_keeps_whole, bytes_keep_whole}
-use Rattle.vt_overlay_laws.proofs.WholeLines.{IsCopied, object_copied, stands_copied}
+use Rattle.vt_overlay_laws.proofs.WholeAttributes.{attr_keeps_whole, bytes_keep_whole, upper_real}
+use Rattle.vt_overlay_laws.proofs.WholeLines.{IsCopied, object_copied, stands_copied, to_object}
+use Rattle.vt_overlay_laws.proofs.WholeMoved.{move_keeps_shown}
+use Rattle.vt_overlay_laws.proofs.WholeNames.{above_named, named_above}
 use Rattle.vt_overlay_laws.proofs.WholeLinked.{link_keeps_shown}
 use Rattle.vt_overlay_laws.proofs.WholeMade.{make_keeps_shown}
 use Rattle.vt_overlay_laws.proofs.WholeRemoved.{remove_keeps_shown}
@@ -41,6 +55,76 @@ module _ (fresh : Fresh ℕ) (stack : Stack ℕ) (merge : Merge ℕ) (whole : Is
   pub still_unused : (k : ℕ) → copied.upper.tree.node (odds fresh k) ≡ None
   still_unused k = is_copied.vacant (odds fresh k) (unused (2 * k + 1)) (λ j. odd_no_even fresh distinct k j)
 
+-- the directory of a name whose object stands in the upper layer does so too
+pub stands_above : (stack : Stack ℕ) (merge : Merge ℕ) → IsWhole stack merge → (d : ℕ) (w : List ℕ) (object : ℕ) → entry_at merge.files.tree d w ≡ Some object
+    → StandsInUpper merge object → StandsInUpper merge d
+stands_above stack merge whole d w object named stands =
+    by (led merge.upper.tree stack.directory way.0) refl
+    (sym (last_name merge.upper.tree stack.directory way.0 w)
+    ∙ named_above stack merge whole (way.0 ++ w ∷ []) object (upper_of merge object)
+    (led-append merge.files.tree merge.files.tree.root way.0 w d object way.1 named) (upper_real merge object stands))
+  where
+    way : (q : List (List ℕ)) × (number_at_path merge.files q ≡ Some d)
+    way = let reached = is_reached_in merge.files whole.tree d w object named in way_to merge.files.tree reached.0 d reached.1
+
+    by : (x : Option ℕ) → led merge.upper.tree stack.directory way.0 ≡ x → option_and_then (λ n. entry_at merge.upper.tree n w) x ≡ Some (upper_of merge object) → StandsInUpper merge d
+    by None l e = none_is_some _ e
+    by (Some u) l e =
+        let found = above_named stack merge whole way.0 u l (no_white_directory (merge.upper.tree.node u) (has_entries merge.upper.tree u w (upper_of merge object) e)) in
+        subst (StandsInUpper merge) (some_is_one found.0 d (sym found.1 ∙ way.1)) (ap (λ r. is_some (upper_object r)) found.2)
+
+-- what a move asks for is copied, the object and then the new directory
+abbrev pub both_copied : Fresh ℕ → Stack ℕ → Merge ℕ → ℕ → List ℕ → ℕ → List ℕ → ℕ → Merge ℕ
+both_copied fresh stack merge f old t new o = copied_up nat_eq (evens (odds fresh)) (copied_up nat_eq (evens fresh) merge o) t
+
+pub record IsReadyToMove (fresh : Fresh ℕ) (stack : Stack ℕ) (merge : Merge ℕ) (f : ℕ) (old : List ℕ) (t : ℕ) (new : List ℕ) (o : ℕ) (two : Merge ℕ) : Type 0 where
+  pub whole : IsWhole stack two
+  pub from : StandsInUpper two f
+  pub to : StandsInUpper two t
+  pub object : StandsInUpper two o
+  pub vacant : two.upper.tree.node (odds (odds fresh) 0) ≡ None
+  pub may : MayMove two.files.tree f old t new o
+  pub was_directory : IsDirectory two.files.tree o → IsDirectory merge.files.tree o
+  pub cut : IsDirectory two.files.tree o
+      → has_lower_directory (record { tree = two.upper.tree; directory = stack.directory } ∷ []) stack.lowers (path_to nat_eq two f old)
+      ≡ has_lower_directory (record { tree = merge.upper.tree; directory = stack.directory } ∷ []) stack.lowers (path_to nat_eq merge f old)
+  pub lower : (n layer : ℕ) (path : List (List ℕ)) → two.real n ≡ Some (Below layer path) → merge.real n ≡ Some (Below layer path)
+  pub files : two.files ≡ merge.files
+
+pub twice : (fresh : Fresh ℕ) (stack : Stack ℕ) (merge : Merge ℕ) → IsWhole stack merge → ((j k : ℕ) → fresh j ≡ fresh k → j ≡ k)
+    → ((k : ℕ) → merge.upper.tree.node (fresh k) ≡ None) → (f : ℕ) (old : List ℕ) (t : ℕ) (new : List ℕ) (o : ℕ) → MayMove merge.files.tree f old t new o
+    → IsReadyToMove fresh stack merge f old t new o (both_copied fresh stack merge f old t new o)
+twice fresh stack merge whole distinct unused f old t new o may =
+    let o_there = whole.tree.alive f old o may.named in
+    let one = copied_up nat_eq (evens fresh) merge o in
+    let two = both_copied fresh stack merge f old t new o in
+    let first = object_copied stack (evens fresh) (even_distinct fresh distinct) merge o whole (λ k. unused (2 * k)) o_there in
+    let same = first.copied.files in
+    let t_there = subst (λ files. IsThere files t) (sym same) (directory_used merge.files.tree t may.in_directory) in
+    let spare : (k : ℕ) → one.upper.tree.node (evens (odds fresh) k) ≡ None = λ k. still_unused fresh stack merge whole distinct unused o o_there (2 * k) in
+    let second = object_copied stack (evens (odds fresh)) (even_distinct (odds fresh) (odd_distinct fresh distinct)) one t first.copied.whole spare t_there in
+    let both = second.copied.files ∙ same in
+    let own = second.copied.grows o (stands_now fresh stack merge whole distinct unused o o_there) in
+    record {
+      whole = second.copied.whole;
+      from = stands_above stack two second.copied.whole f old o (ap (λ files. entry_at files.tree f old) both ∙ may.named) own;
+      to = stands_copied stack (evens (odds fresh)) (even_distinct (odds fresh) (odd_distinct fresh distinct)) one t first.copied.whole spare t_there;
+      object = own;
+      vacant = second.copied.vacant (odds (odds fresh) 0) (still_unused fresh stack merge whole distinct unused o o_there 1)
+          (λ j. odd_no_even (odds fresh) (odd_distinct fresh distinct) 0 j);
+      may = subst (λ files. MayMove files.tree f old t new o) (sym both) may;
+      was_directory = λ d. subst (λ files. IsDirectory files.tree o) both d;
+      cut = λ d.
+          ap (λ path. has_lower_directory (record { tree = two.upper.tree; directory = stack.directory } ∷ []) stack.lowers path)
+          (ap (λ files. unwrap_or (path_down nat_eq files files.tree.root f) [] ++ old ∷ []) both)
+          ∙ ap (λ b. not (b || false) && Views.lowers_have_directory (map view_of stack.lowers) (path_to nat_eq merge f old))
+          (second.cut ((to_object one.files first.copied.whole.tree first.copied.whole.numbers t t_there).directories
+          (subst (λ files. IsDirectory files.tree t) (sym same) may.in_directory)) (path_to nat_eq merge f old)
+          ∙ first.cut ((to_object merge.files whole.tree whole.numbers o o_there).directories (subst (λ files. IsDirectory files.tree o) both d)) (path_to nat_eq merge f old));
+      lower = λ n layer path e. first.copied.lower n layer path (second.copied.lower n layer path e);
+      files = both;
+    }
+
 pub changes_keep_shown : ChangesKeepShown
 changes_keep_shown fresh stack merge (Make d w number node) whole distinct unused asked =
     let there = directory_used merge.files.tree d asked.0.name_is_free.in_directory in
@@ -63,7 +147,10 @@ changes_keep_shown fresh stack merge (Remove d w object) whole distinct unused m
     remove_keeps_shown (odds fresh) stack (copied fresh stack merge whole distinct unused d there) d w object is.whole
     (stands_now fresh stack merge whole distinct unused d there) (still_unused fresh stack merge whole distinct unused d there 0)
     (subst (λ files. MayRemove files.tree d w object) (sym is.files) may)
-changes_keep_shown fresh stack merge (Move from old to new object) whole distinct unused asked = absurd asked
+changes_keep_shown fresh stack merge (Move f old t new o) whole distinct unused asked =
+    let m = twice fresh stack merge whole distinct unused f old t new o asked.0 in
+    move_keeps_shown (odds (odds fresh)) stack (both_copied fresh stack merge f old t new o) f old t new o m.whole
+    m.from m.to m.object m.vacant m.may (λ d. m.cut d ∙ asked.1 (m.was_directory d))
 changes_keep_shown fresh stack merge (SetBytes file bytes) whole distinct unused there =
     let is = (object_copied stack fresh distinct merge file whole unused there).copied in
     (bytes_keep_whole stack (copied_up nat_eq fresh merge file) file bytes is.whole (stands_copied stack fresh distinct merge file whole unused there)).shown

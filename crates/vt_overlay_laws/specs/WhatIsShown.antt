@@ -1,20 +1,20 @@
 -- Each step of a change of an overlay keeps that its tree is what its layers show: the kernel's overlayfs document, "upper and
 -- lower", "directories" and "whiteouts and opaque directories".
-use Rattle.std.specs.Prelude.{List, None, Option, Some, false, is_some, nat_eq, option_map, slice_get, true, ℕ, ◌∷◌, ◌≡◌}
+use Rattle.std.specs.Prelude.{List, [], None, Option, Some, false, is_some, nat_eq, option_map, slice_get, true, ℕ, ◌∷◌, ◌≡◌}
 use Rattle.vt_spec.specs.declared.attributes.Attr.{Attr}
 use Rattle.vt_spec.specs.declared.attributes.Kind.TheVariants.{White}
 use Rattle.vt_spec.specs.FileTree.{a_name, is_kind, is_kind_in, is_opaque_in}
 use Rattle.vt_spec.specs.Language.Changes.{node_with_attr}
 use Rattle.vt_spec.specs.Lists.{Fresh, then_some}
-use Rattle.vt_spec.specs.Machine.CopyUp.{Merge, Stack, changed_both, copied_up, copy_of_node, linked, made, removed}
-use Rattle.vt_spec.specs.Machine.Layers.{OpenLayer, node_at_path, shown}
+use Rattle.vt_spec.specs.Machine.CopyUp.{Merge, Stack, changed_both, copied_up, copy_of_node, linked, made, moved, path_to, removed}
+use Rattle.vt_spec.specs.Machine.Layers.{OpenLayer, has_lower_directory, node_at_path, shown}
 use Rattle.vt_spec.specs.Machine.Merging.{layer_node, merged_at, real_object}
 use Rattle.vt_spec.specs.Machine.World.{Real, upper_object}
 use Rattle.vt_spec.specs.Machine.World.Real.{Below, Upper}
 use Rattle.vt_spec.specs.Machine.WorldLaws.{ListsNumbers, SameObject, number_at_path}
 use Rattle.vt_spec.specs.Tree.{Node, kind_of, node_with_bytes}
 use Rattle.vt_spec.specs.TreeLaws.{IsDirectory, IsReached, IsTree}
-use Rattle.vt_tree_laws.specs.Trees.{MayAddName, MayMake, MayRemove}
+use Rattle.vt_tree_laws.specs.Trees.{MayAddName, MayMake, MayMove, MayRemove}
 use Rattle.vt_layer_laws.specs.Layers.ChangesUpper.{StandsInUpper}
 use Rattle.vt_layer_laws.specs.Layers.Upper.{IsThere}
 
@@ -110,3 +110,14 @@ RemoveKeepsShown =
     → IsWhole stack merge → StandsInUpper merge directory → merge.upper.tree.node (fresh 0) ≡ None
     → MayRemove merge.files.tree directory name object
     → IsWhatIsShown stack (removed nat_eq fresh stack merge directory name object)
+
+-- An object is moved, where it and both directories stand in the upper layer. A directory moves only where no lower layer that is
+-- not cut has one (O1).
+abbrev pub MoveKeepsShown : Type 0
+MoveKeepsShown =
+    (fresh : Fresh ℕ) (stack : Stack ℕ) (merge : Merge ℕ) (from : ℕ) (old : List ℕ) (to : ℕ) (new : List ℕ) (object : ℕ)
+    → IsWhole stack merge → StandsInUpper merge from → StandsInUpper merge to → StandsInUpper merge object
+    → merge.upper.tree.node (fresh 0) ≡ None → MayMove merge.files.tree from old to new object
+    → (IsDirectory merge.files.tree object
+    → has_lower_directory (record { tree = merge.upper.tree; directory = stack.directory } ∷ []) stack.lowers (path_to nat_eq merge from old) ≡ false)
+    → IsWhatIsShown stack (moved nat_eq fresh stack merge from old to new object)

@@ -1,34 +1,37 @@
 -- Each change of an overlay keeps that its tree is what its layers show: the kernel's overlayfs document, "upper and lower",
 -- "directories" and "whiteouts and opaque directories".
-use Rattle.std.specs.Prelude.{List, None, Some, false, nat_eq, ℕ, ◌+◌, ◌≡◌}
+use Rattle.std.specs.Prelude.{List, [], None, Some, false, nat_eq, ℕ, ◌+◌, ◌∷◌, ◌≡◌}
 use Rattle.vt_spec.specs.declared.attributes.Kind.TheVariants.{White}
-use Rattle.vt_spec.specs.FileTree.{FileTree, is_kind}
+use Rattle.vt_spec.specs.FileTree.{is_kind}
 use Rattle.vt_spec.specs.Language.Changes.{Change}
 use Rattle.vt_spec.specs.Language.Changes.Change.{AddName, CopyUp, Make, Move, Remove, SetAttr, SetBytes, SetMark}
 use Rattle.vt_spec.specs.Lists.{Fresh}
-use Rattle.vt_spec.specs.Machine.CopyUp.{Merge, Stack, merge_changed}
+use Rattle.vt_spec.specs.Machine.CopyUp.{Merge, Stack, merge_changed, path_to}
 use Rattle.vt_spec.specs.Machine.Filesystems.{merge_of, stack_of}
-use Rattle.vt_spec.specs.Machine.Layers.{shown}
+use Rattle.vt_spec.specs.Machine.Layers.{has_lower_directory, shown}
 use Rattle.vt_spec.specs.Machine.World.{Filesystem, Layer, Overlay, World, filesystem_numbered}
 use Rattle.vt_spec.specs.Machine.WorldLaws.{IsMerged, IsWorld}
 use Rattle.vt_spec.specs.Tree.{kind_of}
-use Rattle.vt_spec.specs.TreeLaws.{IsReached}
-use Rattle.vt_tree_laws.specs.Trees.{MayAddName, MayMake, MayRemove}
+use Rattle.vt_spec.specs.TreeLaws.{IsDirectory, IsReached}
+use Rattle.vt_tree_laws.specs.Trees.{MayAddName, MayMake, MayMove, MayRemove}
 use Rattle.vt_layer_laws.specs.Layers.Upper.{IsThere}
 use Rattle.vt_overlay_laws.specs.WhatIsShown.{IsWhatIsShown, IsWhole, layers_under}
 
--- What is asked for: what the calls' tables of rules see to. A mark of an overlay's directory is never set by a call (O4), and
--- moves are not among these.
-abbrev pub IsAskedWell : FileTree ℕ → Change ℕ → Type 0
-IsAskedWell files (Make directory name number node) =
-    MayMake files.tree directory name number node × (is_kind White (kind_of node.content) ≡ false)
-IsAskedWell files (AddName directory name object) = MayAddName files.tree directory name object
-IsAskedWell files (Remove directory name object) = MayRemove files.tree directory name object
-IsAskedWell files (Move from old to new object) = ⊥
-IsAskedWell files (SetBytes file bytes) = IsThere files file
-IsAskedWell files (SetAttr object attr) = IsThere files object
-IsAskedWell files (SetMark directory opaque) = ⊥
-IsAskedWell files (CopyUp object) = IsThere files object
+-- What is asked for: what the calls' tables of rules see to. A directory moves only where no lower layer that is not cut has one
+-- (O1), and no call sets a mark through an overlay (O4).
+abbrev pub IsAskedWell : Stack ℕ → Merge ℕ → Change ℕ → Type 0
+IsAskedWell stack merge (Make directory name number node) =
+    MayMake merge.files.tree directory name number node × (is_kind White (kind_of node.content) ≡ false)
+IsAskedWell stack merge (AddName directory name object) = MayAddName merge.files.tree directory name object
+IsAskedWell stack merge (Remove directory name object) = MayRemove merge.files.tree directory name object
+IsAskedWell stack merge (Move from old to new object) =
+    MayMove merge.files.tree from old to new object
+    × (IsDirectory merge.files.tree object
+    → has_lower_directory (record { tree = merge.upper.tree; directory = stack.directory } ∷ []) stack.lowers (path_to nat_eq merge from old) ≡ false)
+IsAskedWell stack merge (SetBytes file bytes) = IsThere merge.files file
+IsAskedWell stack merge (SetAttr object attr) = IsThere merge.files object
+IsAskedWell stack merge (SetMark directory opaque) = ⊥
+IsAskedWell stack merge (CopyUp object) = IsThere merge.files object
 
 -- A whole change: the objects that it changes are copied up with the directories above them, and then it is made, by new numbers
 -- that no inode of the upper layer's tree has.
@@ -36,7 +39,7 @@ abbrev pub ChangesKeepShown : Type 0
 ChangesKeepShown =
     (fresh : Fresh ℕ) (stack : Stack ℕ) (merge : Merge ℕ) (change : Change ℕ)
     → IsWhole stack merge → ((j k : ℕ) → fresh j ≡ fresh k → j ≡ k) → ((k : ℕ) → merge.upper.tree.node (fresh k) ≡ None)
-    → IsAskedWell merge.files change
+    → IsAskedWell stack merge change
     → IsWhatIsShown stack (merge_changed nat_eq fresh stack merge change)
 
 -- What is said here of an overlay as one record is what `IsMerged` says of one of a world,
@@ -61,6 +64,6 @@ abbrev pub HiddenStaysHidden : Type 0
 HiddenStaysHidden =
     (fresh : Fresh ℕ) (stack : Stack ℕ) (merge : Merge ℕ) (change : Change ℕ) (path : List (List ℕ)) (layer object : ℕ)
     → IsWhole stack merge → ((j k : ℕ) → fresh j ≡ fresh k → j ≡ k) → ((k : ℕ) → merge.upper.tree.node (fresh k) ≡ None)
-    → IsAskedWell merge.files change
+    → IsAskedWell stack merge change
     → shown (layers_under stack (merge_changed nat_eq fresh stack merge change)) path ≡ Some (record { layer = layer + 1; object = object })
     → shown (layers_under stack merge) path ≡ Some (record { layer = layer + 1; object = object })

@@ -1,3 +1,4 @@
+use Rattle.vt_overlay_laws.proofs.WholeMoved.{move_keeps_shown}
 use Rattle.vt_overlay_laws.proofs.WholeLinked.{link_keeps_shown}
 use Rattle.vt_overlay_laws.proofs.WholeRemoved.{remove_keeps_shown}
 use Rattle.vt_overlay_laws.proofs.WholeMade.{make_keeps_shown}
@@ -26,3 +27,6 @@ returns-clause-linked c = link_keeps_shown
 
 pub returns-clause-removed : goal.returns-clause-removed
 returns-clause-removed c = remove_keeps_shown
+
+pub returns-clause-moved : goal.returns-clause-moved
+returns-clause-moved c = move_keeps_shown
