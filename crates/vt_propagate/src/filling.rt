@@ -1,5 +1,6 @@
 //! How many mounts namespaces get when a tree of mounts is attached: ENOSPC of mount(2).
-ghost use Rattle.std.specs.Prelude.{◌≡◌, ◌<◌, ◌+◌, if◌then◌else◌, OnOk, IfErr, IfOk, None, false, true, length, map, nat_eq, unwrap_or, ℕ, List};
+ghost use Rattle.std.specs.Prelude.{◌≡◌, ◌<◌, ◌+◌, if◌then◌else◌, IfErr, IfOk, List, None, OnOk, false, length, map, nat_eq, true, unwrap_or};
+ghost use Rattle.std.specs.Prelude.{ℕ};
 ghost use Rattle.std.specs.List.{list_any};
 ghost use Rattle.std.specs.HashMap.{get};
 ghost use Rattle.vt_spec.specs.declared.errors.Rule.TheVariants.{S5};
@@ -44,7 +45,6 @@ pub fn overfills(alloc: Global, mounts: &Mounts, parts: &[Mount], load: Load) ->
         → too_many ≡ has_too_many nat_eq (attached_by nat_eq world new place true tree)) }
     ensures memory { IfErr result (λ deny. deny ≡ denial S5) }
 {
-    mounts.are_ascending();
     let Ok(counts) = counts_of(alloc, parts) else {
         return Err(Rule::S5.denial());
     };
