@@ -2,7 +2,8 @@
 use Rattle.std.specs.Prelude.{List, Option, Some, [], length, map, nat_eq, not, option_map, if◌then◌else◌, ℕ, ◌*◌, ◌+◌, ◌<◌}
 use Rattle.vt_spec.specs.Lists.{Fresh, then_some, when}
 use Rattle.vt_spec.specs.Machine.Attach as meant
-use Rattle.vt_spec.specs.Machine.Attach.{Copies, Twig, copies_from, copy_number, copy_place, copy_type, image, is_destination, nearest_image, twig_master, twig_of}
+use Rattle.vt_spec.specs.Machine.Attach.{Copies, Twig, copies_from, copy_number, copy_place, copy_type, image, is_destination}
+use Rattle.vt_spec.specs.Machine.Attach.{nearest_image, twig_master, twig_of}
 use Rattle.vt_spec.specs.Machine.Mounts.{Mount, group_of}
 use Rattle.vt_spec.specs.Machine.Receives.{is_member_of}
 use Rattle.vt_spec.specs.Machine.World.{World}
@@ -62,7 +63,8 @@ copied world copying part origin = record origin {
   mount_point = Some (copy_place nat_eq (supply copying) (graft_seen copying) part.number origin);
   propagation =
       if is_destination nat_eq (graft_seen copying) part.number then (twig copying origin).propagation
-      else copy_type nat_eq world (supply copying) (parts_seen copying) (mount_of copying.destination) (twig copying origin) part.propagation;
+      else copy_type nat_eq world (supply copying) (parts_seen copying) (mount_of copying.destination) (twig copying origin)
+      part.propagation;
 }
 
 -- the new group of a copy at a part, if it forms one
@@ -72,5 +74,6 @@ made world copying part origin =
     else then_some (group_of part.propagation) (λ group.
     when (not (is_member_of nat_eq group (mount_of copying.destination))) (
       image nat_eq (supply copying) (mount_of copying.destination) (twig copying origin) group,
-      nearest_image nat_eq world (supply copying) (parts_seen copying) (mount_of copying.destination) (twig copying origin) (world.master group),
+      nearest_image nat_eq world (supply copying) (parts_seen copying) (mount_of copying.destination) (twig copying origin)
+          (world.master group),
     ))

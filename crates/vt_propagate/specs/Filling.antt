@@ -1,11 +1,13 @@
 -- How many mounts a namespace has.
-use Rattle.std.specs.Prelude.{Bool, List, Option, count_by, filter, length, nat_eq, nat_lt, ℕ, ◌*◌, ◌+◌}
+use Rattle.std.specs.Prelude.{All, Bool, Contains, List, Option, count_by, filter, length, if◌then◌else◌, nat_eq, nat_lt, option_map, false, ℕ, ◌*◌, ◌+◌, ◌-◌, ◌≡◌}
 use Rattle.vt_spec.specs.Language.Limits.{most_mounts}
-use Rattle.vt_spec.specs.Lists.{holds_of}
+use Rattle.vt_spec.specs.Lists.{any_pair, holds_of}
 use Rattle.vt_spec.specs.Machine.Mounts as meant
+use Rattle.vt_spec.specs.Machine.World.{World}
 use Rattle.vt_location.specs.declared.mounts.Mount.{Mount}
 use Rattle.vt_location.specs.declared.numbers.NamespaceId.{NamespaceId}
 use Rattle.vt_location.specs.Numbers.{counted}
+use Rattle.vt_propagate.specs.declared.filling.Load.{Load}
 
 abbrev pub same_namespace : NamespaceId → NamespaceId → Bool
 same_namespace a b = nat_eq a.count b.count
@@ -24,7 +26,18 @@ is_in namespace mount = holds_of (nat_eq namespace) mount.namespace
 abbrev pub mount_count : List (meant.Mount ℕ) → ℕ → ℕ
 mount_count mounts namespace = length (filter (is_in namespace) mounts)
 
--- a namespace has too many mounts once it gets so many at each of so many parts
-abbrev pub is_overfilled : List (meant.Mount ℕ) → ℕ → (NamespaceId → ℕ) → Option NamespaceId → Bool
-is_overfilled mounts count parts namespace =
-    holds_of (λ one. nat_lt most_mounts (mount_count mounts (counted one.count) + parts one * count)) namespace
+-- how many mounts leave a namespace
+abbrev pub leaving : Load → NamespaceId → ℕ
+leaving load namespace = if holds_of (same_namespace namespace) load.leaves then load.count else 0
+
+-- a namespace has too many mounts once some leave it and it gets so many at each of its parts
+abbrev pub is_overfilled : List (meant.Mount ℕ) → Load → (NamespaceId → ℕ) → Option NamespaceId → Bool
+is_overfilled mounts load parts namespace =
+    holds_of (λ one. nat_lt most_mounts (mount_count mounts (counted one.count) - leaving load one + parts one * load.count)) namespace
+
+-- these are mounts of the world, each once, all of one namespace, or all of none
+pub record MovesFrom (world : World ℕ) (namespace : Option NamespaceId) (tree : List (meant.Mount ℕ)) : Type 0 where
+  pub there : All (Contains world.mounts) tree
+  pub inside : All (λ mount. mount.namespace ≡ option_map (λ one. counted one.count) namespace) tree
+  pub one_number : any_pair (λ a b. nat_eq a.number b.number) world.mounts ≡ false
+  pub each_once : any_pair (λ a b. nat_eq a.number b.number) tree ≡ false

@@ -22,7 +22,8 @@ graft_in world graft next =
 -- the copies at the destination, then those at the receivers
 abbrev pub planned_copies : World ℕ → Graft → ℕ → List (Mount ℕ)
 planned_copies world graft next =
-    flat_map (copies_at nat_eq world (numbers_at world graft next) (graft_in world graft next) (parts_of nat_eq world (location_of graft.place)))
+    flat_map
+    (copies_at nat_eq world (numbers_at world graft next) (graft_in world graft next) (parts_of nat_eq world (location_of graft.place)))
     (parts_of nat_eq world (location_of graft.place))
 
 -- the groups that they form, with their masters

@@ -9,7 +9,8 @@ ghost use Rattle.vt_group.specs.Steps.{group_number};
 ghost use Rattle.vt_location.specs.Locations.{location_of};
 ghost use Rattle.vt_location.specs.MountValue.{mount_of, propagation_of};
 ghost use Rattle.vt_location.specs.Numbers.{counted};
-ghost use Rattle.vt_propagate.specs.Copying.{HasRoom, HasRoomFor, as_kept, copied, graft_seen, made, new_group, parts_seen, supply, tree_seen, twig};
+ghost use Rattle.vt_propagate.specs.Copying.{HasRoom, HasRoomFor, as_kept, copied, graft_seen, made, new_group};
+ghost use Rattle.vt_propagate.specs.Copying.{parts_seen, supply, tree_seen, twig};
 ghost use Rattle.vt_propagate.specs.Planned.{planned_copies, planned_groups};
 ghost use Rattle.vt_propagate.specs.Seen.{IsSeen};
 
@@ -42,7 +43,7 @@ pub struct NewGroup {
 
 /// The copies that are attached, with their types: all at the destination, in the order of the tree, then all at each receiver.
 /// Where a tree moves, those at the destination are the mounts themselves, as they are there. The copy at the i-th part of the
-/// j-th mount of n, both from 0, is counted `next + 2·(n·i + j)`.
+/// j-th mount of n, both from 0, is counted `next + 2·(n·i + j)`. For each copy all parts and the whole tree are passed over.
 ///
 /// S5 (ENOMEM): an allocation failed.
 pub fn copies(
@@ -205,7 +206,8 @@ impl<'a> Copying<'a> {
     ) -> Result<Vec<NewGroup>, AllocError>
         requires { HasRoom self.now }
         ensures { IfOk result (λ new. map new_group new.items
-            ≡ flat_map (λ part. filter_map (made (as_kept mounts.now groups.now) self.now part) (tree_seen self.now)) (parts_seen self.now)) }
+            ≡ flat_map (λ part. filter_map (made (as_kept mounts.now groups.now) self.now part) (tree_seen self.now))
+            (parts_seen self.now)) }
     {
         let mut new = Vec::new(alloc);
         for part in self.graft.parts {

@@ -1,5 +1,6 @@
 //! How many mounts namespaces get when a tree of mounts is attached: ENOSPC of mount(2).
-ghost use Rattle.std.specs.Prelude.{◌≡◌, ◌<◌, ◌+◌, if◌then◌else◌, OnOk, IfErr, IfOk, count_by, false, length, map, nat_eq, unwrap_or, ℕ, List};
+ghost use Rattle.std.specs.Prelude.{◌≡◌, ◌<◌, ◌+◌, if◌then◌else◌, IfErr, IfOk, List, None, OnOk, false, length, map, nat_eq, true, unwrap_or};
+ghost use Rattle.std.specs.Prelude.{ℕ};
 ghost use Rattle.std.specs.List.{list_any};
 ghost use Rattle.std.specs.HashMap.{get};
 ghost use Rattle.vt_spec.specs.declared.errors.Rule.TheVariants.{S5};
@@ -12,7 +13,7 @@ ghost use Rattle.vt_spec.specs.Machine.WorldLaws.{NamespaceInvariants};
 ghost use Rattle.vt_location.specs.declared.numbers.NamespaceId.{NamespaceId};
 ghost use Rattle.vt_location.specs.MountValue.{mount_of};
 ghost use Rattle.vt_mount.specs.MountsValue.{mounts_in};
-ghost use Rattle.vt_propagate.specs.Filling.{is_overfilled, is_part_in, parts_in, same_namespace};
+ghost use Rattle.vt_propagate.specs.Filling.{MovesFrom, is_overfilled, leaving, is_part_in, parts_in, same_namespace};
 
 use std::alloc::{AllocError, Global};
 use std::collections::HashMap;
@@ -23,25 +24,31 @@ use vt_spec::errors::{Deny, Rule};
 // How many mounts a namespace may have (profile).
 const MOST_MOUNTS: u64 = 4096;
 
-/// Whether a namespace has too many mounts once a tree of so many mounts is copied to each of these parts: ENOSPC of mount(2).
+/// How many mounts a tree has that is attached, and the namespace that they leave, if they move.
+#[derive(Clone, Copy, Debug, PartialEq, Eq)]
+pub struct Load {
+    pub count: usize,
+    pub leaves: Option<NamespaceId>,
+}
+
+/// Whether a namespace has more than 4,096 mounts once a tree of mounts is attached at these parts: ENOSPC of mount(2).
 ///
 /// S5 (ENOMEM): an allocation failed.
-pub fn overfills(
-    alloc: Global,
-    mounts: &Mounts,
-    parts: &[Mount],
-    count: usize,
-) -> Result<bool, Deny>
-    ensures ok { IfOk result (λ too_many. (world : World ℕ) (new : Copies ℕ) (place : meant.Location ℕ) (tree : List (meant.Mount ℕ))
+pub fn overfills(alloc: Global, mounts: &Mounts, parts: &[Mount], load: Load) -> Result<bool, Deny>
+    ensures added { IfOk result (λ too_many. (world : World ℕ) (new : Copies ℕ) (place : meant.Location ℕ) (tree : List (meant.Mount ℕ))
         → mounts_in mounts.now ≡ world.mounts → NamespaceInvariants nat_eq world
-        → map mount_of parts.now ≡ parts_of nat_eq world place → length tree ≡ count
+        → map mount_of parts.now ≡ parts_of nat_eq world place → length tree ≡ load.count → load.leaves ≡ None
         → too_many ≡ has_too_many nat_eq (attached_by nat_eq world new place false tree)) }
+    ensures moved { IfOk result (λ too_many. (world : World ℕ) (new : Copies ℕ) (place : meant.Location ℕ) (tree : List (meant.Mount ℕ))
+        → mounts_in mounts.now ≡ world.mounts → NamespaceInvariants nat_eq world
+        → map mount_of parts.now ≡ parts_of nat_eq world place → length tree ≡ load.count → MovesFrom world load.leaves tree
+        → too_many ≡ has_too_many nat_eq (attached_by nat_eq world new place true tree)) }
     ensures memory { IfErr result (λ deny. deny ≡ denial S5) }
 {
     let Ok(counts) = counts_of(alloc, parts) else {
         return Err(Rule::S5.denial());
     };
-    Ok(is_one_overfilled(mounts, parts, &counts, count))
+    Ok(is_one_overfilled(mounts, parts, &counts, load))
 }
 
 // How many parts are in each namespace.
@@ -77,12 +84,14 @@ fn is_one_overfilled(
     mounts: &Mounts,
     parts: &[Mount],
     counts: &HashMap<NamespaceId, u64>,
-    count: usize,
+    load: Load,
 ) -> bool
-    ensures { result ≡ list_any (λ part. is_overfilled (mounts_in mounts.now) count
+    ensures { result ≡ list_any (λ part. is_overfilled (mounts_in mounts.now) load
         (λ namespace. unwrap_or (get same_namespace counts.now namespace) 0) part.namespace) parts.now }
 {
-    parts.iter().any(|part| is_overfilled(mounts, counts, part.namespace, count))
+    parts
+        .iter()
+        .any(|part| is_overfilled(mounts, counts, part.namespace, load))
 }
 
 // Whether a namespace has too many mounts then.
@@ -90,16 +99,27 @@ fn is_overfilled(
     mounts: &Mounts,
     counts: &HashMap<NamespaceId, u64>,
     namespace: Option<NamespaceId>,
-    count: usize,
+    load: Load,
 ) -> bool
-    ensures { result ≡ is_overfilled (mounts_in mounts.now) count
+    ensures { result ≡ is_overfilled (mounts_in mounts.now) load
         (λ namespace. unwrap_or (get same_namespace counts.now namespace) 0) namespace }
 {
     let Some(namespace) = namespace else {
         return false;
     };
     let parts = counts.get(&namespace).copied().unwrap_or(0);
-    let more = parts.saturating_mul(count as u64);
-    let had = mounts.attached_in(namespace).len() as u64;
-    had.saturating_add(more) > MOST_MOUNTS
+    let more = parts.saturating_mul(load.count as u64);
+    let had = mounts.attached_in(namespace).len();
+    let stay = had.saturating_sub(leaving(load, namespace)) as u64;
+    stay.saturating_add(more) > MOST_MOUNTS
+}
+
+// How many mounts leave a namespace.
+fn leaving(load: Load, namespace: NamespaceId) -> usize
+    ensures { result ≡ leaving load namespace }
+{
+    match load.leaves {
+        Some(left) if namespace == left => load.count,
+        _ => 0,
+    }
 }

@@ -35,7 +35,8 @@ impl<'a> Copying<'a> {
         requires parts { 0 < length self.now.graft.parts.now }
         requires tree { 0 < length self.now.graft.tree.now }
         ensures { counted result.count
-            ≡ image_of nat_eq (supply self.now) (mount_of self.now.destination) (twig self.now (mount_of origin.now)) (counted group.count) }
+            ≡ image_of nat_eq (supply self.now) (mount_of self.now.destination) (twig self.now (mount_of origin.now))
+            (counted group.count) }
     {
         if is_member(self.destination.propagation, group) {
             if let Propagation::Shared(own) = self.type_at(origin) {
@@ -57,7 +58,8 @@ impl<'a> Copying<'a> {
         requires parts { 0 < length self.now.graft.parts.now }
         requires tree { 0 < length self.now.graft.tree.now }
         ensures { option_map group_number result
-            ≡ nearest_image_of nat_eq (as_kept mounts.now groups.now) (supply self.now) (parts_seen self.now) (mount_of self.now.destination)
+            ≡ nearest_image_of nat_eq (as_kept mounts.now groups.now) (supply self.now) (parts_seen self.now)
+            (mount_of self.now.destination)
             (twig self.now (mount_of origin.now)) (option_map group_number group) }
     {
         let nearest = nearest(mounts, groups, self.graft.parts, group?)?;

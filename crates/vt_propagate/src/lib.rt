@@ -10,7 +10,7 @@ mod receiving;
 mod unmounting;
 
 pub use copying::{Graft, NewGroup, copies, new_groups};
-pub use filling::overfills;
+pub use filling::{Load, overfills};
 pub use reach::Reach;
 pub use receiving::parts;
 pub use unmounting::{going, is_busy};

@@ -125,7 +125,8 @@ fn free_at(mounts: &Mounts, place: Location) -> Option<MountId>
 
 // Whether a mount may go: it has no child, or a single one, which covers its root.
 fn is_free(mounts: &Mounts, id: MountId) -> bool
-    ensures { result ≡ holds_of (is_free (mounts_in mounts.now)) (find (λ mount. nat_eq (counted id.count) mount.number) (mounts_in mounts.now)) }
+    ensures { result ≡ holds_of (is_free (mounts_in mounts.now))
+        (find (λ mount. nat_eq (counted id.count) mount.number) (mounts_in mounts.now)) }
 {
     let Some(mount) = mounts.get(id) else {
         return false;
