@@ -85,7 +85,8 @@ module _ (fresh : Fresh ℕ) (world : World ℕ) (task : Task ℕ) where
   part_read : (which offset size : ℕ) → IfOk (judge_in nat_eq fresh world task (Pread which offset size)) HasItOpen
   unfolding pread_permit
   part_read which offset size =
-      anyhow fresh world task HasItOpen (ok_or (find (λ (d : Descriptor ℕ). d.reads) (option_to_list (descriptor_numbered task which))) (denial S4)) _
+      anyhow fresh world task HasItOpen (ok_or (find (λ (d : Descriptor ℕ). d.reads) (option_to_list (descriptor_numbered task which)))
+      (denial S4)) _
       (λ descriptor e.
       let found = open_found (descriptor_numbered task which) (λ d. d.reads) descriptor e in
       (descriptor, which, found.0, found.1, refl))

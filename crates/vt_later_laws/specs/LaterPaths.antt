@@ -145,8 +145,10 @@ ExclusiveTwice =
     → (policy nat_eq fresh world name (OpenFile path access (Exclusive mode))).answer ≡ Ok (Opened number)
     → ((now : Task ℕ) → task_called (policy nat_eq fresh world name (OpenFile path access (Exclusive mode))).world name ≡ Some now
     → nat_le most_descriptors (length now.descriptors) ≡ false
-    → IsRefused E1 (policy nat_eq fresh world name (OpenFile path access (Exclusive mode))).world name (OpenFile path again (Exclusive other)))
+    → IsRefused E1 (policy nat_eq fresh world name (OpenFile path access (Exclusive mode))).world name (OpenFile path again
+    (Exclusive other)))
     × ((reader : TaskName) (reading : Task ℕ)
     → LooksFrom (policy nat_eq fresh world name (OpenFile path access (Exclusive mode))).world task reader reading
     → nat_le most_descriptors (length reading.descriptors) ≡ false
-    → IsRefused E1 (policy nat_eq fresh world name (OpenFile path access (Exclusive mode))).world reader (OpenFile path again (Exclusive other)))
+    → IsRefused E1 (policy nat_eq fresh world name (OpenFile path access (Exclusive mode))).world reader (OpenFile path again
+    (Exclusive other)))
