@@ -1,8 +1,8 @@
 -- A name that open made exists.
-use Rattle.std.proofs.Common.{◌≡◌, refl, sym, ap, subst, ◌∙◌, inl, inr, ◌⊎◌, true≢false, ℕ, nat_eq, nat_le, length, eqb-true, Bool, true, false, cond, not, ◌&&◌, ◌||◌, List, [], ◌∷◌, Option, Some, None, is_some, option_map, Result, Ok, Err, ok_or, find, reverse}
+use Rattle.std.proofs.Common.{◌≡◌, refl, sym, ap, subst, ◌∙◌, inl, inr, ◌⊎◌, ℕ, nat_eq, nat_le, length, eqb-true, Bool, true, false, List, [], ◌∷◌, Option, Some, None, is_some, option_map, Result, Ok, Err, ok_or, find, reverse}
 use Rattle.std.proofs.lemmas.Option.{same_Some}
 use Rattle.vt_spec.specs.declared.errors.Deny.{Deny}
-use Rattle.vt_spec.specs.declared.errors.Rule.TheVariants.{E1, E2, S2, S3, W4, W8}
+use Rattle.vt_spec.specs.declared.errors.Rule.TheVariants.{E1, E2, S2, S3, W4}
 use Rattle.vt_spec.specs.Errors.{Rules, and_then, denial, unless}
 use Rattle.vt_spec.specs.FileTree.{FileTree}
 use Rattle.vt_spec.specs.Language.Answers.Answer.{Opened}
@@ -12,7 +12,7 @@ use Rattle.vt_spec.specs.Language.Calls.Creation.{Exclusive}
 use Rattle.vt_spec.specs.Language.Changes.{Change, changed}
 use Rattle.vt_spec.specs.Language.Changes.Change.{Make}
 use Rattle.vt_spec.specs.Language.Limits.{most_descriptors}
-use Rattle.vt_spec.specs.Lists.{Fresh, evens, odds}
+use Rattle.vt_spec.specs.Lists.{Fresh, odds}
 use Rattle.vt_spec.specs.Machine.Apply.{apply, with_new_inode}
 use Rattle.vt_spec.specs.Machine.Judge.{judge_in, open_new_permit, open_permit, unnumbered}
 use Rattle.vt_spec.specs.Machine.Looks.{Looks, looks_of}
@@ -23,14 +23,13 @@ use Rattle.vt_spec.specs.Machine.Outcome.Descriptors as Opening
 use Rattle.vt_spec.specs.Machine.Outcome.Making.{new_file}
 use Rattle.vt_spec.specs.Machine.Outcomes.{Outcome, after, judged}
 use Rattle.vt_spec.specs.Machine.Permits.{Permit}
-use Rattle.vt_spec.specs.Machine.Permits.Permit.{ToOpenNew}
 use Rattle.vt_spec.specs.Machine.Policy.{call_outcome, filesystems_changed_by, finished, finished_by, policy, raised_task}
 use Rattle.vt_spec.specs.Machine.Rightful.{node_allows}
 use Rattle.vt_spec.specs.Machine.Rules.Descriptors.{descriptor_rules, exclusive_word_rules}
 use Rattle.vt_spec.specs.Machine.Rules.Making.{make_rules}
 use Rattle.vt_spec.specs.Machine.Run.{Serves}
 use Rattle.vt_spec.specs.Machine.Settled.{settled}
-use Rattle.vt_spec.specs.Machine.Walking.{Here, LastWord, Place, Stop, entry_location, final_word, followed, front_walked, is_special, last_word, name_of, new_name_rules, new_walk, object_named, path_text, place_walk, placed, search_rules, steps_at, stopped_by, then_walk, walk_end, walk_start, walk_unless, words_walked}
+use Rattle.vt_spec.specs.Machine.Walking.{Place, Stop, entry_location, final_word, followed, front_walked, is_special, last_word, name_of, new_name_rules, new_walk, place_walk, placed, search_rules, steps_at, stopped_by, then_walk, walk_end, walk_start, walk_unless, words_walked}
 use Rattle.vt_spec.specs.Machine.Walking.LastWord.{Named}
 use Rattle.vt_spec.specs.Machine.World.{Task, World, files_at, filesystem_numbered, is_directory_at, mount_at, node_at, task_called, with_task}
 use Rattle.vt_spec.specs.Machine.WorldLaws.{IsWorld}
@@ -54,7 +53,7 @@ use Rattle.vt_world_laws.proofs.CallsKept.{name_found}
 use Rattle.vt_world_laws.proofs.PermitsPlaced.{found_among}
 use Rattle.vt_world_laws.proofs.Plain.{plain_numbered}
 use Rattle.vt_world_laws.proofs.SeenTrees.{change_mounts, change_tasks, unused_inode}
-use Rattle.vt_later_laws.specs.LaterPaths.{ExclusiveTwice, LooksFrom}
+use Rattle.vt_later_laws.specs.LaterPaths.{ExclusiveTwice}
 use Rattle.vt_later_laws.proofs.AfterChange.{later_files, later_is, listed, spent}
 use Rattle.vt_later_laws.proofs.Changed.{files_changed, files_other}
 use Rattle.vt_later_laws.proofs.Granted.{IsPermitted, permitted}
@@ -65,7 +64,7 @@ use Rattle.vt_later_laws.proofs.OpenedNew.{given_of}
 use Rattle.vt_later_laws.proofs.Readers.{MayLook, all_stands, named_last, own_name, raised_credentials, raised_stands}
 use Rattle.vt_later_laws.proofs.Stays.{called_own, still_called}
 use Rattle.vt_later_laws.proofs.Steps.{AllPass, both_gave, passed, passing, same_ok}
-use Rattle.vt_later_laws.proofs.Ways.{LeadsToo, Stops, at, both_walked, search_too, walk_passed}
+use Rattle.vt_later_laws.proofs.Ways.{LeadsToo, Stops, at, search_too}
 use Rattle.vt_later_laws.proofs.WaysChanges.{RightsStay, TreeStays, made_entry, rights_made, ways_made}
 use Rattle.vt_later_laws.proofs.WaysPlaces.{NamedPlace, front_too, named_place, through}
 use Rattle.vt_later_laws.proofs.WaysStay.{Known, StandsAs, WorldStays, node_here, node_in, tree_in, world_leads}
