@@ -107,7 +107,8 @@ module _ (fresh : Fresh ℕ) (world : World ℕ) (task : Task ℕ) where
       → is_among same_entry (directory, name) ((location.node, entry) ∷ []) ≡ true
       → MayEnter (mount_at nat_eq world location).filesystem directory
   one location entry may directory name e =
-      subst (MayEnter (mount_at nat_eq world location).filesystem) (sym (eqb-true directory location.node (head (nat_eq directory location.node) (bytes_eq name entry) e))) may
+      subst (MayEnter (mount_at nat_eq world location).filesystem) (sym (eqb-true directory location.node (head
+      (nat_eq directory location.node) (bytes_eq name entry) e))) may
     where
       head : (a b : Bool) → ((a && b) || false) ≡ true → a ≡ true
       head true b h = refl
@@ -135,8 +136,10 @@ module _ (fresh : Fresh ℕ) (world : World ℕ) (task : Task ℕ) where
       anyhow fresh world task HasRights (walk_end (object_walk nat_eq looks task path)) _ (λ here e.
       ruled fresh world task HasRights (open_rules looks task here.location access) _ (λ pass. tt))
   opened_named path access (OrCreate mode) =
-      walked fresh world task HasRights Searched (file_walk nat_eq looks task path) _ (searched_file_walk world task path) (λ place searched.
-      ruled fresh world task HasRights (file_word_rules place) _ (λ pass. by place (searched (first_false _ place.slash pass.0).0) place.object))
+      walked fresh world task HasRights Searched (file_walk nat_eq looks task path) _ (searched_file_walk world task path)
+      (λ place searched.
+      ruled fresh world task HasRights (file_word_rules place) _ (λ pass. by place (searched
+      (first_false _ place.slash pass.0).0) place.object))
     where
       by : (place : Place ℕ) → MaySearch world task place.parent → (o : Option (Location ℕ))
           → Gave (opened_or_created_permit nat_eq looks task place access mode o)
@@ -174,7 +177,8 @@ module _ (fresh : Fresh ℕ) (world : World ℕ) (task : Task ℕ) where
             from_searched,
           ) directory name (ap (λ b. b || false) f)
       by pass directory name false f e =
-          let mounts : from.parent.mount ≡ to.parent.mount = eqb-true from.parent.mount to.parent.mount (not_true _ pass.1.1.1.1.1.1.1.1.0) in
+          let mounts : from.parent.mount ≡ to.parent.mount = eqb-true from.parent.mount to.parent.mount
+          (not_true _ pass.1.1.1.1.1.1.1.1.0) in
           subst (λ m. MayEnter (mount_at nat_eq world (record { mount = m; node = from.parent.node })).filesystem directory) (sym mounts)
           (one to.parent (name_of to.last) (not_true _ (first_false _ _ pass.1.1.1.1.1.1.1.1.1.0).1, to_searched) directory name
           (ap (λ b. b || is_among same_entry (directory, name) ((to.parent.node, name_of to.last) ∷ [])) (sym f) ∙ e))
@@ -182,7 +186,8 @@ module _ (fresh : Fresh ℕ) (world : World ℕ) (task : Task ℕ) where
   names_by_right : (call : Call) → changes_names call ≡ true → Gave (judge_in nat_eq fresh world task call)
   unfolding mkdir_permit symlink_permit whiteout_permit hard_link_permit write_permit unlink_permit rmdir_permit rename_permit open_permit
   names_by_right (Write path bytes) e =
-      walked fresh world task HasRights Searched (file_walk nat_eq looks task path) _ (searched_file_walk world task path) (λ place searched.
+      walked fresh world task HasRights Searched (file_walk nat_eq looks task path) _ (searched_file_walk world task path)
+      (λ place searched.
       ruled fresh world task HasRights (file_word_rules place) _ (λ pass.
       written_named place bytes (searched (first_false _ place.slash pass.0).0) place.object))
   names_by_right (Mkdir path mode) e =
@@ -190,20 +195,24 @@ module _ (fresh : Fresh ℕ) (world : World ℕ) (task : Task ℕ) where
       made_named place _ searched)
   names_by_right (SymlinkAt text path) e =
       ruled fresh world task HasRights (link_text_rules text) _ (λ fits.
-      walked fresh world task HasRights Searched (new_leaf_walk nat_eq looks task path) _ (searched_new_leaf_walk world task path) (λ place searched.
+      walked fresh world task HasRights Searched (new_leaf_walk nat_eq looks task path) _ (searched_new_leaf_walk world task path)
+      (λ place searched.
       made_named place _ searched))
   names_by_right (MakeWhiteout path) e =
-      walked fresh world task HasRights Searched (new_leaf_walk nat_eq looks task path) _ (searched_new_leaf_walk world task path) (λ place searched.
+      walked fresh world task HasRights Searched (new_leaf_walk nat_eq looks task path) _ (searched_new_leaf_walk world task path)
+      (λ place searched.
       ruled fresh world task HasRights (whiteout_rules looks task place) _ (λ pass.
       one place.parent (name_of place.last) (not_true _ pass.1.1.1.1.1.0, searched pass.0)))
   names_by_right (LinkTo old new) e =
       anyhow fresh world task HasRights (walk_end (symlink_walk nat_eq looks task old)) _ (λ from f.
-      walked fresh world task HasRights Searched (new_leaf_walk nat_eq looks task new) _ (searched_new_leaf_walk world task new) (λ place searched.
+      walked fresh world task HasRights Searched (new_leaf_walk nat_eq looks task new) _ (searched_new_leaf_walk world task new)
+      (λ place searched.
       ruled fresh world task HasRights ((is_special place.last, E1) ∷ []) _ (λ word.
       ruled fresh world task HasRights (hard_link_rules nat_eq looks task from.location place (linking from.location place)) _ (λ pass.
       one place.parent (name_of place.last) (not_true _ pass.1.1.1.1.1.1.0, searched word.0)))))
   names_by_right (Unlink path) e =
-      walked fresh world task HasRights Searched (old_leaf_walk nat_eq looks task path) _ (searched_old_leaf_walk world task path) (λ place searched.
+      walked fresh world task HasRights Searched (old_leaf_walk nat_eq looks task path) _ (searched_old_leaf_walk world task path)
+      (λ place searched.
       ruled fresh world task HasRights ((is_special place.last, E2) ∷ []) _ (λ word.
       ruled fresh world task HasRights (unlink_rules looks task place (object_there place)) _ (λ pass.
       one place.parent (name_of place.last) (not_true _ pass.1.1.1.1.0, searched word.0))))
@@ -213,12 +222,14 @@ module _ (fresh : Fresh ℕ) (world : World ℕ) (task : Task ℕ) where
       ruled fresh world task HasRights (rmdir_rules nat_eq looks task place (object_there place)) _ (λ pass.
       one place.parent (name_of place.last) (not_true _ pass.1.1.1.1.1.1.0, searched (no_special place.last word.0 word.1.0 word.1.1.0)))))
   names_by_right (Rename old new) e =
-      walked fresh world task HasRights Searched (old_leaf_walk nat_eq looks task old) _ (searched_old_leaf_walk world task old) (λ from from_searched.
+      walked fresh world task HasRights Searched (old_leaf_walk nat_eq looks task old) _ (searched_old_leaf_walk world task old)
+      (λ from from_searched.
       ruled fresh world task HasRights (old_word_rules from) _ (λ word.
       walked fresh world task HasRights Searched (rename_new_walk nat_eq looks task new (is_directory_there nat_eq looks from)) _
       (searched_rename_walk world task new (is_directory_there nat_eq looks from)) (λ to to_searched.
       ruled fresh world task HasRights (old_word_rules to) _ (λ pass.
-      renamed_named (is_one_object nat_eq looks (object_there from) to.object) from to (object_there from) (from_searched word.0) (to_searched pass.0)))))
+      renamed_named (is_one_object nat_eq looks (object_there from) to.object) from to (object_there from) (from_searched word.0)
+      (to_searched pass.0)))))
   names_by_right (OpenFile path access creation) e =
       ruled fresh world task HasRights (descriptor_rules task) _ (λ pass. opened_named path access creation)
   names_by_right call e = absurd (true≢false (sym e))
@@ -263,7 +274,8 @@ module _ (fresh : Fresh ℕ) (world : World ℕ) (task : Task ℕ) (filesystem n
       by false b h = h
 
   at_directory : (P : ℕ → ℕ → Type 0) (location : Location ℕ) → P (mount_at nat_eq world location).filesystem location.node
-      → (nat_eq filesystem (mount_at nat_eq world location).filesystem && (nat_eq number location.node || (nat_eq number (fresh 0) || false))) ≡ true
+      → (nat_eq filesystem (mount_at nat_eq world location).filesystem && (nat_eq number location.node || (nat_eq number
+      (fresh 0) || false))) ≡ true
       → P filesystem number
   at_directory P location is e =
       let parts = head_two _ (nat_eq number location.node) (nat_eq number (fresh 0)) e (handed 0) in
@@ -292,7 +304,8 @@ module _ (fresh : Fresh ℕ) (world : World ℕ) (task : Task ℕ) (filesystem n
       anyhow fresh world task WrittenByRight (walk_end (file_walk nat_eq shown task path)) _ (λ place f.
       ruled fresh world task WrittenByRight (file_word_rules place) _ (λ pass. written_by_right place bytes place.object))
   bytes_by_right (Pwrite which offset bytes) e =
-      anyhow fresh world task WrittenByRight (ok_or (find (λ (d : Descriptor ℕ). d.writes) (option_to_list (descriptor_numbered task which))) (denial S4)) _
+      anyhow fresh world task WrittenByRight (ok_or (find (λ (d : Descriptor ℕ). d.writes) (option_to_list
+      (descriptor_numbered task which))) (denial S4)) _
       (λ descriptor f.
       ruled fresh world task WrittenByRight (pwrite_rules shown descriptor.location offset bytes) _ (λ pass.
       by descriptor (open_found (descriptor_numbered task which) (λ d. d.writes) descriptor f) bytes))
@@ -323,7 +336,8 @@ module _ (fresh : Fresh ℕ) (world : World ℕ) (task : Task ℕ) (filesystem n
   unfolding chmod_permit
   mode_by_right (Chmod path mode) e =
       anyhow fresh world task (OwnedSo (λ was. owns task.credentials was.attr)) (walk_end (object_walk nat_eq shown task path)) _ (λ here f.
-      set_so (λ was. owns task.credentials was.attr) here.location (owns task.credentials (attr_at shown here.location)) (owns task.credentials)
+      set_so (λ was. owns task.credentials was.attr) here.location (owns task.credentials (attr_at shown here.location))
+      (owns task.credentials)
       (λ was h. h) (λ was. refl) (attr_with_mode (attr_at shown here.location) mode))
   mode_by_right call e = absurd (true≢false (sym e))
 
@@ -348,7 +362,8 @@ module _ (fresh : Fresh ℕ) (world : World ℕ) (task : Task ℕ) (filesystem n
       anyhow fresh world task (OwnedSo (λ was. chowns was.attr)) (walk_end (object_walk nat_eq shown task path)) _ (λ here f.
       set_so (λ was. chowns was.attr) here.location
       (may_chown task.credentials (attr_at shown here.location) (attr_with_owner (attr_at shown here.location) uid gid)) chowns
-      (λ was h. owner_or (attr_at shown here.location) (attr_with_owner (attr_at shown here.location) uid gid) h) (λ was. refl) (attr_with_owner (attr_at shown here.location) uid gid))
+      (λ was h. owner_or (attr_at shown here.location) (attr_with_owner (attr_at shown here.location) uid gid) h) (λ was. refl)
+      (attr_with_owner (attr_at shown here.location) uid gid))
   owner_by_right call e = absurd (true≢false (sym e))
 
   mark_by_right : (call : Call) → sets_mark call ≡ true
@@ -356,8 +371,10 @@ module _ (fresh : Fresh ℕ) (world : World ℕ) (task : Task ℕ) (filesystem n
   unfolding opaque_permit
   mark_by_right (Opaque path mark) e =
       ruled fresh world task (λ permit. has_all task.credentials.capabilities cap_sys_admin ≡ true) (admin_rules task) _ (λ admin.
-      anyhow fresh world task (λ permit. has_all task.credentials.capabilities cap_sys_admin ≡ true) (walk_end (directory_walk nat_eq shown task path)) _ (λ here f.
-      ruled fresh world task (λ permit. has_all task.credentials.capabilities cap_sys_admin ≡ true) (opaque_rules shown here.location) _ (λ pass.
+      anyhow fresh world task (λ permit. has_all task.credentials.capabilities cap_sys_admin ≡ true) (walk_end
+      (directory_walk nat_eq shown task path)) _ (λ here f.
+      ruled fresh world task (λ permit. has_all task.credentials.capabilities cap_sys_admin ≡ true) (opaque_rules shown here.location) _
+      (λ pass.
       not_true _ admin.0)))
   mark_by_right call e = absurd (true≢false (sym e))
 
@@ -386,48 +403,59 @@ changes_are_by_right fresh world name call task permit filesystem number was now
       bytes = by_own (λ r. (bytes_of r.content ≡ bytes_of was.content)
           ⊎ (MayDo world task filesystem number write_right ⊎ HasOpenFor (λ descriptor. descriptor.writes) world task filesystem number))
           (inl refl) (λ own. either (writes_bytes call)
-          (λ e. inl (stays (λ node. bytes_of node.content) (inode_in world filesystem number) (inode_in (policy nat_eq fresh world name call).world filesystem number)
+          (λ e. inl (stays (λ node. bytes_of node.content) (inode_in world filesystem number) (inode_in
+          (policy nat_eq fresh world name call).world filesystem number)
           was now before after
           (only_writes_change_bytes fresh world name call filesystem number plain other e handed)))
           (λ e. inr (given (WrittenByRight fresh world task filesystem number handed) (judge_in nat_eq fresh world task call) permit judged
           (bytes_by_right fresh world task filesystem number handed call e) own)));
-      mode = by_own (λ r. (r.attr.mode ≡ was.attr.mode) ⊎ (owns task.credentials was.attr ≡ true)) (inl refl) (λ own. either (sets_mode call)
-          (λ e. inl (stays (λ node. node.attr.mode) (inode_in world filesystem number) (inode_in (policy nat_eq fresh world name call).world filesystem number)
+      mode = by_own (λ r. (r.attr.mode ≡ was.attr.mode) ⊎ (owns task.credentials was.attr ≡ true)) (inl refl) (λ own. either
+          (sets_mode call)
+          (λ e. inl (stays (λ node. node.attr.mode) (inode_in world filesystem number) (inode_in
+          (policy nat_eq fresh world name call).world filesystem number)
           was now before after
           (only_chmod_changes_modes fresh world name call filesystem number plain other e handed)))
-          (λ e. inr (given (OwnedSo fresh world task filesystem number handed (λ r. owns task.credentials r.attr)) (judge_in nat_eq fresh world task call) permit judged
+          (λ e. inr (given (OwnedSo fresh world task filesystem number handed (λ r. owns task.credentials r.attr))
+          (judge_in nat_eq fresh world task call) permit judged
           (mode_by_right fresh world task filesystem number handed call e) own was before)));
       owner = by_own (λ r. (owner_of r ≡ owner_of was) ⊎ (chowns fresh world task filesystem number handed was.attr ≡ true)) (inl refl)
           (λ own. either (sets_owner call)
-          (λ e. inl (stays owner_of (inode_in world filesystem number) (inode_in (policy nat_eq fresh world name call).world filesystem number)
+          (λ e. inl (stays owner_of (inode_in world filesystem number) (inode_in
+          (policy nat_eq fresh world name call).world filesystem number)
           was now before after
           (only_chown_changes_owners fresh world name call filesystem number plain other e handed)))
-          (λ e. inr (given (OwnedSo fresh world task filesystem number handed (λ r. chowns fresh world task filesystem number handed r.attr)) (judge_in nat_eq fresh world task call) permit judged
+          (λ e. inr (given (OwnedSo fresh world task filesystem number handed
+          (λ r. chowns fresh world task filesystem number handed r.attr)) (judge_in nat_eq fresh world task call) permit judged
           (owner_by_right fresh world task filesystem number handed call e) own was before)));
       entries = λ entry. entry_by entry (is_own_entry fresh world permit filesystem number entry) refl;
       mark = either (sets_mark call)
-          (λ e. inl (stays (λ node. opaque_of node.content) (inode_in world filesystem number) (inode_in (policy nat_eq fresh world name call).world filesystem number)
+          (λ e. inl (stays (λ node. opaque_of node.content) (inode_in world filesystem number) (inode_in
+          (policy nat_eq fresh world name call).world filesystem number)
           was now before after
           (only_opaque_changes_marks fresh world name call filesystem number plain other e handed)))
-          (λ e. inr (given (λ p. has_all task.credentials.capabilities cap_sys_admin ≡ true) (judge_in nat_eq fresh world task call) permit judged
+          (λ e. inr (given (λ p. has_all task.credentials.capabilities cap_sys_admin ≡ true)
+          (judge_in nat_eq fresh world task call) permit judged
           (mark_by_right fresh world task filesystem number handed call e)));
     }
   where
     -- an inode that the permit does not name is as it was
     by_own : (P : Node ℕ → Type 0) → P was → (is_own fresh world permit filesystem number ≡ true → P now) → P now
     by_own P same own = either (is_own fresh world permit filesystem number) (λ e.
-        subst P (unchanged (inode_in world filesystem number) (inode_in (policy nat_eq fresh world name call).world filesystem number) was now before after
+        subst P (unchanged (inode_in world filesystem number) (inode_in
+        (policy nat_eq fresh world name call).world filesystem number) was now before after
         (calls_change_their_own fresh world name call task permit filesystem number plain other called judged e)) same) own
 
     entry_by : (entry : List ℕ) (b : Bool) → is_own_entry fresh world permit filesystem number entry ≡ b
         → (entry_named entry (entries_of now.content) ≡ entry_named entry (entries_of was.content))
         ⊎ (MayDo world task filesystem number write_right × MayDo world task filesystem number execute_right)
     entry_by entry false e =
-        inl (stays (λ node. entry_named entry (entries_of node.content)) (inode_in world filesystem number) (inode_in (policy nat_eq fresh world name call).world filesystem number)
+        inl (stays (λ node. entry_named entry (entries_of node.content)) (inode_in world filesystem number) (inode_in
+        (policy nat_eq fresh world name call).world filesystem number)
         was now before after
         (other_entries_stay entry fresh world name call task permit filesystem number plain other called judged e handed))
     entry_by entry true e = either (changes_names call)
-        (λ f. inl (ap (entry_named entry) (stays (λ node. entries_of node.content) (inode_in world filesystem number) (inode_in (policy nat_eq fresh world name call).world filesystem number)
+        (λ f. inl (ap (entry_named entry) (stays (λ node. entries_of node.content) (inode_in world filesystem number) (inode_in
+        (policy nat_eq fresh world name call).world filesystem number)
         was now before after
         (only_naming_changes_entries fresh world name call filesystem number plain other f handed))))
         (λ f. inr (rights (change_of fresh world permit)

@@ -63,7 +63,8 @@ module _ (world : World ℕ) (task : Task ℕ) where
   pub searched_old_leaf_walk : (path : List ℕ) → Ends IsSearched (old_leaf_walk nat_eq world task path)
   searched_old_leaf_walk path =
       ends_then IsSearched IsSearched (old_walk nat_eq world task path) _ (searched_old_walk path)
-      (λ place is. ends_unless IsSearched place.steps ((place.slash && not (is_directory_there nat_eq world place), W3) ∷ []) place (λ passed. is))
+      (λ place is. ends_unless IsSearched place.steps ((place.slash && not (is_directory_there nat_eq world place), W3) ∷ []) place
+      (λ passed. is))
 
   -- files
   searched_file_or_link : (place : Place ℕ) (text : Option (List ℕ)) (follow : List ℕ → Result (Place ℕ) (Stop ℕ)) → IsSearched place

@@ -3,16 +3,17 @@ use Rattle.std.specs.Prelude.{Bool, List, Ok, Some, drop, false, nat_eq, take, t
 use Rattle.vt_call_laws.specs.Inodes.{HasNoOverlays, IsNotHanded, inode_in, mounts_overlay, owner_of}
 use Rattle.vt_spec.specs.declared.attributes.Kind.TheVariants.{Link}
 use Rattle.vt_spec.specs.FileTree.{is_kind_in, opaque_of}
-use Rattle.vt_spec.specs.Language.Answers.Answer.{Bytes, Names}
-use Rattle.vt_spec.specs.Language.Calls.{Call, TaskName}
+use Rattle.vt_spec.specs.Language.Answers.Answer.{Bytes, Names, Opened}
+use Rattle.vt_spec.specs.Language.Calls.{Access, Call, TaskName}
 use Rattle.vt_spec.specs.Lists.{Fresh}
 use Rattle.vt_spec.specs.Machine.Apply.{apply}
 use Rattle.vt_spec.specs.Machine.Judge.{judge_in}
 use Rattle.vt_spec.specs.Machine.Mounts.{Location}
+use Rattle.vt_spec.specs.Machine.Outcome.Descriptors.{opened}
 use Rattle.vt_spec.specs.Machine.Permits.{Permit}
 use Rattle.vt_spec.specs.Machine.Policy.{policy}
 use Rattle.vt_spec.specs.Machine.Rightful.{node_allows}
-use Rattle.vt_spec.specs.Machine.Rules.Descriptors.{descriptor_numbered}
+use Rattle.vt_spec.specs.Machine.Rules.Descriptors.{access_rights, descriptor_numbered}
 use Rattle.vt_spec.specs.Machine.World.{Descriptor, Task, World, mount_at, node_at, task_called}
 use Rattle.vt_spec.specs.Rights.{cap_chown, cap_sys_admin, execute_right, has_all, owns, read_right, write_right}
 use Rattle.vt_spec.specs.Tree.{Node, bytes_in, bytes_of, entries_of, entry_named, names_in}
@@ -77,3 +78,14 @@ BytesAreToldByRight =
     × (is_kind_in Link (node_at nat_eq world file) ≡ true))
     ⊎ ((descriptor : Descriptor ℕ) × (which offset size : ℕ) × (descriptor_numbered task which ≡ Some descriptor)
     × (descriptor.reads ≡ true) × (bytes ≡ take size (drop offset (bytes_in (node_at nat_eq world descriptor.location))))))
+
+-- A descriptor that a granted call gives is for a file that the task may read and write as it asked, both as one request, or for
+-- a new one: open(2).
+abbrev pub OpensAreByRight : Type 0
+OpensAreByRight =
+    (fresh : Fresh ℕ) (world : World ℕ) (call : Call) (task : Task ℕ) (permit : Permit ℕ) (number : ℕ)
+    → judge_in nat_eq fresh world task call ≡ Ok permit
+    → (apply nat_eq fresh world task permit).answer ≡ Ok (Opened number)
+    → (file : Location ℕ) × (access : Access) × (left : World ℕ)
+    × (apply nat_eq fresh world task permit ≡ opened left task file access)
+    × ((node_allows task.credentials (access_rights access) (node_at nat_eq world file) ≡ true) ⊎ (file.node ≡ fresh 0))

@@ -54,13 +54,16 @@ mapped_root : (change : Filesystem ℕ → Filesystem ℕ) → ((f : Filesystem 
     → (numbered number (map change list)).files.tree.root ≡ (numbered number list).files.tree.root
 mapped_root change same root number [] = refl
 mapped_root change same root number (first ∷ rest) =
-    ap (λ n. (unwrap_or (cond (nat_eq number n) (Some (change first)) (find (λ (f : Filesystem ℕ). nat_eq number f.number) (map change rest)))
+    ap (λ n. (unwrap_or (cond (nat_eq number n) (Some (change first)) (find (λ (f : Filesystem ℕ). nat_eq number f.number)
+    (map change rest)))
     (no_filesystem number)).files.tree.root) (same first)
     ∙ by (nat_eq number first.number) (mapped_root change same root number rest)
   where
     by : (b : Bool) → (numbered number (map change rest)).files.tree.root ≡ (numbered number rest).files.tree.root
-        → (unwrap_or (cond b (Some (change first)) (find (λ (f : Filesystem ℕ). nat_eq number f.number) (map change rest))) (no_filesystem number)).files.tree.root
-        ≡ (unwrap_or (cond b (Some first) (find (λ (f : Filesystem ℕ). nat_eq number f.number) rest)) (no_filesystem number)).files.tree.root
+        → (unwrap_or (cond b (Some (change first)) (find (λ (f : Filesystem ℕ). nat_eq number f.number) (map change rest)))
+        (no_filesystem number)).files.tree.root
+        ≡ (unwrap_or (cond b (Some first) (find (λ (f : Filesystem ℕ). nat_eq number f.number) rest))
+        (no_filesystem number)).files.tree.root
     by true later = root first
     by false later = later
 
@@ -103,7 +106,8 @@ listed number [] object there = absurd (true≢false (sym there))
 listed number (first ∷ rest) object there = by (nat_eq number first.number) there (listed number rest object)
   where
     by : (b : Bool)
-        → is_some ((unwrap_or (cond b (Some first) (find (λ (f : Filesystem ℕ). nat_eq number f.number) rest)) (no_filesystem number)).files.tree.node object) ≡ true
+        → is_some ((unwrap_or (cond b (Some first) (find (λ (f : Filesystem ℕ). nat_eq number f.number) rest))
+        (no_filesystem number)).files.tree.node object) ≡ true
         → (is_some ((numbered number rest).files.tree.node object) ≡ true
         → is_among nat_eq number (map (λ (f : Filesystem ℕ). f.number) rest) ≡ true)
         → (b || is_among nat_eq number (map (λ (f : Filesystem ℕ). f.number) rest)) ≡ true
@@ -215,7 +219,8 @@ module _ (world : World ℕ) (fresh : Fresh ℕ) (name : TaskName) (call : Call)
     all_stays none number =
         ap (λ (f : FileTree ℕ). f.tree.node number) (later_files shown)
         ∙ ap (λ w. node_in w shown number) goes
-        ∙ ap (λ names. node_in (let_go_all_inodes (with_change nat_eq from world location change) (map (λ inode. (shown, inode)) names)) shown number) none
+        ∙ ap (λ names. node_in (let_go_all_inodes (with_change nat_eq from world location change) (map (λ inode.
+        (shown, inode)) names)) shown number) none
         ∙ ap (λ (f : FileTree ℕ). f.tree.node number) (files_changed from world plain location change something)
 
     -- what holds in the changed filesystem, and in the others, holds
@@ -257,7 +262,8 @@ module _ (world : World ℕ) (fresh : Fresh ℕ) (name : TaskName) (call : Call)
         }
 
         each : (number : ℕ) → TreeStays (tree_in world number) (tree_in spent number) Refused
-        each = in_each (λ number t. TreeStays (tree_in world number) t.tree Refused) stay (λ number. itself (filesystem_numbered nat_eq world number).files)
+        each = in_each (λ number t. TreeStays (tree_in world number) t.tree Refused) stay (λ number. itself
+            (filesystem_numbered nat_eq world number).files)
 
     -- and so do rights
     pub world_rights : RightsStay files.tree (changed nat_eq files change).tree
@@ -266,5 +272,6 @@ module _ (world : World ℕ) (fresh : Fresh ℕ) (name : TaskName) (call : Call)
         → node_allows who wanted (node_in later filesystem number) ≡ node_allows who wanted (node_in world filesystem number)
     world_rights rights filesystem number wanted who was now =
         ap (node_allows who wanted) (as_spent filesystem number now)
-        ∙ in_each (λ f t. is_some (node_in world f number) ≡ true → node_allows who wanted (t.tree.node number) ≡ node_allows who wanted (node_in world f number))
+        ∙ in_each (λ f t. is_some (node_in world f number) ≡ true → node_allows who wanted (t.tree.node number) ≡ node_allows who wanted
+        (node_in world f number))
         (λ there_before. rights who wanted number there_before) (λ f there_before. refl) filesystem was

@@ -1,8 +1,8 @@
 -- A name that open made exists.
-use Rattle.std.proofs.Common.{◌≡◌, refl, sym, ap, subst, ◌∙◌, inl, inr, ◌⊎◌, true≢false, ℕ, nat_eq, nat_le, length, eqb-true, Bool, true, false, cond, not, ◌&&◌, ◌||◌, List, [], ◌∷◌, Option, Some, None, is_some, option_map, Result, Ok, Err, ok_or, find, reverse}
+use Rattle.std.proofs.Common.{◌≡◌, refl, sym, ap, subst, ◌∙◌, inl, inr, ◌⊎◌, ℕ, nat_eq, nat_le, length, eqb-true, Bool, true, false, List, [], ◌∷◌, Option, Some, None, is_some, option_map, Result, Ok, Err, ok_or, find, reverse}
 use Rattle.std.proofs.lemmas.Option.{same_Some}
 use Rattle.vt_spec.specs.declared.errors.Deny.{Deny}
-use Rattle.vt_spec.specs.declared.errors.Rule.TheVariants.{E1, E2, S2, S3, W4, W8}
+use Rattle.vt_spec.specs.declared.errors.Rule.TheVariants.{E1, E2, S2, S3, W4}
 use Rattle.vt_spec.specs.Errors.{Rules, and_then, denial, unless}
 use Rattle.vt_spec.specs.FileTree.{FileTree}
 use Rattle.vt_spec.specs.Language.Answers.Answer.{Opened}
@@ -12,7 +12,7 @@ use Rattle.vt_spec.specs.Language.Calls.Creation.{Exclusive}
 use Rattle.vt_spec.specs.Language.Changes.{Change, changed}
 use Rattle.vt_spec.specs.Language.Changes.Change.{Make}
 use Rattle.vt_spec.specs.Language.Limits.{most_descriptors}
-use Rattle.vt_spec.specs.Lists.{Fresh, evens, odds}
+use Rattle.vt_spec.specs.Lists.{Fresh, odds}
 use Rattle.vt_spec.specs.Machine.Apply.{apply, with_new_inode}
 use Rattle.vt_spec.specs.Machine.Judge.{judge_in, open_new_permit, open_permit, unnumbered}
 use Rattle.vt_spec.specs.Machine.Looks.{Looks, looks_of}
@@ -23,14 +23,13 @@ use Rattle.vt_spec.specs.Machine.Outcome.Descriptors as Opening
 use Rattle.vt_spec.specs.Machine.Outcome.Making.{new_file}
 use Rattle.vt_spec.specs.Machine.Outcomes.{Outcome, after, judged}
 use Rattle.vt_spec.specs.Machine.Permits.{Permit}
-use Rattle.vt_spec.specs.Machine.Permits.Permit.{ToOpenNew}
 use Rattle.vt_spec.specs.Machine.Policy.{call_outcome, filesystems_changed_by, finished, finished_by, policy, raised_task}
 use Rattle.vt_spec.specs.Machine.Rightful.{node_allows}
 use Rattle.vt_spec.specs.Machine.Rules.Descriptors.{descriptor_rules, exclusive_word_rules}
 use Rattle.vt_spec.specs.Machine.Rules.Making.{make_rules}
 use Rattle.vt_spec.specs.Machine.Run.{Serves}
 use Rattle.vt_spec.specs.Machine.Settled.{settled}
-use Rattle.vt_spec.specs.Machine.Walking.{Here, LastWord, Place, Stop, entry_location, final_word, followed, front_walked, is_special, last_word, name_of, new_name_rules, new_walk, object_named, path_text, place_walk, placed, search_rules, steps_at, stopped_by, then_walk, walk_end, walk_start, walk_unless, words_walked}
+use Rattle.vt_spec.specs.Machine.Walking.{Place, Stop, entry_location, final_word, followed, front_walked, is_special, last_word, name_of, new_name_rules, new_walk, place_walk, placed, search_rules, steps_at, stopped_by, then_walk, walk_end, walk_start, walk_unless, words_walked}
 use Rattle.vt_spec.specs.Machine.Walking.LastWord.{Named}
 use Rattle.vt_spec.specs.Machine.World.{Task, World, files_at, filesystem_numbered, is_directory_at, mount_at, node_at, task_called, with_task}
 use Rattle.vt_spec.specs.Machine.WorldLaws.{IsWorld}
@@ -54,7 +53,7 @@ use Rattle.vt_world_laws.proofs.CallsKept.{name_found}
 use Rattle.vt_world_laws.proofs.PermitsPlaced.{found_among}
 use Rattle.vt_world_laws.proofs.Plain.{plain_numbered}
 use Rattle.vt_world_laws.proofs.SeenTrees.{change_mounts, change_tasks, unused_inode}
-use Rattle.vt_later_laws.specs.LaterPaths.{ExclusiveTwice, LooksFrom}
+use Rattle.vt_later_laws.specs.LaterPaths.{ExclusiveTwice}
 use Rattle.vt_later_laws.proofs.AfterChange.{later_files, later_is, listed, spent}
 use Rattle.vt_later_laws.proofs.Changed.{files_changed, files_other}
 use Rattle.vt_later_laws.proofs.Granted.{IsPermitted, permitted}
@@ -65,7 +64,7 @@ use Rattle.vt_later_laws.proofs.OpenedNew.{given_of}
 use Rattle.vt_later_laws.proofs.Readers.{MayLook, all_stands, named_last, own_name, raised_credentials, raised_stands}
 use Rattle.vt_later_laws.proofs.Stays.{called_own, still_called}
 use Rattle.vt_later_laws.proofs.Steps.{AllPass, both_gave, passed, passing, same_ok}
-use Rattle.vt_later_laws.proofs.Ways.{LeadsToo, Stops, at, both_walked, search_too, walk_passed}
+use Rattle.vt_later_laws.proofs.Ways.{LeadsToo, Stops, at, search_too}
 use Rattle.vt_later_laws.proofs.WaysChanges.{RightsStay, TreeStays, made_entry, rights_made, ways_made}
 use Rattle.vt_later_laws.proofs.WaysPlaces.{NamedPlace, front_too, named_place, through}
 use Rattle.vt_later_laws.proofs.WaysStay.{Known, StandsAs, WorldStays, node_here, node_in, tree_in, world_leads}
@@ -161,7 +160,8 @@ module _ (looks later : Looks ℕ) (task reader : Task ℕ) (Refused : Deny → 
       by steps known (inl pass) =
           inl (
             steps_at nat_eq later reader (at parts.here steps) (Named (name_of place.last)),
-            ap (λ r. stopped_by {A = Place ℕ} (steps_at nat_eq later reader (at parts.here steps) (Named (name_of place.last))) (and_then r (λ o.
+            ap (λ r. stopped_by {A = Place ℕ} (steps_at nat_eq later reader (at parts.here steps) (Named (name_of place.last)))
+                (and_then r (λ o.
                 Ok (record {
                   parent = parts.here.location;
                   last = Named (name_of place.last);
@@ -270,7 +270,8 @@ module _ (path : List ℕ) (world : World ℕ) (fresh : Fresh ℕ) (name : TaskN
   may : MayBeMade world parent entry node
   may =
       (subst (SeesTo world did.task) permit
-      (given_permits_are_seen_to world fresh did.task did.permit is plain (given_of world fresh name call (Opened number) serves refl refl did))).0
+      (given_permits_are_seen_to world fresh did.task did.permit is plain (given_of world fresh name call
+      (Opened number) serves refl refl did))).0
 
   something : is_some (node_at nat_eq world parent) ≡ true
   something = directory_used (files_at nat_eq world parent).tree parent.node may.name_is_free.in_directory
@@ -296,7 +297,8 @@ module _ (path : List ℕ) (world : World ℕ) (fresh : Fresh ℕ) (name : TaskN
   settles =
       ap (λ p. settled nat_eq (apply nat_eq fresh world did.task p).world) permit
       ∙ opened_new_keeps_all fresh world did.task parent entry node access (worlds_are_settled world is) is.files.one_filesystem
-      is.tasks.one_task (contains_from_among world.tasks did.task (found_among (λ (t : Task ℕ). same_name name t.name) world.tasks did.task did.called))
+      is.tasks.one_task (contains_from_among world.tasks did.task (found_among (λ
+      (t : Task ℕ). same_name name t.name) world.tasks did.task did.called))
       (listed (mount_at nat_eq world parent).filesystem world.filesystems parent.node something)
       (ap is_some (plain_numbered world plain (mount_at nat_eq world parent).filesystem)) after_tree
       (record { in_directory = may.name_is_free.in_directory; is_new = new }) may.name_is_free.free
@@ -311,7 +313,8 @@ module _ (path : List ℕ) (world : World ℕ) (fresh : Fresh ℕ) (name : TaskN
       later_files world fresh name call (Opened number) is plain serves refl refl did n
       ∙ ap (λ w. (filesystem_numbered nat_eq w n).files) settles
 
-  here_files : (filesystem_numbered nat_eq later (mount_at nat_eq world parent).filesystem).files ≡ changed nat_eq (files_at nat_eq world parent) change
+  here_files : (filesystem_numbered nat_eq later (mount_at nat_eq world parent).filesystem).files ≡ changed nat_eq
+      (files_at nat_eq world parent) change
   here_files =
       files_stay (mount_at nat_eq world parent).filesystem ∙ files_changed (odds fresh) world plain parent change something
 
@@ -323,7 +326,8 @@ module _ (path : List ℕ) (world : World ℕ) (fresh : Fresh ℕ) (name : TaskN
   stays =
       stays_by world later (mount_at nat_eq world parent).filesystem (changed nat_eq (files_at nat_eq world parent) change) mounts_stay
       here_files other_files Never
-      (ways_made (files_at nat_eq world parent) Never parent.node entry (fresh 0) may.name_is_free.in_directory may.name_is_free.free node new)
+      (ways_made (files_at nat_eq world parent) Never parent.node entry
+      (fresh 0) may.name_is_free.in_directory may.name_is_free.free node new)
 
   is_later : IsWorld nat_eq later × IsPlain later
   is_later = later_is world fresh name call (Opened number) is plain serves refl refl did
@@ -357,36 +361,44 @@ module _ (path : List ℕ) (world : World ℕ) (fresh : Fresh ℕ) (name : TaskN
           world_leads world later is plain is_later.0 is_later.1 did.task reading own self stands Never stays
           (λ here known directory e. inl (searched here known directory e looks))
         where
-          searched : (here : Location ℕ) → Known world later is plain is_later.0 is_later.1 did.task reading own (own_name later reader reading found) stands Never stays here
-              → is_directory_at nat_eq world here ≡ true → Look.may (looks_of nat_eq world) did.task here execute_right ≡ true → MayLook did.task reading
+          searched : (here : Location ℕ) → Known world later is plain is_later.0 is_later.1 did.task reading own
+              (own_name later reader reading found) stands Never stays here
+              → is_directory_at nat_eq world here ≡ true → Look.may (looks_of nat_eq world) did.task here execute_right ≡ true
+              → MayLook did.task reading
               → Look.may (looks_of nat_eq later) reading here execute_right ≡ true
           searched here known directory e (inr all) =
               search_all reading.credentials all (node_at nat_eq later here)
               (ap is_directory_node (at_node here)
-              ∙ stays.directory (mount_at nat_eq world here).filesystem here.node known.0.1 (ap is_some (sym (at_node here)) ∙ known.1.1) ∙ directory)
+              ∙ stays.directory (mount_at nat_eq world here).filesystem here.node known.0.1 (ap is_some (sym (at_node here))
+              ∙ known.1.1) ∙ directory)
           searched here known directory e (inl same) =
               ap (λ who. node_allows who execute_right (node_at nat_eq later here)) same
               ∙ ap (node_allows did.task.credentials execute_right) (at_node here)
-              ∙ rights_by world later (mount_at nat_eq world parent).filesystem (changed nat_eq (files_at nat_eq world parent) change) mounts_stay
+              ∙ rights_by world later (mount_at nat_eq world parent).filesystem (changed nat_eq
+              (files_at nat_eq world parent) change) mounts_stay
               here_files other_files
-              (rights_made (files_at nat_eq world parent) Never parent.node entry (fresh 0) may.name_is_free.in_directory may.name_is_free.free node new)
+              (rights_made (files_at nat_eq world parent) Never parent.node entry
+              (fresh 0) may.name_is_free.in_directory may.name_is_free.free node new)
               (mount_at nat_eq world here).filesystem here.node execute_right did.task.credentials known.0.1 ∙ e
 
-      there : Known world later is plain is_later.0 is_later.1 did.task reading own (own_name later reader reading found) stands Never stays parent
+      there : Known world later is plain is_later.0 is_later.1 did.task reading own
+          (own_name later reader reading found) stands Never stays parent
           → entry_location nat_eq (looks_of nat_eq later) parent entry ≡ Some (record { mount = parent.mount; node = fresh 0 })
       there known =
-          ap (λ o. option_map {U = Location ℕ} (λ object. record { mount = parent.mount; node = object }) (entry_named entry (entries_in o)))
+          ap (λ o. option_map {U = Location ℕ} (λ object. record { mount = parent.mount; node = object }) (entry_named entry
+          (entries_in o)))
           (at_node parent ∙ ap (λ (f : FileTree ℕ). f.tree.node parent.node) here_files)
           ∙ ap (option_map {U = Location ℕ} (λ object. record { mount = parent.mount; node = object }))
-          (made_entry (files_at nat_eq world parent) Never parent.node entry (fresh 0) may.name_is_free.in_directory may.name_is_free.free node new)
+          (made_entry (files_at nat_eq world parent) Never parent.node entry
+          (fresh 0) may.name_is_free.in_directory may.name_is_free.free node new)
 
       by : ((steps : List (List ℕ)) × (place_walk nat_eq (looks_of nat_eq later) reading path ≡ Ok (record {
-            parent = place.parent;
-            last = place.last;
-            object = Some (record { mount = parent.mount; node = fresh 0 });
-            slash = place.slash;
-            steps = steps;
-          }))) ⊎ Stops Never (place_walk nat_eq (looks_of nat_eq later) reading path)
+        parent = place.parent;
+        last = place.last;
+        object = Some (record { mount = parent.mount; node = fresh 0 });
+        slash = place.slash;
+        steps = steps;
+      }))) ⊎ Stops Never (place_walk nat_eq (looks_of nat_eq later) reading path)
           → (policy nat_eq later_fresh later reader (OpenFile path again (Exclusive other))).answer ≡ Err (denial E1)
       by (inl e) =
           exclusive_refused later later_fresh reader reading path again other _ found room
@@ -418,7 +430,8 @@ exclusive_twice path world fresh name task access again mode other number is pla
       (with_descriptor did.task (record { mount = facts.0.parent.mount; node = fresh 0 }) access))) room again other later_fresh,
   λ reader reading looks room later_fresh.
       again_refused path world fresh name task access mode number is plain serves called did facts.0 facts.1 facts.2 facts.3 facts.4
-      reader reading looks.called (subst (λ t. StandsAs t reading) (sym task_is) (all_stands _ task reader reading looks)) (inr looks.all) room again other later_fresh,
+      reader reading looks.called (subst (λ t. StandsAs t reading) (sym task_is) (all_stands _ task reader reading looks))
+      (inr looks.all) room again other later_fresh,
 )
   where
     did : IsPermitted world fresh name (OpenFile path access (Exclusive mode)) (Opened number)
@@ -436,7 +449,8 @@ exclusive_twice path world fresh name task access again mode other number is pla
     caller_here =
         caller_there path world fresh name task access mode number is plain serves called did facts.0 facts.1 facts.2 facts.3 facts.4
 
-    raised_stands_so : StandsAs did.task (raised_task name (with_descriptor did.task (record { mount = facts.0.parent.mount; node = fresh 0 }) access))
+    raised_stands_so : StandsAs did.task (raised_task name (with_descriptor did.task
+        (record { mount = facts.0.parent.mount; node = fresh 0 }) access))
     raised_stands_so =
         let raised = raised_stands name (with_descriptor did.task (record { mount = facts.0.parent.mount; node = fresh 0 }) access) in
         record { root = raised.root; directory = raised.directory }

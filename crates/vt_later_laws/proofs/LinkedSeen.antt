@@ -120,10 +120,12 @@ module _ (world : World ℕ) (fresh : Fresh ℕ) (name : TaskName) (old new : Li
   does = ap (λ p. (apply nat_eq fresh world did.task p).world) parts.permit_is
 
   stay : TreeStays (files_at nat_eq world place.parent).tree (changed nat_eq (files_at nat_eq world place.parent) change).tree Never
-  stay = ways_named (files_at nat_eq world place.parent) Never place.parent.node (name_of place.last) object.node in_directory seen_to.1.name_is_free.free
+  stay = ways_named (files_at nat_eq world place.parent) Never place.parent.node
+      (name_of place.last) object.node in_directory seen_to.1.name_is_free.free
 
   rights : RightsStay (files_at nat_eq world place.parent).tree (changed nat_eq (files_at nat_eq world place.parent) change).tree
-  rights = rights_named (files_at nat_eq world place.parent) Never place.parent.node (name_of place.last) object.node in_directory seen_to.1.name_is_free.free
+  rights = rights_named (files_at nat_eq world place.parent) Never place.parent.node
+      (name_of place.last) object.node in_directory seen_to.1.name_is_free.free
 
   -- the object, through the mount of the new name
   named_object : Location ℕ
@@ -144,32 +146,39 @@ module _ (world : World ℕ) (fresh : Fresh ℕ) (name : TaskName) (old new : Li
       let own = own_name later reader reading called in
       let at_name = named_place (looks_of nat_eq world) did.task new place parts.walked parts.named in
       let walk = surely _ _ _ (symlink_named_too (looks_of nat_eq world) (looks_of nat_eq later) did.task reading Never _
-      (leads world fresh name (LinkTo old new) Done is plain serves refl refl did place.parent change fresh asks does something tt tree Never stay
+      (leads world fresh name
+      (LinkTo old new) Done is plain serves refl refl did place.parent change fresh asks does something tt tree Never stay
       reading own stands rights looks) new place parts.named at_name (record { mount = place.parent.mount; node = object.node })
       (λ known.
       stepped_by later reading place.parent place.last parts.named (Some object.node)
       (ap (λ o. entry_named (name_of place.last) (entries_in o))
-      (seen_there world fresh name (LinkTo old new) Done is plain serves refl refl did place.parent change fresh asks does something tt tree Never stay
+      (seen_there world fresh name
+      (LinkTo old new) Done is plain serves refl refl did place.parent change fresh asks does something tt tree Never stay
       reading own stands known)
-      ∙ name_leads (files_at nat_eq world place.parent) Never place.parent.node (name_of place.last) object.node in_directory seen_to.1.name_is_free.free)
+      ∙ name_leads (files_at nat_eq world place.parent) Never place.parent.node
+      (name_of place.last) object.node in_directory seen_to.1.name_is_free.free)
       ∙ ap Ok (ap (λ mounts. topmost nat_eq mounts (record { mount = place.parent.mount; node = object.node }))
-      (later_mounts world fresh name (LinkTo old new) Done is plain serves refl refl did place.parent change fresh asks does something tt tree)
+      (later_mounts world fresh name
+      (LinkTo old new) Done is plain serves refl refl did place.parent change fresh asks does something tt tree)
       ∙ uncovered world is (record { mount = place.parent.mount; node = object.node })
       (sym (ap (is_directory_at nat_eq world) same_object) ∙ parts.no_directory)))
       (λ slash. absurd (true≢false (sym slash ∙ at_name.slash_is ∙ parts.no_slash)))) in
       lstat_of later later_fresh reader reading called new _ walk.1
       ∙ ap (λ o. Ok (Told (stat_line o)))
-      (seen_at world fresh name (LinkTo old new) Done is plain serves refl refl did place.parent change fresh asks does something tt tree Never stay
+      (seen_at world fresh name
+      (LinkTo old new) Done is plain serves refl refl did place.parent change fresh asks does something tt tree Never stay
       reading own stands object.node
       ∙ all_stays world fresh name (LinkTo old new) Done is plain serves refl refl did place.parent change fresh asks does something tt tree
       (ap option_to_list seen_to.1.name_is_free.free) object.node
-      ∙ named_other (files_at nat_eq world place.parent) Never place.parent.node (name_of place.last) object.node in_directory seen_to.1.name_is_free.free
+      ∙ named_other (files_at nat_eq world place.parent) Never place.parent.node
+      (name_of place.last) object.node in_directory seen_to.1.name_is_free.free
       object.node object_other
       ∙ sym (ap (node_at nat_eq world) same_object))
 
   caller_there : task_called later name ≡ Some (raised_task name did.task)
   caller_there =
-      caller world fresh name (LinkTo old new) Done is plain serves refl refl did place.parent change fresh asks does something tt tree Never stay
+      caller world fresh name
+      (LinkTo old new) Done is plain serves refl refl did place.parent change fresh asks does something tt tree Never stay
 
 pub link_then_lstat : LinkThenLstat
 link_then_lstat old new world fresh name task is plain serves called granted = (

@@ -123,22 +123,26 @@ module _ (world : World ℕ) (fresh : Fresh ℕ) (name : TaskName) (call : Call)
   made = record { in_directory = may.name_is_free.in_directory; is_new = new }
 
   pub stay : TreeStays (files_at nat_eq world parent).tree (changed nat_eq (files_at nat_eq world parent) change).tree Never
-  stay = ways_made (files_at nat_eq world parent) Never parent.node entry (fresh 0) may.name_is_free.in_directory may.name_is_free.free node new
+  stay = ways_made (files_at nat_eq world parent) Never parent.node entry
+      (fresh 0) may.name_is_free.in_directory may.name_is_free.free node new
 
   pub rights : RightsStay (files_at nat_eq world parent).tree (changed nat_eq (files_at nat_eq world parent) change).tree
-  rights = rights_made (files_at nat_eq world parent) Never parent.node entry (fresh 0) may.name_is_free.in_directory may.name_is_free.free node new
+  rights = rights_made (files_at nat_eq world parent) Never parent.node entry
+      (fresh 0) may.name_is_free.in_directory may.name_is_free.free node new
 
   abbrev pub new_location : Location ℕ
   new_location = record { mount = parent.mount; node = fresh 0 }
 
   pub maker : task_called later name ≡ Some (raised_task name did.task)
-  maker = caller world fresh name call answer is plain serves other few did parent change (odds fresh) asks does something made tree Never stay
+  maker = caller world fresh name call answer is plain serves other few did parent change
+      (odds fresh) asks does something made tree Never stay
 
   module _ (reader : Task ℕ) (called : task_called later reader.name ≡ Some reader) (stands : StandsAs did.task reader)
       (looks : MayLook did.task reader) where
     abbrev pub KnownHere : Location ℕ → Type 0
     KnownHere here =
-        KnownToo world fresh name call answer is plain serves other few did parent change (odds fresh) asks does something made tree Never stay
+        KnownToo world fresh name call answer is plain serves other few did parent change
+        (odds fresh) asks does something made tree Never stay
         reader called stands here
 
     pub made_leads : LeadsToo (looks_of nat_eq world) (looks_of nat_eq later) did.task reader Never KnownHere
@@ -148,7 +152,8 @@ module _ (world : World ℕ) (fresh : Fresh ℕ) (name : TaskName) (call : Call)
 
     pub node_seen : node_at nat_eq later new_location ≡ Some node
     node_seen =
-        seen_at world fresh name call answer is plain serves other few did parent change (odds fresh) asks does something made tree Never stay
+        seen_at world fresh name call answer is plain serves other few did parent change
+        (odds fresh) asks does something made tree Never stay
         reader called stands (fresh 0)
         ∙ all_stays world fresh name call answer is plain serves other few did parent change (odds fresh) asks does something made tree
         (ap option_to_list may.name_is_free.free) (fresh 0)
@@ -157,9 +162,11 @@ module _ (world : World ℕ) (fresh : Fresh ℕ) (name : TaskName) (call : Call)
     pub entry_seen : KnownHere parent → entry_named entry (entries_in (node_at nat_eq later parent)) ≡ Some (fresh 0)
     entry_seen known =
         ap (λ o. entry_named entry (entries_in o))
-        (seen_there world fresh name call answer is plain serves other few did parent change (odds fresh) asks does something made tree Never stay
+        (seen_there world fresh name call answer is plain serves other few did parent change
+        (odds fresh) asks does something made tree Never stay
         reader called stands known)
-        ∙ made_entry (files_at nat_eq world parent) Never parent.node entry (fresh 0) may.name_is_free.in_directory may.name_is_free.free node new
+        ∙ made_entry (files_at nat_eq world parent) Never parent.node entry
+        (fresh 0) may.name_is_free.in_directory may.name_is_free.free node new
 
     -- no mount stands over it
     over : topmost nat_eq later.mounts new_location ≡ new_location
@@ -179,25 +186,38 @@ module _ (world : World ℕ) (fresh : Fresh ℕ) (name : TaskName) (call : Call)
 mkdir_parts : (looks : Looks ℕ) (task : Task ℕ) (path : List ℕ) (mode : Option ℕ) (permit : Permit ℕ)
     → mkdir_permit nat_eq looks task path mode ≡ Ok permit
     → (place : Place ℕ) × (place_walk nat_eq looks task path ≡ Ok place) × (is_special place.last ≡ false)
-    × (permit ≡ make_permit place (record { attr = new_attr task (unwrap_or mode directory_mode); content = new_directory place.parent.node }))
+    × (permit ≡ make_permit place (record {
+      attr = new_attr task
+          (unwrap_or mode directory_mode);
+      content = new_directory place.parent.node;
+    }))
 unfolding mkdir_permit
 mkdir_parts looks task path mode permit e =
     let steps = both_gave (walk_end (new_walk nat_eq looks task path)) _ permit e in
     let node : Node ℕ = record { attr = new_attr task (unwrap_or mode directory_mode); content = new_directory steps.0.parent.node } in
-    let parts = passing (new_word_rules steps.0 ++ make_rules looks task steps.0 (unnumbered steps.0 node)) (Ok (make_permit steps.0 node)) permit steps.2 in
-    (steps.0, new_parts looks task path steps.0 (walk_ended (new_walk nat_eq looks task path) steps.0 steps.1), parts.0.0, sym (same_ok _ permit parts.1))
+    let parts = passing (new_word_rules steps.0 ++ make_rules looks task steps.0 (unnumbered steps.0 node)) (Ok
+    (make_permit steps.0 node)) permit steps.2 in (
+      steps.0,
+      new_parts looks task path steps.0 (walk_ended (new_walk nat_eq looks task path) steps.0 steps.1),
+      parts.0.0,
+      sym
+          (same_ok _ permit parts.1),
+    )
 
-either_way : (b : Bool) (answer : Answer) → (cond b (Ok answer) (Err (denial C1)) ≡ Ok answer) ⊎ (cond b (Ok answer) (Err (denial C1)) ≡ Err (denial C1))
+either_way : (b : Bool) (answer : Answer) → (cond b (Ok answer) (Err (denial C1)) ≡ Ok answer) ⊎ (cond b (Ok answer) (Err
+    (denial C1)) ≡ Err (denial C1))
 either_way true answer = inl refl
 either_way false answer = inr refl
 
 pub mkdir_then_list : MkdirThenList
 mkdir_then_list path mode world fresh name task is plain serves called granted = (
   λ later_fresh. subst (λ a. (a ≡ Ok (Names [])) ⊎ (a ≡ Err (denial C1)))
-      (sym (listed name (raised_task name did.task) caller_there (raised_stands name did.task) (inl (raised_credentials name did.task)) later_fresh))
+      (sym (listed name (raised_task name did.task) caller_there (raised_stands name did.task) (inl
+      (raised_credentials name did.task)) later_fresh))
       (either_way _ (Names [])),
   λ reader reading looks later_fresh.
-      listed reader reading looks.called (subst (λ t. StandsAs t reading) (sym task_is) (all_stands _ task reader reading looks)) (inr looks.all) later_fresh
+      listed reader reading looks.called (subst (λ t. StandsAs t reading) (sym task_is) (all_stands _ task reader reading looks))
+      (inr looks.all) later_fresh
       ∙ ap (λ b. cond b (Ok (Names [])) (Err (denial C1))) (read_all reading.credentials looks.all _ (new_directory parts.0.parent.node)),
 )
   where
@@ -208,7 +228,11 @@ mkdir_then_list path mode world fresh name task is plain serves called granted =
     task_is = same_Some did.task task (sym did.called ∙ called)
 
     parts : (place : Place ℕ) × (place_walk nat_eq (looks_of nat_eq world) did.task path ≡ Ok place) × (is_special place.last ≡ false)
-        × (did.permit ≡ make_permit place (record { attr = new_attr did.task (unwrap_or mode directory_mode); content = new_directory place.parent.node }))
+        × (did.permit ≡ make_permit place (record {
+          attr = new_attr did.task
+              (unwrap_or mode directory_mode);
+          content = new_directory place.parent.node;
+        }))
     parts = mkdir_parts (looks_of nat_eq world) did.task path mode did.permit did.judged
 
     node : Node ℕ
@@ -218,22 +242,31 @@ mkdir_then_list path mode world fresh name task is plain serves called granted =
     left = (policy nat_eq fresh world name (Mkdir path mode)).world
 
     caller_there : task_called (policy nat_eq fresh world name (Mkdir path mode)).world name ≡ Some (raised_task name did.task)
-    caller_there = maker world fresh name (Mkdir path mode) Done is plain serves refl refl did parts.0.parent (name_of parts.0.last) _ parts.3
+    caller_there = maker world fresh name (Mkdir path mode) Done is plain serves refl refl did parts.0.parent
+        (name_of parts.0.last) _ parts.3
 
     listed : (reader : TaskName) (reading : Task ℕ)
         → task_called (policy nat_eq fresh world name (Mkdir path mode)).world reader ≡ Some reading
         → StandsAs did.task reading → MayLook did.task reading → (later_fresh : Fresh ℕ)
         → (policy nat_eq later_fresh (policy nat_eq fresh world name (Mkdir path mode)).world reader (Ls path)).answer
-        ≡ cond (node_allows reading.credentials read_right (Some (record { attr = new_attr did.task (unwrap_or mode directory_mode); content = new_directory parts.0.parent.node })))
+        ≡ cond (node_allows reading.credentials read_right (Some (record {
+          attr = new_attr did.task
+              (unwrap_or mode directory_mode);
+          content = new_directory parts.0.parent.node;
+        })))
         (Ok (Names [])) (Err (denial C1))
     listed reader reading found stands looks later_fresh =
         let own = own_name (policy nat_eq fresh world name (Mkdir path mode)).world reader reading found in
-        let seen = node_seen world fresh name (Mkdir path mode) Done is plain serves refl refl did parts.0.parent (name_of parts.0.last) _ parts.3 reading own stands looks in
-        let walk = surely _ _ _ (directory_named_too (looks_of nat_eq world) (looks_of nat_eq (policy nat_eq fresh world name (Mkdir path mode)).world) did.task reading Never _
-        (made_leads world fresh name (Mkdir path mode) Done is plain serves refl refl did parts.0.parent (name_of parts.0.last) _ parts.3 reading own stands looks)
+        let seen = node_seen world fresh name (Mkdir path mode) Done is plain serves refl refl did parts.0.parent
+        (name_of parts.0.last) _ parts.3 reading own stands looks in
+        let walk = surely _ _ _ (directory_named_too (looks_of nat_eq world) (looks_of nat_eq (policy nat_eq fresh world name
+        (Mkdir path mode)).world) did.task reading Never _
+        (made_leads world fresh name (Mkdir path mode) Done is plain serves refl refl did parts.0.parent
+        (name_of parts.0.last) _ parts.3 reading own stands looks)
         path parts.0 parts.2 (named_place (looks_of nat_eq world) did.task path parts.0 parts.1 parts.2)
         (new_location world fresh name (Mkdir path mode) Done is plain serves refl refl did parts.0.parent (name_of parts.0.last) _ parts.3)
-        (new_stepped world fresh name (Mkdir path mode) Done is plain serves refl refl did parts.0.parent (name_of parts.0.last) _ parts.3 reading own stands looks parts.0.last parts.2 refl)
+        (new_stepped world fresh name (Mkdir path mode) Done is plain serves refl refl did parts.0.parent
+        (name_of parts.0.last) _ parts.3 reading own stands looks parts.0.last parts.2 refl)
         (ap symlink_text seen) (ap is_directory_node seen)) in
         list_of (policy nat_eq fresh world name (Mkdir path mode)).world later_fresh reader reading found path
         (later_is world fresh name (Mkdir path mode) Done is plain serves refl refl did).1 _ walk.1
@@ -248,7 +281,8 @@ unfolding symlink_permit
 symlink_parts looks task text path permit e =
     let steps = both_gave (walk_end (new_leaf_walk nat_eq looks task path)) _ permit (passing (link_text_rules text) _ permit e).1 in
     let node : Node ℕ = record { attr = exact_attr task symlink_mode; content = Symlink text } in
-    let parts = passing (new_word_rules steps.0 ++ make_rules looks task steps.0 (unnumbered steps.0 node)) (Ok (make_permit steps.0 node)) permit steps.2 in
+    let parts = passing (new_word_rules steps.0 ++ make_rules looks task steps.0 (unnumbered steps.0 node)) (Ok
+    (make_permit steps.0 node)) permit steps.2 in
     let leaf = new_leaf_parts looks task path steps.0 (walk_ended (new_leaf_walk nat_eq looks task path) steps.0 steps.1) in
     (steps.0, leaf.0, parts.0.0, no_slash_there steps.0.slash (is_some steps.0.object) parts.0.1.0 leaf.1, sym (same_ok _ permit parts.1))
 
@@ -256,7 +290,8 @@ pub symlink_then_readlink : SymlinkThenReadlink
 symlink_then_readlink text path world fresh name task is plain serves called granted = (
   told name (raised_task name did.task) caller_there (raised_stands name did.task) (inl (raised_credentials name did.task)),
   λ reader reading looks.
-      told reader reading looks.called (subst (λ t. StandsAs t reading) (sym task_is) (all_stands _ task reader reading looks)) (inr looks.all),
+      told reader reading looks.called (subst (λ t. StandsAs t reading) (sym task_is) (all_stands _ task reader reading looks))
+      (inr looks.all),
 )
   where
     did : IsPermitted world fresh name (SymlinkAt text path) Done
@@ -265,12 +300,14 @@ symlink_then_readlink text path world fresh name task is plain serves called gra
     task_is : did.task ≡ task
     task_is = same_Some did.task task (sym did.called ∙ called)
 
-    parts : (place : Place ℕ) × (place_walk nat_eq (looks_of nat_eq world) did.task path ≡ Ok place) × (is_special place.last ≡ false) × (place.slash ≡ false)
+    parts : (place : Place ℕ) × (place_walk nat_eq (looks_of nat_eq world) did.task path ≡ Ok place) × (is_special place.last ≡ false) ×
+        (place.slash ≡ false)
         × (did.permit ≡ make_permit place (record { attr = exact_attr did.task symlink_mode; content = Symlink text }))
     parts = symlink_parts (looks_of nat_eq world) did.task text path did.permit did.judged
 
     caller_there : task_called (policy nat_eq fresh world name (SymlinkAt text path)).world name ≡ Some (raised_task name did.task)
-    caller_there = maker world fresh name (SymlinkAt text path) Done is plain serves refl refl did parts.0.parent (name_of parts.0.last) _ parts.4
+    caller_there = maker world fresh name (SymlinkAt text path) Done is plain serves refl refl did parts.0.parent
+        (name_of parts.0.last) _ parts.4
 
     told : (reader : TaskName) (reading : Task ℕ)
         → task_called (policy nat_eq fresh world name (SymlinkAt text path)).world reader ≡ Some reading
@@ -278,13 +315,18 @@ symlink_then_readlink text path world fresh name task is plain serves called gra
         → IsAnswered (policy nat_eq fresh world name (SymlinkAt text path)).world reader (Readlink path) (Bytes text)
     told reader reading found stands looks later_fresh =
         let own = own_name (policy nat_eq fresh world name (SymlinkAt text path)).world reader reading found in
-        let seen = node_seen world fresh name (SymlinkAt text path) Done is plain serves refl refl did parts.0.parent (name_of parts.0.last) _ parts.4 reading own stands looks in
+        let seen = node_seen world fresh name (SymlinkAt text path) Done is plain serves refl refl did parts.0.parent
+        (name_of parts.0.last) _ parts.4 reading own stands looks in
         let at_name = named_place (looks_of nat_eq world) did.task path parts.0 parts.1 parts.2 in
-        let walk = surely _ _ _ (symlink_named_too (looks_of nat_eq world) (looks_of nat_eq (policy nat_eq fresh world name (SymlinkAt text path)).world) did.task reading Never _
-        (made_leads world fresh name (SymlinkAt text path) Done is plain serves refl refl did parts.0.parent (name_of parts.0.last) _ parts.4 reading own stands looks)
+        let walk = surely _ _ _ (symlink_named_too (looks_of nat_eq world) (looks_of nat_eq (policy nat_eq fresh world name
+        (SymlinkAt text path)).world) did.task reading Never _
+        (made_leads world fresh name (SymlinkAt text path) Done is plain serves refl refl did parts.0.parent
+        (name_of parts.0.last) _ parts.4 reading own stands looks)
         path parts.0 parts.2 at_name
-        (new_location world fresh name (SymlinkAt text path) Done is plain serves refl refl did parts.0.parent (name_of parts.0.last) _ parts.4)
-        (new_stepped world fresh name (SymlinkAt text path) Done is plain serves refl refl did parts.0.parent (name_of parts.0.last) _ parts.4 reading own stands looks parts.0.last parts.2 refl)
+        (new_location world fresh name (SymlinkAt text path) Done is plain serves refl refl did parts.0.parent
+        (name_of parts.0.last) _ parts.4)
+        (new_stepped world fresh name (SymlinkAt text path) Done is plain serves refl refl did parts.0.parent
+        (name_of parts.0.last) _ parts.4 reading own stands looks parts.0.last parts.2 refl)
         (λ slash. absurd (true≢false (sym slash ∙ at_name.slash_is ∙ parts.3)))) in
         readlink_of (policy nat_eq fresh world name (SymlinkAt text path)).world later_fresh reader reading found path _ walk.1
         (ap (is_kind_in Link) seen)

@@ -82,7 +82,8 @@ pub stepped_by : (world : World ℕ) (reader : Task ℕ) (here : Location ℕ) (
     ≡ ok_or (option_map (topmost nat_eq world.mounts) (option_map (λ object. record { mount = here.mount; node = object }) o)) (denial W6)
 stepped_by world reader here last special o e =
     ap (stepped nat_eq world reader here) (named_last last special)
-    ∙ ap (λ o. ok_or (option_map (topmost nat_eq world.mounts) (option_map (λ object. record { mount = here.mount; node = object }) o)) (denial W6)) e
+    ∙ ap (λ o. ok_or (option_map (topmost nat_eq world.mounts) (option_map (λ object. record { mount = here.mount; node = object }) o))
+    (denial W6)) e
 
 -- over what is no directory no mount stands
 pub uncovered : (world : World ℕ) → IsWorld nat_eq world → (location : Location ℕ) → is_directory_at nat_eq world location ≡ false
@@ -103,7 +104,8 @@ uncovered world is location no_directory = by (child_at nat_eq world.mounts loca
     by (Some mount) e =
         let found = found_in (stands_at nat_eq location) world.mounts mount e in
         absurd (true≢false
-        (sym (among_from_all (λ (m : Mount ℕ). (place : Location ℕ) → m.mount_point ≡ Some place → is_directory_at nat_eq world place ≡ true)
+        (sym (among_from_all (λ (m : Mount ℕ). (place : Location ℕ) → m.mount_point ≡ Some place
+        → is_directory_at nat_eq world place ≡ true)
         world.mounts (worlds_are_standing world is).places mount found.0 location (stands_there location mount found.1))
         ∙ no_directory))
 
@@ -121,7 +123,8 @@ module _ (world : World ℕ) (fresh : Fresh ℕ) (name : TaskName) (call : Call)
   left = (policy nat_eq fresh world name call).world
 
   pub stays : WorldStays world left Refused
-  stays = world_stays world fresh name call answer is plain serves other few did location change from asks does something allowed tree Refused stay
+  stays = world_stays world fresh name call answer is plain serves other few did location change from asks does something allowed tree
+      Refused stay
 
   pub is_left : IsWorld nat_eq left × IsPlain left
   is_left = later_is world fresh name call answer is plain serves other few did

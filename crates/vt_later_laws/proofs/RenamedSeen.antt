@@ -103,11 +103,13 @@ rename_parts looks task old new from to permit from_is to_is file free e =
     let named = passing (old_word_rules news.0) _ permit news.2 in
     let inside = both_walked (new_walk nat_eq looks task new) _ news.0
     (walk_ended (rename_new_walk nat_eq looks task new (is_directory_there nat_eq looks olds.0)) news.0 news.1) in
-    let slash = walk_passing inside.0.steps ((inside.0.slash && not (is_directory_there nat_eq looks olds.0), W3) ∷ []) inside.0 news.0 inside.2 in
+    let slash = walk_passing inside.0.steps ((inside.0.slash && not (is_directory_there nat_eq looks olds.0), W3)
+    ∷ []) inside.0 news.0 inside.2 in
     let to_same : inside.0 ≡ to = same_end inside.0 to (sym inside.1 ∙ to_is) in
     let same_to : news.0 ≡ to = sym slash.1 ∙ to_same in
     let leaf = both_walked (old_walk nat_eq looks task old) _ from from_is in
-    let leaf_slash = walk_passing leaf.0.steps ((leaf.0.slash && not (is_directory_there nat_eq looks leaf.0), W3) ∷ []) leaf.0 from leaf.2 in
+    let leaf_slash = walk_passing leaf.0.steps ((leaf.0.slash && not (is_directory_there nat_eq looks leaf.0), W3)
+    ∷ []) leaf.0 from leaf.2 in
     let there = old_parts looks task old from (leaf.1 ∙ ap Ok leaf_slash.1) in
     let other : is_one_object nat_eq looks (object_there olds.0) news.0.object ≡ false =
     ap (is_one_object nat_eq looks (object_there olds.0)) (ap (λ (p : Place ℕ). p.object) same_to ∙ free) in
@@ -155,7 +157,8 @@ module _ (world : World ℕ) (fresh : Fresh ℕ) (name : TaskName) (old new : Li
       (given_of world fresh name (Rename old new) Done serves refl refl did))
 
   from_directory : is_directory_at nat_eq world from.parent ≡ true
-  from_directory = node_with_entries (name_of from.last) object ((files_at nat_eq world from.parent).tree.node from.parent.node) may.moves.named
+  from_directory = node_with_entries (name_of from.last) object
+      ((files_at nat_eq world from.parent).tree.node from.parent.node) may.moves.named
 
   something : is_some (node_at nat_eq world from.parent) ≡ true
   something = directory_used (files_at nat_eq world from.parent).tree from.parent.node from_directory
@@ -183,7 +186,8 @@ module _ (world : World ℕ) (fresh : Fresh ℕ) (name : TaskName) (old new : Li
       to_mount_place : record { mount = to.parent.mount; node = from.parent.node } ≡ from.parent
       to_mount_place = λ i. record { mount = may.to_mount i; node = from.parent.node }
 
-      none_of : (o : Option ℕ) → option_map {U = Location ℕ} (λ number. record { mount = to.parent.mount; node = number }) o ≡ None → o ≡ None
+      none_of : (o : Option ℕ) → option_map {U = Location ℕ} (λ number. record { mount = to.parent.mount; node = number }) o ≡ None
+          → o ≡ None
       none_of None e = refl
       none_of (Some x) e = cc
 
@@ -221,7 +225,8 @@ module _ (world : World ℕ) (fresh : Fresh ℕ) (name : TaskName) (old new : Li
   old_told other_fresh =
       let at_name = named_place (looks_of nat_eq world) did.task old from parts.from_walked parts.from_named in
       let own = called_own world fresh name (Rename old new) Done is plain serves refl refl did in
-      let walk = surely _ _ _ (symlink_named_too (looks_of nat_eq world) (looks_of nat_eq world) did.task did.task Never (IsFound world is did.task)
+      let walk = surely _ _ _ (symlink_named_too (looks_of nat_eq world) (looks_of nat_eq world) did.task did.task Never
+      (IsFound world is did.task)
       (itself_leads world is plain did.task own) old from parts.from_named at_name (record { mount = from.parent.mount; node = object })
       (λ known. stepped_by world did.task from.parent from.last parts.from_named (Some object) may.moves.named
       ∙ ap Ok (uncovered world is (record { mount = from.parent.mount; node = object }) no_directory))
@@ -234,47 +239,60 @@ module _ (world : World ℕ) (fresh : Fresh ℕ) (name : TaskName) (old new : Li
     own_reader = own_name later reader reading called
 
     leads_so : LeadsToo (looks_of nat_eq world) (looks_of nat_eq later) did.task reading Missing
-        (KnownToo world fresh name (Rename old new) Done is plain serves refl refl did from.parent change fresh asks does something allowed tree Missing stay
+        (KnownToo world fresh name
+        (Rename old new) Done is plain serves refl refl did from.parent change fresh asks does something allowed tree Missing stay
         reading own_reader stands)
     leads_so =
-        leads world fresh name (Rename old new) Done is plain serves refl refl did from.parent change fresh asks does something allowed tree Missing stay
+        leads world fresh name
+        (Rename old new) Done is plain serves refl refl did from.parent change fresh asks does something allowed tree Missing stay
         reading own_reader stands rights looks
 
     -- the new name
-    to_seen : KnownToo world fresh name (Rename old new) Done is plain serves refl refl did from.parent change fresh asks does something allowed tree Missing stay
+    to_seen : KnownToo world fresh name
+        (Rename old new) Done is plain serves refl refl did from.parent change fresh asks does something allowed tree Missing stay
         reading own_reader stands to.parent
         → entry_named (name_of to.last) (entries_in (node_at nat_eq later to.parent)) ≡ Some object
     to_seen known =
         ap (λ l. entry_named (name_of to.last) (entries_in (node_at nat_eq later l))) to_place
         ∙ ap (λ o. entry_named (name_of to.last) (entries_in o))
-        (seen_at world fresh name (Rename old new) Done is plain serves refl refl did from.parent change fresh asks does something allowed tree Missing stay
+        (seen_at world fresh name
+        (Rename old new) Done is plain serves refl refl did from.parent change fresh asks does something allowed tree Missing stay
         reading own_reader stands to.parent.node
-        ∙ node_changed world fresh name (Rename old new) Done is plain serves refl refl did from.parent change fresh asks does something allowed tree
+        ∙ node_changed world fresh name
+        (Rename old new) Done is plain serves refl refl did from.parent change fresh asks does something allowed tree
         to.parent.node (ap (λ l. is_some (node_in later (mount_at nat_eq world l).filesystem to.parent.node)) (sym to_place)
-        ∙ known_there world fresh name (Rename old new) Done is plain serves refl refl did from.parent change fresh asks does something allowed tree Missing stay
+        ∙ known_there world fresh name
+        (Rename old new) Done is plain serves refl refl did from.parent change fresh asks does something allowed tree Missing stay
         reading own_reader stands to.parent known))
-        ∙ moved_entry (files_at nat_eq world from.parent) Missing from.parent.node (name_of from.last) to.parent.node (name_of to.last) object
+        ∙ moved_entry (files_at nat_eq world from.parent) Missing from.parent.node (name_of from.last) to.parent.node
+        (name_of to.last) object
         may.moves.named no_directory in_directory free
 
-    new_stepped : KnownToo world fresh name (Rename old new) Done is plain serves refl refl did from.parent change fresh asks does something allowed tree Missing stay
+    new_stepped : KnownToo world fresh name
+        (Rename old new) Done is plain serves refl refl did from.parent change fresh asks does something allowed tree Missing stay
         reading own_reader stands to.parent
         → stepped nat_eq (looks_of nat_eq later) reading to.parent to.last ≡ Ok (record { mount = from.parent.mount; node = object })
     new_stepped known =
         stepped_by later reading to.parent to.last parts.to_named (Some object) (to_seen known)
         ∙ ap (λ m. Ok (topmost nat_eq later.mounts (record { mount = m; node = object }))) may.to_mount
         ∙ ap (λ mounts. Ok (topmost nat_eq mounts (record { mount = from.parent.mount; node = object })))
-        (later_mounts world fresh name (Rename old new) Done is plain serves refl refl did from.parent change fresh asks does something allowed tree)
+        (later_mounts world fresh name
+        (Rename old new) Done is plain serves refl refl did from.parent change fresh asks does something allowed tree)
         ∙ ap Ok (uncovered world is (record { mount = from.parent.mount; node = object }) no_directory)
 
     object_seen : node_at nat_eq later (record { mount = from.parent.mount; node = object })
         ≡ node_at nat_eq world (record { mount = from.parent.mount; node = object })
     object_seen =
-        seen_at world fresh name (Rename old new) Done is plain serves refl refl did from.parent change fresh asks does something allowed tree Missing stay
+        seen_at world fresh name
+        (Rename old new) Done is plain serves refl refl did from.parent change fresh asks does something allowed tree Missing stay
         reading own_reader stands object
-        ∙ all_stays world fresh name (Rename old new) Done is plain serves refl refl did from.parent change fresh asks does something allowed tree
+        ∙ all_stays world fresh name
+        (Rename old new) Done is plain serves refl refl did from.parent change fresh asks does something allowed tree
         (ap option_to_list free) object
-        ∙ moved_object (files_at nat_eq world from.parent) Missing from.parent.node (name_of from.last) to.parent.node (name_of to.last) object
-        may.moves.named no_directory in_directory free (object_apart from.parent.node from_directory) (object_apart to.parent.node in_directory)
+        ∙ moved_object (files_at nat_eq world from.parent) Missing from.parent.node (name_of from.last) to.parent.node
+        (name_of to.last) object
+        may.moves.named no_directory in_directory free (object_apart from.parent.node from_directory)
+        (object_apart to.parent.node in_directory)
 
     new_told : (later_fresh : Fresh ℕ)
         → ((policy nat_eq later_fresh later reader (Lstat new)).answer ≡ Ok (Told line))
@@ -290,20 +308,24 @@ module _ (world : World ℕ) (fresh : Fresh ℕ) (name : TaskName) (old new : Li
 
     old_missing : (later_fresh : Fresh ℕ) → (policy nat_eq later_fresh later reader (Lstat old)).answer ≡ Err (denial W6)
     old_missing later_fresh =
-        let stop = symlink_missing (looks_of nat_eq world) (looks_of nat_eq later) did.task reading Missing _ leads_so old from parts.from_named
+        let stop = symlink_missing (looks_of nat_eq world)
+        (looks_of nat_eq later) did.task reading Missing _ leads_so old from parts.from_named
         (named_place (looks_of nat_eq world) did.task old from parts.from_walked parts.from_named) (denial W6) refl
         (λ known.
         stepped_by later reading from.parent from.last parts.from_named None
         (ap (λ o. entry_named (name_of from.last) (entries_in o))
-        (seen_there world fresh name (Rename old new) Done is plain serves refl refl did from.parent change fresh asks does something allowed tree Missing stay
+        (seen_there world fresh name
+        (Rename old new) Done is plain serves refl refl did from.parent change fresh asks does something allowed tree Missing stay
         reading own_reader stands known)
-        ∙ moved_missing (files_at nat_eq world from.parent) Missing from.parent.node (name_of from.last) to.parent.node (name_of to.last) object
+        ∙ moved_missing (files_at nat_eq world from.parent) Missing from.parent.node (name_of from.last) to.parent.node
+        (name_of to.last) object
         may.moves.named no_directory in_directory free)) in
         lstat_refused later later_fresh reader reading called old stop.0 stop.2 ∙ ap Err stop.1
 
   caller_there : task_called later name ≡ Some (raised_task name did.task)
   caller_there =
-      caller world fresh name (Rename old new) Done is plain serves refl refl did from.parent change fresh asks does something allowed tree Missing stay
+      caller world fresh name
+      (Rename old new) Done is plain serves refl refl did from.parent change fresh asks does something allowed tree Missing stay
 
 pub rename_then_lstat : RenameThenLstat
 rename_then_lstat old new world fresh name task from to is plain serves called from_is to_is file free granted = (

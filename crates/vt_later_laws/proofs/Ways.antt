@@ -144,7 +144,8 @@ module _ (looks later : Looks ℕ) (task reader : Task ℕ) (Refused : Deny → 
             (
               steps_with nat_eq later reader (at here steps) word,
               ap (λ r. stopped_by (steps_with nat_eq later reader (at here steps) word) (and_then r (on here steps word)))
-                  (passed (search_rules nat_eq later reader here.location) (stepped nat_eq later reader here.location word) may_search ∙ found.0)
+                  (passed (search_rules nat_eq later reader here.location) (stepped nat_eq later reader here.location word) may_search
+                  ∙ found.0)
                   ∙ (λ i. Ok (record {
                     location = next.location;
                     left = sym left i;
@@ -158,7 +159,8 @@ module _ (looks later : Looks ℕ) (task reader : Task ℕ) (Refused : Deny → 
             record { deny = lost.0; steps = steps_with nat_eq later reader (at here steps) word },
             lost.1,
             ap (λ r. stopped_by (steps_with nat_eq later reader (at here steps) word) (and_then r (on here steps word)))
-                (passed (search_rules nat_eq later reader here.location) (stepped nat_eq later reader here.location word) may_search ∙ lost.2),
+                (passed (search_rules nat_eq later reader here.location) (stepped nat_eq later reader here.location word) may_search
+                ∙ lost.2),
           )
       by (inr hidden) stepping =
           inr (
@@ -258,8 +260,10 @@ module _ (looks later : Looks ℕ) (task reader : Task ℕ) (Refused : Deny → 
   link_too zero other directory link text end deep deep_too e = absurd (omega arith)
   link_too (suc depth) zero directory link text end deep deep_too e = absurd (omega arith)
   link_too (suc depth) (suc other) directory link text end deep deep_too e =
-      let starts = both_walked (walk_unless link.steps (follow_rules nat_eq looks link text) (symlink_start nat_eq looks task directory link text)) _ end e in
-      let begins = walk_passing link.steps (follow_rules nat_eq looks link text) (symlink_start nat_eq looks task directory link text) starts.0 starts.1 in
+      let starts = both_walked (walk_unless link.steps (follow_rules nat_eq looks link text)
+      (symlink_start nat_eq looks task directory link text)) _ end e in
+      let begins = walk_passing link.steps (follow_rules nat_eq looks link text)
+      (symlink_start nat_eq looks task directory link text) starts.0 starts.1 in
       let some : 1 ≤ link.left = positive link.left begins.0.1.0 in
       let begun = symlink_start nat_eq looks task directory link text in
       let inside = both_walked (words_walked nat_eq looks task
@@ -272,7 +276,8 @@ module _ (looks later : Looks ℕ) (task reader : Task ℕ) (Refused : Deny → 
       (λ at_directory next inner stop less gives. link_too depth other at_directory next inner stop (omega arith) (omega arith) gives)
       begun (reverse (words text)) reached (omega arith)
       (ap (λ start. words_walked nat_eq looks task
-      (λ inside next inner. symlink_walked nat_eq depth looks task inside next inner) start (reverse (words text))) begins.1 ∙ inside.1) in (
+      (λ inside next inner. symlink_walked nat_eq depth looks task inside next inner) start (reverse (words text))) begins.1
+      ∙ inside.1) in (
         (let least : reached.left ≤ link.left - 1 = walked.0 in subst (λ (h : Here ℕ). h.left ≤ link.left) same (omega arith)),
         λ known known_link steps.
             let now : Here ℕ = symlink_start nat_eq later reader directory (at link steps) text in
@@ -285,7 +290,8 @@ module _ (looks later : Looks ℕ) (task reader : Task ℕ) (Refused : Deny → 
             (sym (walk_passed steps (follow_rules nat_eq later (at link steps) text) now pass
             ∙ (λ i. Ok (record { location = start_same directory directory text refl i; left = link.left - 1; steps = now.steps }))))
             (then_too (words_walked nat_eq later reader
-            (λ inside next inner. symlink_walked nat_eq other later reader inside next inner) (at begun now.steps) (reverse (words text))) _ reached end
+            (λ inside next inner. symlink_walked nat_eq other later reader inside next inner) (at begun now.steps) (reverse
+            (words text))) _ reached end
             (walked.1 (start_known directory text known) now.steps)
             (λ steps_there known_there.
             inl (

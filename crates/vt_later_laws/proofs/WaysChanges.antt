@@ -119,7 +119,8 @@ module _ (files : FileTree ℕ) (Refused : Deny → Type 0) where
         inl (ap (entry_named name) (part_stays files number change entries_in entries directory) ∙ e);
   }
 
-  pub ways_with_bytes : (file : ℕ) (bytes : List ℕ) → TreeStays files.tree (changed_node nat_eq files file (node_with_bytes bytes)).tree Refused
+  pub ways_with_bytes : (file : ℕ) (bytes : List ℕ) → TreeStays files.tree (changed_node nat_eq files file
+      (node_with_bytes bytes)).tree Refused
   ways_with_bytes file bytes =
       ways_changed file (node_with_bytes bytes) (is_directory-node_with_bytes bytes) (entries-node_with_bytes bytes)
       (parent-node_with_bytes bytes) (link_with_bytes bytes)
@@ -128,7 +129,8 @@ module _ (files : FileTree ℕ) (Refused : Deny → Type 0) where
   rights_with_bytes file bytes who wanted n is =
       part_stays files file (node_with_bytes bytes) (node_allows who wanted) (allows_with_bytes bytes who wanted) n
 
-  pub ways_with_attr : (object : ℕ) (attr : Attr) → TreeStays files.tree (changed_node nat_eq files object (node_with_attr attr)).tree Refused
+  pub ways_with_attr : (object : ℕ) (attr : Attr) → TreeStays files.tree (changed_node nat_eq files object
+      (node_with_attr attr)).tree Refused
   ways_with_attr object attr =
       ways_changed object (node_with_attr attr) (attr_keeps_place attr).kind (attr_keeps_place attr).entries
       (attr_keeps_place attr).parent (link_with_attr attr)
@@ -172,7 +174,8 @@ module _ (files : FileTree ℕ) (Refused : Deny → Type 0) where
     pub ways_named : TreeStays files.tree named.tree Refused
     ways_named = record {
       root = refl;
-      directory = λ n is. part_stays files directory (node_with_entry name object) is_directory_node (is_directory-node_with_entry name object) n;
+      directory = λ n is. part_stays files directory (node_with_entry name object) is_directory_node
+          (is_directory-node_with_entry name object) n;
       parent = λ n is. part_stays files directory (node_with_entry name object) (parent_in n) (parent-node_with_entry name object n) n;
       link = λ n is. part_stays files directory (node_with_entry name object) symlink_text (link_with_entry name object) n;
       entry = λ here other next e. inl (entry_stays here other next e);
@@ -334,12 +337,14 @@ module _ (files : FileTree ℕ) (Refused : Deny → Type 0) (from : ℕ) (old : 
   less_directory : IsDirectory less.tree to
   less_directory = less_kind to ∙ in_directory
 
-  less_entry : (here : ℕ) (other : List ℕ) → entry_at less.tree here other ≡ entry_at (changed nat_eq files (Remove from old object)).tree here other
+  less_entry : (here : ℕ) (other : List ℕ) → entry_at less.tree here other ≡ entry_at (changed nat_eq files
+      (Remove from old object)).tree here other
   less_entry here other = ap (λ o. entry_named other (entries_in o)) (less_removed here)
 
   less_free : entry_at less.tree to new ≡ None
   less_free = ⊎_elim
-      (λ t. ap (λ m. entry_at less.tree m new) t.1 ∙ less_entry from new ∙ entry_less files Refused from old object named_so no_directory new
+      (λ t. ap (λ m. entry_at less.tree m new) t.1 ∙ less_entry from new
+      ∙ entry_less files Refused from old object named_so no_directory new
       ∙ by (bytes_eq new old) (ap (λ m. entry_at files.tree m new) (sym t.1) ∙ free))
       (λ t. ap (λ o. entry_named new (entries_in o)) (elsewhere files from (node_without_entry old) to t.1) ∙ free)
       (eqb_tells to from)
@@ -390,7 +395,8 @@ module _ (files : FileTree ℕ) (Refused : Deny → Type 0) (from : ℕ) (old : 
       ((λ i. entry_at files.tree (sym same_directory i) (sym same_word i)) ∙ named_so))
 
   moved_part : {A : Type 0} (part : Option (Node ℕ) → A) → ((o : Option (Node ℕ)) → part (node_without_entry old o) ≡ part o)
-      → ((o : Option (Node ℕ)) → part (node_with_entry new object o) ≡ part o) → (n : ℕ) → part (moved.tree.node n) ≡ part (files.tree.node n)
+      → ((o : Option (Node ℕ)) → part (node_with_entry new object o) ≡ part o) → (n : ℕ) → part (moved.tree.node n) ≡ part
+      (files.tree.node n)
   moved_part part without with n =
       ap part (moved_node n) ∙ part_stays less to (node_with_entry new object) part with n
       ∙ part_stays files from (node_without_entry old) part without n

@@ -99,8 +99,10 @@ file_place looks task zero start text slash end e special = cc
 file_place looks task (suc depth) start text slash end e special =
     let fronts = both_walked (front_walked nat_eq looks task (followed nat_eq looks task) start (reverse (words text))) _ end e in
     let here = fronts.0 in
-    let places = both_walked (placed nat_eq looks task here (final_word (reverse (words text))) (slash || ends_in_slash text)) _ end fronts.2 in
-    by here places.0 places.1 (symlink_there nat_eq looks places.0) places.2 (λ next inner g. file_place looks task depth next inner (slash || ends_in_slash text) end g special)
+    let places = both_walked (placed nat_eq looks task here (final_word (reverse (words text)))
+    (slash || ends_in_slash text)) _ end fronts.2 in
+    by here places.0 places.1 (symlink_there nat_eq looks places.0) places.2 (λ next inner g. file_place looks task depth next inner
+    (slash || ends_in_slash text) end g special)
   where
     by : (here : Here ℕ) (place : Place ℕ)
         → placed nat_eq looks task here (final_word (reverse (words text))) (slash || ends_in_slash text) ≡ Ok place
@@ -145,7 +147,8 @@ module _ (looks later : Looks ℕ) (task reader : Task ℕ) (Refused : Deny → 
       (words_walked nat_eq later reader (followed_to depth later reader) (at start steps) front) _ here
       ((words_lead looks later task reader Refused Known leads 41 depth start front here few few_too walked).1 known steps)
       (λ steps_there known_there.
-      by steps_there (last_too looks later task reader Refused Known leads here (last_word word) next steps_there known_there searched (found known_there)))
+      by steps_there (last_too looks later task reader Refused Known leads here (last_word word) next steps_there known_there searched
+      (found known_there)))
       (λ stop refused. inr (stop, refused, refl))
     where
       by : (steps_there : List (List ℕ))
@@ -179,8 +182,10 @@ module _ (looks later : Looks ℕ) (task reader : Task ℕ) (Refused : Deny → 
       → EndsThere Refused (words_walked nat_eq later reader (followed_to depth later reader)
       (at (symlink_start nat_eq looks task here.location link inner) steps) (reverse (words inner))) next left)
       → Known start.location → (steps : List (List ℕ))
-      → EndsThere Refused (words_walked nat_eq later reader (followed_to (suc depth) later reader) (at start steps) (word ∷ front)) next left
-  linked_from depth start here word front link inner next left few few_too walked searched stepping same text follows no_slash ends known steps =
+      → EndsThere Refused (words_walked nat_eq later reader (followed_to (suc depth) later reader) (at start steps) (word
+      ∷ front)) next left
+  linked_from depth start here word front link inner next left few few_too walked searched stepping same text follows no_slash ends
+      known steps =
       through looks later task reader Refused Known leads (λ r. EndsThere Refused r next left)
       (words_walked nat_eq later reader (followed_to (suc depth) later reader) (at start steps) front) _ here
       ((words_lead looks later task reader Refused Known leads 41 (suc depth) start front here few few_too walked).1 known steps)
@@ -190,7 +195,8 @@ module _ (looks later : Looks ℕ) (task reader : Task ℕ) (Refused : Deny → 
       (word_too looks later task reader Refused Known leads here link (last_word word) steps_there known_there searched same
       (leads.step here.location (last_word word) link.location known_there (not_fails _ searched.0) stepping))
       (λ steps_link known_link.
-      subst (λ o. EndsThere Refused (if_link (at link steps_link) o (followed_to (suc depth) later reader here.location (at link steps_link))) next left)
+      subst (λ o. EndsThere Refused (if_link (at link steps_link) o (followed_to (suc depth) later reader here.location
+      (at link steps_link))) next left)
       (sym (leads.link link.location known_link ∙ text))
       (by steps_link (walk_passed steps_link (follow_rules nat_eq later (at link steps_link) inner) _
       (leads.nosymfollow link.location known_link ∙ follows.0, follows.1))
@@ -206,7 +212,8 @@ module _ (looks later : Looks ℕ) (task reader : Task ℕ) (Refused : Deny → 
       inside r = then_walk r (λ reached. walk_unless reached.steps (slash_rules nat_eq later inner reached.location) reached)
 
       finish : (r : Result (Here ℕ) (Stop ℕ)) → EndsThere Refused r next left
-          → EndsThere Refused (then_walk r (λ reached. walk_unless reached.steps (slash_rules nat_eq later inner reached.location) reached)) next left
+          → EndsThere Refused (then_walk r (λ reached. walk_unless reached.steps
+          (slash_rules nat_eq later inner reached.location) reached)) next left
       finish r (inl e) =
           inl (
             e.0,
@@ -225,7 +232,8 @@ module _ (looks later : Looks ℕ) (task reader : Task ℕ) (Refused : Deny → 
           (symlink_start nat_eq later reader here.location (at link steps_link) inner)
           ≡ Ok (symlink_start nat_eq later reader here.location (at link steps_link) inner)
           → EndsThere Refused (words_walked nat_eq later reader (followed_to depth later reader)
-          (at (symlink_start nat_eq looks task here.location link inner) (symlink_start nat_eq later reader here.location (at link steps_link) inner).steps)
+          (at (symlink_start nat_eq looks task here.location link inner) (symlink_start nat_eq later reader here.location
+          (at link steps_link) inner).steps)
           (reverse (words inner))) next left
           → EndsThere Refused (followed_to (suc depth) later reader here.location (at link steps_link) inner) next left
       by steps_link pass ends_so =
@@ -244,7 +252,8 @@ module _ (looks later : Looks ℕ) (task reader : Task ℕ) (Refused : Deny → 
   FindsFile depth file start text slash =
       (slash ≡ false) × (ends_in_slash text ≡ false)
       × (left : ℕ) × (Known start.location → (steps : List (List ℕ))
-      → EndsThere Refused (words_walked nat_eq later reader (followed_to depth later reader) (at start steps) (reverse (words text))) file left)
+      → EndsThere Refused (words_walked nat_eq later reader (followed_to depth later reader) (at start steps) (reverse
+      (words text))) file left)
 
   start_directory : (directory : Location ℕ) (text : List ℕ) → is_directory_at looks directory ≡ true
       → is_directory_at looks (start_of task directory text) ≡ true
@@ -270,7 +279,8 @@ module _ (looks later : Looks ℕ) (task reader : Task ℕ) (Refused : Deny → 
   file_too (suc depth) start text slash end few is e special no_slash other few_too file found no_text =
       let fronts = both_walked (front_walked nat_eq looks task (followed nat_eq looks task) start (reverse (words text))) _ end e in
       let here = fronts.0 in
-      let places = both_walked (placed nat_eq looks task here (final_word (reverse (words text))) (slash || ends_in_slash text)) _ end fronts.2 in
+      let places = both_walked (placed nat_eq looks task here (final_word (reverse (words text)))
+      (slash || ends_in_slash text)) _ end fronts.2 in
       by other few_too (reverse (words text)) here places.0 fronts.1 places.1 (symlink_there nat_eq looks places.0) refl places.2
       (λ deep next inner next_few next_is walks less.
       file_too depth next inner (slash || ends_in_slash text) end next_few next_is walks special no_slash deep less file found no_text)
@@ -334,7 +344,8 @@ module _ (looks later : Looks ℕ) (task reader : Task ℕ) (Refused : Deny → 
             slashes.1,
             rest.2,
             linked_from other start here word front (symlink_of here place) inner file rest.2 few few_too walked parts.0
-                (named_step looks task here.location (last_word word) link.0 (parts.1 ∙ ap Ok link.1) (bare link.0 inner link.2) ∙ ap Ok (sym link_is))
+                (named_step looks task here.location (last_word word) link.0 (parts.1 ∙ ap Ok link.1) (bare link.0 inner link.2) ∙ ap Ok
+                (sym link_is))
                 refl (ap (λ l. symlink_text (looks.node l)) link_is ∙ link.2) begins.0 rest.1
                 (λ steps known.
                 subst (λ (h : Here ℕ). EndsThere Refused (words_walked nat_eq later reader (followed_to other later reader)

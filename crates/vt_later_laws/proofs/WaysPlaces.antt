@@ -53,13 +53,16 @@ placed_at looks task here Dot slash place e special =
     (not_stopped (steps_at nat_eq looks task here Dot) _ place e) in
     absurd (no_name Dot place (ap (λ (p : Place ℕ). p.last) (same_ok _ place both.2)) refl special)
 placed_at looks task here DotDot slash place e special =
-    let both = both_gave (unless (search_rules nat_eq looks task here.location) (object_named nat_eq looks task here.location DotDot)) _ place
+    let both = both_gave (unless (search_rules nat_eq looks task here.location)
+    (object_named nat_eq looks task here.location DotDot)) _ place
     (not_stopped (steps_at nat_eq looks task here DotDot) _ place e) in
     absurd (no_name DotDot place (ap (λ (p : Place ℕ). p.last) (same_ok _ place both.2)) refl special)
 placed_at looks task here (Named name) slash place e special =
-    let both = both_gave (unless (search_rules nat_eq looks task here.location) (object_named nat_eq looks task here.location (Named name))) _ place
+    let both = both_gave (unless (search_rules nat_eq looks task here.location) (object_named nat_eq looks task here.location
+    (Named name))) _ place
     (not_stopped (steps_at nat_eq looks task here (Named name)) _ place e) in
-    let parts = passing (search_rules nat_eq looks task here.location) (object_named nat_eq looks task here.location (Named name)) both.0 both.1 in
+    let parts = passing (search_rules nat_eq looks task here.location) (object_named nat_eq looks task here.location
+    (Named name)) both.0 both.1 in
     let same = same_ok _ place both.2 in
     record {
       searched = parts.0;
@@ -74,7 +77,8 @@ pub named_place : (looks : Looks ℕ) (task : Task ℕ) (path : List ℕ) (place
 named_place looks task path place e special =
     let texts = both_walked (path_text {N = ℕ} path) _ place e in
     let same : path ≡ texts.0 = path_parsed path texts.0 texts.1 in
-    let rest = subst (λ text. then_walk (front_walked nat_eq looks task (followed nat_eq looks task) (walk_start task text) (reverse (words text)))
+    let rest = subst (λ text. then_walk (front_walked nat_eq looks task (followed nat_eq looks task) (walk_start task text) (reverse
+    (words text)))
     (λ here. placed nat_eq looks task here (final_word (reverse (words text))) (ends_in_slash text)) ≡ Ok place) (sym same) texts.2 in
     by (reverse (words path)) refl (texts.1 ∙ ap Ok (sym same)) rest
   where
@@ -189,7 +193,8 @@ module _ (looks later : Looks ℕ) (task reader : Task ℕ) (Refused : Deny → 
             steps_with nat_eq later reader (at here steps) word,
             ap (λ r. stopped_by (steps_with nat_eq later reader (at here steps) word) (and_then r (λ reached.
                 Ok (record { location = reached; left = here.left; steps = steps_with nat_eq later reader (at here steps) word }))))
-                (passed (search_rules nat_eq later reader here.location) (stepped nat_eq later reader here.location word) may_search ∙ found),
+                (passed (search_rules nat_eq later reader here.location) (stepped nat_eq later reader here.location word) may_search
+                ∙ found),
           )
       by (inr hidden) =
           inr (
@@ -264,23 +269,27 @@ module _ (looks later : Looks ℕ) (task reader : Task ℕ) (Refused : Deny → 
           (through (λ r. EndsThere Refused r next parts.here.left)
           (words_walked nat_eq later reader (followed nat_eq later reader) (walk_start reader path) parts.front) _ parts.here front_too
           (λ steps known.
-          by steps (last_too parts.here (last_word parts.word) next steps known parts.searched (stepped_there (Ok next) (found (parent_known known)))))
+          by steps (last_too parts.here (last_word parts.word) next steps known parts.searched (stepped_there (Ok next) (found
+          (parent_known known)))))
           (λ stop refused. inr (stop, refused, refl)))
         where
           goes_on : List (List ℕ) → Here ℕ → Result (Here ℕ) (Stop ℕ)
           goes_on steps there =
               if_link there (symlink_text (later.node there.location)) (followed nat_eq later reader parts.here.location there)
 
-          by : (steps : List (List ℕ)) → EndsThere Refused (word_walked nat_eq later reader (at parts.here steps) (last_word parts.word)) next parts.here.left
+          by : (steps : List (List ℕ)) → EndsThere Refused (word_walked nat_eq later reader (at parts.here steps)
+              (last_word parts.word)) next parts.here.left
               → EndsThere Refused (then_walk (word_walked nat_eq later reader (at parts.here steps) (last_word parts.word)) (λ there.
-              if_link there (symlink_text (later.node there.location)) (followed nat_eq later reader parts.here.location there))) next parts.here.left
+              if_link there (symlink_text (later.node there.location))
+              (followed nat_eq later reader parts.here.location there))) next parts.here.left
           by steps (inl e) =
               inl (
                 e.0,
                 ap (λ r. then_walk r (λ there.
                     if_link there (symlink_text (later.node there.location)) (followed nat_eq later reader parts.here.location there))) e.1
                     ∙ ap (λ o. if_link (record { location = next; left = parts.here.left; steps = e.0 }) o
-                    (followed nat_eq later reader parts.here.location (record { location = next; left = parts.here.left; steps = e.0 }))) no_link,
+                    (followed nat_eq later reader parts.here.location
+                    (record { location = next; left = parts.here.left; steps = e.0 }))) no_link,
               )
           by steps (inr stop) = inr (
             stop.0,
@@ -294,13 +303,15 @@ module _ (looks later : Looks ℕ) (task reader : Task ℕ) (Refused : Deny → 
           subst (λ r. EndsThere Refused r next parts.here.left) (sym unfollowed_is)
           (through (λ r. EndsThere Refused r next parts.here.left)
           (words_walked nat_eq later reader (followed nat_eq later reader) (walk_start reader path) parts.front) _ parts.here front_too
-          (λ steps known. last_too parts.here (last_word parts.word) next steps known parts.searched (stepped_there (Ok next) (found (parent_known known))))
+          (λ steps known. last_too parts.here (last_word parts.word) next steps known parts.searched (stepped_there (Ok next) (found
+          (parent_known known))))
           (λ stop refused. inr (stop, refused, refl)))
 
       -- what rules let pass after the walk
       after_path : EndsThere Refused (path_walked nat_eq later reader path) next parts.here.left
           → (rules : Location ℕ → Rules) → AllPass (rules next)
-          → EndsThere Refused (then_walk (path_walked nat_eq later reader path) (λ here. walk_unless here.steps (rules here.location) here)) next parts.here.left
+          → EndsThere Refused (then_walk (path_walked nat_eq later reader path) (λ here. walk_unless here.steps
+          (rules here.location) here)) next parts.here.left
       after_path (inl e) rules pass =
           inl (
             e.0,
@@ -336,14 +347,16 @@ module _ (looks later : Looks ℕ) (task reader : Task ℕ) (Refused : Deny → 
           by false e = unfollowed_too
 
     -- a name that is missing
-    module _ (deny : Deny) (refused : Refused deny) (lost : Known place.parent → stepped nat_eq later reader place.parent place.last ≡ Err deny) where
+    module _ (deny : Deny) (refused : Refused deny) (lost : Known place.parent
+        → stepped nat_eq later reader place.parent place.last ≡ Err deny) where
       missing_path_too : Stops Refused (path_walked nat_eq later reader path)
       missing_path_too =
           subst (Stops Refused) (sym path_is)
           (through (Stops Refused)
           (words_walked nat_eq later reader (followed nat_eq later reader) (walk_start reader path) parts.front) _ parts.here front_too
           (λ steps known.
-          let stop = last_stops parts.here (last_word parts.word) deny steps known parts.searched (stepped_there (Err deny) (lost (parent_known known))) refused in (
+          let stop = last_stops parts.here (last_word parts.word) deny steps known parts.searched (stepped_there (Err deny) (lost
+          (parent_known known))) refused in (
             stop.0,
             stop.1,
             ap (λ r. then_walk r (λ there.
@@ -356,7 +369,8 @@ module _ (looks later : Looks ℕ) (task reader : Task ℕ) (Refused : Deny → 
           subst (Stops Refused) (sym unfollowed_is)
           (through (Stops Refused)
           (words_walked nat_eq later reader (followed nat_eq later reader) (walk_start reader path) parts.front) _ parts.here front_too
-          (λ steps known. last_stops parts.here (last_word parts.word) deny steps known parts.searched (stepped_there (Err deny) (lost (parent_known known))) refused)
+          (λ steps known. last_stops parts.here (last_word parts.word) deny steps known parts.searched (stepped_there (Err deny) (lost
+          (parent_known known))) refused)
           (λ stop refused. (stop, refused, refl)))
 
       pub symlink_missing : Stops Refused (symlink_walk nat_eq later reader path)

@@ -175,7 +175,8 @@ module _ (world later : World ℕ) (is : IsWorld nat_eq world) (plain : IsPlain 
       → IsFoundDirectory later is_later reader b
   hop_known_later a b found e = by (same_location nat_eq a reader.root) (nat_eq a.node (mount_at nat_eq later a).root) e
     where
-      by : (p q : Bool) → cond p None (cond q (mount_at nat_eq later a).mount_point None) ≡ Some b → IsFoundDirectory later is_later reader b
+      by : (p q : Bool) → cond p None (cond q (mount_at nat_eq later a).mount_point None) ≡ Some b
+          → IsFoundDirectory later is_later reader b
       by true q h = none_is_not None b refl h
       by false true h = place_found later is_later reader a.mount b found.0 h
       by false false h = none_is_not None b refl h
@@ -191,7 +192,8 @@ module _ (world later : World ℕ) (is : IsWorld nat_eq world) (plain : IsPlain 
   top_known here known = (
     chain_ends (IsFoundDirectory world is task) (hop nat_eq world task) hop_known (length world.mounts) here here known.0,
     subst (IsFoundDirectory later is_later reader) (top_same here)
-        (chain_ends (IsFoundDirectory later is_later reader) (hop nat_eq later reader) hop_known_later (length later.mounts) here here known.1),
+        (chain_ends (IsFoundDirectory later is_later reader) (hop nat_eq later reader) hop_known_later
+        (length later.mounts) here here known.1),
   )
 
   abbrev up_by : List (Mount ℕ) → Location ℕ → (parent : ℕ) → (lost : Bool) → Location ℕ → Result (Location ℕ) Deny
@@ -279,7 +281,8 @@ module _ (world later : World ℕ) (is : IsWorld nat_eq world) (plain : IsPlain 
       at_top : KnownDirectory (top here)
       at_top = top_known here known
 
-      same_parent : parent_in (top here).node (node_at nat_eq later (top here)) ≡ parent_in (top here).node (node_at nat_eq world (top here))
+      same_parent : parent_in (top here).node (node_at nat_eq later (top here)) ≡ parent_in (top here).node (node_at nat_eq world
+          (top here))
       same_parent =
           ap (parent_in (top here).node) (node_here (top here))
           ∙ stay.parent (mount_at nat_eq world (top here)).filesystem (top here).node

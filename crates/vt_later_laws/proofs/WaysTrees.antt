@@ -16,7 +16,8 @@ module _ (tree : Tree ℕ) (conditions : IsTree tree) where
   by_parent : (d : ℕ) → IsDirectory tree d → IsReached tree d → (p : ℕ) → named_parent nat_eq tree d ≡ Some p
       → (name : List ℕ) × (entry_at tree p name ≡ Some d) × IsDirectory tree p × IsReached tree p
   by_parent d is reached p e = ⊎_elim
-      (λ root. none_is_not None p refl (sym (ap (λ b. cond b None (when (has_entry_to nat_eq tree (parent_in d (tree.node d)) d) (parent_in d (tree.node d))))
+      (λ root. none_is_not None p refl (sym (ap (λ b. cond b None (when (has_entry_to nat_eq tree (parent_in d (tree.node d)) d)
+      (parent_in d (tree.node d))))
       (eq-eqb d tree.root (sym root))) ∙ e))
       (λ named.
       let same : named.0 ≡ p = some_same named.0 p (sym (parent_named tree conditions named.0 named.1 d named.2 is) ∙ e) in (

@@ -144,7 +144,8 @@ module _ (world later : World ℕ) (is : IsWorld nat_eq world) (task : Task ℕ)
         finds.2,
         object_by_words (looks_of nat_eq later) reader path file finds.2 parts.parsed finds.1
             (surely _ file finds.2
-            (subst (λ start. EndsThere Never (words_walked nat_eq (looks_of nat_eq later) reader (followed_to 41 (looks_of nat_eq later) reader) start
+            (subst (λ start. EndsThere Never (words_walked nat_eq (looks_of nat_eq later) reader (followed_to 41
+            (looks_of nat_eq later) reader) start
             (reverse (words path))) file finds.2)
             (sym (begun (looks_of nat_eq world) (looks_of nat_eq later) task reader Never Known leads_so path))
             (finds.3 (start_known (looks_of nat_eq world) (looks_of nat_eq later) task reader Never Known leads_so
@@ -216,7 +217,8 @@ module _ (world : World ℕ) (fresh : Fresh ℕ) (name : TaskName) (path bytes :
     something = (ends.2 file object).0.1
 
     old : (attr : Attr) × (bytes_then : List ℕ) × (node_at nat_eq world file ≡ Some (record { attr = attr; content = Regular bytes_then }))
-    old = file_of (node_at nat_eq world file) (others_are_files (node_at nat_eq world file) something (ends.2 file object).1 no_directory no_whiteout)
+    old = file_of (node_at nat_eq world file) (others_are_files (node_at nat_eq world file) something
+        (ends.2 file object).1 no_directory no_whiteout)
 
     tree : IsFileTree (files_at nat_eq world file)
     tree = tree_there world is plain file something
@@ -231,18 +233,22 @@ module _ (world : World ℕ) (fresh : Fresh ℕ) (name : TaskName) (path bytes :
     stay = ways_with_bytes (files_at nat_eq world file) Never file.node bytes
 
     rewriter : task_called left name ≡ Some (raised_task name did.task)
-    rewriter = caller world fresh name (Write path bytes) Done is plain serves refl refl did file change fresh asks does something tt tree Never stay
+    rewriter = caller world fresh name
+        (Write path bytes) Done is plain serves refl refl did file change fresh asks does something tt tree Never stay
 
     old_read : ReadsSo left did.task path bytes old.0
     old_read reader reading called stands looks later_fresh =
         let self = own_name left reader reading called in
-        let leads_so = leads world fresh name (Write path bytes) Done is plain serves refl refl did file change fresh asks does something tt tree Never stay
+        let leads_so = leads world fresh name
+        (Write path bytes) Done is plain serves refl refl did file change fresh asks does something tt tree Never stay
         reading self stands (rights_with_bytes (files_at nat_eq world file) Never file.node bytes) looks in
         let at_file = found_at world left is did.task own path place walk named no_slash file reading _ leads_so in
         let seen : node_at nat_eq left file ≡ Some (record { attr = old.0; content = Regular bytes }) =
-        seen_at world fresh name (Write path bytes) Done is plain serves refl refl did file change fresh asks does something tt tree Never stay
+        seen_at world fresh name
+        (Write path bytes) Done is plain serves refl refl did file change fresh asks does something tt tree Never stay
         reading self stands file.node
-        ∙ all_stays world fresh name (Write path bytes) Done is plain serves refl refl did file change fresh asks does something tt tree refl file.node
+        ∙ all_stays world fresh name
+        (Write path bytes) Done is plain serves refl refl did file change fresh asks does something tt tree refl file.node
         ∙ there (files_at nat_eq world file) file.node (node_with_bytes bytes) ∙ ap (node_with_bytes bytes) old.2 in
         let before : stepped nat_eq (looks_of nat_eq world) did.task place.parent place.last ≡ Ok file =
         ap (stepped nat_eq (looks_of nat_eq world) did.task place.parent) (named_last place.last named)
@@ -252,7 +258,8 @@ module _ (world : World ℕ) (fresh : Fresh ℕ) (name : TaskName) (path bytes :
         read_of left later_fresh reader reading called path left_plain _ finds.1.1 old.0 bytes seen
 
 -- what a granted write was permitted
-write_parts : (looks : Looks ℕ) (task : Task ℕ) (path bytes : List ℕ) (permit : Permit ℕ) → write_permit nat_eq looks task path bytes ≡ Ok permit
+write_parts : (looks : Looks ℕ) (task : Task ℕ) (path bytes : List ℕ) (permit : Permit ℕ)
+    → write_permit nat_eq looks task path bytes ≡ Ok permit
     → (place : Place ℕ) × (file_walk nat_eq looks task path ≡ Ok place) × ((is_special place.last || place.slash) ≡ false)
     × (written_permit nat_eq looks task place bytes place.object ≡ Ok permit)
 unfolding write_permit
@@ -284,10 +291,12 @@ write_then_read path bytes world fresh name task is plain serves called granted 
         × IsSeenByAll (policy nat_eq fresh world name (Write path bytes)).world task (Read path) (Bytes bytes)
     seen attr reads there_still = (
       λ later_fresh. subst (λ a. (a ≡ Ok (Bytes bytes)) ⊎ (a ≡ Err (denial C1)))
-          (sym (reads name (raised_task name did.task) there_still (raised_stands name did.task) (inl (raised_credentials name did.task)) later_fresh))
+          (sym (reads name (raised_task name did.task) there_still (raised_stands name did.task) (inl
+          (raised_credentials name did.task)) later_fresh))
           (either_read _ bytes),
       λ reader reading looks later_fresh.
-          reads reader reading looks.called (subst (λ t. StandsAs t reading) (sym task_is) (all_stands _ task reader reading looks)) (inr looks.all) later_fresh
+          reads reader reading looks.called (subst (λ t. StandsAs t reading) (sym task_is) (all_stands _ task reader reading looks))
+          (inr looks.all) later_fresh
           ∙ ap (λ b. cond b (Ok (Bytes bytes)) (Err (denial C1))) (read_all reading.credentials looks.all attr (Regular bytes)),
     )
 
@@ -296,15 +305,20 @@ write_then_read path bytes world fresh name task is plain serves called granted 
         → IsAnsweredUnless C1 (policy nat_eq fresh world name (Write path bytes)).world name (Read path) (Bytes bytes)
         × IsSeenByAll (policy nat_eq fresh world name (Write path bytes)).world task (Read path) (Bytes bytes)
     by (Some file) object e =
-        let rules = passing (rewrite_rules (looks_of nat_eq world) did.task file bytes) (Ok (ToChange file (SetBytes file.node bytes))) did.permit
+        let rules = passing (rewrite_rules (looks_of nat_eq world) did.task file bytes) (Ok (ToChange file
+        (SetBytes file.node bytes))) did.permit
         (sym (ap (written_permit nat_eq (looks_of nat_eq world) did.task parts.0 bytes) object) ∙ e) in
         let permit_is = sym (same_ok _ did.permit rules.1) in
-        seen _ (old_read world fresh name path bytes is plain serves did parts.0 parts.1 words_pass.0 words_pass.1 file object rules.0.0 rules.0.1.1.0 permit_is)
-        (rewriter world fresh name path bytes is plain serves did parts.0 parts.1 words_pass.0 words_pass.1 file object rules.0.0 rules.0.1.1.0 permit_is)
+        seen _ (old_read world fresh name path bytes is plain serves did parts.0 parts.1 words_pass.0 words_pass.1 file object rules.0.0
+        rules.0.1.1.0 permit_is)
+        (rewriter world fresh name path bytes is plain serves did parts.0 parts.1 words_pass.0 words_pass.1 file object rules.0.0
+        rules.0.1.1.0 permit_is)
     by None object e =
         let small = passing ((nat_lt largest_file (length bytes), E6) ∷ []) _ did.permit
         (sym (ap (written_permit nat_eq (looks_of nat_eq world) did.task parts.0 bytes) object) ∙ e) in
-        let rules = passing (make_rules (looks_of nat_eq world) did.task parts.0 (unnumbered parts.0 (new_file did.task file_mode bytes))) _ did.permit small.1 in
+        let rules = passing (make_rules (looks_of nat_eq world) did.task parts.0 (unnumbered parts.0
+        (new_file did.task file_mode bytes))) _ did.permit small.1 in
         let permit_is = sym (same_ok _ did.permit rules.1) in
-        seen (new_attr did.task file_mode) (new_read world fresh name path bytes is plain serves did parts.0 parts.1 words_pass.0 words_pass.1 permit_is)
+        seen (new_attr did.task file_mode)
+        (new_read world fresh name path bytes is plain serves did parts.0 parts.1 words_pass.0 words_pass.1 permit_is)
         (new_maker world fresh name path bytes is plain serves did parts.0 parts.1 words_pass.0 words_pass.1 permit_is)

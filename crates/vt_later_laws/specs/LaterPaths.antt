@@ -120,7 +120,8 @@ ChownThenStat =
     (path : List ℕ) (uid gid : Option ℕ) → TellsAfter (Chown path uid gid) path (λ attr. attr_with_owner attr uid gid)
 
 -- An object that is no directory and was given a name that was free has this name: lstat tells of it what it told by the old
--- one. The old name is missing. W6 refuses the new one only where its path led through the old one, which is a symlink's then.
+-- one. The old name is missing. W6 is the one refusal of the new one that there may be: its path may have led through the old
+-- one, a symlink.
 abbrev pub RenameThenLstat : Type 0
 RenameThenLstat =
     (old new : List ℕ) (world : World ℕ) (fresh : Fresh ℕ) (name : TaskName) (task : Task ℕ) (from to : Place ℕ)
@@ -145,8 +146,10 @@ ExclusiveTwice =
     → (policy nat_eq fresh world name (OpenFile path access (Exclusive mode))).answer ≡ Ok (Opened number)
     → ((now : Task ℕ) → task_called (policy nat_eq fresh world name (OpenFile path access (Exclusive mode))).world name ≡ Some now
     → nat_le most_descriptors (length now.descriptors) ≡ false
-    → IsRefused E1 (policy nat_eq fresh world name (OpenFile path access (Exclusive mode))).world name (OpenFile path again (Exclusive other)))
+    → IsRefused E1 (policy nat_eq fresh world name (OpenFile path access (Exclusive mode))).world name (OpenFile path again
+    (Exclusive other)))
     × ((reader : TaskName) (reading : Task ℕ)
     → LooksFrom (policy nat_eq fresh world name (OpenFile path access (Exclusive mode))).world task reader reading
     → nat_le most_descriptors (length reading.descriptors) ≡ false
-    → IsRefused E1 (policy nat_eq fresh world name (OpenFile path access (Exclusive mode))).world reader (OpenFile path again (Exclusive other)))
+    → IsRefused E1 (policy nat_eq fresh world name (OpenFile path access (Exclusive mode))).world reader (OpenFile path again
+    (Exclusive other)))

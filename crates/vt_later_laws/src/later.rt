@@ -13,11 +13,11 @@ pub fn later_calls_see_earlier_ones()
     ensures created_alone { ExclusiveThenPread }
 {}
 
-/// What a granted call did is seen at the same path by the calls after it: by the same task, and by each task that has its root and
-/// working directory and may search and read everything.
+/// What a granted call did is seen at the same path by the calls after it: by the same task, and by each task that has
+/// its root and working directory and may search and read everything.
 ///
-/// The walk to it leads where it led, through mounts and symlinks. Of the changes only those of rights may hide it from the task, and only the removal
-/// of a name takes it away.
+/// The walk to it leads where it led, through mounts and symlinks. Of the changes only those of rights may hide it from
+/// the task, and only the removal of a name takes it away.
 pub fn later_calls_see_it_at_the_path()
     ensures written { WriteThenRead }
     ensures made { MkdirThenList }

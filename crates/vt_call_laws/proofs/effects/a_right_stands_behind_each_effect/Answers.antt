@@ -1,5 +1,5 @@
 use Rattle.vt_call_laws.proofs.EffectsRights.{changes_are_by_right}
-use Rattle.vt_call_laws.proofs.EffectsTold.{bytes_are_told_by_right, names_are_told_by_right}
+use Rattle.vt_call_laws.proofs.EffectsTold.{bytes_are_told_by_right, names_are_told_by_right, opens_are_by_right}
 use Rattle.vt_call_laws.proofs.effects.a_right_stands_behind_each_effect.Goals as goal
 
 pub returns-clause-changes : goal.returns-clause-changes
@@ -10,3 +10,6 @@ returns-clause-names c = names_are_told_by_right
 
 pub returns-clause-bytes : goal.returns-clause-bytes
 returns-clause-bytes c = bytes_are_told_by_right
+
+pub returns-clause-opens : goal.returns-clause-opens
+returns-clause-opens c = opens_are_by_right
