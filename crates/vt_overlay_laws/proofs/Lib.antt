@@ -2,9 +2,11 @@ pub mod WholeAttributes
 pub mod WholeCopied
 pub mod WholeGrown
 pub mod WholeHidden
+pub mod WholeLater
 pub mod WholeLeft
 pub mod WholeLines
 pub mod WholeLinked
+pub mod WholeLowers
 pub mod WholeMade
 pub mod WholeMoved
 pub mod WholeMovedTree

@@ -7,13 +7,15 @@ use Rattle.vt_spec.specs.Language.Changes.{Change}
 use Rattle.vt_spec.specs.Language.Changes.Change.{AddName, CopyUp, Make, Move, Remove, SetAttr, SetBytes, SetMark}
 use Rattle.vt_spec.specs.Lists.{Fresh}
 use Rattle.vt_spec.specs.Machine.CopyUp.{Merge, Stack, merge_changed, path_to}
-use Rattle.vt_spec.specs.Machine.Filesystems.{merge_of, stack_of}
+use Rattle.vt_spec.specs.Machine.Filesystems.{merge_of, stack_of, with_change}
 use Rattle.vt_spec.specs.Machine.Layers.{has_lower_directory, shown}
-use Rattle.vt_spec.specs.Machine.World.{Filesystem, Layer, Overlay, World, filesystem_numbered}
+use Rattle.vt_spec.specs.Machine.World.{Filesystem, Layer, Overlay, World, filesystem_at, filesystem_numbered, mount_at}
 use Rattle.vt_spec.specs.Machine.WorldLaws.{IsMerged, IsWorld}
 use Rattle.vt_spec.specs.Tree.{kind_of}
 use Rattle.vt_spec.specs.TreeLaws.{IsDirectory, IsReached}
 use Rattle.vt_tree_laws.specs.Trees.{MayAddName, MayMake, MayMove, MayRemove}
+use Rattle.vt_spec.specs.Machine.Mounts.{Location}
+use Rattle.vt_layer_laws.specs.Layers.Locked.{AreNoInodes}
 use Rattle.vt_layer_laws.specs.Layers.Upper.{IsThere}
 use Rattle.vt_overlay_laws.specs.WhatIsShown.{IsWhatIsShown, IsWhole, layers_under}
 
@@ -67,3 +69,16 @@ HiddenStaysHidden =
     → IsAskedWell stack merge change
     → shown (layers_under stack (merge_changed nat_eq fresh stack merge change)) path ≡ Some (record { layer = layer + 1; object = object })
     → shown (layers_under stack merge) path ≡ Some (record { layer = layer + 1; object = object })
+
+-- In a world: an overlay through which a change goes is what its layers show after it, its lower layers as they are then.
+abbrev pub ChangedOverlayIsMerged : Type 0
+ChangedOverlayIsMerged =
+    (fresh : Fresh ℕ) (world : World ℕ) (location : Location ℕ) (change : Change ℕ) (overlay later : Overlay ℕ) (upper : Layer ℕ)
+    → IsWorld nat_eq world
+    → (filesystem_at nat_eq world location).overlay ≡ Some overlay → overlay.upper ≡ Some upper
+    → IsReached (filesystem_numbered nat_eq world upper.filesystem).files.tree upper.directory
+    → ((j k : ℕ) → fresh j ≡ fresh k → j ≡ k) → ((filesystem : ℕ) → AreNoInodes fresh world filesystem)
+    → IsAskedWell (stack_of nat_eq world overlay upper) (merge_of nat_eq world (filesystem_at nat_eq world location) overlay upper) change
+    → (filesystem_numbered nat_eq (with_change nat_eq fresh world location change) (mount_at nat_eq world location).filesystem).overlay ≡ Some later
+    → IsMerged nat_eq (with_change nat_eq fresh world location change)
+    (filesystem_numbered nat_eq (with_change nat_eq fresh world location change) (mount_at nat_eq world location).filesystem) later

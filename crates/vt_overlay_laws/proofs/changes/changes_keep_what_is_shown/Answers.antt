@@ -1,3 +1,4 @@
+use Rattle.vt_overlay_laws.proofs.WholeLater.{changed_overlay_is_merged}
 use Rattle.vt_overlay_laws.proofs.WholeHidden.{hidden_stays_hidden}
 use Rattle.vt_overlay_laws.proofs.WholeTogether.{changes_keep_shown}
 use Rattle.vt_overlay_laws.proofs.WholeWorlds.{overlays_are_whole, shown_is_merged}
@@ -14,3 +15,6 @@ returns-clause-whole c = overlays_are_whole
 
 pub returns-clause-hidden : goal.returns-clause-hidden
 returns-clause-hidden c = hidden_stays_hidden
+
+pub returns-clause-world : goal.returns-clause-world
+returns-clause-world c = changed_overlay_is_merged
