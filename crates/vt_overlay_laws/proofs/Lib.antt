@@ -12,6 +12,7 @@ pub mod WholeMoved
 pub mod WholeMovedTree
 pub mod WholeNames
 pub mod WholeNew
+pub mod WholeOthers
 pub mod WholeParts
 pub mod WholePlaces
 pub mod WholeRemoved

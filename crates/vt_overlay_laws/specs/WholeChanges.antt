@@ -1,6 +1,6 @@
 -- Each change of an overlay keeps that its tree is what its layers show: the kernel's overlayfs document, "upper and lower",
 -- "directories" and "whiteouts and opaque directories".
-use Rattle.std.specs.Prelude.{List, [], None, Some, false, nat_eq, ℕ, ◌+◌, ◌∷◌, ◌≡◌}
+use Rattle.std.specs.Prelude.{List, [], None, Some, false, nat_eq, ℕ, ◌+◌, ◌∷◌, ◌≡◌, ◌≢◌}
 use Rattle.vt_spec.specs.declared.attributes.Kind.TheVariants.{White}
 use Rattle.vt_spec.specs.FileTree.{is_kind}
 use Rattle.vt_spec.specs.Language.Changes.{Change}
@@ -9,14 +9,14 @@ use Rattle.vt_spec.specs.Lists.{Fresh}
 use Rattle.vt_spec.specs.Machine.CopyUp.{Merge, Stack, merge_changed, path_to}
 use Rattle.vt_spec.specs.Machine.Filesystems.{merge_of, stack_of, with_change}
 use Rattle.vt_spec.specs.Machine.Layers.{has_lower_directory, shown}
-use Rattle.vt_spec.specs.Machine.World.{Filesystem, Layer, Overlay, World, filesystem_at, filesystem_numbered, mount_at}
+use Rattle.vt_spec.specs.Machine.World.{Filesystem, Layer, Overlay, World, files_at, filesystem_at, filesystem_numbered, mount_at}
 use Rattle.vt_spec.specs.Machine.WorldLaws.{IsMerged, IsWorld}
 use Rattle.vt_spec.specs.Tree.{kind_of}
 use Rattle.vt_spec.specs.TreeLaws.{IsDirectory, IsReached}
 use Rattle.vt_tree_laws.specs.Trees.{MayAddName, MayMake, MayMove, MayRemove}
 use Rattle.vt_spec.specs.Machine.Mounts.{Location}
 use Rattle.vt_layer_laws.specs.Layers.Locked.{AreNoInodes}
-use Rattle.vt_layer_laws.specs.Layers.Upper.{IsThere}
+use Rattle.vt_layer_laws.specs.Layers.Upper.{IsThere, SpeaksOfWhatIsThere}
 use Rattle.vt_overlay_laws.specs.WhatIsShown.{IsWhatIsShown, IsWhole, layers_under}
 
 -- What is asked for: what the calls' tables of rules see to. A directory moves only where no lower layer that is not cut has one
@@ -82,3 +82,15 @@ ChangedOverlayIsMerged =
     → (filesystem_numbered nat_eq (with_change nat_eq fresh world location change) (mount_at nat_eq world location).filesystem).overlay ≡ Some later
     → IsMerged nat_eq (with_change nat_eq fresh world location change)
     (filesystem_numbered nat_eq (with_change nat_eq fresh world location change) (mount_at nat_eq world location).filesystem) later
+
+-- and every other overlay goes on being what its layers show.
+abbrev pub OtherOverlaysStayMerged : Type 0
+OtherOverlaysStayMerged =
+    (fresh : Fresh ℕ) (world : World ℕ) (location : Location ℕ) (change : Change ℕ) (overlay other : Overlay ℕ) (upper : Layer ℕ) (number : ℕ)
+    → IsWorld nat_eq world
+    → (filesystem_at nat_eq world location).overlay ≡ Some overlay → overlay.upper ≡ Some upper
+    → ((filesystem : ℕ) → AreNoInodes fresh world filesystem)
+    → SpeaksOfWhatIsThere (files_at nat_eq world location) change
+    → number ≢ (mount_at nat_eq world location).filesystem → (filesystem_numbered nat_eq world number).overlay ≡ Some other
+    → (filesystem_numbered nat_eq (with_change nat_eq fresh world location change) number ≡ filesystem_numbered nat_eq world number)
+    × IsMerged nat_eq (with_change nat_eq fresh world location change) (filesystem_numbered nat_eq world number) other

@@ -1,3 +1,4 @@
+use Rattle.vt_overlay_laws.proofs.WholeOthers.{other_overlays_stay_merged}
 use Rattle.vt_overlay_laws.proofs.WholeLater.{changed_overlay_is_merged}
 use Rattle.vt_overlay_laws.proofs.WholeHidden.{hidden_stays_hidden}
 use Rattle.vt_overlay_laws.proofs.WholeTogether.{changes_keep_shown}
@@ -18,3 +19,6 @@ returns-clause-hidden c = hidden_stays_hidden
 
 pub returns-clause-world : goal.returns-clause-world
 returns-clause-world c = changed_overlay_is_merged
+
+pub returns-clause-others : goal.returns-clause-others
+returns-clause-others c = other_overlays_stay_merged
