@@ -2,32 +2,34 @@
 use Rattle.std.proofs.Common.{◌≡◌, ◌≢◌, refl, sym, ap, subst, ◌∙◌, true≢false, eqb-true, eq-eqb, ⊎_elim, inl, inr, ℕ, zero, suc, nat_eq, Bool, true, false, map, List, [], ◌∷◌, ◌++◌, Option, Some, None, is_some, slice_get}
 use Rattle.std.proofs.lemmas.Option.{slice_get-map}
 use Rattle.std.specs.Prelude.{option_map, option_to_list}
+use Rattle.vt_spec.specs.Language.Calls.{Call}
 use Rattle.vt_spec.specs.Language.Changes.{Change}
+use Rattle.vt_spec.specs.Machine.Policy.{call_outcome}
 use Rattle.vt_spec.specs.Lists.{Fresh, holds_of, then_some}
 use Rattle.vt_spec.specs.Machine.Filesystems.{with_change}
 use Rattle.vt_spec.specs.Machine.Layers.{OpenLayer, Shown, at_path, node_at_path, shown, view_of}
 use Rattle.vt_spec.specs.Machine.Locked.{lies_or_counts_under, upper_and_work}
 use Rattle.vt_spec.specs.Machine.Merging.{layer_node}
 use Rattle.vt_spec.specs.Machine.Mounts.{Location}
-use Rattle.vt_spec.specs.Machine.World.{Filesystem, Layer, Overlay, Real, World, files_at, filesystem_at, filesystem_numbered, mount_at, open_layer, shown_layers}
+use Rattle.vt_spec.specs.Machine.World.{Filesystem, Layer, Overlay, Real, World, files_at, filesystem_at, filesystem_numbered, mount_at, open_layer, shown_layers, Task, task_called}
 use Rattle.vt_spec.specs.Machine.World.Real.{Below, Upper}
 use Rattle.vt_spec.specs.Machine.WorldLaws.{IsMerged, IsWorld, SameObject, is_plain_layer, is_there, number_at_path, real_node}
 use Rattle.vt_spec.proofs.Lists
 use Rattle.vt_spec.proofs.Lists.{among-append_left, among-append_right}
-use Rattle.vt_layer_laws.specs.Layers.Locked.{AreNoInodes, LeadsAsBefore}
+use Rattle.vt_layer_laws.specs.Layers.Locked.{AreNoInodes, GoesThrough, LeadsAsBefore}
 use Rattle.vt_layer_laws.specs.Layers.Mounted.{IsAlike}
-use Rattle.vt_layer_laws.specs.Layers.Untouched.{IsKept, inode_in}
+use Rattle.vt_layer_laws.specs.Layers.Untouched.{IsKept, changes_no_mount, inode_in}
 use Rattle.vt_layer_laws.specs.Layers.Upper.{IsUpperObject, SpeaksOfWhatIsThere}
 use Rattle.vt_layer_laws.specs.Layers.Views.{AllLeadAlike}
 use Rattle.vt_layer_laws.proofs.LockedApart.{layer_among, layer_plain, no_lower, no_other, no_overlay_in, object_counts}
-use Rattle.vt_layer_laws.proofs.LockedPaths.{leads_as_before, no_new}
+use Rattle.vt_layer_laws.proofs.LockedPaths.{leads_as_before, lower_paths_are_locked, no_new, other_paths_stay}
 use Rattle.vt_layer_laws.proofs.LowersKept.{kept_same}
 use Rattle.vt_layer_laws.proofs.LowersWorld.{others_elsewhere}
 use Rattle.vt_layer_laws.proofs.ShownAtPath.{computed, none_is_some, some_is_one}
 use Rattle.vt_layer_laws.proofs.ViewsFronts.{shown_by_views}
 use Rattle.vt_layer_laws.proofs.ViewsNames.{alike_kept, alike_same}
 use Rattle.vt_layer_laws.proofs.UpperWorld.{overlay_merges, upper_filesystem_keeps}
-use Rattle.vt_overlay_laws.specs.WholeChanges.{OtherOverlaysStayMerged}
+use Rattle.vt_overlay_laws.specs.WholeChanges.{CallsKeepOtherOverlays, OtherOverlaysStayMerged}
 use Rattle.vt_overlay_laws.proofs.WholeGrown.{alike_objects}
 
 -- An overlay whose layers lead as they did, and whose upper objects are as they were
@@ -201,3 +203,53 @@ module _ (fresh : Fresh ℕ) (world : World ℕ) (location : Location ℕ) (chan
 pub other_overlays_stay_merged : OtherOverlaysStayMerged
 other_overlays_stay_merged fresh world location change overlay other upper number conditions is has none speaks differ is_other =
     other_merged fresh world location change overlay upper conditions is has none speaks number other differ is_other
+
+-- A call that goes through another filesystem
+module _ (fresh : Fresh ℕ) (world : World ℕ) (task : Task ℕ) (call : Call) (through number : ℕ) (other : Overlay ℕ) (conditions : IsWorld nat_eq world)
+    (called : task_called world task.name ≡ Some task) (kind : changes_no_mount call ≡ true) (none : (filesystem : ℕ) → AreNoInodes fresh world filesystem)
+    (goes : GoesThrough fresh world (call_outcome nat_eq fresh world task call).world through) (differ : number ≢ through)
+    (is_other : (filesystem_numbered nat_eq world number).overlay ≡ Some other) where
+  abbrev after : World ℕ
+  after = (call_outcome nat_eq fresh world task call).world
+
+  call_leads : (layer : Layer ℕ) → Lists.Among layer (shown_layers other) → LeadsAsBefore world after layer
+  call_leads layer m = ⊎_elim (up other.upper refl) low (Lists.among-append (option_to_list other.upper) other.lowers layer m)
+    where
+      low : Lists.Among layer other.lowers → LeadsAsBefore world after layer
+      low l =
+          lower_paths_are_locked fresh world task call number other layer conditions called kind is_other (Lists.contains_from_among other.lowers layer l) (none layer.filesystem)
+
+      up : (x : Option (Layer ℕ)) → other.upper ≡ x → Lists.Among layer (option_to_list x) → LeadsAsBefore world after layer
+      up None e l = absurd l
+      up (Some top) e (inr l) = absurd l
+      up (Some top) e (inl same) =
+          other_paths_stay fresh world task call through number other layer conditions goes differ is_other
+          (Lists.contains_from_among (upper_and_work other) layer
+          (subst (λ o. Lists.Among layer (option_to_list o ++ option_to_list other.work)) (sym (e ∙ ap Some (sym same))) (inl refl)))
+          (none layer.filesystem)
+
+  call_own : (layer : Layer ℕ) (object : ℕ) → other.upper ≡ Some layer → IsUpperObject other object → IsKept (inode_in world layer.filesystem object) (inode_in after layer.filesystem object)
+  call_own layer object e of =
+      goes.others number other layer object differ is_other
+      (Lists.contains_from_among (upper_and_work other) layer (subst (λ o. Lists.Among layer (option_to_list o ++ option_to_list other.work)) (sym e) (inl refl)))
+      (object_counts world conditions number other is_other layer e object of)
+      (no_new fresh world layer.filesystem object (none layer.filesystem)
+      (ap (holds_of (λ l. is_there nat_eq world l.filesystem object)) (sym e) ∙ (overlay_merges world conditions number other is_other).upper_there of.0 object of.1))
+
+  call_same : filesystem_numbered nat_eq after number ≡ filesystem_numbered nat_eq world number
+  call_same =
+      goes.elsewhere number differ
+      (λ o u f g s. none_is_some other (sym (no_overlay_in world conditions u
+      (layer_plain world conditions through o f u
+      (subst (λ x. Lists.Among u (option_to_list x ++ option_to_list o.work ++ o.lowers)) (sym g) (inl refl))))
+      ∙ ap (λ n. (filesystem_numbered nat_eq world n).overlay) (sym s) ∙ is_other))
+
+  pub call_merged : (filesystem_numbered nat_eq after number ≡ filesystem_numbered nat_eq world number) × IsMerged nat_eq after (filesystem_numbered nat_eq world number) other
+  call_merged = (
+    call_same,
+    stays_merged world after (filesystem_numbered nat_eq world number) other call_leads call_own (overlay_merges world conditions number other is_other),
+  )
+
+pub calls_keep_other_overlays : CallsKeepOtherOverlays
+calls_keep_other_overlays fresh world task call through number other conditions called kind none goes differ is_other =
+    call_merged fresh world task call through number other conditions called kind none goes differ is_other

@@ -1,21 +1,24 @@
 -- Each change of an overlay keeps that its tree is what its layers show: the kernel's overlayfs document, "upper and lower",
 -- "directories" and "whiteouts and opaque directories".
-use Rattle.std.specs.Prelude.{List, [], None, Some, false, nat_eq, ℕ, ◌+◌, ◌∷◌, ◌≡◌, ◌≢◌}
+use Rattle.std.specs.Prelude.{List, [], None, Some, false, nat_eq, true, ℕ, ◌+◌, ◌∷◌, ◌≡◌, ◌≢◌}
 use Rattle.vt_spec.specs.declared.attributes.Kind.TheVariants.{White}
 use Rattle.vt_spec.specs.FileTree.{is_kind}
 use Rattle.vt_spec.specs.Language.Changes.{Change}
 use Rattle.vt_spec.specs.Language.Changes.Change.{AddName, CopyUp, Make, Move, Remove, SetAttr, SetBytes, SetMark}
+use Rattle.vt_spec.specs.Language.Calls.{Call}
 use Rattle.vt_spec.specs.Lists.{Fresh}
+use Rattle.vt_spec.specs.Machine.Policy.{call_outcome}
 use Rattle.vt_spec.specs.Machine.CopyUp.{Merge, Stack, merge_changed, path_to}
 use Rattle.vt_spec.specs.Machine.Filesystems.{merge_of, stack_of, with_change}
 use Rattle.vt_spec.specs.Machine.Layers.{has_lower_directory, shown}
-use Rattle.vt_spec.specs.Machine.World.{Filesystem, Layer, Overlay, World, files_at, filesystem_at, filesystem_numbered, mount_at}
+use Rattle.vt_spec.specs.Machine.World.{Filesystem, Layer, Overlay, Task, World, files_at, filesystem_at, filesystem_numbered, mount_at, task_called}
 use Rattle.vt_spec.specs.Machine.WorldLaws.{IsMerged, IsWorld}
 use Rattle.vt_spec.specs.Tree.{kind_of}
 use Rattle.vt_spec.specs.TreeLaws.{IsDirectory, IsReached}
 use Rattle.vt_tree_laws.specs.Trees.{MayAddName, MayMake, MayMove, MayRemove}
 use Rattle.vt_spec.specs.Machine.Mounts.{Location}
-use Rattle.vt_layer_laws.specs.Layers.Locked.{AreNoInodes}
+use Rattle.vt_layer_laws.specs.Layers.Locked.{AreNoInodes, GoesThrough}
+use Rattle.vt_layer_laws.specs.Layers.Untouched.{changes_no_mount}
 use Rattle.vt_layer_laws.specs.Layers.Upper.{IsThere, SpeaksOfWhatIsThere}
 use Rattle.vt_overlay_laws.specs.WhatIsShown.{IsWhatIsShown, IsWhole, layers_under}
 
@@ -94,3 +97,15 @@ OtherOverlaysStayMerged =
     → number ≢ (mount_at nat_eq world location).filesystem → (filesystem_numbered nat_eq world number).overlay ≡ Some other
     → (filesystem_numbered nat_eq (with_change nat_eq fresh world location change) number ≡ filesystem_numbered nat_eq world number)
     × IsMerged nat_eq (with_change nat_eq fresh world location change) (filesystem_numbered nat_eq world number) other
+
+-- So after a call on files each overlay that the call does not go through is what its layers show: every one, after a call through
+-- a plain mount.
+abbrev pub CallsKeepOtherOverlays : Type 0
+CallsKeepOtherOverlays =
+    (fresh : Fresh ℕ) (world : World ℕ) (task : Task ℕ) (call : Call) (through number : ℕ) (other : Overlay ℕ)
+    → IsWorld nat_eq world → task_called world task.name ≡ Some task → changes_no_mount call ≡ true
+    → ((filesystem : ℕ) → AreNoInodes fresh world filesystem)
+    → GoesThrough fresh world (call_outcome nat_eq fresh world task call).world through
+    → number ≢ through → (filesystem_numbered nat_eq world number).overlay ≡ Some other
+    → (filesystem_numbered nat_eq (call_outcome nat_eq fresh world task call).world number ≡ filesystem_numbered nat_eq world number)
+    × IsMerged nat_eq (call_outcome nat_eq fresh world task call).world (filesystem_numbered nat_eq world number) other

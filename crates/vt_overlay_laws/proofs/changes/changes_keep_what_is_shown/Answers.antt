@@ -1,4 +1,4 @@
-use Rattle.vt_overlay_laws.proofs.WholeOthers.{other_overlays_stay_merged}
+use Rattle.vt_overlay_laws.proofs.WholeOthers.{calls_keep_other_overlays, other_overlays_stay_merged}
 use Rattle.vt_overlay_laws.proofs.WholeLater.{changed_overlay_is_merged}
 use Rattle.vt_overlay_laws.proofs.WholeHidden.{hidden_stays_hidden}
 use Rattle.vt_overlay_laws.proofs.WholeTogether.{changes_keep_shown}
@@ -22,3 +22,6 @@ returns-clause-world c = changed_overlay_is_merged
 
 pub returns-clause-others : goal.returns-clause-others
 returns-clause-others c = other_overlays_stay_merged
+
+pub returns-clause-calls : goal.returns-clause-calls
+returns-clause-calls c = calls_keep_other_overlays
