@@ -32,7 +32,8 @@ IsAskedWell stack merge (Remove directory name object) = MayRemove merge.files.t
 IsAskedWell stack merge (Move from old to new object) =
     MayMove merge.files.tree from old to new object
     × (IsDirectory merge.files.tree object
-    → has_lower_directory (record { tree = merge.upper.tree; directory = stack.directory } ∷ []) stack.lowers (path_to nat_eq merge from old) ≡ false)
+    → has_lower_directory (record { tree = merge.upper.tree; directory = stack.directory } ∷ []) stack.lowers
+    (path_to nat_eq merge from old) ≡ false)
 IsAskedWell stack merge (SetBytes file bytes) = IsThere merge.files file
 IsAskedWell stack merge (SetAttr object attr) = IsThere merge.files object
 IsAskedWell stack merge (SetMark directory opaque) = ⊥
@@ -76,7 +77,8 @@ HiddenStaysHidden =
 -- In a world: an overlay through which a change goes is what its layers show after it, its lower layers as they are then.
 abbrev pub ChangedOverlayIsMerged : Type 0
 ChangedOverlayIsMerged =
-    (fresh : Fresh ℕ) (world : World ℕ) (location : Location ℕ) (change : Change ℕ) (overlay later : Overlay ℕ) (upper : Layer ℕ)
+    (fresh : Fresh ℕ) (world : World ℕ) (location : Location ℕ) (change : Change ℕ) (overlay later : Overlay ℕ)
+    (upper : Layer ℕ)
     → IsWorld nat_eq world
     → (filesystem_at nat_eq world location).overlay ≡ Some overlay → overlay.upper ≡ Some upper
     → IsReached (filesystem_numbered nat_eq world upper.filesystem).files.tree upper.directory
@@ -89,7 +91,8 @@ ChangedOverlayIsMerged =
 -- and every other overlay goes on being what its layers show.
 abbrev pub OtherOverlaysStayMerged : Type 0
 OtherOverlaysStayMerged =
-    (fresh : Fresh ℕ) (world : World ℕ) (location : Location ℕ) (change : Change ℕ) (overlay other : Overlay ℕ) (upper : Layer ℕ) (number : ℕ)
+    (fresh : Fresh ℕ) (world : World ℕ) (location : Location ℕ) (change : Change ℕ) (overlay other : Overlay ℕ)
+    (upper : Layer ℕ) (number : ℕ)
     → IsWorld nat_eq world
     → (filesystem_at nat_eq world location).overlay ≡ Some overlay → overlay.upper ≡ Some upper
     → ((filesystem : ℕ) → AreNoInodes fresh world filesystem)

@@ -1,5 +1,6 @@
 //! Laws of whole changes of overlays: the tree stays what the layers show.
-ghost use Rattle.vt_overlay_laws.specs.WholeChanges.{CallsKeepOtherOverlays, ChangedOverlayIsMerged, ChangesKeepShown, HiddenStaysHidden, OtherOverlaysStayMerged, OverlaysAreWhole, ShownIsMerged};
+ghost use Rattle.vt_overlay_laws.specs.WholeChanges.{CallsKeepOtherOverlays, ChangedOverlayIsMerged, ChangesKeepShown, HiddenStaysHidden};
+ghost use Rattle.vt_overlay_laws.specs.WholeChanges.{OtherOverlaysStayMerged, OverlaysAreWhole, ShownIsMerged};
 
 /// After a change of an overlay, with the copies that it needs, its tree is what its layers show, and lower layers show nothing
 /// that they did not show before. Each overlay of a world is one of which this is said, and what is said is what the invariants
