@@ -2,14 +2,17 @@ pub mod WholeAttributes
 pub mod WholeCopied
 pub mod WholeGrown
 pub mod WholeHidden
+pub mod WholeLater
 pub mod WholeLeft
 pub mod WholeLines
 pub mod WholeLinked
+pub mod WholeLowers
 pub mod WholeMade
 pub mod WholeMoved
 pub mod WholeMovedTree
 pub mod WholeNames
 pub mod WholeNew
+pub mod WholeOthers
 pub mod WholeParts
 pub mod WholePlaces
 pub mod WholeRemoved

@@ -119,5 +119,6 @@ MoveKeepsShown =
     → IsWhole stack merge → StandsInUpper merge from → StandsInUpper merge to → StandsInUpper merge object
     → merge.upper.tree.node (fresh 0) ≡ None → MayMove merge.files.tree from old to new object
     → (IsDirectory merge.files.tree object
-    → has_lower_directory (record { tree = merge.upper.tree; directory = stack.directory } ∷ []) stack.lowers (path_to nat_eq merge from old) ≡ false)
+    → has_lower_directory (record { tree = merge.upper.tree; directory = stack.directory } ∷ []) stack.lowers
+    (path_to nat_eq merge from old) ≡ false)
     → IsWhatIsShown stack (moved nat_eq fresh stack merge from old to new object)

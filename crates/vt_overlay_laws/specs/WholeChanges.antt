@@ -1,20 +1,25 @@
 -- Each change of an overlay keeps that its tree is what its layers show: the kernel's overlayfs document, "upper and lower",
 -- "directories" and "whiteouts and opaque directories".
-use Rattle.std.specs.Prelude.{List, [], None, Some, false, nat_eq, ℕ, ◌+◌, ◌∷◌, ◌≡◌}
+use Rattle.std.specs.Prelude.{List, [], None, Some, false, nat_eq, true, ℕ, ◌+◌, ◌∷◌, ◌≡◌, ◌≢◌}
 use Rattle.vt_spec.specs.declared.attributes.Kind.TheVariants.{White}
 use Rattle.vt_spec.specs.FileTree.{is_kind}
 use Rattle.vt_spec.specs.Language.Changes.{Change}
 use Rattle.vt_spec.specs.Language.Changes.Change.{AddName, CopyUp, Make, Move, Remove, SetAttr, SetBytes, SetMark}
+use Rattle.vt_spec.specs.Language.Calls.{Call}
 use Rattle.vt_spec.specs.Lists.{Fresh}
+use Rattle.vt_spec.specs.Machine.Policy.{call_outcome}
 use Rattle.vt_spec.specs.Machine.CopyUp.{Merge, Stack, merge_changed, path_to}
-use Rattle.vt_spec.specs.Machine.Filesystems.{merge_of, stack_of}
+use Rattle.vt_spec.specs.Machine.Filesystems.{merge_of, stack_of, with_change}
 use Rattle.vt_spec.specs.Machine.Layers.{has_lower_directory, shown}
-use Rattle.vt_spec.specs.Machine.World.{Filesystem, Layer, Overlay, World, filesystem_numbered}
+use Rattle.vt_spec.specs.Machine.World.{Filesystem, Layer, Overlay, Task, World, files_at, filesystem_at, filesystem_numbered, mount_at, task_called}
 use Rattle.vt_spec.specs.Machine.WorldLaws.{IsMerged, IsWorld}
 use Rattle.vt_spec.specs.Tree.{kind_of}
 use Rattle.vt_spec.specs.TreeLaws.{IsDirectory, IsReached}
 use Rattle.vt_tree_laws.specs.Trees.{MayAddName, MayMake, MayMove, MayRemove}
-use Rattle.vt_layer_laws.specs.Layers.Upper.{IsThere}
+use Rattle.vt_spec.specs.Machine.Mounts.{Location}
+use Rattle.vt_layer_laws.specs.Layers.Locked.{AreNoInodes, GoesThrough}
+use Rattle.vt_layer_laws.specs.Layers.Untouched.{changes_no_mount}
+use Rattle.vt_layer_laws.specs.Layers.Upper.{IsThere, SpeaksOfWhatIsThere}
 use Rattle.vt_overlay_laws.specs.WhatIsShown.{IsWhatIsShown, IsWhole, layers_under}
 
 -- What is asked for: what the calls' tables of rules see to. A directory moves only where no lower layer that is not cut has one
@@ -27,7 +32,8 @@ IsAskedWell stack merge (Remove directory name object) = MayRemove merge.files.t
 IsAskedWell stack merge (Move from old to new object) =
     MayMove merge.files.tree from old to new object
     × (IsDirectory merge.files.tree object
-    → has_lower_directory (record { tree = merge.upper.tree; directory = stack.directory } ∷ []) stack.lowers (path_to nat_eq merge from old) ≡ false)
+    → has_lower_directory (record { tree = merge.upper.tree; directory = stack.directory } ∷ []) stack.lowers
+    (path_to nat_eq merge from old) ≡ false)
 IsAskedWell stack merge (SetBytes file bytes) = IsThere merge.files file
 IsAskedWell stack merge (SetAttr object attr) = IsThere merge.files object
 IsAskedWell stack merge (SetMark directory opaque) = ⊥
@@ -67,3 +73,42 @@ HiddenStaysHidden =
     → IsAskedWell stack merge change
     → shown (layers_under stack (merge_changed nat_eq fresh stack merge change)) path ≡ Some (record { layer = layer + 1; object = object })
     → shown (layers_under stack merge) path ≡ Some (record { layer = layer + 1; object = object })
+
+-- In a world: an overlay through which a change goes is what its layers show after it, its lower layers as they are then.
+abbrev pub ChangedOverlayIsMerged : Type 0
+ChangedOverlayIsMerged =
+    (fresh : Fresh ℕ) (world : World ℕ) (location : Location ℕ) (change : Change ℕ) (overlay later : Overlay ℕ)
+    (upper : Layer ℕ)
+    → IsWorld nat_eq world
+    → (filesystem_at nat_eq world location).overlay ≡ Some overlay → overlay.upper ≡ Some upper
+    → IsReached (filesystem_numbered nat_eq world upper.filesystem).files.tree upper.directory
+    → ((j k : ℕ) → fresh j ≡ fresh k → j ≡ k) → ((filesystem : ℕ) → AreNoInodes fresh world filesystem)
+    → IsAskedWell (stack_of nat_eq world overlay upper) (merge_of nat_eq world (filesystem_at nat_eq world location) overlay upper) change
+    → (filesystem_numbered nat_eq (with_change nat_eq fresh world location change) (mount_at nat_eq world location).filesystem).overlay ≡ Some later
+    → IsMerged nat_eq (with_change nat_eq fresh world location change)
+    (filesystem_numbered nat_eq (with_change nat_eq fresh world location change) (mount_at nat_eq world location).filesystem) later
+
+-- and every other overlay goes on being what its layers show.
+abbrev pub OtherOverlaysStayMerged : Type 0
+OtherOverlaysStayMerged =
+    (fresh : Fresh ℕ) (world : World ℕ) (location : Location ℕ) (change : Change ℕ) (overlay other : Overlay ℕ)
+    (upper : Layer ℕ) (number : ℕ)
+    → IsWorld nat_eq world
+    → (filesystem_at nat_eq world location).overlay ≡ Some overlay → overlay.upper ≡ Some upper
+    → ((filesystem : ℕ) → AreNoInodes fresh world filesystem)
+    → SpeaksOfWhatIsThere (files_at nat_eq world location) change
+    → number ≢ (mount_at nat_eq world location).filesystem → (filesystem_numbered nat_eq world number).overlay ≡ Some other
+    → (filesystem_numbered nat_eq (with_change nat_eq fresh world location change) number ≡ filesystem_numbered nat_eq world number)
+    × IsMerged nat_eq (with_change nat_eq fresh world location change) (filesystem_numbered nat_eq world number) other
+
+-- So after a call on files each overlay that the call does not go through is what its layers show: every one, after a call through
+-- a plain mount.
+abbrev pub CallsKeepOtherOverlays : Type 0
+CallsKeepOtherOverlays =
+    (fresh : Fresh ℕ) (world : World ℕ) (task : Task ℕ) (call : Call) (through number : ℕ) (other : Overlay ℕ)
+    → IsWorld nat_eq world → task_called world task.name ≡ Some task → changes_no_mount call ≡ true
+    → ((filesystem : ℕ) → AreNoInodes fresh world filesystem)
+    → GoesThrough fresh world (call_outcome nat_eq fresh world task call).world through
+    → number ≢ through → (filesystem_numbered nat_eq world number).overlay ≡ Some other
+    → (filesystem_numbered nat_eq (call_outcome nat_eq fresh world task call).world number ≡ filesystem_numbered nat_eq world number)
+    × IsMerged nat_eq (call_outcome nat_eq fresh world task call).world (filesystem_numbered nat_eq world number) other

@@ -1,3 +1,5 @@
+use Rattle.vt_overlay_laws.proofs.WholeOthers.{calls_keep_other_overlays, other_overlays_stay_merged}
+use Rattle.vt_overlay_laws.proofs.WholeLater.{changed_overlay_is_merged}
 use Rattle.vt_overlay_laws.proofs.WholeHidden.{hidden_stays_hidden}
 use Rattle.vt_overlay_laws.proofs.WholeTogether.{changes_keep_shown}
 use Rattle.vt_overlay_laws.proofs.WholeWorlds.{overlays_are_whole, shown_is_merged}
@@ -14,3 +16,12 @@ returns-clause-whole c = overlays_are_whole
 
 pub returns-clause-hidden : goal.returns-clause-hidden
 returns-clause-hidden c = hidden_stays_hidden
+
+pub returns-clause-world : goal.returns-clause-world
+returns-clause-world c = changed_overlay_is_merged
+
+pub returns-clause-others : goal.returns-clause-others
+returns-clause-others c = other_overlays_stay_merged
+
+pub returns-clause-calls : goal.returns-clause-calls
+returns-clause-calls c = calls_keep_other_overlays
