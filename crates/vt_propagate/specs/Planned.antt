@@ -30,4 +30,5 @@ planned_copies world graft counts =
 -- the groups that they form, with their masters
 abbrev pub planned_groups : World ℕ → Graft → Counts → List (ℕ × Option ℕ)
 planned_groups world graft counts =
-    all_groups_made nat_eq world (numbers_at world graft counts) (graft_in world graft counts) (parts_of nat_eq world (location_of graft.place))
+    all_groups_made nat_eq world (numbers_at world graft counts) (graft_in world graft counts)
+    (parts_of nat_eq world (location_of graft.place))
