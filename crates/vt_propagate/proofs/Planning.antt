@@ -190,25 +190,25 @@ module _ (world : World ℕ) (kept : List MountEntry) (grouping : Grouping) (see
       life_of_part part m = life_of_parts place part (subst (Among part) are m)
 
       pub copies_planned : flat_map (λ part. map (copied (as_kept kept grouping) copying part) (tree_seen copying)) (parts_seen copying)
-          ≡ planned_copies world copying.graft copying.next
+          ≡ planned_copies world copying.graft copying.counts
       copies_planned =
           flat_alike (λ part. map (copied (as_kept kept grouping) copying part) (tree_seen copying)) (copies_at nat_eq world (supply copying) graft (parts_seen copying)) (parts_seen copying) (λ part m.
           map_alike (copied (as_kept kept grouping) copying part) (λ origin. copy_at nat_eq world (supply copying) graft (parts_seen copying) part (grown origin))
           (copied_in_world part (life_of_part part m)) (tree_seen copying)
           ∙ sym (map_twice (copy_at nat_eq world (supply copying) graft (parts_seen copying) part) grown (tree_seen copying)))
-          ∙ ap (λ (parts : List (Mount ℕ)). flat_map (copies_at nat_eq world (copies_from nat_eq (counts_from copying.next) parts (tree_seen copying))
-          (graft_of nat_eq world (copies_from nat_eq (counts_from copying.next) parts (tree_seen copying)) place copying.graft.moves (tree_seen copying)) parts) parts) are
+          ∙ ap (λ (parts : List (Mount ℕ)). flat_map (copies_at nat_eq world (copies_from nat_eq (counts_from copying.counts) parts (tree_seen copying))
+          (graft_of nat_eq world (copies_from nat_eq (counts_from copying.counts) parts (tree_seen copying)) place copying.graft.moves (tree_seen copying)) parts) parts) are
 
       pub groups_planned : flat_map (λ part. filter_map (made (as_kept kept grouping) copying part) (tree_seen copying)) (parts_seen copying)
-          ≡ planned_groups world copying.graft copying.next
+          ≡ planned_groups world copying.graft copying.counts
       groups_planned =
           flat_alike (λ part. filter_map (made (as_kept kept grouping) copying part) (tree_seen copying))
           (λ part. filter_map (group_made nat_eq world (supply copying) graft (parts_seen copying) part) graft.twigs) (parts_seen copying) (λ part m.
           filter_map_alike (made (as_kept kept grouping) copying part) (λ origin. group_made nat_eq world (supply copying) graft (parts_seen copying) part (grown origin))
           (made_in_world part (life_of_part part m)) (tree_seen copying)
           ∙ sym (filter_map_twice (group_made nat_eq world (supply copying) graft (parts_seen copying) part) grown (tree_seen copying)))
-          ∙ ap (λ (parts : List (Mount ℕ)). all_groups_made nat_eq world (copies_from nat_eq (counts_from copying.next) parts (tree_seen copying))
-          (graft_of nat_eq world (copies_from nat_eq (counts_from copying.next) parts (tree_seen copying)) place copying.graft.moves (tree_seen copying)) parts) are
+          ∙ ap (λ (parts : List (Mount ℕ)). all_groups_made nat_eq world (copies_from nat_eq (counts_from copying.counts) parts (tree_seen copying))
+          (graft_of nat_eq world (copies_from nat_eq (counts_from copying.counts) parts (tree_seen copying)) place copying.graft.moves (tree_seen copying)) parts) are
 
 -- the first of the parts is the mount at the destination
 first_in : List (Mount ℕ) → Option (Mount ℕ)

@@ -13,6 +13,7 @@ use Rattle.vt_location.specs.Locations.{location_of}
 use Rattle.vt_location.specs.MountValue.{mount_of}
 use Rattle.vt_location.specs.Numbers.{counted}
 use Rattle.vt_mount.specs.MountsValue.{MountEntry, mounts_in}
+use Rattle.vt_propagate.specs.declared.copying.Counts.{Counts}
 use Rattle.vt_propagate.specs.declared.copying.Graft.{Graft}
 use Rattle.vt_propagate.specs.declared.copying.NewGroup.{NewGroup}
 use Rattle.vt_propagate.specs.declared.numbering.Copying.{Copying}
@@ -21,9 +22,9 @@ use Rattle.vt_propagate.specs.declared.numbering.Copying.{Copying}
 abbrev pub new_group : NewGroup → ℕ × Option ℕ
 new_group new = (group_number new.group, option_map group_number new.master)
 
--- the numbers of counts from the next one on
-abbrev pub counts_from : ℕ → Fresh ℕ
-counts_from next k = counted (next + k)
+-- the numbers of counts, each as far from the one before
+abbrev pub counts_from : Counts → Fresh ℕ
+counts_from counts k = counted (counts.first + counts.step * k)
 
 -- the mounts and the masters that are kept, as a world without anything else
 abbrev pub as_kept : List MountEntry → Grouping → World ℕ
@@ -39,7 +40,7 @@ abbrev pub tree_seen : Copying → List (Mount ℕ)
 tree_seen copying = map mount_of copying.graft.tree.now
 
 abbrev pub supply : Copying → Copies ℕ
-supply copying = copies_from nat_eq (counts_from copying.next) (parts_seen copying) (tree_seen copying)
+supply copying = copies_from nat_eq (counts_from copying.counts) (parts_seen copying) (tree_seen copying)
 
 abbrev pub twig : Copying → Mount ℕ → Twig ℕ
 twig copying origin = twig_of (supply copying) (group_of (mount_of copying.destination).propagation) origin
@@ -49,11 +50,12 @@ graft_seen copying =
     record { destination = location_of copying.graft.place; twigs = map (twig copying) (tree_seen copying); moves = copying.graft.moves }
 
 -- each count that is needed is below 2^64
-abbrev pub HasRoomFor : Graft → ℕ → Type 0
-HasRoomFor graft next = next + 2 * (length graft.parts.now * length graft.tree.now) < 18446744073709551616
+abbrev pub HasRoomFor : Graft → Counts → Type 0
+HasRoomFor graft counts =
+    (0 < counts.step) × (counts.first + counts.step * (2 * (length graft.parts.now * length graft.tree.now)) < 18446744073709551616)
 
 abbrev pub HasRoom : Copying → Type 0
-HasRoom copying = HasRoomFor copying.graft copying.next
+HasRoom copying = HasRoomFor copying.graft copying.counts
 
 -- a copy at a part
 abbrev pub copied : World ℕ → Copying → Mount ℕ → Mount ℕ → Mount ℕ

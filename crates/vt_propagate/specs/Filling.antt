@@ -1,5 +1,6 @@
 -- How many mounts a namespace has.
-use Rattle.std.specs.Prelude.{All, Bool, Contains, List, Option, count_by, filter, length, if◌then◌else◌, nat_eq, nat_lt, option_map, false, ℕ, ◌*◌, ◌+◌, ◌-◌, ◌≡◌}
+use Rattle.std.specs.Prelude.{All, Bool, Contains, List, Option, count_by, filter, length}
+use Rattle.std.specs.Prelude.{if◌then◌else◌, nat_eq, nat_lt, option_map, false, ℕ, ◌*◌, ◌+◌, ◌-◌, ◌≡◌}
 use Rattle.vt_spec.specs.Language.Limits.{most_mounts}
 use Rattle.vt_spec.specs.Lists.{any_pair, holds_of}
 use Rattle.vt_spec.specs.Machine.Mounts as meant

@@ -34,6 +34,13 @@ pub struct Graft<'a> {
     pub moves: bool,
 }
 
+/// The counts of new numbers: the first, and how far each is from the one before, which is not 0.
+#[derive(Clone, Copy, Debug, PartialEq, Eq)]
+pub struct Counts {
+    pub first: u64,
+    pub step: u64,
+}
+
 /// A group that copies of a mount form, and its master.
 #[derive(Clone, Copy, Debug, PartialEq, Eq)]
 pub struct NewGroup {
@@ -43,7 +50,7 @@ pub struct NewGroup {
 
 /// The copies that are attached, with their types: all at the destination, in the order of the tree, then all at each receiver.
 /// Where a tree moves, those at the destination are the mounts themselves, as they are there. The copy at the i-th part of the
-/// j-th mount of n, both from 0, is counted `next + 2·(n·i + j)`. For each copy all parts and the whole tree are passed over.
+/// j-th mount of n, both from 0, is the `2·(n·i + j)`-th of the counts. For each copy all parts and the whole tree are passed over.
 ///
 /// S5 (ENOMEM): an allocation failed.
 pub fn copies(
@@ -51,12 +58,12 @@ pub fn copies(
     mounts: &Mounts,
     groups: &Groups,
     graft: &Graft,
-    next: u64,
+    counts: Counts,
 ) -> Result<Vec<Mount>, Deny>
-    requires { HasRoomFor graft.now next }
+    requires { HasRoomFor graft.now counts }
     ensures ok { IfOk result (λ copies. (world : World ℕ) → IsSeen world mounts.now groups.now
         → map mount_of graft.now.parts.now ≡ parts_of nat_eq world (location_of graft.now.place)
-        → map mount_of copies.items ≡ planned_copies world graft.now next) }
+        → map mount_of copies.items ≡ planned_copies world graft.now counts) }
     ensures memory { IfErr result (λ deny. deny ≡ denial S5) }
 {
     let Some(destination) = graft.parts.first() else {
@@ -65,7 +72,7 @@ pub fn copies(
     let copying = Copying {
         graft: *graft,
         destination: *destination,
-        next,
+        counts,
     };
     let Ok(copies) = copying.all_copies(alloc, mounts, groups) else {
         return Err(Rule::S5.denial());
@@ -75,7 +82,7 @@ pub fn copies(
 
 /// The new groups that copies form, each with its master, in the order of the copies: for each mount of the tree that joins a
 /// group at a shared destination, and for each mount and each further group that has a part. The group of the j-th mount of n for
-/// the group of the i-th part, both from 0, is counted `next + 2·(n·i + j) + 1`.
+/// the group of the i-th part, both from 0, is the `2·(n·i + j) + 1`-th of the counts.
 ///
 /// S5 (ENOMEM): an allocation failed.
 pub fn new_groups(
@@ -83,12 +90,12 @@ pub fn new_groups(
     mounts: &Mounts,
     groups: &Groups,
     graft: &Graft,
-    next: u64,
+    counts: Counts,
 ) -> Result<Vec<NewGroup>, Deny>
-    requires { HasRoomFor graft.now next }
+    requires { HasRoomFor graft.now counts }
     ensures ok { IfOk result (λ new. (world : World ℕ) → IsSeen world mounts.now groups.now
         → map mount_of graft.now.parts.now ≡ parts_of nat_eq world (location_of graft.now.place)
-        → map new_group new.items ≡ planned_groups world graft.now next) }
+        → map new_group new.items ≡ planned_groups world graft.now counts) }
     ensures memory { IfErr result (λ deny. deny ≡ denial S5) }
 {
     let Some(destination) = graft.parts.first() else {
@@ -97,7 +104,7 @@ pub fn new_groups(
     let copying = Copying {
         graft: *graft,
         destination: *destination,
-        next,
+        counts,
     };
     let Ok(new) = copying.all_groups(alloc, mounts, groups) else {
         return Err(Rule::S5.denial());

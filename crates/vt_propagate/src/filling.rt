@@ -1,6 +1,6 @@
 //! How many mounts namespaces get when a tree of mounts is attached: ENOSPC of mount(2).
-ghost use Rattle.std.specs.Prelude.{◌≡◌, ◌<◌, ◌+◌, if◌then◌else◌, IfErr, IfOk, List, None, OnOk, false, length, map, nat_eq, true, unwrap_or};
-ghost use Rattle.std.specs.Prelude.{ℕ};
+ghost use Rattle.std.specs.Prelude.{◌≡◌, ◌<◌, ◌+◌, if◌then◌else◌, IfErr, IfOk, List};
+ghost use Rattle.std.specs.Prelude.{None, OnOk, false, length, map, nat_eq, true, unwrap_or, ℕ};
 ghost use Rattle.std.specs.List.{list_any};
 ghost use Rattle.std.specs.HashMap.{get};
 ghost use Rattle.vt_spec.specs.declared.errors.Rule.TheVariants.{S5};

@@ -9,7 +9,7 @@ mod reach;
 mod receiving;
 mod unmounting;
 
-pub use copying::{Graft, NewGroup, copies, new_groups};
+pub use copying::{Counts, Graft, NewGroup, copies, new_groups};
 pub use filling::{Load, overfills};
 pub use reach::Reach;
 pub use receiving::parts;

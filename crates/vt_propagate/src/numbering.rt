@@ -7,15 +7,15 @@ ghost use Rattle.vt_location.specs.MountValue.{mount_of, propagation_of};
 ghost use Rattle.vt_location.specs.Numbers.{counted};
 ghost use Rattle.vt_propagate.specs.Copying.{HasRoom, graft_seen, supply};
 
-use crate::copying::Graft;
+use crate::copying::{Counts, Graft};
 use vt_location::{GroupId, Mount, MountId, Propagation};
 
-/// What is copied and where: a graft, the mount at its destination, and the first count that no number has.
+/// What is copied and where: a graft, the mount at its destination, and the counts of the new numbers.
 #[derive(Clone, Copy, Debug)]
 pub(crate) struct Copying<'a> {
     pub(crate) graft: Graft<'a>,
     pub(crate) destination: Mount,
-    pub(crate) next: u64,
+    pub(crate) counts: Counts,
 }
 
 impl<'a> Copying<'a> {
@@ -57,10 +57,11 @@ impl<'a> Copying<'a> {
         requires part { part < length self.now.graft.parts.now }
         requires origin { origin < length self.now.graft.tree.now }
         requires group { group < 2 }
-        ensures { result ≡ self.now.next + (2 * (part * length self.now.graft.tree.now + origin) + group) }
+        ensures { result ≡ self.now.counts.first
+            + self.now.counts.step * (2 * (part * length self.now.graft.tree.now + origin) + group) }
     {
         let index = part * self.graft.tree.len() + origin;
-        self.next + (2 * index as u64 + group)
+        self.counts.first + self.counts.step * (2 * index as u64 + group)
     }
 }
 

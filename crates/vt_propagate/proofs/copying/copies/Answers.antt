@@ -5,7 +5,7 @@ use Rattle.vt_propagate.proofs.copying.copies.Goals as goal
 
 pub returns-clause-ok : goal.returns-clause-ok
 returns-clause-ok c world seen are =
-    let copying : Copying = record { graft = c.args.graft.now; destination = c.in-Some.destination.now; next = c.args.next } in
+    let copying : Copying = record { graft = c.args.graft.now; destination = c.in-Some.destination.now; counts = c.args.counts } in
     c.in-Ok.ensures
     ∙ copies_planned world c.args.mounts.now c.args.groups.now seen copying
     (first_part c.args.graft.now.parts.now c.in-Some.destination.now c.in-Some.ensures.value _ _ are) are
