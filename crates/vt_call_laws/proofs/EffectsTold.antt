@@ -5,7 +5,7 @@ use Rattle.vt_call_laws.proofs.EffectsRights.{anyhow, given, open_found, ruled}
 use Rattle.vt_call_laws.proofs.GivenPermits.{permits_are_for_their_calls}
 use Rattle.vt_call_laws.specs.Effects.{BytesAreToldByRight, NamesAreToldByRight, OpensAreByRight}
 use Rattle.vt_call_laws.specs.Given.{IsFor}
-use Rattle.vt_spec.specs.declared.attributes.Kind.TheVariants.{Link}
+use Rattle.vt_spec.specs.declared.attributes.Kind.TheVariants.{Symlink}
 use Rattle.vt_spec.specs.declared.errors.Deny.{Deny}
 use Rattle.vt_spec.specs.declared.errors.Rule.TheVariants.{S4}
 use Rattle.vt_spec.specs.Errors.{denial}
@@ -59,7 +59,7 @@ module _ (fresh : Fresh ℕ) (world : World ℕ) (task : Task ℕ) where
   ReadsIt permit = ⊤
 
   abbrev IsLinkRead : Permit ℕ → Type 0
-  IsLinkRead (ToRead file) = is_kind_in Link (node_at nat_eq world file) ≡ true
+  IsLinkRead (ToRead file) = is_kind_in Symlink (node_at nat_eq world file) ≡ true
   IsLinkRead permit = ⊤
 
   abbrev HasItOpen : Permit ℕ → Type 0
@@ -114,7 +114,7 @@ module _ (fresh : Fresh ℕ) (world : World ℕ) (task : Task ℕ) where
       ((file : Location ℕ) × (bytes ≡ bytes_in (node_at nat_eq world file))
       × (node_allows task.credentials read_right (node_at nat_eq world file) ≡ true))
       ⊎ (((file : Location ℕ) × (bytes ≡ bytes_in (node_at nat_eq world file))
-      × (is_kind_in Link (node_at nat_eq world file) ≡ true))
+      × (is_kind_in Symlink (node_at nat_eq world file) ≡ true))
       ⊎ ((descriptor : Descriptor ℕ) × (which offset size : ℕ) × (descriptor_numbered task which ≡ Some descriptor)
       × (descriptor.reads ≡ true) × (bytes ≡ take size (drop offset (bytes_in (node_at nat_eq world descriptor.location))))))
 

@@ -3,7 +3,7 @@ use Rattle.std.proofs.Common.{◌≡◌, refl, sym, ◌∙◌, true≢false, ℕ
 use Rattle.vt_call_laws.proofs.InodesParts.{KeptByBytes, KeptByMark, KeptByMode, KeptByNames, KeptByOwner, Stays, only_these}
 use Rattle.vt_call_laws.specs.Inodes.{KindsStay, LinkTextsStay, OnlyChmodChangesModes, OnlyChownChangesOwners, OnlyNamingChangesEntries, OnlyOpaqueChangesMarks, OnlyTheseChange, OnlyWritesChangeBytes, owner_of}
 use Rattle.vt_spec.specs.declared.attributes.Attr.{Attr}
-use Rattle.vt_spec.specs.declared.attributes.Kind.TheVariants.{Link}
+use Rattle.vt_spec.specs.declared.attributes.Kind.TheVariants.{Symlink as SymlinkKind}
 use Rattle.vt_spec.specs.Language.Changes.{content_with_mark, content_with_parent, node_with_parent, node_without_entry}
 use Rattle.vt_spec.specs.FileTree.{is_kind, opaque_of}
 use Rattle.vt_spec.specs.Lists.{when}
@@ -216,7 +216,7 @@ kinds_stay = never_changes kind_of kind_without kind_below kind_written kind_mar
 
 -- a link's text
 abbrev text_of : Content ℕ → Option (List ℕ)
-text_of content = when (is_kind Link (kind_of content)) (bytes_of content)
+text_of content = when (is_kind SymlinkKind (kind_of content)) (bytes_of content)
 
 text_without : EntriesKeep text_of
 text_without (Directory parent old opaque) entries = refl

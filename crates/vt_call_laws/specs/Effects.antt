@@ -1,7 +1,7 @@
 -- A right stands behind each effect: what a call tells its task may read, and what it changes its task may write, or owns.
 use Rattle.std.specs.Prelude.{Bool, List, Ok, Some, drop, false, nat_eq, take, true, ℕ, ◌==◌, ◌||◌, ◌≡◌, ◌⊎◌}
 use Rattle.vt_call_laws.specs.Inodes.{HasNoOverlays, IsNotHanded, inode_in, mounts_overlay, owner_of}
-use Rattle.vt_spec.specs.declared.attributes.Kind.TheVariants.{Link}
+use Rattle.vt_spec.specs.declared.attributes.Kind.TheVariants.{Symlink}
 use Rattle.vt_spec.specs.FileTree.{is_kind_in, opaque_of}
 use Rattle.vt_spec.specs.Language.Answers.Answer.{Bytes, Names, Opened}
 use Rattle.vt_spec.specs.Language.Calls.{Access, Call, TaskName}
@@ -75,7 +75,7 @@ BytesAreToldByRight =
     → ((file : Location ℕ) × (bytes ≡ bytes_in (node_at nat_eq world file))
     × (node_allows task.credentials read_right (node_at nat_eq world file) ≡ true))
     ⊎ (((file : Location ℕ) × (bytes ≡ bytes_in (node_at nat_eq world file))
-    × (is_kind_in Link (node_at nat_eq world file) ≡ true))
+    × (is_kind_in Symlink (node_at nat_eq world file) ≡ true))
     ⊎ ((descriptor : Descriptor ℕ) × (which offset size : ℕ) × (descriptor_numbered task which ≡ Some descriptor)
     × (descriptor.reads ≡ true) × (bytes ≡ take size (drop offset (bytes_in (node_at nat_eq world descriptor.location))))))
 

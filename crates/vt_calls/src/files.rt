@@ -7,7 +7,7 @@ use crate::answers::done;
 use vt_permits::Permit;
 use vt_request::{Answer, TaskName};
 use vt_spec::errors::Deny;
-use vt_world::World;
+use vt_ns::World;
 
 // Changes a file as a permit allows. S5 (ENOMEM): an allocation failed; nothing has changed.
 pub(crate) fn change_file(

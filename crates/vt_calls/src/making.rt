@@ -7,7 +7,7 @@ use crate::answers::done;
 use vt_permits::Permit;
 use vt_request::{Answer, TaskName};
 use vt_spec::errors::Deny;
-use vt_world::World;
+use vt_ns::World;
 
 // Makes a name as a permit allows. S5 (ENOMEM): an allocation failed, or a count of uses is full; nothing has changed.
 pub(crate) fn make(world: &mut World, name: &TaskName, permit: Permit) -> Result<Answer, Deny>

@@ -4,7 +4,7 @@ ghost use Rattle.vt_location.specs.Numbers.{counted};
 ghost use Rattle.vt_request.specs.Requests.{type_word_of};
 ghost use Rattle.vt_spec.specs.Language.Script.{is_grouped_type};
 ghost use Rattle.vt_spec.specs.Machine.Permits.Permit.{ToSetType};
-ghost use Rattle.vt_world.specs.Events.{Becomes, Permits};
+ghost use Rattle.vt_ns.specs.Events.{Becomes, Permits};
 ghost use Rattle.vt_calls.specs.Kinds.{is_on_mount};
 ghost use Rattle.vt_calls.specs.Permitted.{EndsGiven, IsGiven};
 
@@ -13,7 +13,7 @@ use vt_location::MountId;
 use vt_permits::Permit;
 use vt_request::{Answer, TaskName, TypeWord};
 use vt_spec::errors::Deny;
-use vt_world::World;
+use vt_ns::World;
 
 // Changes mounts as a permit allows. S5 (ENOMEM): an allocation failed, or a count of uses is full; nothing has changed.
 pub(crate) fn change_mounts(

@@ -2,7 +2,7 @@
 use super::*;
 use std::test::Fail;
 use vt_request::{Answer, Call, TaskName};
-use vt_world::World;
+use vt_ns::World;
 
 #[test]
 fn calls_use_the_memory_that_is_there(rt: HostRuntime) -> Result<(), Fail> {

@@ -11,7 +11,7 @@ use Rattle.vt_spec.specs.Machine.Filesystems.{filesystem_changed, with_change, w
 use Rattle.vt_spec.specs.Machine.Mounts.{Location}
 use Rattle.vt_spec.specs.Machine.Settled.{settled}
 use Rattle.vt_spec.specs.Machine.World.{Filesystem, Overlay, World, filesystem_at, filesystem_numbered, is_overlay}
-use Rattle.vt_spec.specs.Machine.WorldLaws.{IsWorld}
+use Rattle.vt_spec.specs.Machine.Invariants.{IsWorld}
 use Rattle.vt_spec.specs.OneTree.Fits.{Fits, MayReplace}
 use Rattle.vt_spec.specs.OneTree.Inodes.{Inodes, changed, node_in, tree_of, with_changed, without_replaced}
 use Rattle.vt_spec.specs.OneTree.Rules.{is_filled}

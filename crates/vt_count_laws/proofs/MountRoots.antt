@@ -7,7 +7,7 @@ use Rattle.vt_spec.specs.Lists.{any_pair, is_among}
 use Rattle.vt_spec.specs.Machine.Mounts.{Location, Mount, mount_in, no_mount, root_of}
 use Rattle.vt_spec.specs.Machine.Settled.{is_located}
 use Rattle.vt_spec.specs.Machine.World.{World, all_locations, mount_at, mount_numbered}
-use Rattle.vt_spec.specs.Machine.WorldLaws.{is_located_well, is_nowhere_or_attached, is_there}
+use Rattle.vt_spec.specs.Machine.Invariants.{is_located_well, is_nowhere_or_attached, is_there}
 use Rattle.vt_letting_go.specs.Leaving.{MountsStand, stands_on_attached}
 use Rattle.vt_letting_go.specs.Mounting.{inode_at, root_inode}
 use Rattle.vt_letting_go.specs.OneByOne.{is_mount_used, without_mount}

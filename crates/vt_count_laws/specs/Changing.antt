@@ -10,7 +10,7 @@ use Rattle.vt_spec.specs.Machine.Mounts.{Location}
 use Rattle.vt_spec.specs.Machine.SameWorlds.{SameWorlds}
 use Rattle.vt_spec.specs.Machine.Settled.{settled}
 use Rattle.vt_spec.specs.Machine.World.{World, filesystem_at, filesystem_numbered, mount_at}
-use Rattle.vt_spec.specs.Machine.WorldLaws.{IsWorld, ListsNumbers}
+use Rattle.vt_spec.specs.Machine.Invariants.{IsWorld, ListsNumbers}
 use Rattle.vt_spec.specs.OneTree.Fits.{Fits}
 use Rattle.vt_spec.specs.OneTree.Inodes.{Inodes, changed, tree_of}
 use Rattle.vt_letting_go.specs.TreeChanges.{with_tree}

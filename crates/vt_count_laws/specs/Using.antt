@@ -4,7 +4,7 @@ use Rattle.std.specs.List.{list_all}
 use Rattle.vt_spec.specs.Lists.{Fresh, any_pair, folded, is_among}
 use Rattle.vt_spec.specs.Machine.Mounts.{Location, Mount, root_of}
 use Rattle.vt_spec.specs.Machine.World.{World, all_locations, filesystem_numbered, mount_at, new_plain, opening, root_attr}
-use Rattle.vt_spec.specs.Machine.WorldLaws.{IsWorld}
+use Rattle.vt_spec.specs.Machine.Invariants.{IsWorld}
 use Rattle.vt_spec.specs.OneTree.Inodes as Trees
 use Rattle.vt_spec.specs.OneTree.Inodes.{Inodes, one_directory, pinned, unpinned}
 use Rattle.vt_spec.specs.Tree.{new_directory}

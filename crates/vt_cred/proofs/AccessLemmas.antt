@@ -5,7 +5,7 @@ use Rattle.std.proofs.lemmas.Bool.{false≢true}
 use Rattle.std.proofs.lemmas.Bool.Decides.{Decides-eqb, Decides-and, Decides-or, Decides-not, Decides-at, Decides-like, Decides-by_or}
 use Rattle.std.proofs.lemmas.List.Elements.{Decides-contains}
 use Rattle.vt_spec.specs.declared.attributes.Kind.{Kind}
-use Rattle.vt_spec.specs.declared.attributes.Kind.TheVariants.{Dir, File, Link, White}
+use Rattle.vt_spec.specs.declared.attributes.Kind.TheVariants.{Dir, File, Symlink, White}
 use Rattle.vt_spec.specs.declared.attributes.Attr.{Attr}
 use Rattle.vt_spec.specs.Rights.{Credentials, has_all, execute_right, cap_dac_override, cap_dac_read_search, cap_fowner, owner_bits, group_bits, other_bits, is_sticky, is_member, class_bits, is_directory, has_execute_bit, override_grants, read_search_grants, allows, owns, may_delete_sticky}
 use Rattle.vt_cred.specs.Access.{Includes, IsInGroup, ClassGrants, HasExecuteBit, OverrideGrants, ReadSearchGrants, Allows, Owns, MayDeleteSticky}
@@ -68,7 +68,7 @@ Decides-class_bits who attr wanted =
 Decides-is_directory : (kind : Kind) → Decides (is_directory kind) (kind ≡ Dir)
 Decides-is_directory Dir = ((λ _. refl), (λ _. refl))
 Decides-is_directory File = ((λ e. absurd (false≢true e)), (λ e. cc))
-Decides-is_directory Link = ((λ e. absurd (false≢true e)), (λ e. cc))
+Decides-is_directory Symlink = ((λ e. absurd (false≢true e)), (λ e. cc))
 Decides-is_directory White = ((λ e. absurd (false≢true e)), (λ e. cc))
 
 Decides-has_execute_bit : (mode : ℕ) → Decides (has_execute_bit mode) (HasExecuteBit mode)

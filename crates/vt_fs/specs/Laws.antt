@@ -3,7 +3,7 @@ use Rattle.std.specs.Prelude.{false, find, length, nat_eq, not, unwrap_or, ℕ, 
 use Rattle.vt_spec.specs.FileTree.{has_entry_to}
 use Rattle.vt_spec.specs.Lists.{any_pair}
 use Rattle.vt_spec.specs.Machine.World.{no_filesystem}
-use Rattle.vt_spec.specs.Machine.WorldLaws.{ListsNumbers}
+use Rattle.vt_spec.specs.Machine.Invariants.{ListsNumbers}
 use Rattle.vt_spec.specs.Tree.{Tree, parent_in}
 use Rattle.vt_spec.specs.TreeLaws.{HasOwnParents, IsTree}
 use Rattle.vt_location.specs.Numbers.{counted}

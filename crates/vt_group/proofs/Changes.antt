@@ -14,8 +14,8 @@ use Rattle.vt_spec.specs.Machine.Mounts.Propagation.{Private, Shared, Slave, Unb
 use Rattle.vt_spec.specs.Machine.Receives.{has_members, is_member_of, regrouped}
 use Rattle.vt_spec.specs.Machine.Types.{with_master}
 use Rattle.vt_spec.specs.Machine.World.{World}
-use Rattle.vt_spec.specs.Machine.WorldLaws.{HasLivingGroups, Lives}
-use Rattle.vt_spec.specs.Machine.WorldLaws.Lives.{has_master, has_no_master}
+use Rattle.vt_spec.specs.Machine.Invariants.{HasLivingGroups, Lives}
+use Rattle.vt_spec.specs.Machine.Invariants.Lives.{has_master, has_no_master}
 use Rattle.vt_spec.proofs.Lists.{Among, among-from_map, among-map, among_from_all, among_from_contains, any_among, any_from_among, is_among_numbers}
 use Rattle.vt_group.specs.Grouping.{Grouping, GroupsLive, Has, HasGroup, HasMount, LacksGroup, are_rising, below, numbers_of, peers_of, propagation_in, retyped_if, with_propagation}
 use Rattle.vt_group.specs.Steps.{ended_if_lost, retyped}

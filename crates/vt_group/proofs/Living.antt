@@ -10,8 +10,8 @@ use Rattle.vt_spec.specs.Machine.Mounts.Propagation.{Private, Shared, Slave, Unb
 use Rattle.vt_spec.specs.Machine.Receives.{has_members, heir, inherited, inheriting, is_lost_group, is_member_of, lost_a_group, regrouped, regrouped_by, slave_of_heir}
 use Rattle.vt_spec.specs.Machine.Types.{with_master}
 use Rattle.vt_spec.specs.Machine.World.{World}
-use Rattle.vt_spec.specs.Machine.WorldLaws.{HasLivingGroups, Lives}
-use Rattle.vt_spec.specs.Machine.WorldLaws.Lives.{has_master, has_no_master}
+use Rattle.vt_spec.specs.Machine.Invariants.{HasLivingGroups, Lives}
+use Rattle.vt_spec.specs.Machine.Invariants.Lives.{has_master, has_no_master}
 use Rattle.vt_spec.proofs.Lists.{Among, all_from_among, among-from_map, among_from_all, any_among, any_from_among, chain_ends, chain_goes_on, none_among}
 use Rattle.vt_group.specs.Grouping.{GroupsLive, retyped_if, HasGroup}
 use Rattle.vt_group.specs.Laws.{JoiningKeepsGroups, LeavingKeepsGroups, SlavesKeepGroups, StartingKeepsGroups}

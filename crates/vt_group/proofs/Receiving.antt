@@ -8,8 +8,8 @@ use Rattle.vt_spec.specs.Lists.{any_pair, chain, holds_of, is_among, last_or}
 use Rattle.vt_spec.specs.Machine.Mounts.{Mount, Propagation, group_of, source_of}
 use Rattle.vt_spec.specs.Machine.Receives.{groups_up, has_members, receivers, receives}
 use Rattle.vt_spec.specs.Machine.World.{World}
-use Rattle.vt_spec.specs.Machine.WorldLaws.{HasLivingGroups, Lives}
-use Rattle.vt_spec.specs.Machine.WorldLaws.Lives.{has_master, has_no_master}
+use Rattle.vt_spec.specs.Machine.Invariants.{HasLivingGroups, Lives}
+use Rattle.vt_spec.specs.Machine.Invariants.Lives.{has_master, has_no_master}
 use Rattle.vt_spec.proofs.Lists.{Among, among-filter, among_from_all, among_from_list_all, among_numbers, any_among, any_from_among, chain_ends, chain_goes_on, last_of_chain, list_all_from_among, none_among}
 use Rattle.vt_group.specs.Grouping.{Grouping, GroupsLive, Has, master_in, peer_of, peers_of}
 use Rattle.vt_group.specs.Steps.{is_member}

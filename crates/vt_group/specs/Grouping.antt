@@ -9,7 +9,7 @@ use Rattle.vt_spec.specs.Machine.Receives.{has_members, regrouped}
 use Rattle.vt_spec.specs.Machine.Settled.{without_dead_groups}
 use Rattle.vt_spec.specs.Machine.Types.{with_master}
 use Rattle.vt_spec.specs.Machine.World.{World}
-use Rattle.vt_spec.specs.Machine.WorldLaws.{HasLivingGroups}
+use Rattle.vt_spec.specs.Machine.Invariants.{HasLivingGroups}
 
 -- The mounts that are in a group or slaves of one, in order of attachment, and the groups that have a master.
 pub record Grouping : Type 0 where

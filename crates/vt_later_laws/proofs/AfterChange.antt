@@ -17,7 +17,7 @@ use Rattle.vt_spec.specs.Machine.Policy.{numbers_raised, policy}
 use Rattle.vt_spec.specs.Machine.Run.{Serves}
 use Rattle.vt_spec.specs.Machine.Settled.{settled}
 use Rattle.vt_spec.specs.Machine.World.{Filesystem, World, files_at, filesystem_numbered, is_overlay, mount_at, no_filesystem, node_at}
-use Rattle.vt_spec.specs.Machine.WorldLaws.{IsWorld}
+use Rattle.vt_spec.specs.Machine.Invariants.{IsWorld}
 use Rattle.vt_spec.specs.Rights.{Credentials}
 use Rattle.vt_spec.specs.Machine.Rightful.{node_allows}
 use Rattle.vt_spec.specs.Tree.{entries_in, entry_named, is_directory_node, parent_in}

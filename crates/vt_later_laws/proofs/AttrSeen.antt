@@ -27,7 +27,7 @@ use Rattle.vt_spec.specs.Machine.Rules.Attributes.{attr_at, attr_rules}
 use Rattle.vt_spec.specs.Machine.Run.{Serves}
 use Rattle.vt_spec.specs.Machine.Walking.{Here, object_walk, walk_end}
 use Rattle.vt_spec.specs.Machine.World.{Filesystem, Task, World, files_at, mount_at, node_at, task_called}
-use Rattle.vt_spec.specs.Machine.WorldLaws.{IsWorld}
+use Rattle.vt_spec.specs.Machine.Invariants.{IsWorld}
 use Rattle.vt_spec.specs.Rights.{owns}
 use Rattle.vt_spec.specs.Tree.{Node}
 use Rattle.vt_call_laws.specs.Inodes.{change_of}

@@ -32,7 +32,7 @@ use Rattle.vt_spec.specs.Machine.Settled.{settled}
 use Rattle.vt_spec.specs.Machine.Walking.{Place, Stop, entry_location, final_word, followed, front_walked, is_special, last_word, name_of, new_name_rules, new_walk, place_walk, placed, search_rules, steps_at, stopped_by, then_walk, walk_end, walk_start, walk_unless, words_walked}
 use Rattle.vt_spec.specs.Machine.Walking.LastWord.{Named}
 use Rattle.vt_spec.specs.Machine.World.{Task, World, files_at, filesystem_numbered, is_directory_at, mount_at, node_at, task_called, with_task}
-use Rattle.vt_spec.specs.Machine.WorldLaws.{IsWorld}
+use Rattle.vt_spec.specs.Machine.Invariants.{IsWorld}
 use Rattle.vt_spec.specs.PathText.{ends_in_slash, words}
 use Rattle.vt_spec.specs.Rights.{Credentials, execute_right}
 use Rattle.vt_spec.specs.Tree.{Node, entries_in, entry_named, is_directory_node}

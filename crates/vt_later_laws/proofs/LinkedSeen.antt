@@ -23,7 +23,7 @@ use Rattle.vt_spec.specs.Machine.Rules.Making.{hard_link_rules}
 use Rattle.vt_spec.specs.Machine.Run.{Serves}
 use Rattle.vt_spec.specs.Machine.Walking.{Here, Place, is_special, name_of, new_leaf_walk, place_walk, symlink_walk, walk_end}
 use Rattle.vt_spec.specs.Machine.World.{Task, World, files_at, is_directory_at, node_at, task_called}
-use Rattle.vt_spec.specs.Machine.WorldLaws.{IsWorld}
+use Rattle.vt_spec.specs.Machine.Invariants.{IsWorld}
 use Rattle.vt_spec.specs.Tree.{entries_in, entry_named, is_directory_node}
 use Rattle.vt_spec.proofs.Nodes.{directory_used}
 use Rattle.vt_call_laws.specs.Inodes.{change_of}

@@ -1,7 +1,7 @@
 -- What calls that look answer where their walks end.
 use Rattle.std.proofs.Common.{◌≡◌, refl, ap, ◌∙◌, ℕ, nat_eq, Bool, true, false, cond, not, ◌||◌, ◌&&◌, List, [], ◌∷◌, Option, Some, None, Ok, Err, ok_or}
 use Rattle.vt_spec.specs.declared.attributes.Attr.{Attr}
-use Rattle.vt_spec.specs.declared.attributes.Kind.TheVariants.{File, Link, White}
+use Rattle.vt_spec.specs.declared.attributes.Kind.TheVariants.{File, Symlink as SymlinkKind, White}
 use Rattle.vt_spec.specs.declared.errors.Rule.TheVariants.{B1, C1, E2, E5, E9, S2}
 use Rattle.vt_spec.specs.Errors.{denial}
 use Rattle.vt_spec.specs.FileTree.{is_kind_in}
@@ -104,7 +104,7 @@ module _ (world : World ℕ) (fresh : Fresh ℕ) (name : TaskName) (task : Task 
       ∙ ap (λ r. (after world (walk_end r) (λ here. granted (Told (stat_line (node_at nat_eq world here.location))) world)).answer) walk
 
   pub readlink_of : (here : Here ℕ) → symlink_walk nat_eq world task path ≡ Ok here
-      → is_kind_in Link (node_at nat_eq world here.location) ≡ true
+      → is_kind_in SymlinkKind (node_at nat_eq world here.location) ≡ true
       → (policy nat_eq fresh world name (Readlink path)).answer ≡ Ok (Bytes (bytes_in (node_at nat_eq world here.location)))
   unfolding readlink_outcome
   readlink_of here walk is =

@@ -2,7 +2,7 @@
 use Rattle.std.proofs.Common.{◌≡◌, refl, sym, ap, subst, ◌∙◌, inl, inr, ◌⊎◌, true≢false, ℕ, nat_eq, Bool, true, false, cond, not, ◌&&◌, List, [], ◌∷◌, ◌++◌, Option, Some, None, is_some, Ok, Err, Result}
 use Rattle.std.specs.Prelude.{option_to_list, unwrap_or}
 use Rattle.std.proofs.lemmas.Option.{same_Some}
-use Rattle.vt_spec.specs.declared.attributes.Kind.TheVariants.{Link}
+use Rattle.vt_spec.specs.declared.attributes.Kind.TheVariants.{Symlink as SymlinkKind}
 use Rattle.vt_spec.specs.declared.errors.Deny.{Deny}
 use Rattle.vt_spec.specs.declared.errors.Rule.TheVariants.{C1, W6}
 use Rattle.vt_spec.specs.Errors.{denial}
@@ -29,7 +29,7 @@ use Rattle.vt_spec.specs.Machine.Rules.Making.{link_text_rules, make_rules, new_
 use Rattle.vt_spec.specs.Machine.Run.{Serves}
 use Rattle.vt_spec.specs.Machine.Walking.{Here, LastWord, Place, Stop, is_special, name_of, new_leaf_walk, new_name_rules, new_walk, place_walk, stepped, walk_end}
 use Rattle.vt_spec.specs.Machine.World.{Task, World, files_at, mount_at, node_at, task_called}
-use Rattle.vt_spec.specs.Machine.WorldLaws.{IsWorld}
+use Rattle.vt_spec.specs.Machine.Invariants.{IsWorld}
 use Rattle.vt_spec.specs.Rights.{read_right}
 use Rattle.vt_spec.specs.Tree.{Node, bytes_in, entries_in, entry_named, is_directory_node, names_in, new_directory}
 use Rattle.vt_spec.specs.Tree.Content.{Symlink}
@@ -329,5 +329,5 @@ symlink_then_readlink text path world fresh name task is plain serves called gra
         (name_of parts.0.last) _ parts.4 reading own stands looks parts.0.last parts.2 refl)
         (λ slash. absurd (true≢false (sym slash ∙ at_name.slash_is ∙ parts.3)))) in
         readlink_of (policy nat_eq fresh world name (SymlinkAt text path)).world later_fresh reader reading found path _ walk.1
-        (ap (is_kind_in Link) seen)
+        (ap (is_kind_in SymlinkKind) seen)
         ∙ ap (λ o. Ok (Bytes (bytes_in o))) seen

@@ -25,7 +25,7 @@ use Rattle.vt_spec.specs.Machine.Rules.Descriptors.{descriptor_numbered, descrip
 use Rattle.vt_spec.specs.Machine.Filesystems.{lies_below}
 use Rattle.vt_spec.specs.Machine.Walking.{Here, Stop, object_walk, walk_end}
 use Rattle.vt_spec.specs.Machine.World.{Descriptor, Task, World, mount_at, node_at, replaced_if_called, task_called, with_task}
-use Rattle.vt_spec.specs.Machine.WorldLaws.{are_ascending_from, is_within_limits}
+use Rattle.vt_spec.specs.Machine.Invariants.{are_ascending_from, is_within_limits}
 use Rattle.vt_spec.specs.Tree.{bytes_in}
 use Rattle.vt_letting_go.proofs.Lists.{passes}
 use Rattle.vt_world_laws.specs.Worlds.Kept.{IsPlain}

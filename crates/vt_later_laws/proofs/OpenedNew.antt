@@ -25,7 +25,7 @@ use Rattle.vt_spec.specs.Machine.Rules.Making.{file_word_rules, make_rules}
 use Rattle.vt_spec.specs.Machine.Run.{Serves}
 use Rattle.vt_spec.specs.Machine.Walking.{Place, file_walk, name_of, new_walk, walk_end}
 use Rattle.vt_spec.specs.Machine.World.{Descriptor, Task, World, files_at, filesystem_numbered, mount_at, node_at, task_called, with_task}
-use Rattle.vt_spec.specs.Machine.WorldLaws.{IsWorld, is_within_limits}
+use Rattle.vt_spec.specs.Machine.Invariants.{IsWorld, is_within_limits}
 use Rattle.vt_spec.specs.Tree.{Node, bytes_in, is_directory_node, node_with_entry}
 use Rattle.vt_spec.proofs.Nodes.{directory_used}
 use Rattle.vt_letting_go.proofs.Lists.{passes}

@@ -17,7 +17,7 @@ use Rattle.vt_spec.specs.Machine.Run.{Serves}
 use Rattle.vt_spec.specs.Machine.Walk.{LastWord, is_special, name_of, stepped}
 use Rattle.vt_spec.specs.Machine.Walk.LastWord.{Dot, DotDot, Named, NoWord}
 use Rattle.vt_spec.specs.Machine.World.{Task, World, files_at, is_directory_at, mount_at, node_at, task_called}
-use Rattle.vt_spec.specs.Machine.WorldLaws.{IsWorld}
+use Rattle.vt_spec.specs.Machine.Invariants.{IsWorld}
 use Rattle.vt_spec.specs.Rights.{execute_right}
 use Rattle.vt_spec.specs.Tree.{entries_in, entry_named, is_directory_node}
 use Rattle.vt_call_laws.specs.Inodes.{change_of}

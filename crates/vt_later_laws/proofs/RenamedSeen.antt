@@ -25,7 +25,7 @@ use Rattle.vt_spec.specs.Machine.Rules.Removing.{is_one_object, object_there, ol
 use Rattle.vt_spec.specs.Machine.Run.{Serves}
 use Rattle.vt_spec.specs.Machine.Walking.{Place, is_directory_there, is_special, name_of, new_walk, old_leaf_walk, old_walk, place_walk, stepped, walk_end}
 use Rattle.vt_spec.specs.Machine.World.{Task, World, files_at, is_directory_at, mount_at, node_at, task_called}
-use Rattle.vt_spec.specs.Machine.WorldLaws.{IsWorld}
+use Rattle.vt_spec.specs.Machine.Invariants.{IsWorld}
 use Rattle.vt_spec.specs.Rights.{execute_right}
 use Rattle.vt_spec.specs.Tree.{entries_in, entry_named, is_directory_node}
 use Rattle.vt_spec.specs.TreeLaws.{entry_at}

@@ -25,7 +25,7 @@ use Rattle.vt_spec.specs.Machine.Permits.Permit.{ToWritePart}
 use Rattle.vt_spec.specs.Machine.Policy.{call_outcome, filesystems_changed_by, finished, policy, raised_task}
 use Rattle.vt_spec.specs.Machine.Rules.Descriptors.{descriptor_numbered, pwrite_rules}
 use Rattle.vt_spec.specs.Machine.World.{Descriptor, Filesystem, Task, World, locations_of, mount_at, node_at, task_called, with_filesystem}
-use Rattle.vt_spec.specs.Machine.WorldLaws.{IsWorld, has_regular_files_open}
+use Rattle.vt_spec.specs.Machine.Invariants.{IsWorld, has_regular_files_open}
 use Rattle.vt_spec.specs.Tree.{Content, Node, bytes_in, node_with_bytes}
 use Rattle.vt_spec.specs.Tree.Content.{Directory, Regular, Symlink, Whiteout}
 use Rattle.vt_letting_go.proofs.Lists.{Among, among-map, passes}

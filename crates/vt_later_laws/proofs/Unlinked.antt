@@ -19,7 +19,7 @@ use Rattle.vt_spec.specs.Machine.Run.{Serves}
 use Rattle.vt_spec.specs.Machine.Rules.Removing.{object_there, removing, unlink_rules}
 use Rattle.vt_spec.specs.Machine.Walking.{Place, is_directory_there, is_special, name_of, old_leaf_walk, old_walk, place_walk, walk_end}
 use Rattle.vt_spec.specs.Machine.World.{Task, World, files_at, is_directory_at, node_at, task_called}
-use Rattle.vt_spec.specs.Machine.WorldLaws.{IsWorld}
+use Rattle.vt_spec.specs.Machine.Invariants.{IsWorld}
 use Rattle.vt_spec.specs.Tree.{entries_in, entry_named}
 use Rattle.vt_spec.proofs.Nodes.{directory_used}
 use Rattle.vt_call_laws.specs.Inodes.{change_of}

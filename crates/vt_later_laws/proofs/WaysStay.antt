@@ -12,7 +12,7 @@ use Rattle.vt_spec.specs.Machine.Rightful.{mounter_allows}
 use Rattle.vt_spec.specs.Machine.Walk.{LastWord, hop, is_lost, stepped}
 use Rattle.vt_spec.specs.Machine.Walk.LastWord.{Dot, DotDot, Named, NoWord}
 use Rattle.vt_spec.specs.Machine.World.{Task, World, filesystem_numbered, is_directory_at, mount_at, mount_numbered, node_at, task_called}
-use Rattle.vt_spec.specs.Machine.WorldLaws.{IsWorld, has_its_root}
+use Rattle.vt_spec.specs.Machine.Invariants.{IsWorld, has_its_root}
 use Rattle.vt_spec.specs.Rights.{execute_right}
 use Rattle.vt_spec.specs.Tree.{Node, Tree, entries_in, entry_named, is_directory_node, parent_in}
 use Rattle.vt_spec.specs.TreeLaws.{entry_at}

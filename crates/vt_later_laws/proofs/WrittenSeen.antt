@@ -29,7 +29,7 @@ use Rattle.vt_spec.specs.Machine.Rules.Making.{file_word_rules, make_rules, rewr
 use Rattle.vt_spec.specs.Machine.Run.{Serves}
 use Rattle.vt_spec.specs.Machine.Walking.{Place, file_walk, file_walked, is_special, name_of, new_name_rules, object_walk, path_text, slash_rules, stepped, then_walk, walk_end, walk_start, walk_unless, words_walked}
 use Rattle.vt_spec.specs.Machine.World.{Task, World, files_at, is_directory_at, node_at, task_called}
-use Rattle.vt_spec.specs.Machine.WorldLaws.{IsWorld}
+use Rattle.vt_spec.specs.Machine.Invariants.{IsWorld}
 use Rattle.vt_spec.specs.PathText.{ends_in_slash, is_absolute, words}
 use Rattle.vt_spec.specs.Rights.{allows, read_right}
 use Rattle.vt_spec.specs.Tree.{Content, Node, is_directory_node, kind_of, node_with_bytes}

@@ -33,7 +33,7 @@ chain_enough files tree (suc steps) (suc most) directory r h =
     ∙ sym (up_from files tree steps steps directory r)
 
 -- an object is not above itself
-not_in_line : (files : FileTree ℕ) (tree : IsTree files.tree) → Rattle.vt_spec.specs.Machine.WorldLaws.ListsNumbers nat_eq files → (directory : ℕ) (name : List ℕ) (object : ℕ) → entry_at files.tree directory name ≡ Some object → is_among nat_eq object (directories_to nat_eq files directory) ≡ false
+not_in_line : (files : FileTree ℕ) (tree : IsTree files.tree) → Rattle.vt_spec.specs.Machine.Invariants.ListsNumbers nat_eq files → (directory : ℕ) (name : List ℕ) (object : ℕ) → entry_at files.tree directory name ≡ Some object → is_among nat_eq object (directories_to nat_eq files directory) ≡ false
 not_in_line files tree numbers directory name object e =
     by (is_among nat_eq object (directories_to nat_eq files directory)) refl
   where

@@ -6,7 +6,7 @@ use Rattle.vt_spec.specs.Machine.CopyUp.{Merge, copied_content, copy_named, copy
 use Rattle.vt_spec.specs.FileTree.{FileTree, a_name, opaque_of}
 use Rattle.vt_spec.specs.Machine.World.{Real, upper_object}
 use Rattle.vt_spec.specs.Machine.World.Real.{Upper}
-use Rattle.vt_spec.specs.Machine.WorldLaws.{number_at_path}
+use Rattle.vt_spec.specs.Machine.Invariants.{number_at_path}
 use Rattle.vt_spec.specs.Rights.{is_directory}
 use Rattle.vt_spec.specs.Tree.{Content, Node, bytes_of, is_directory_node, kind_of, node_with_entry}
 use Rattle.vt_spec.specs.Tree.Content.{Directory, Regular, Symlink, Whiteout}

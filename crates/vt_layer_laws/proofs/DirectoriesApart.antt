@@ -9,7 +9,7 @@ use Rattle.vt_spec.specs.Machine.Locked.{counts_in_layer, in_use, is_object_of, 
 use Rattle.vt_spec.specs.declared.errors.Rule.TheVariants.{O2, O3, O5}
 use Rattle.vt_spec.specs.Machine.Outcome.Mounting.{LayerPlaces, layer_rules}
 use Rattle.vt_spec.specs.Machine.World.{Filesystem, Layer, Overlay, World, filesystem_numbered, is_overlay, layers_of}
-use Rattle.vt_spec.specs.Machine.WorldLaws.{IsWorld, is_plain_layer, live_lowers, overlap}
+use Rattle.vt_spec.specs.Machine.Invariants.{IsWorld, is_plain_layer, live_lowers, overlap}
 use Rattle.vt_layer_laws.specs.Layers.Mounted.{AreLayers}
 use Rattle.vt_layer_laws.specs.Layers.NewOverlays.{ChangedStayApart, LowersStayApart, NoneRefuses}
 use Rattle.vt_layer_laws.proofs.DirectoriesLater.{IsOld, any_found, later, new, overlaps_same, plain_is_old}

@@ -12,7 +12,7 @@ use Rattle.vt_spec.specs.Machine.Merging.{Merged, MergedInode, entry_below, inod
 use Rattle.vt_spec.specs.Language.Limits.{largest_file, longest_name, longest_path}
 use Rattle.vt_spec.specs.Machine.Outcome.Mounting.{inode_count, overlay_filesystem}
 use Rattle.vt_spec.specs.Machine.World.{Filesystem, Overlay, World, open_layer, shown_layers}
-use Rattle.vt_spec.specs.Machine.WorldLaws.{IsWorld, ListsNumbers, is_fit_filesystem}
+use Rattle.vt_spec.specs.Machine.Invariants.{IsWorld, ListsNumbers, is_fit_filesystem}
 use Rattle.vt_spec.specs.PathText.{is_empty}
 use Rattle.vt_spec.specs.Tree.{Content, Entries, Node, bytes_in, entries_in, entry_named, name_cmp, names_in}
 use Rattle.vt_spec.specs.Tree.Content.{Directory, Regular, Symlink, Whiteout}

@@ -8,7 +8,7 @@ use Rattle.vt_spec.specs.Machine.Merging.{layer_node, merged_at, real_object}
 use Rattle.vt_spec.specs.Machine.Outcome.Mounting.{overlay_filesystem}
 use Rattle.vt_spec.specs.Machine.World.{Filesystem, Layer, Overlay, Real, World, filesystem_numbered, no_filesystem, open_layer, shown_layers}
 use Rattle.vt_spec.specs.Machine.World.Real.{Below, Upper}
-use Rattle.vt_spec.specs.Machine.WorldLaws.{IsMerged, IsWorld, SameObject, is_plain_layer, is_there, number_at_path, real_node}
+use Rattle.vt_spec.specs.Machine.Invariants.{IsMerged, IsWorld, SameObject, is_plain_layer, is_there, number_at_path, real_node}
 use Rattle.vt_layer_laws.specs.Layers.Mounted.{AreLayers}
 use Rattle.vt_layer_laws.specs.Layers.NewOverlays.{OverlaysStillMerge}
 use Rattle.vt_layer_laws.proofs.DirectoriesApart.{each_passes}

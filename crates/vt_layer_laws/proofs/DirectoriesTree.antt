@@ -10,7 +10,7 @@ use Rattle.vt_spec.specs.Lists.{then_some, when}
 use Rattle.vt_spec.specs.Machine.Merging.{layer_node, real_object}
 use Rattle.vt_spec.specs.Machine.Views.{Shown, View, hides, node_led, shown, shown_over}
 use Rattle.vt_spec.specs.Machine.World.{open_layer, shown_layers}
-use Rattle.vt_spec.specs.Machine.WorldLaws.{SameObject, same_content}
+use Rattle.vt_spec.specs.Machine.Invariants.{SameObject, same_content}
 use Rattle.vt_spec.specs.Rights.{is_directory}
 use Rattle.vt_spec.specs.Tree.{Content, Node, Tree, is_directory_node, kind_of}
 use Rattle.vt_spec.specs.Tree.Content.{Directory, Regular, Symlink, Whiteout}

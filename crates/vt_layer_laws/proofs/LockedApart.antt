@@ -6,7 +6,7 @@ use Rattle.vt_spec.specs.FileTree.{FileTree, is_under, named_parent}
 use Rattle.vt_spec.specs.Lists.{any_pair, chain, holds_of, is_among, then_some}
 use Rattle.vt_spec.specs.Machine.Locked.{counts_in_layer, is_locked, is_object_of, is_real_upper, lies_in_layer, lies_or_counts_under, live_layers, live_upper_and_work, of_overlay, overlaps_one_of, overlay_or, overlays, upper_and_work}
 use Rattle.vt_spec.specs.Machine.World.{Filesystem, Layer, Overlay, World, filesystem_numbered, is_overlay, layers_of, no_filesystem, upper_object}
-use Rattle.vt_spec.specs.Machine.WorldLaws.{IsWorld, ListsNumbers, SameObject, is_plain_layer, is_there, live_lowers, overlap, real_node}
+use Rattle.vt_spec.specs.Machine.Invariants.{IsWorld, ListsNumbers, SameObject, is_plain_layer, is_there, live_lowers, overlap, real_node}
 use Rattle.vt_spec.specs.Tree.{Node, is_directory_node}
 use Rattle.vt_spec.proofs.Lists.{Among, among-append_right, among-filter, among-flat_map, among_from_list_all, among_numbers, any_among, any_from_among, none_among}
 use Rattle.vt_layer_laws.proofs.LowersKept.{first_fails, second_fails}

@@ -7,7 +7,7 @@ use Rattle.vt_spec.specs.Lists.{Fresh, is_among}
 use Rattle.vt_spec.specs.Machine.Locked.{is_locked}
 use Rattle.vt_spec.specs.Machine.Mounts.{Location}
 use Rattle.vt_spec.specs.Machine.World.{Filesystem, Layer, Overlay, World, filesystem_numbered, mount_at}
-use Rattle.vt_spec.specs.Machine.WorldLaws.{IsWorld}
+use Rattle.vt_spec.specs.Machine.Invariants.{IsWorld}
 use Rattle.vt_layer_laws.specs.Layers.Untouched.{IsKept, inode_in, inodes_changed}
 use Rattle.vt_layer_laws.specs.Layers.Upper.{IsUpperObject, SpeaksOfWhatIsThere}
 use Rattle.vt_layer_laws.proofs.LowersCalls.{Stays, same_filesystem, stays_itself}

@@ -15,7 +15,7 @@ use Rattle.vt_spec.specs.Machine.Walk.{directory_walk, symlink_walk, object_walk
 use Rattle.vt_spec.specs.Machine.World.{Layer, Overlay, Task, World, filesystem_numbered, layers_of, task_called}
 use Rattle.vt_spec.specs.Rights.{cap_sys_chroot}
 use Rattle.std.specs.Prelude.{Contains}
-use Rattle.vt_spec.specs.Machine.WorldLaws.{IsWorld}
+use Rattle.vt_spec.specs.Machine.Invariants.{IsWorld}
 use Rattle.vt_spec.proofs.Lists.{Among, among-append_left, among-append_right, among_from_contains, any_from_among}
 use Rattle.vt_layer_laws.specs.Layers.Locked.{GoesThrough}
 use Rattle.vt_layer_laws.specs.Layers.Untouched.{IsKept, changes_no_mount, inode_in}

@@ -7,7 +7,7 @@ use Rattle.vt_spec.specs.Machine.Layers.{at_path}
 use Rattle.vt_spec.specs.Machine.Locked.{counts_in_layer, lies_or_counts_under, overlays, upper_and_work}
 use Rattle.vt_spec.specs.Machine.Policy.{call_outcome}
 use Rattle.vt_spec.specs.Machine.World.{Filesystem, Layer, World, filesystem_numbered, is_overlay, layers_of, no_filesystem, open_layer}
-use Rattle.vt_spec.specs.Machine.WorldLaws.{IsWorld, ListsNumbers, is_plain_layer}
+use Rattle.vt_spec.specs.Machine.Invariants.{IsWorld, ListsNumbers, is_plain_layer}
 use Rattle.vt_spec.specs.Tree.{entry_named, is_directory_node}
 use Rattle.vt_spec.specs.TreeLaws.{IsDirectory, IsTree}
 use Rattle.vt_spec.proofs.Lists.{Among, among-append_left, among-append_right, among_from_contains}

@@ -12,7 +12,7 @@ use Rattle.vt_spec.specs.Machine.Mounts.{Location, Mount, child_at, mount_in, no
 use Rattle.vt_spec.specs.Machine.Walk.{Here, LastWord, Stop, entry_location, hop, hops, is_lost, is_top, parent_location, search_rules, stepped, steps_with, up_from, word_walked}
 use Rattle.vt_spec.specs.Machine.Walk.LastWord.{Dot, DotDot, Named, NoWord}
 use Rattle.vt_spec.specs.Machine.World.{Filesystem, Task, World, files_at, is_directory_at, mount_at, node_at}
-use Rattle.vt_spec.specs.Machine.WorldLaws.{IsWorld}
+use Rattle.vt_spec.specs.Machine.Invariants.{IsWorld}
 use Rattle.vt_spec.proofs.Nodes.{directory_used, none_is_not}
 use Rattle.vt_tree_laws.specs.Trees.Calls.{IsStanding}
 use Rattle.vt_tree_laws.proofs.TreesEntered.{chain_ends, found_all}

@@ -7,7 +7,7 @@ use Rattle.vt_spec.specs.FileTree.{is_kind, is_kind_in}
 use Rattle.vt_spec.specs.Machine.Layers.{OpenLayer, Shown, at_path, cuts, hides, node_at_path, shown, shown_from, shown_over}
 use Rattle.vt_spec.specs.Lists.{fronts, then_some, when}
 use Rattle.vt_spec.specs.Machine.Merging.{layer_node}
-use Rattle.vt_spec.specs.Machine.WorldLaws.{SameObject, same_content}
+use Rattle.vt_spec.specs.Machine.Invariants.{SameObject, same_content}
 use Rattle.vt_spec.specs.Rights.{is_directory}
 use Rattle.vt_spec.specs.Tree.{Content, Node, Tree, bytes_of, kind_of}
 use Rattle.vt_spec.specs.Tree.Content.{Directory, Regular, Symlink, Whiteout}

@@ -13,7 +13,7 @@ use Rattle.vt_spec.specs.Machine.Merging.{merged_inodes, merged_objects, real_of
 use Rattle.vt_spec.specs.Machine.Outcome.Mounting.{inode_count, overlay_filesystem}
 use Rattle.vt_spec.specs.Machine.World.{Filesystem, Layer, Overlay, Real, World, filesystem_numbered, is_overlay, no_filesystem, open_layer, shown_layers}
 use Rattle.vt_spec.specs.Machine.World.Real.{Below, Upper}
-use Rattle.vt_spec.specs.Machine.WorldLaws.{IsMerged, IsWorld, ListsNumbers, SameObject, is_plain_layer, is_there, node_shown, real_node, same_content}
+use Rattle.vt_spec.specs.Machine.Invariants.{IsMerged, IsWorld, ListsNumbers, SameObject, is_plain_layer, is_there, node_shown, real_node, same_content}
 use Rattle.vt_spec.specs.Tree.{Content, Node, is_directory_node}
 use Rattle.vt_spec.specs.Tree.Content.{Directory, Regular, Symlink, Whiteout}
 use Rattle.vt_spec.specs.TreeLaws.{IsDirectory, IsTree, entry_at, led}

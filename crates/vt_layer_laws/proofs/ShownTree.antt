@@ -5,7 +5,7 @@ use Rattle.std.specs.Prelude.{option_map}
 use Rattle.vt_spec.specs.Machine.Layers.{OpenLayer, Shown, paths_from, shown}
 use Rattle.vt_spec.specs.Lists.{Fresh, place_from, then_some}
 use Rattle.vt_spec.specs.Machine.Merging.{Merged, MergedInode, entry_below, is_one_inode, layer_node, merged_at, merged_content, real_object, real_of, tree_of}
-use Rattle.vt_spec.specs.Machine.WorldLaws.{SameObject}
+use Rattle.vt_spec.specs.Machine.Invariants.{SameObject}
 use Rattle.vt_spec.specs.Rights.{is_directory}
 use Rattle.vt_spec.specs.Tree.{Content, Entries, Node, Tree, entries_in, entries_of, entry_named, kind_of}
 use Rattle.vt_spec.specs.Tree.Content.{Directory, Regular, Symlink, Whiteout}

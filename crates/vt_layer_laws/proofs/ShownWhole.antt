@@ -10,7 +10,7 @@ use Rattle.vt_spec.specs.Machine.Layers.{OpenLayer, Shown, node_at_path, shown}
 use Rattle.vt_spec.specs.Lists.{Fresh, place_from, then_some}
 use Rattle.vt_spec.specs.Machine.Merging.{Merged, MergedInode, inode_of, merged_content, merged_inode, real_object, real_of, same_real}
 use Rattle.vt_spec.specs.Machine.World.{Real}
-use Rattle.vt_spec.specs.Machine.WorldLaws.{SameObject, same_content}
+use Rattle.vt_spec.specs.Machine.Invariants.{SameObject, same_content}
 use Rattle.vt_spec.specs.Machine.World.Real.{Below, Upper}
 use Rattle.vt_spec.specs.Tree.{Content, Node, kind_of}
 use Rattle.vt_spec.specs.Tree.Content.{Directory, Regular, Symlink, Whiteout}

@@ -3,7 +3,7 @@ use Rattle.std.proofs.Common.{◌≡◌, ◌≤◌, refl, sym, ap, subst, ◌∙
 use Rattle.std.specs.List.{list_any}
 use Rattle.vt_spec.specs.FileTree.{FileTree, has_entry_to, named_parent}
 use Rattle.vt_spec.specs.Lists.{chain, when}
-use Rattle.vt_spec.specs.Machine.WorldLaws.{ListsNumbers}
+use Rattle.vt_spec.specs.Machine.Invariants.{ListsNumbers}
 use Rattle.vt_spec.specs.Tree.{parent_in}
 use Rattle.vt_spec.specs.TreeLaws.{IsTree}
 use Rattle.vt_spec.proofs.Nodes.{directory_used}

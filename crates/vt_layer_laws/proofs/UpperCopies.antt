@@ -7,7 +7,7 @@ use Rattle.vt_spec.specs.FileTree.{FileTree, a_name, named_parent}
 use Rattle.vt_spec.specs.Lists.{Fresh, chain}
 use Rattle.vt_spec.specs.Machine.World.{Real, upper_object}
 use Rattle.vt_spec.specs.Machine.World.Real.{Upper}
-use Rattle.vt_spec.specs.Machine.WorldLaws.{ListsNumbers}
+use Rattle.vt_spec.specs.Machine.Invariants.{ListsNumbers}
 use Rattle.vt_spec.specs.Tree.{Node, node_with_entry}
 use Rattle.vt_spec.specs.TreeLaws.{IsTree}
 use Rattle.vt_spec.proofs.Nodes.{directory_used}

@@ -7,7 +7,7 @@ use Rattle.vt_spec.specs.Lists.{Fresh, holds_of, then_some}
 use Rattle.vt_spec.specs.Machine.Merging.{layer_node, real_object}
 use Rattle.vt_spec.specs.Machine.World.{Filesystem, Layer, Overlay, Real, World, filesystem_numbered, open_layer, upper_object}
 use Rattle.vt_spec.specs.Machine.World.Real.{Below, Upper}
-use Rattle.vt_spec.specs.Machine.WorldLaws.{IsWorld, SameObject, is_there, number_at_path, same_content}
+use Rattle.vt_spec.specs.Machine.Invariants.{IsWorld, SameObject, is_there, number_at_path, same_content}
 use Rattle.vt_spec.specs.Rights.{is_directory}
 use Rattle.vt_spec.specs.Tree.{Content, Node, is_directory_node, kind_of}
 use Rattle.vt_spec.specs.Tree.Content.{Directory, Regular, Symlink, Whiteout}

@@ -10,7 +10,7 @@ use Rattle.vt_spec.specs.Lists.{first_of_list, front_of, then_some}
 use Rattle.vt_spec.specs.Machine.Merging.{merged_at, real_object}
 use Rattle.vt_spec.specs.Machine.World.{Real, upper_object}
 use Rattle.vt_spec.specs.Machine.World.Real.{Below, Upper}
-use Rattle.vt_spec.specs.Machine.WorldLaws.{ListsNumbers}
+use Rattle.vt_spec.specs.Machine.Invariants.{ListsNumbers}
 use Rattle.vt_spec.specs.Rights.{is_directory}
 use Rattle.vt_spec.specs.Tree.{Content, Entries, Node, Tree, entries_in, is_directory_node, kind_of}
 use Rattle.vt_spec.specs.Tree.Content.{Directory, Regular, Symlink, Whiteout}

@@ -15,7 +15,7 @@ use Rattle.vt_spec.specs.Language.Limits.{most_lowers}
 use Rattle.vt_spec.specs.Machine.Policy.{same_bool}
 use Rattle.vt_spec.specs.Machine.World.{Filesystem, Layer, Overlay, Real, World, filesystem_at, filesystem_numbered, files_at, is_overlay, layers_of, mount_at, no_filesystem, open_layer, upper_object, with_filesystem}
 use Rattle.vt_spec.specs.Machine.World.Real.{Below, Upper}
-use Rattle.vt_spec.specs.Machine.WorldLaws.{IsMerged, IsWorld, ListsNumbers, SameObject, has_fit_layers, is_plain_layer, number_at_path}
+use Rattle.vt_spec.specs.Machine.Invariants.{IsMerged, IsWorld, ListsNumbers, SameObject, has_fit_layers, is_plain_layer, number_at_path}
 use Rattle.vt_spec.specs.Tree.{Node, is_directory_node}
 use Rattle.vt_spec.specs.TreeLaws.{IsTree, entry_at, led}
 use Rattle.vt_spec.proofs.Trees.{led-append}

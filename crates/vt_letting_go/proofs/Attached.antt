@@ -12,7 +12,7 @@ use Rattle.vt_spec.specs.Machine.Receives.{is_member_of}
 use Rattle.vt_spec.specs.Machine.Settled.{is_located, mount_lives}
 use Rattle.vt_spec.specs.Machine.Types.{master_after}
 use Rattle.vt_spec.specs.Machine.World.{Filesystem, World, mount_at}
-use Rattle.vt_spec.specs.Machine.WorldLaws.{is_nowhere_or_attached}
+use Rattle.vt_spec.specs.Machine.Invariants.{is_nowhere_or_attached}
 use Rattle.vt_letting_go.specs.InUse.{AllInUse, GroupsInUse}
 use Rattle.vt_letting_go.specs.Keeping.{LocationsStand}
 use Rattle.vt_letting_go.specs.Leaving.{MountsStand}

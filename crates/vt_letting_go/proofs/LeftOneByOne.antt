@@ -9,7 +9,7 @@ use Rattle.vt_spec.specs.Machine.Mounts.{Location, Mount, mount_in, root_of}
 use Rattle.vt_spec.specs.Machine.Receives.{has_members, is_member_of}
 use Rattle.vt_spec.specs.Machine.Settled.{filesystem_lives, has_layer_on, is_located, is_mounted, layers_in, located_in, mount_lives, named_in, objects_of_overlay, only_used, only_used_of, settled, used_in, without_dead_filesystems, without_dead_in, without_dead_mounts}
 use Rattle.vt_spec.specs.Machine.World.{Filesystem, Overlay, Task, World, all_locations, is_overlay, layers_of, mount_at, upper_object, with_mounts}
-use Rattle.vt_spec.specs.Machine.WorldLaws.{ListsNumbers}
+use Rattle.vt_spec.specs.Machine.Invariants.{ListsNumbers}
 use Rattle.vt_letting_go.specs.InUse.{HasTrees, IsListedTree, UppersArePlain, has_upper_in, is_inode_used}
 use Rattle.vt_letting_go.specs.Leaving.{MountsStand, OneSweepForSeveral, comes_nowhere, is_location_among, with_tasks}
 use Rattle.vt_letting_go.specs.LeavingOverlays.{OneSweepForSeveralWithOverlays}

@@ -7,7 +7,7 @@ use Rattle.vt_spec.specs.Lists.{is_among}
 use Rattle.vt_spec.specs.Machine.Locked.{overlay_or}
 use Rattle.vt_spec.specs.Machine.Settled.{named_in, only_used_by, only_used_of, real_among}
 use Rattle.vt_spec.specs.Machine.World.{Filesystem, Overlay}
-use Rattle.vt_spec.specs.Machine.WorldLaws.{ListsNumbers}
+use Rattle.vt_spec.specs.Machine.Invariants.{ListsNumbers}
 use Rattle.vt_letting_go.specs.Overlays.{real_in}
 use Rattle.vt_letting_go.proofs.Lists.{Among, decided, filter_alike, filter_all, filter_twice, flat_map-filter, flat_map_alike, among_numbers, is_among_numbers, passes}
 

@@ -8,7 +8,7 @@ use Rattle.vt_spec.specs.Machine.Mounts.{Location, Mount, mount_in, root_of}
 use Rattle.vt_spec.specs.Machine.Receives.{is_member_of}
 use Rattle.vt_spec.specs.Machine.Settled.{filesystem_lives, is_located, is_mounted, layers_in, located_in, mount_lives, named_in, objects_of_overlay, settled, without_dead_filesystems, without_dead_mounts}
 use Rattle.vt_spec.specs.Machine.World.{Filesystem, Namespace, Task, World, all_locations, mount_at, mount_numbered}
-use Rattle.vt_spec.specs.Machine.WorldLaws.{is_nowhere_or_attached}
+use Rattle.vt_spec.specs.Machine.Invariants.{is_nowhere_or_attached}
 use Rattle.vt_letting_go.specs.InUse.{AllInUse, is_inode_used}
 use Rattle.vt_letting_go.specs.Keeping.{LocationsStand, has_only_named}
 use Rattle.vt_letting_go.specs.Leaving.{IsSettledPlain, MountsStand}

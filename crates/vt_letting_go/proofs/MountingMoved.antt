@@ -7,7 +7,7 @@ use Rattle.vt_spec.specs.Machine.Detach.{has_child}
 use Rattle.vt_spec.specs.Machine.Mounts.{Location, Mount, mount_in, stands_on}
 use Rattle.vt_spec.specs.Machine.Settled.{is_located, mount_lives}
 use Rattle.vt_spec.specs.Machine.World.{World, mount_numbered}
-use Rattle.vt_spec.specs.Machine.WorldLaws.{is_nowhere_or_attached}
+use Rattle.vt_spec.specs.Machine.Invariants.{is_nowhere_or_attached}
 use Rattle.vt_letting_go.specs.Detaching.{DetachingLetsGo, MovesOne, with_changed}
 use Rattle.vt_letting_go.specs.InUse.{AllInUse}
 use Rattle.vt_letting_go.specs.Mounting.{MovesSome, MovingLetsGo, places_moved}

@@ -4,7 +4,7 @@ use Rattle.std.specs.List.{list_all}
 use Rattle.vt_spec.specs.Lists.{is_among}
 use Rattle.vt_spec.specs.Machine.Mounts.{Mount, mount_in, no_mount}
 use Rattle.vt_spec.specs.Machine.Settled.{is_located, is_mounted, mount_lives}
-use Rattle.vt_spec.specs.Machine.WorldLaws.{is_nowhere_or_attached}
+use Rattle.vt_spec.specs.Machine.Invariants.{is_nowhere_or_attached}
 use Rattle.vt_spec.specs.Machine.World.{Filesystem, World}
 use Rattle.vt_letting_go.specs.InUse.{AllInUse}
 use Rattle.vt_letting_go.specs.Keeping.{LocationsStand, NewMountsKeepAll, has_only_named, with_new}

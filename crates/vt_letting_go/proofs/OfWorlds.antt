@@ -7,7 +7,7 @@ use Rattle.vt_spec.specs.Lists.{any_pair, holds_of, is_among}
 use Rattle.vt_spec.specs.Machine.Locked.{of_overlay, overlay_or}
 use Rattle.vt_spec.specs.Machine.Mounts.{Location, Mount, mount_in, no_mount}
 use Rattle.vt_spec.specs.Machine.World.{Filesystem, Layer, Overlay, World, all_locations, filesystem_numbered, is_overlay, layers_of, mount_at, mount_numbered, no_filesystem}
-use Rattle.vt_spec.specs.Machine.WorldLaws.{IsWorld, ListsNumbers, Stands, is_located_well, is_nowhere_or_attached, is_plain_layer}
+use Rattle.vt_spec.specs.Machine.Invariants.{IsWorld, ListsNumbers, Stands, is_located_well, is_nowhere_or_attached, is_plain_layer}
 use Rattle.vt_spec.specs.TreeLaws.{IsTree}
 use Rattle.vt_letting_go.specs.InUse.{AllInUse, IsListedTree, has_upper_in}
 use Rattle.vt_letting_go.specs.Leaving.{stands_on_attached}
@@ -17,7 +17,7 @@ use Rattle.vt_letting_go.proofs.InUse.{what_is_left_is_in_use}
 use Rattle.vt_letting_go.proofs.Lists.{found_by, Among, all_from_among, all_pass, among-append_left, among_from_all, passes}
 use Rattle.vt_letting_go.proofs.PlacesLeft.{found_itself, nowhere_parts}
 use Rattle.std.proofs.lemmas.Option.{same_Some}
-use Rattle.vt_spec.specs.Machine.WorldLaws.Stands.{at_root, on_parent}
+use Rattle.vt_spec.specs.Machine.Invariants.Stands.{at_root, on_parent}
 
 pub worlds_have_trees : WorldsHaveTrees
 worlds_have_trees world is =

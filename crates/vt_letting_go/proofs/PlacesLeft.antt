@@ -7,7 +7,7 @@ use Rattle.vt_spec.specs.Lists.{any_pair, holds_of, is_among}
 use Rattle.vt_spec.specs.Machine.Mounts.{Location, Mount, Propagation, group_of, mount_in, no_mount, root_of, same_location}
 use Rattle.vt_spec.specs.Machine.Mounts.Propagation.{Private, Shared, Slave, Unbindable}
 use Rattle.vt_spec.specs.Machine.Receives.{is_member_of}
-use Rattle.vt_spec.specs.Machine.WorldLaws.{is_nowhere_or_attached, is_private}
+use Rattle.vt_spec.specs.Machine.Invariants.{is_nowhere_or_attached, is_private}
 use Rattle.vt_spec.specs.Machine.Locked.{of_overlay, overlay_or}
 use Rattle.vt_spec.specs.Machine.Settled.{filesystem_lives, has_layer_on, is_located, is_mounted, layers_in, located_in, mount_lives, named_in, objects_of_overlay, without_dead_filesystems, without_dead_mounts}
 use Rattle.vt_spec.specs.Machine.World.{Filesystem, Overlay, Task, World, all_locations, is_overlay, layers_of, mount_at}

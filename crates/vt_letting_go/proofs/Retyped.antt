@@ -11,7 +11,7 @@ use Rattle.vt_spec.specs.Machine.Receives.{heir, inherited, inheriting, is_membe
 use Rattle.vt_spec.specs.Machine.Settled.{mount_lives, settled}
 use Rattle.vt_spec.specs.Machine.Types.{named_mounts, retyped_mount, type_after, with_master, master_after, with_new_groups}
 use Rattle.vt_spec.specs.Machine.World.{World, mount_numbered}
-use Rattle.vt_spec.specs.Machine.WorldLaws.{is_nowhere_or_attached, is_private}
+use Rattle.vt_spec.specs.Machine.Invariants.{is_nowhere_or_attached, is_private}
 use Rattle.vt_letting_go.specs.Attaching.{is_attached}
 use Rattle.vt_letting_go.specs.InUse.{AllInUse}
 use Rattle.vt_letting_go.specs.Unmounting.{groups_of_mounts}

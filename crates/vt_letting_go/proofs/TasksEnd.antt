@@ -11,7 +11,7 @@ use Rattle.vt_spec.specs.Machine.Namespaces.{copied_mount, has_tasks, namespace_
 use Rattle.vt_spec.specs.Machine.Receives.{is_member_of, lost_a_group}
 use Rattle.vt_spec.specs.Machine.Settled.{is_located, mount_lives, settled}
 use Rattle.vt_spec.specs.Machine.World.{Namespace, Task, World, all_locations, locations_of, mount_at, mount_numbered, mounts_of, replaced_if_called, without_task}
-use Rattle.vt_spec.specs.Machine.WorldLaws.{is_nowhere_or_attached}
+use Rattle.vt_spec.specs.Machine.Invariants.{is_nowhere_or_attached}
 use Rattle.vt_letting_go.specs.EndingTasks.{EntersLetGo, EntersWithOverlaysLetGo, ExitsLetGo, ExitsWithOverlaysLetGo, LeavingNamespacesLetsGo, LeavingNamespacesWithOverlaysLetsGo, UnsharesLetGo, UnsharesWithOverlaysLetGo, gone_with, locations_of_named, used_by_ended, used_by_ended_with_layers}
 use Rattle.vt_letting_go.specs.InUse.{AllInUse, GroupsInUse}
 use Rattle.vt_letting_go.specs.Keeping.{LocationsStand}

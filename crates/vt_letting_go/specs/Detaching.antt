@@ -6,7 +6,7 @@ use Rattle.vt_spec.specs.Machine.Mounts.{Mount, detached, is_shared}
 use Rattle.vt_spec.specs.Machine.Receives.{regrouped}
 use Rattle.vt_spec.specs.Machine.Settled.{settled}
 use Rattle.vt_spec.specs.Machine.World.{World, mount_at, mount_numbered, with_mounts}
-use Rattle.vt_spec.specs.Machine.WorldLaws.{is_nowhere_or_attached}
+use Rattle.vt_spec.specs.Machine.Invariants.{is_nowhere_or_attached}
 use Rattle.vt_letting_go.specs.Leaving.{IsSettledPlain}
 use Rattle.vt_letting_go.specs.OneByOne.{GroupsInUseBut, Inode, Losers, let_go}
 

@@ -9,7 +9,7 @@ use Rattle.vt_spec.specs.Machine.Mounts.{Mount}
 use Rattle.vt_spec.specs.Machine.Namespaces.{has_tasks, namespaces_ended}
 use Rattle.vt_spec.specs.Machine.Receives.{regrouped}
 use Rattle.vt_spec.specs.Machine.World.{World, mounts_of, with_mounts}
-use Rattle.vt_spec.specs.Machine.WorldLaws.{is_listed}
+use Rattle.vt_spec.specs.Machine.Invariants.{is_listed}
 
 -- the namespace of each mount is there
 abbrev pub MountsAreListed : World ℕ → Type 0

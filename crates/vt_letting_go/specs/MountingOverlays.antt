@@ -10,7 +10,7 @@ use Rattle.vt_spec.specs.Machine.Namespaces.{namespaces_ended}
 use Rattle.vt_spec.specs.Machine.Permits.Permit.{ToMove, ToPivot, ToUnmount, ToUnmountLazily}
 use Rattle.vt_spec.specs.Machine.Settled.{settled}
 use Rattle.vt_spec.specs.Machine.World.{Task, World, mount_numbered}
-use Rattle.vt_spec.specs.Machine.WorldLaws.{is_nowhere_or_attached}
+use Rattle.vt_spec.specs.Machine.Invariants.{is_nowhere_or_attached}
 use Rattle.vt_letting_go.specs.Attaching.{inodes_of_mount_point, is_attached}
 use Rattle.vt_letting_go.specs.Detaching.{with_changed}
 use Rattle.vt_letting_go.specs.Keeping.{LocationsStand}

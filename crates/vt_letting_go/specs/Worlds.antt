@@ -1,7 +1,7 @@
 -- What a world is by its conditions.
 use Rattle.std.specs.Prelude.{nat_eq, ℕ}
 use Rattle.vt_spec.specs.Machine.World.{World}
-use Rattle.vt_spec.specs.Machine.WorldLaws.{IsWorld}
+use Rattle.vt_spec.specs.Machine.Invariants.{IsWorld}
 use Rattle.vt_letting_go.specs.InUse.{HasTrees, UppersArePlain}
 use Rattle.vt_letting_go.specs.Keeping.{LocationsStand}
 use Rattle.vt_letting_go.specs.Leaving.{IsSettledPlain, MountsStand}

@@ -8,7 +8,7 @@ use Rattle.std.specs.Global.{Vec}
 use Rattle.vt_spec.specs.Language.Answers.Answer.{Names}
 use Rattle.vt_spec.specs.Language.Answers.{StatLine}
 use Rattle.vt_spec.specs.declared.attributes.Kind.{Kind}
-use Rattle.vt_spec.specs.declared.attributes.Kind.TheVariants.{Dir, File, Link, White}
+use Rattle.vt_spec.specs.declared.attributes.Kind.TheVariants.{Dir, File, Symlink, White}
 use Rattle.vt_spec.specs.declared.errors.Deny.{Deny}
 use Rattle.vt_spec.specs.Language.Printed.{hex_digit, owner_words, printed_byte, printed_line, printed_text, printed_value, reply_line, spaced, stat_words}
 use Rattle.vt_request.specs.Answers.{result_of}
@@ -77,7 +77,7 @@ pub stat_words-further : (kind : Kind) (line : StatLine) →
     spaced (stat_words kind line) ≡ spaced (owner_words (kind_text kind) line.attr) ++ spaced (further_words kind line)
 stat_words-further Dir line = flat_map-append (λ word. 32 ∷ word) (owner_words (codes "dir") line.attr) (further_words Dir line)
 stat_words-further File line = flat_map-append (λ word. 32 ∷ word) (owner_words (codes "file") line.attr) (further_words File line)
-stat_words-further Link line = flat_map-append (λ word. 32 ∷ word) (owner_words (codes "link") line.attr) (further_words Link line)
+stat_words-further Symlink line = flat_map-append (λ word. 32 ∷ word) (owner_words (codes "link") line.attr) (further_words Symlink line)
 stat_words-further White line = sym (append-nil (spaced (owner_words (codes "white") line.attr)))
 
 -- the lines of an answer behind its first

@@ -4,7 +4,7 @@ use Rattle.std.specs.List.{flat_map}
 use Rattle.std.specs.Global.{Vec}
 use Rattle.vt_spec.specs.Errors.{errno_name, number_of, rule_name}
 use Rattle.vt_spec.specs.declared.attributes.Kind.{Kind}
-use Rattle.vt_spec.specs.declared.attributes.Kind.TheVariants.{Dir, File, Link, White}
+use Rattle.vt_spec.specs.declared.attributes.Kind.TheVariants.{Dir, File, Symlink, White}
 use Rattle.vt_spec.specs.declared.errors.Deny.{Deny}
 use Rattle.vt_spec.specs.Language.Answers as spec
 use Rattle.vt_spec.specs.Language.Answers.{Answer, StatLine}
@@ -22,14 +22,14 @@ printed_names names = flat_map (λ name. 32 ∷ printed_text name.items) names
 abbrev pub kind_text : Kind → List ℕ
 kind_text Dir = codes "dir"
 kind_text File = codes "file"
-kind_text Link = codes "link"
+kind_text Symlink = codes "link"
 kind_text White = codes "white"
 
 -- what is told of an object beside its owner
 abbrev pub further_words : Kind → StatLine → List (List ℕ)
 further_words Dir line = if line.opaque then codes "opaque" ∷ [] else []
 further_words File line = decimal line.size ∷ []
-further_words Link line = decimal line.size ∷ []
+further_words Symlink line = decimal line.size ∷ []
 further_words White line = []
 
 -- the numbers of a task's name, behind a point each

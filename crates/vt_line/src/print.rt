@@ -128,7 +128,7 @@ fn kind_text(kind: Kind) -> &'static [u8]
     match kind {
         Kind::Dir => b"dir",
         Kind::File => b"file",
-        Kind::Link => b"link",
+        Kind::Symlink => b"link",
         Kind::White => b"white",
     }
 }
@@ -141,7 +141,7 @@ fn write_further<W: Sink>(sink: &mut W, line: &StatLine) -> Result<(), SinkFaile
 {
     match line.kind {
         Kind::Dir if line.opaque => write_word(sink, b"opaque"),
-        Kind::File | Kind::Link => write_number(sink, line.size as u64),
+        Kind::File | Kind::Symlink => write_number(sink, line.size as u64),
         Kind::Dir | Kind::White => Ok(()),
     }
 }

@@ -15,7 +15,7 @@ use Rattle.vt_mount_laws.proofs.AttachedMasters.{at_destination, is_elsewhere, m
 use Rattle.vt_mount_laws.proofs.Attaching.{taker_there}
 use Rattle.vt_mount_laws.proofs.GroupsKept.{found_passes, member_shared, shared_member}
 use Rattle.vt_mount_laws.proofs.GroupsUp.{LivesIn, Up, groups_live_by, lives_in, way_up}
-use Rattle.vt_spec.specs.Machine.WorldLaws.Lives.{has_master, has_no_master}
+use Rattle.vt_spec.specs.Machine.Invariants.Lives.{has_master, has_no_master}
 use Rattle.vt_mount_laws.proofs.GroupsUp.Up.{above, here}
 use Rattle.vt_mount_laws.proofs.MountsFound.{found_or_none}
 

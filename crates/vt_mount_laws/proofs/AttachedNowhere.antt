@@ -7,7 +7,7 @@ use Rattle.vt_spec.specs.Lists.{folded, holds_of, rest_of}
 use Rattle.vt_spec.specs.Machine.Mounts.{Location, Mount, replaced_if_same, same_location, stands_at, with_mount}
 use Rattle.vt_spec.specs.Machine.Outcome.Mounting.{moved_tree, new_mount, with_new_filesystem}
 use Rattle.vt_spec.specs.Machine.World.{World, mount_at}
-use Rattle.vt_spec.specs.Machine.WorldLaws.{is_nowhere_or_attached, is_private}
+use Rattle.vt_spec.specs.Machine.Invariants.{is_nowhere_or_attached, is_private}
 use Rattle.vt_mount_laws.specs.Mounts.Attached.{BindsKeepNowhere, MovesKeepNowhere, NewMountsKeepNowhere}
 use Rattle.vt_mount_laws.specs.Mounts.Conditions.{NowhereOrAttached}
 use Rattle.vt_mount_laws.proofs.MountsAttached.{arriving, graft, moved_ones, parts, push, supplied}

@@ -6,8 +6,8 @@ use Rattle.vt_spec.specs.Lists.{holds_of}
 use Rattle.vt_spec.specs.Machine.Mounts.{Location, Mount, children, stands_on}
 use Rattle.vt_spec.specs.Machine.Outcome.Mounting.{moved_tree, new_mount, with_new_filesystem}
 use Rattle.vt_spec.specs.Machine.World.{Filesystem, World}
-use Rattle.vt_spec.specs.Machine.WorldLaws.{Stands}
-use Rattle.vt_spec.specs.Machine.WorldLaws.Stands.{at_root, on_parent}
+use Rattle.vt_spec.specs.Machine.Invariants.{Stands}
+use Rattle.vt_spec.specs.Machine.Invariants.Stands.{at_root, on_parent}
 use Rattle.vt_mount_laws.specs.Mounts.Standing.{AllStand, BindsKeepNumbers, BindsKeepPlaces, BindsKeepStanding, MovesKeepNumbers, NewMountsKeepNumbers, NewMountsKeepPlaces, NewMountsKeepStanding}
 use Rattle.vt_mount_laws.proofs.Attaching.{Hangs, all_stand_after}
 use Rattle.vt_mount_laws.proofs.Attaching.Hangs.{from_parent, from_top}

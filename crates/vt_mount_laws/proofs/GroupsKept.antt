@@ -4,7 +4,7 @@ use Rattle.std.specs.List.{list_any}
 use Rattle.vt_spec.specs.Machine.Mounts.Propagation.{Private, Shared, Slave, Unbindable}
 use Rattle.vt_mount_laws.proofs.GroupsUp.{EndsUp, LivesIn, Up, groups_live_by, lives_in, way_up}
 use Rattle.vt_mount_laws.proofs.GroupsUp.EndsUp.{at_top, goes_up}
-use Rattle.vt_spec.specs.Machine.WorldLaws.Lives.{has_master, has_no_master}
+use Rattle.vt_spec.specs.Machine.Invariants.Lives.{has_master, has_no_master}
 use Rattle.vt_mount_laws.proofs.GroupsUp.Up.{above, here}
 use Rattle.vt_spec.proofs.Lists.{Among, among-append, among-append_left, among-filter, among-from_filter, among-from_map, among-map, among_from_list_all, any_among, any_from_among, head_among, none_among, tail_among}
 use Rattle.vt_mount_laws.specs.Mounts.Receivers.{GroupsLive}
@@ -19,7 +19,7 @@ use Rattle.vt_mount_laws.proofs.Unmounting.{going_is_detached, middle, staying_i
 use Rattle.vt_spec.specs.Machine.Receives.{groups_up, has_members, heir, inherited, inheriting, is_lost_group, is_member_of, lost_a_group, regrouped, regrouped_by, slave_of_heir}
 use Rattle.std.specs.Prelude.{if◌then◌else◌}
 use Rattle.vt_spec.specs.Machine.Settled.{is_located, mount_lives, settled}
-use Rattle.vt_spec.specs.Machine.WorldLaws.{Lives, is_nowhere_or_attached, is_private}
+use Rattle.vt_spec.specs.Machine.Invariants.{Lives, is_nowhere_or_attached, is_private}
 use Rattle.vt_mount_laws.proofs.Groups.{members-inherited}
 use Rattle.std.proofs.lemmas.Bool.{not-false, or_parts}
 use Rattle.vt_mount_laws.proofs.MountsFound.{number_found}

@@ -1,7 +1,7 @@
 -- Groups live just where the test of it says so.
 use Rattle.std.proofs.Common.{ℕ, nat_eq}
 use Rattle.vt_spec.specs.Machine.World.{World}
-use Rattle.vt_spec.specs.Machine.WorldLaws.{HasLivingGroups}
+use Rattle.vt_spec.specs.Machine.Invariants.{HasLivingGroups}
 use Rattle.vt_spec.proofs.Lists.{all_from_among, among_from_all}
 use Rattle.vt_mount_laws.specs.Mounts.Receivers.{AllGroupsLive, GroupsLive, LivingIsComputed}
 use Rattle.vt_mount_laws.proofs.GroupsUp.{groups_live_by, lives_in}

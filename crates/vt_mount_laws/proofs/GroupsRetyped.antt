@@ -6,7 +6,7 @@ use Rattle.vt_spec.specs.Machine.Mounts.Propagation.{Private, Shared, Slave, Unb
 use Rattle.vt_spec.specs.Language.Calls.TypeWord.{ToPrivate, ToShared, ToSlave, ToUnbindable}
 use Rattle.vt_mount_laws.proofs.GroupsUp.{EndsUp, LivesIn, lives_in}
 use Rattle.vt_mount_laws.proofs.GroupsUp.EndsUp.{at_top, goes_up}
-use Rattle.vt_spec.specs.Machine.WorldLaws.Lives.{has_master, has_no_master}
+use Rattle.vt_spec.specs.Machine.Invariants.Lives.{has_master, has_no_master}
 use Rattle.vt_spec.proofs.Lists.{Among, among-from_map, any_among, is_among_numbers}
 use Rattle.vt_spec.specs.Lists.{is_among}
 use Rattle.vt_mount_laws.specs.Mounts.Receivers.{GroupsLive}

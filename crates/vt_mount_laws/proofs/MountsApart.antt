@@ -17,7 +17,7 @@ use Rattle.vt_spec.specs.Machine.Settled.{mount_lives}
 use Rattle.vt_mount_laws.proofs.Groups.{mounts-regrouped}
 use Rattle.vt_mount_laws.proofs.MountsFound.{number_found}
 use Rattle.vt_spec.specs.Machine.Types.{named_mounts}
-use Rattle.vt_spec.specs.Machine.WorldLaws.{share_a_mount_point, is_nowhere_or_attached}
+use Rattle.vt_spec.specs.Machine.Invariants.{share_a_mount_point, is_nowhere_or_attached}
 use Rattle.vt_spec.specs.Machine.Namespaces.{copied_mount}
 
 -- places that stay the same stay apart

@@ -5,7 +5,7 @@ use Rattle.vt_spec.proofs.Lists.{Among, among-from_filter, filter_here, filter_s
 use Rattle.vt_spec.specs.Lists.{holds_of}
 use Rattle.vt_spec.specs.Machine.Mounts.{Mount}
 use Rattle.vt_spec.specs.Machine.World.{World, mounts_of}
-use Rattle.vt_spec.specs.Machine.WorldLaws.{is_root_mount}
+use Rattle.vt_spec.specs.Machine.Invariants.{is_root_mount}
 use Rattle.vt_mount_laws.specs.Mounts.Namespaces.{HasAsMany}
 
 -- what a filter keeps of changed elements is what it kept, changed

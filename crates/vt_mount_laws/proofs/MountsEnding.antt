@@ -9,7 +9,7 @@ use Rattle.vt_spec.specs.Lists.{chain, is_among, last_or, same_option}
 use Rattle.vt_mount_laws.proofs.MountsFound.{found-map, found_there, numbers-map, number_found}
 use Rattle.vt_mount_laws.proofs.MountsReplaced.{found_itself, numbers-with_mount, one_number_by_numbers, related-with_mount}
 use Rattle.vt_spec.specs.Machine.Receives.{inheriting, regrouped}
-use Rattle.vt_spec.specs.Machine.WorldLaws.{last_parent, stands_in_its_namespace}
+use Rattle.vt_spec.specs.Machine.Invariants.{last_parent, stands_in_its_namespace}
 use Rattle.std.proofs.lemmas.List.{length-map}
 use Rattle.vt_mount_laws.proofs.Groups.{mounts-regrouped}
 use Rattle.vt_mount_laws.specs.Mounts.Attaching.{numbers_of}

@@ -12,7 +12,7 @@ use Rattle.vt_spec.proofs.Lists.{all-filter, all-map, pair-filter}
 use Rattle.std.specs.Prelude.{if◌then◌else◌}
 use Rattle.vt_spec.specs.Machine.Receives.{inherited, inheriting, regrouped}
 use Rattle.vt_spec.specs.Machine.Namespaces.{is_in_ended, pivoted, pivoted_mount}
-use Rattle.vt_spec.specs.Machine.WorldLaws.{is_private, is_nowhere_or_attached}
+use Rattle.vt_spec.specs.Machine.Invariants.{is_private, is_nowhere_or_attached}
 use Rattle.vt_mount_laws.proofs.Unmounting.{middle, numbers_taken}
 use Rattle.vt_spec.specs.Machine.Settled.{mount_lives}
 use Rattle.vt_mount_laws.proofs.Groups.{mounts-regrouped}

@@ -5,7 +5,7 @@ use Rattle.std.proofs.lemmas.Bool.{and_parts, and_from, or_parts}
 use Rattle.std.proofs.lemmas.Option.{same_Some}
 use Rattle.vt_spec.specs.Lists.{any_pair, holds_of, same_option}
 use Rattle.vt_spec.specs.Machine.Mounts.{Location, Mount, child_at, same_location, stands_at}
-use Rattle.vt_spec.specs.Machine.WorldLaws.{share_a_mount_point}
+use Rattle.vt_spec.specs.Machine.Invariants.{share_a_mount_point}
 use Rattle.vt_mount_laws.specs.Mounts.Places.{OneMountAPlace, StandsAloneAtItsPlace}
 use Rattle.vt_spec.proofs.Lists.{Among, all_from_among, none_among}
 

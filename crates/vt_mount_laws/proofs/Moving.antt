@@ -6,8 +6,8 @@ use Rattle.vt_spec.specs.Lists.{holds_of, is_among}
 use Rattle.vt_spec.specs.Machine.Mounts.{Location, Mount, children, mount_in, mount_tree, stands_on, tree_from}
 use Rattle.vt_spec.specs.Machine.Outcome.Mounting.{moved_tree}
 use Rattle.vt_spec.specs.Machine.World.{World, mount_at, mount_numbered}
-use Rattle.vt_spec.specs.Machine.WorldLaws.{MountInvariants, Stands, is_nowhere_or_attached, is_private}
-use Rattle.vt_spec.specs.Machine.WorldLaws.Stands.{at_root, on_parent}
+use Rattle.vt_spec.specs.Machine.Invariants.{MountInvariants, Stands, is_nowhere_or_attached, is_private}
+use Rattle.vt_spec.specs.Machine.Invariants.Stands.{at_root, on_parent}
 use Rattle.vt_mount_laws.specs.Mounts.Attaching.{numbers_of}
 use Rattle.vt_mount_laws.specs.Mounts.Moving.{CanMove, MovesKeepPlaces, MovesKeepStanding}
 use Rattle.vt_mount_laws.proofs.Attaching.{Hangs}

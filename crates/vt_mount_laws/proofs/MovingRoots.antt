@@ -8,7 +8,7 @@ use Rattle.vt_spec.specs.Machine.Mounts.{Location, Mount, children, mount_in, re
 use Rattle.std.specs.Prelude.{Contains}
 use Rattle.vt_spec.specs.Machine.Outcome.Mounting.{moved_tree, new_mount, with_new_filesystem}
 use Rattle.vt_spec.specs.Machine.World.{World, mount_at}
-use Rattle.vt_spec.specs.Machine.WorldLaws.{is_root_mount}
+use Rattle.vt_spec.specs.Machine.Invariants.{is_root_mount}
 use Rattle.vt_spec.proofs.Lists.{Among, all_from_among, among-append, among-from_filter, among-from_flat_map, among-from_map, contains_from_among, filter_here, filter_skip}
 use Rattle.vt_mount_laws.proofs.Attaching.{taker_there}
 use Rattle.vt_mount_laws.proofs.MountsAttached.{arrives, arriving, graft, in_front, moved_ones, others, push, push_keeps, supplied}

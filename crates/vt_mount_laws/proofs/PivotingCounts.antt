@@ -8,7 +8,7 @@ use Rattle.vt_spec.specs.Lists.{any_pair, holds_of}
 use Rattle.vt_spec.specs.Machine.Mounts.{Location, Mount}
 use Rattle.vt_spec.specs.Machine.Namespaces.{pivoted}
 use Rattle.vt_spec.specs.Machine.World.{World, mounts_of}
-use Rattle.vt_spec.specs.Machine.WorldLaws.{MountInvariants, is_root_mount}
+use Rattle.vt_spec.specs.Machine.Invariants.{MountInvariants, is_root_mount}
 use Rattle.vt_mount_laws.specs.Mounts.Attaching.{OneNumberAMount}
 use Rattle.vt_mount_laws.specs.Mounts.Namespaces.{CanPivot, PivotKeepsCounts}
 use Rattle.vt_mount_laws.proofs.MountsCounted.{as_many_mounts, filter-map, filter_alike, is_in}

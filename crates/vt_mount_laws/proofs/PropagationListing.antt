@@ -11,7 +11,7 @@ use Rattle.vt_spec.specs.Machine.Namespaces.{copied_mount, location_on_copy, uns
 use Rattle.vt_spec.specs.Language.Answers.{Spot}
 use Rattle.vt_spec.specs.Machine.Run.{Serves}
 use Rattle.vt_spec.specs.Machine.World.{Task, World, filesystem_numbered, is_overlay, mount_numbered, mounts_of}
-use Rattle.vt_spec.specs.Machine.WorldLaws.{MountInvariants}
+use Rattle.vt_spec.specs.Machine.Invariants.{MountInvariants}
 use Rattle.vt_mount_laws.specs.Mounts.Attaching.{OneNumberAMount}
 use Rattle.vt_mount_laws.specs.Mounts.Propagation.{UnshareListsOthersTheSame, UnshareListsTheSame}
 use Rattle.vt_mount_laws.proofs.MountsCounted.{is_in}

@@ -5,7 +5,7 @@ use Rattle.vt_spec.specs.Machine.Attach.{bound}
 use Rattle.vt_spec.specs.Machine.Mounts.{Location, Mount}
 use Rattle.vt_spec.specs.Machine.Outcome.Mounting.{new_mount, with_new_filesystem}
 use Rattle.vt_spec.specs.Machine.World.{World}
-use Rattle.vt_spec.specs.Machine.WorldLaws.{MountInvariants}
+use Rattle.vt_spec.specs.Machine.Invariants.{MountInvariants}
 use Rattle.vt_mount_laws.specs.Mounts.Attaching.{is_mount}
 use Rattle.vt_mount_laws.specs.Mounts.Propagation.{NothingAtReceivers, UnmountUndoesBind, UnmountUndoesNewMount}
 use Rattle.vt_mount_laws.proofs.BindsStand.{binds_keep_places, new_mounts_keep_places}

@@ -12,8 +12,8 @@ use Rattle.vt_spec.specs.Machine.World.{World}
 use Rattle.vt_mount_laws.specs.Mounts.Receivers.{GroupsLive}
 use Rattle.vt_mount_laws.proofs.GroupsKept.{member_shared}
 use Rattle.vt_mount_laws.proofs.GroupsUp.{LivesIn, Up, live_members, way_up}
-use Rattle.vt_spec.specs.Machine.WorldLaws.{Lives}
-use Rattle.vt_spec.specs.Machine.WorldLaws.Lives.{has_master, has_no_master}
+use Rattle.vt_spec.specs.Machine.Invariants.{Lives}
+use Rattle.vt_spec.specs.Machine.Invariants.Lives.{has_master, has_no_master}
 use Rattle.vt_mount_laws.proofs.GroupsUp.Up.{above, here}
 use Rattle.vt_mount_laws.proofs.Receivers.{receives_completely}
 

@@ -10,7 +10,7 @@ use Rattle.vt_spec.specs.Machine.Mounts.Propagation.{Private, Shared, Slave, Unb
 use Rattle.vt_spec.specs.Machine.Receives.{Receives, groups_up, has_members, receivers, receives}
 use Rattle.vt_spec.specs.Machine.Receives.Receives.{further_down, member, slave}
 use Rattle.vt_spec.specs.Machine.World.{World}
-use Rattle.vt_spec.specs.Machine.WorldLaws.{has_living_groups, masters_end}
+use Rattle.vt_spec.specs.Machine.Invariants.{has_living_groups, masters_end}
 use Rattle.vt_mount_laws.specs.Mounts.Receivers.{GroupsLive, IsClosed, ReceiversAreClosed, ReceiversAreLeast, ReceiversReceive, ReceivesIsComputed}
 use Rattle.vt_spec.proofs.Lists.{Among, all_from_among, among-filter, among-from_filter, among_cases, among_from_all, among_from_contains, among_from_list_all, chain_ends, chain_goes_on, contains_from_among, head_among, last_of_chain, tail_among}
 

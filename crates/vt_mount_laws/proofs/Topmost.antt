@@ -3,7 +3,7 @@ use Rattle.std.proofs.Common.{◌≡◌, refl, ap, ◌∙◌, zero, suc, nat_eq,
 use Rattle.vt_spec.specs.Lists.{chain, last_or}
 use Rattle.vt_spec.specs.Machine.Mounts.{Location, Mount, child_at, root_of, stands_at}
 use Rattle.vt_spec.specs.Machine.World.{World}
-use Rattle.vt_spec.specs.Machine.WorldLaws.{MountInvariants}
+use Rattle.vt_spec.specs.Machine.Invariants.{MountInvariants}
 use Rattle.vt_spec.proofs.Lists.{chain_ends, chain_goes_on, last_of_chain}
 use Rattle.vt_mount_laws.specs.Mounts.Namespaces.{TopmostIsFree}
 use Rattle.vt_mount_laws.proofs.MountsFound.{found_in}

@@ -10,7 +10,7 @@ use Rattle.vt_spec.specs.Machine.Mounts.{Location, Mount, Propagation, detached,
 use Rattle.vt_spec.specs.Machine.Mounts.Propagation.{Private, Shared, Slave, Unbindable}
 use Rattle.vt_spec.specs.Machine.Receives.{groups_up, has_members, inherited, inheriting, lost_a_group, regrouped_by, slave_of_heir}
 use Rattle.vt_spec.specs.Machine.World.{World, mount_at, mount_numbered, with_mounts}
-use Rattle.vt_spec.specs.Machine.WorldLaws.{stands_in_its_namespace}
+use Rattle.vt_spec.specs.Machine.Invariants.{stands_in_its_namespace}
 use Rattle.vt_mount_laws.specs.Mounts.Unmounting.{FallsTo, GroupsKeepTheirMasters, KeepsAllButMounts, KeepsAllButPlaceAndType, PlacesEnd, RootMountsStay, SlavesAreInherited, UnmountIsOfMounts, UnmountKeepsTheOrder, WhatCoveredFalls, WhatGoesIsDetached, WhatStaysKeeps, WhatStaysKeepsItsPlace, WhatStaysKeepsItsType, has_its_master}
 use Rattle.vt_mount_laws.specs.Mounts.Unmounting.FallsTo.{falls, rests}
 use Rattle.vt_mount_laws.proofs.Groups.{inherited_kept, master-regrouped, members-regrouped, mounts-regrouped}

@@ -10,7 +10,7 @@ use Rattle.vt_spec.specs.Lists.{chain, holds_of, last_or, same_option}
 use Rattle.vt_mount_laws.proofs.UnmountingTrees.{AreClosed, closed_keeps_apart}
 use Rattle.vt_mount_laws.proofs.MountsReplaced.{found_itself}
 use Rattle.vt_spec.specs.Machine.Namespaces.{has_tasks, is_in_ended}
-use Rattle.vt_spec.specs.Machine.WorldLaws.{last_parent, stands_in_its_namespace}
+use Rattle.vt_spec.specs.Machine.Invariants.{last_parent, stands_in_its_namespace}
 use Rattle.std.specs.List.{list_any}
 
 -- one step more changes no chain that has ended

@@ -17,7 +17,7 @@ use Rattle.vt_spec.specs.Machine.Receives.{inheriting}
 use Rattle.vt_mount_laws.proofs.Groups.{mounts-regrouped}
 use Rattle.vt_spec.specs.Machine.Attach.{receivers_of}
 use Rattle.std.proofs.lemmas.Option.{same_Some}
-use Rattle.vt_spec.specs.Machine.WorldLaws.{share_a_mount_point}
+use Rattle.vt_spec.specs.Machine.Invariants.{share_a_mount_point}
 use Rattle.vt_mount_laws.proofs.MountsKept.{unmount_keeps_numbers}
 
 -- a mount's place falls to where mounts that go leave it

@@ -13,7 +13,7 @@ use Rattle.vt_mount_laws.proofs.Unmounting.{going_is_detached, left_at_rest, mid
 use Rattle.vt_spec.specs.Machine.Receives.{inheriting}
 use Rattle.vt_mount_laws.proofs.Groups.{mounts-regrouped}
 use Rattle.vt_mount_laws.proofs.MountsPlaces.{one_place_of_two, place_of_both}
-use Rattle.vt_spec.specs.Machine.WorldLaws.{share_a_mount_point, stands_in_its_namespace}
+use Rattle.vt_spec.specs.Machine.Invariants.{share_a_mount_point, stands_in_its_namespace}
 use Rattle.vt_mount_laws.proofs.MountsKept.{taking_away_keeps_numbers}
 
 -- what stands on a mount that goes, goes

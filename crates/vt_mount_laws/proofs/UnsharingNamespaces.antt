@@ -10,7 +10,7 @@ use Rattle.vt_spec.specs.Machine.Mounts.{Location, Mount, numbers_by}
 use Rattle.vt_spec.specs.Machine.Namespaces.{copied_mount, location_on_copy}
 use Rattle.vt_spec.specs.Machine.Run.{numbers_in_use, used_by_filesystem, used_by_mount}
 use Rattle.vt_spec.specs.Machine.World.{Namespace, mounts_of}
-use Rattle.vt_spec.specs.Machine.WorldLaws.{is_listed, is_root_mount}
+use Rattle.vt_spec.specs.Machine.Invariants.{is_listed, is_root_mount}
 use Rattle.vt_mount_laws.specs.Mounts.Namespaces.{NewNamespaceIsEmpty, UnshareCopiesMounts, UnshareKeepsCounts, UnshareLeavesNamespaces}
 use Rattle.vt_mount_laws.proofs.MountsCounted.{filter-map, filter_all, is_in}
 

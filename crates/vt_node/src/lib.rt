@@ -8,7 +8,7 @@ mod numbers;
 
 pub use copies::copied_bytes;
 pub(crate) use entries::DirectoryEntries;
-pub use nodes::Node;
+pub use nodes::{LARGEST_FILE, Node};
 pub use numbers::NodeId;
 pub use vt_spec::attributes::{Attr, Kind, Mode};
 

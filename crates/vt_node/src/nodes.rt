@@ -15,6 +15,9 @@ use crate::{Attr, DirectoryEntries, Kind, NodeId};
 use std::alloc::{AllocError, Global};
 use std::marker::Model;
 
+/// The most bytes of a file, 1 MiB: RLIMIT_FSIZE of setrlimit(2).
+pub const LARGEST_FILE: usize = 1_048_576;
+
 /// A node of a tree: an inode without its number.
 #[derive(Debug, Drop)]
 pub struct Node {
@@ -120,7 +123,7 @@ impl Node {
         match &self.content {
             Content::Directory { .. } => Kind::Dir,
             Content::Regular { .. } => Kind::File,
-            Content::Symlink { .. } => Kind::Link,
+            Content::Symlink { .. } => Kind::Symlink,
             Content::Whiteout => Kind::White,
         }
     }

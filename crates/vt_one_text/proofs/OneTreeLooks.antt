@@ -1,6 +1,6 @@
 -- Calls that look are answered alike.
 use Rattle.std.proofs.Common.{◌≡◌, refl, sym, subst, inl, inr, ℕ, nat_eq, Bool, true, false, cond, not, List, [], ◌∷◌, map, find, Option, Some, None, option_map, ok_or, option_to_list, Result, Err}
-use Rattle.vt_spec.specs.declared.attributes.Kind.TheVariants.{File, Link, White}
+use Rattle.vt_spec.specs.declared.attributes.Kind.TheVariants.{File, Symlink, White}
 use Rattle.vt_spec.specs.declared.errors.Deny.{Deny}
 use Rattle.vt_spec.specs.declared.errors.Rule.TheVariants.{B1, C1, E2, E5, E8, E9, F3, S4}
 use Rattle.vt_spec.specs.Errors.{denial, and_then}
@@ -94,7 +94,7 @@ module _ (beside : Beside) (world : World ℕ) (name : TaskName) (task : Task �
   unfolding readlink_permit Looking.readlink_outcome
   readlink_alike path =
       after_alike there Seen denied here_there (symlink_walk tree who path) _ _ _ (link_walk_alike beside world (name, task) fit path)
-      (λ here steps e. judged_alike there Seen denied (inl (not (is_kind_at tree here.node Link), E5) ∷ []) _ _ (refl, refl, refl))
+      (λ here steps e. judged_alike there Seen denied (inl (not (is_kind_at tree here.node Symlink), E5) ∷ []) _ _ (refl, refl, refl))
 
   read_alike : (path : List ℕ) → Seen (read_permit tree task path) (Looking.read_outcome nat_eq there there_task path)
   unfolding read_permit Looking.read_outcome

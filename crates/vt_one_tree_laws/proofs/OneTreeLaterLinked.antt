@@ -1,7 +1,7 @@
 -- The text of a link that was made is told.
 use Rattle.std.proofs.Common.{◌≡◌, refl, sym, ap, subst, ◌∙◌, true≢false, inl, inr, ℕ, nat_eq, Bool, true, false, cond, not, ◌&&◌, List, [], ◌∷◌, reverse, Option, Some, None, is_some, Ok, IfOk, arith}
 use Rattle.vt_spec.specs.declared.attributes.Attr.{Attr}
-use Rattle.vt_spec.specs.declared.attributes.Kind.TheVariants.{Link}
+use Rattle.vt_spec.specs.declared.attributes.Kind.TheVariants.{Symlink as SymlinkKind}
 use Rattle.vt_spec.specs.declared.errors.Rule.TheVariants.{E5, W6}
 use Rattle.vt_spec.specs.Errors.{and_then, unless}
 use Rattle.vt_spec.specs.Language.Calls.Call.{Readlink, SymlinkAt}
@@ -47,7 +47,7 @@ readlink_of : (world : World ℕ) (name : TaskName) (task : Task ℕ) (path : Li
 unfolding readlink_permit
 readlink_of world name task path here attr text walk is =
     ap (λ r. (after world (and_then r (λ here. unless (readlink_rules (tree_of world.inodes) here.node) (Ok (ToRead here.node)))) (spent nat_eq world name task)).answer) walk
-    ∙ ap (λ o. (after world (unless ((not (is_kind_in Link o), E5) ∷ []) (Ok (ToRead here.node))) (spent nat_eq world name task)).answer) is
+    ∙ ap (λ o. (after world (unless ((not (is_kind_in SymlinkKind o), E5) ∷ []) (Ok (ToRead here.node))) (spent nat_eq world name task)).answer) is
     ∙ ap (λ o. Ok (Bytes (bytes_in o))) is
 
 abbrev IsTextTold : List ℕ → List ℕ → World ℕ → TaskName → Type 0

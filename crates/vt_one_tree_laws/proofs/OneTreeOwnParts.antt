@@ -2,7 +2,7 @@
 use Rattle.std.proofs.Common.{◌≡◌, ◌≢◌, refl, sym, subst, ◌∙◌, ⊎_elim, ℕ, ◌-◌, nat_eq, nat_le, Bool, true, false, true≢false, cond, List, [], ◌∷◌, Option, Some, None, is_some}
 use Rattle.std.proofs.lemmas.Bool.Decides.{eqb_tells}
 use Rattle.vt_spec.specs.declared.attributes.Attr.{Attr}
-use Rattle.vt_spec.specs.declared.attributes.Kind.TheVariants.{Link}
+use Rattle.vt_spec.specs.declared.attributes.Kind.TheVariants.{Symlink as SymlinkKind}
 use Rattle.vt_spec.specs.Language.Calls.{Access, Call, Creation, TaskName}
 use Rattle.vt_spec.specs.Language.Calls.Call.{Chmod, Chown, Close, Drop, Exec, Exit, Fork, LinkTo, Ls, Lstat, Mkdir, OpenFile, Pread, Pwrite, Read, Readlink, Rename, Rmdir, Stat, SymlinkAt, Umask, Unlink, Write}
 use Rattle.vt_spec.specs.Language.Calls.Creation.{Exclusive, NoCreation, OrCreate}
@@ -399,7 +399,7 @@ kinds_stay world name call number other isnt apart = never_changes kind_of kind_
 
 -- a link's text
 abbrev text_of : Content ℕ → Option (List ℕ)
-text_of content = when (is_kind Link (kind_of content)) (bytes_of content)
+text_of content = when (is_kind SymlinkKind (kind_of content)) (bytes_of content)
 
 text_without : (content : Content ℕ) (entries : Entries ℕ) → text_of (with_entries content entries) ≡ text_of content
 text_without (Directory parent old opaque) entries = refl

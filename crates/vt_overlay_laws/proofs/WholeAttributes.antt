@@ -10,7 +10,7 @@ use Rattle.vt_spec.specs.Machine.CopyUp.{Merge, Stack, changed_both, upper_of}
 use Rattle.vt_spec.specs.Machine.Layers.{OpenLayer, view_of}
 use Rattle.vt_spec.specs.Machine.World.{Real, upper_object}
 use Rattle.vt_spec.specs.Machine.World.Real.{Below, Upper}
-use Rattle.vt_spec.specs.Machine.WorldLaws.{ListsNumbers, SameObject, number_at_path, same_content}
+use Rattle.vt_spec.specs.Machine.Invariants.{ListsNumbers, SameObject, number_at_path, same_content}
 use Rattle.vt_spec.specs.Tree.{Content, Node, kind_of, node_with_bytes, with_bytes}
 use Rattle.vt_spec.specs.Tree.Content.{Directory, Regular, Symlink, Whiteout}
 use Rattle.vt_spec.specs.TreeLaws.{IsTree}

@@ -3,13 +3,13 @@ use Rattle.std.proofs.Common.{◌≡◌, ◌≢◌, refl, sym, ap, subst, ◌∙
 use Rattle.std.proofs.lemmas.Bool.Decides.{eqb_tells}
 use Rattle.std.specs.Str.{bytes_eq}
 use Rattle.vt_spec.specs.declared.attributes.Kind.{Kind}
-use Rattle.vt_spec.specs.declared.attributes.Kind.TheVariants.{Dir, File, Link, White}
+use Rattle.vt_spec.specs.declared.attributes.Kind.TheVariants.{Dir, File, Symlink as SymlinkKind, White}
 use Rattle.vt_spec.specs.FileTree.{FileTree, is_kind_in, is_opaque_in}
 use Rattle.vt_spec.specs.Lists.{then_some}
 use Rattle.vt_spec.specs.Machine.CopyUp.{Merge, Stack, with_real}
 use Rattle.vt_spec.specs.Machine.World.{Real, upper_object}
 use Rattle.vt_spec.specs.Machine.World.Real.{Below, Upper}
-use Rattle.vt_spec.specs.Machine.WorldLaws.{SameObject, number_at_path, same_content}
+use Rattle.vt_spec.specs.Machine.Invariants.{SameObject, number_at_path, same_content}
 use Rattle.vt_spec.specs.Rights.{is_directory}
 use Rattle.vt_spec.specs.Tree.{Content, Node, bytes_of, is_directory_node, kind_of}
 use Rattle.vt_spec.specs.Tree.Content.{Directory, Regular, Symlink, Whiteout}
@@ -23,7 +23,7 @@ use Rattle.vt_overlay_laws.proofs.WholeParts.{IsFine}
 same_by : Kind → Kind → List ℕ → List ℕ → Bool
 same_by Dir Dir a b = true
 same_by File File a b = bytes_eq a b
-same_by Link Link a b = bytes_eq a b
+same_by SymlinkKind SymlinkKind a b = bytes_eq a b
 same_by one other a b = false
 
 content_by : (a b : Content ℕ) → same_content a b ≡ same_by (kind_of a) (kind_of b) (bytes_of a) (bytes_of b)

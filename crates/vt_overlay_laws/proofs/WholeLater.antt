@@ -8,7 +8,7 @@ use Rattle.vt_spec.specs.Machine.CopyUp.{Merge, Stack, merge_changed}
 use Rattle.vt_spec.specs.Machine.Filesystems.{filesystem_changed, merge_of, overlay_changed, stack_of, with_change, with_files, with_merge}
 use Rattle.vt_spec.specs.Machine.Mounts.{Location}
 use Rattle.vt_spec.specs.Machine.World.{Filesystem, Layer, Overlay, World, filesystem_at, filesystem_numbered, is_overlay, layers_of, mount_at, open_layer, with_filesystem}
-use Rattle.vt_spec.specs.Machine.WorldLaws.{IsMerged, IsWorld, is_plain_layer}
+use Rattle.vt_spec.specs.Machine.Invariants.{IsMerged, IsWorld, is_plain_layer}
 use Rattle.vt_spec.specs.Machine.Locked.{lies_or_counts_under, upper_and_work}
 use Rattle.vt_spec.specs.Tree.{is_directory_node}
 use Rattle.vt_spec.specs.TreeLaws.{IsReached}

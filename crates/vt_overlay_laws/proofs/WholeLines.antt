@@ -8,7 +8,7 @@ use Rattle.vt_spec.specs.Lists.{Fresh, chain}
 use Rattle.vt_spec.specs.Machine.CopyUp.{Merge, Stack, copied_content, copied_each, copied_up, copy_named, copy_of, copy_of_node, copy_parent, directories_to, is_in_upper, line_by, line_to, upper_of, with_real}
 use Rattle.vt_spec.specs.Machine.World.{upper_object}
 use Rattle.vt_spec.specs.Machine.World.Real.{Below, Upper}
-use Rattle.vt_spec.specs.Machine.WorldLaws.{ListsNumbers}
+use Rattle.vt_spec.specs.Machine.Invariants.{ListsNumbers}
 use Rattle.vt_spec.specs.Tree.{Node, is_directory_node, node_with_entry}
 use Rattle.vt_spec.specs.TreeLaws.{IsDirectory, IsTree}
 use Rattle.vt_spec.proofs.Nodes.{directory_used, is_some-node_with_entry, node_other}

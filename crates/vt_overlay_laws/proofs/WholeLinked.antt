@@ -9,7 +9,7 @@ use Rattle.vt_spec.specs.Machine.CopyUp.{Merge, Stack, linked, upper_of}
 use Rattle.vt_spec.specs.Machine.Layers.{shown, view_of}
 use Rattle.vt_spec.specs.Machine.Views.{View, hides, node_led, shown_from}
 use Rattle.vt_spec.specs.Machine.World.Real.{Upper}
-use Rattle.vt_spec.specs.Machine.WorldLaws.{SameObject, number_at_path, same_content}
+use Rattle.vt_spec.specs.Machine.Invariants.{SameObject, number_at_path, same_content}
 use Rattle.vt_spec.specs.Tree.{Content, Node, is_directory_node, kind_of}
 use Rattle.vt_spec.specs.Tree.Content.{Directory, Regular, Symlink, Whiteout}
 use Rattle.vt_spec.specs.TreeLaws.{IsDirectory, IsTree, entry_at, led}

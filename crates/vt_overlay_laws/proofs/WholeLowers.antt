@@ -8,7 +8,7 @@ use Rattle.vt_spec.specs.Machine.Layers.{OpenLayer, Shown, at_path, node_at_path
 use Rattle.vt_spec.specs.Machine.Merging.{layer_node}
 use Rattle.vt_spec.specs.Machine.World.{Layer, Real}
 use Rattle.vt_spec.specs.Machine.World.Real.{Below, Upper}
-use Rattle.vt_spec.specs.Machine.WorldLaws.{SameObject, number_at_path}
+use Rattle.vt_spec.specs.Machine.Invariants.{SameObject, number_at_path}
 use Rattle.vt_spec.specs.Rights.{Credentials}
 use Rattle.vt_spec.specs.Tree.{Node}
 use Rattle.vt_layer_laws.specs.Layers.Mounted.{IsAlike}

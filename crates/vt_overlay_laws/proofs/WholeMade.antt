@@ -11,7 +11,7 @@ use Rattle.vt_spec.specs.Machine.Layers.{Shown, below, shown, view_of}
 use Rattle.vt_spec.specs.Machine.Views.{View, cuts, hides, node_led, shown_from, shown_over}
 use Rattle.vt_spec.specs.Machine.World.{Real}
 use Rattle.vt_spec.specs.Machine.World.Real.{Upper}
-use Rattle.vt_spec.specs.Machine.WorldLaws.{SameObject, number_at_path, same_content}
+use Rattle.vt_spec.specs.Machine.Invariants.{SameObject, number_at_path, same_content}
 use Rattle.vt_spec.specs.Rights.{is_directory}
 use Rattle.vt_spec.specs.Tree.{Content, Node, entries_in, entries_of, is_directory_node, kind_of, node_with_entry}
 use Rattle.vt_spec.specs.Tree.Content.{Directory, Regular, Symlink, Whiteout}

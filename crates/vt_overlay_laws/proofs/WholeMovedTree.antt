@@ -7,7 +7,7 @@ use Rattle.vt_spec.specs.Lists.{Fresh}
 use Rattle.vt_spec.specs.Machine.CopyUp.{Merge, Stack, emptied, marked, name_left_by, upper_directory_named, upper_of, whiteout_of}
 use Rattle.vt_spec.specs.Machine.Views.{View}
 use Rattle.vt_spec.specs.Machine.World.Real.{Upper}
-use Rattle.vt_spec.specs.Machine.WorldLaws.{number_at_path}
+use Rattle.vt_spec.specs.Machine.Invariants.{number_at_path}
 use Rattle.vt_spec.specs.Tree.{entries_in, entry_named, is_directory_node, node_with_entry}
 use Rattle.vt_spec.specs.TreeLaws.{IsDirectory, IsTree, entry_at, led}
 use Rattle.vt_spec.proofs.Nodes.{node_other, node_set}

@@ -13,7 +13,7 @@ use Rattle.vt_spec.specs.Machine.Merging.{layer_node}
 use Rattle.vt_spec.specs.Machine.Mounts.{Location}
 use Rattle.vt_spec.specs.Machine.World.{Filesystem, Layer, Overlay, Real, World, files_at, filesystem_at, filesystem_numbered, mount_at, open_layer, shown_layers, Task, task_called}
 use Rattle.vt_spec.specs.Machine.World.Real.{Below, Upper}
-use Rattle.vt_spec.specs.Machine.WorldLaws.{IsMerged, IsWorld, SameObject, is_plain_layer, is_there, number_at_path, real_node}
+use Rattle.vt_spec.specs.Machine.Invariants.{IsMerged, IsWorld, SameObject, is_plain_layer, is_there, number_at_path, real_node}
 use Rattle.vt_spec.proofs.Lists
 use Rattle.vt_spec.proofs.Lists.{among-append_left, among-append_right}
 use Rattle.vt_layer_laws.specs.Layers.Locked.{AreNoInodes, GoesThrough, LeadsAsBefore}

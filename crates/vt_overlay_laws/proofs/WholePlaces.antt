@@ -8,7 +8,7 @@ use Rattle.vt_spec.specs.FileTree.{FileTree, ancestors, name_in, named_parent, o
 use Rattle.vt_spec.specs.Lists.{before_first, chain, holds_of, is_among, when}
 use Rattle.vt_spec.specs.Machine.CopyUp.{Merge, is_directory_shown, path_to}
 use Rattle.vt_spec.specs.Machine.Layers.{OpenLayer, Shown, shown_from}
-use Rattle.vt_spec.specs.Machine.WorldLaws.{ListsNumbers}
+use Rattle.vt_spec.specs.Machine.Invariants.{ListsNumbers}
 use Rattle.vt_spec.specs.Tree.{Tree, entries_in, is_directory_node}
 use Rattle.vt_spec.proofs.Trees.{led-append}
 use Rattle.vt_spec.specs.TreeLaws.{IsDirectory, IsTree, entry_at, led}

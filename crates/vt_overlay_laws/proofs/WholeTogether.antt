@@ -18,7 +18,7 @@ use Rattle.vt_spec.specs.Machine.Layers.{has_lower_directory, view_of}
 use Rattle.vt_spec.specs.Machine.Views
 use Rattle.vt_spec.specs.Machine.World.{upper_object}
 use Rattle.vt_spec.specs.Machine.World.Real.{Below}
-use Rattle.vt_spec.specs.Machine.WorldLaws.{number_at_path}
+use Rattle.vt_spec.specs.Machine.Invariants.{number_at_path}
 use Rattle.vt_spec.specs.TreeLaws.{IsDirectory, entry_at, led}
 use Rattle.vt_overlay_laws.specs.WhatIsShown.{IsWhole}
 use Rattle.vt_overlay_laws.specs.WholeChanges.{ChangesKeepShown}

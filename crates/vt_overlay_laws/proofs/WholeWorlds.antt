@@ -8,7 +8,7 @@ use Rattle.vt_spec.specs.Machine.Filesystems.{merge_of, stack_of}
 use Rattle.vt_spec.specs.Machine.Layers.{node_at_path}
 use Rattle.vt_spec.specs.Machine.World.{Filesystem, Layer, Overlay, Real, World, filesystem_numbered, open_layer}
 use Rattle.vt_spec.specs.Machine.World.Real.{Below, Upper}
-use Rattle.vt_spec.specs.Machine.WorldLaws.{IsMerged, SameObject, real_node}
+use Rattle.vt_spec.specs.Machine.Invariants.{IsMerged, SameObject, real_node}
 use Rattle.vt_layer_laws.proofs.ShownDirectories.{AreOpen}
 use Rattle.vt_layer_laws.proofs.ShownMounted.{are_open}
 use Rattle.vt_layer_laws.proofs.UpperWorld.{overlay_layers, overlay_merges, overlay_numbers, overlay_tree}

@@ -11,7 +11,7 @@ use Rattle.vt_spec.specs.Machine.Layers.{OpenLayer, has_lower_directory, node_at
 use Rattle.vt_spec.specs.Machine.Merging.{layer_node, merged_at, real_object}
 use Rattle.vt_spec.specs.Machine.World.{Real, upper_object}
 use Rattle.vt_spec.specs.Machine.World.Real.{Below, Upper}
-use Rattle.vt_spec.specs.Machine.WorldLaws.{ListsNumbers, SameObject, number_at_path}
+use Rattle.vt_spec.specs.Machine.Invariants.{ListsNumbers, SameObject, number_at_path}
 use Rattle.vt_spec.specs.Tree.{Node, kind_of, node_with_bytes}
 use Rattle.vt_spec.specs.TreeLaws.{IsDirectory, IsReached, IsTree}
 use Rattle.vt_tree_laws.specs.Trees.{MayAddName, MayMake, MayMove, MayRemove}

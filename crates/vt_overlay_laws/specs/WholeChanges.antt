@@ -12,7 +12,7 @@ use Rattle.vt_spec.specs.Machine.CopyUp.{Merge, Stack, merge_changed, path_to}
 use Rattle.vt_spec.specs.Machine.Filesystems.{merge_of, stack_of, with_change}
 use Rattle.vt_spec.specs.Machine.Layers.{has_lower_directory, shown}
 use Rattle.vt_spec.specs.Machine.World.{Filesystem, Layer, Overlay, Task, World, files_at, filesystem_at, filesystem_numbered, mount_at, task_called}
-use Rattle.vt_spec.specs.Machine.WorldLaws.{IsMerged, IsWorld}
+use Rattle.vt_spec.specs.Machine.Invariants.{IsMerged, IsWorld}
 use Rattle.vt_spec.specs.Tree.{kind_of}
 use Rattle.vt_spec.specs.TreeLaws.{IsDirectory, IsReached}
 use Rattle.vt_tree_laws.specs.Trees.{MayAddName, MayMake, MayMove, MayRemove}

@@ -11,7 +11,7 @@ use Rattle.vt_spec.specs.Lists.{Fresh, chain}
 use Rattle.vt_spec.specs.Machine.CopyUp.{Merge, copied_content, copied_each, copied_up, copy_named, copy_of, copy_parent, line_by, line_to, with_real}
 use Rattle.vt_spec.specs.Machine.World.{Real, upper_object}
 use Rattle.vt_spec.specs.Machine.World.Real.{Upper}
-use Rattle.vt_spec.specs.Machine.WorldLaws.{ListsNumbers}
+use Rattle.vt_spec.specs.Machine.Invariants.{ListsNumbers}
 use Rattle.vt_spec.specs.Tree.{Content, Node, entries_in, entries_of, entry_named, node_with_entry}
 use Rattle.vt_spec.specs.Tree.Content.{Directory, Regular, Symlink, Whiteout}
 use Rattle.vt_spec.specs.TreeLaws.{IsTree, entry_at}

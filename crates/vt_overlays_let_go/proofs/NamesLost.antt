@@ -13,7 +13,7 @@ use Rattle.vt_spec.specs.Machine.Mounts.{Location}
 use Rattle.vt_spec.specs.Machine.Outcome.Descriptors.{opened, with_copy, with_descriptor}
 use Rattle.vt_spec.specs.Machine.Settled.{named_in, settled}
 use Rattle.vt_spec.specs.Machine.World.{Filesystem, Layer, Overlay, World, files_at, filesystem_numbered, mount_at, upper_object}
-use Rattle.vt_spec.specs.Machine.WorldLaws.{IsWorld}
+use Rattle.vt_spec.specs.Machine.Invariants.{IsWorld}
 use Rattle.vt_spec.specs.Tree.{Node, entries_in, entry_named, node_with_bytes}
 use Rattle.vt_spec.specs.TreeLaws.{HasName, entry_at}
 use Rattle.vt_spec.proofs.Lists.{among_from_contains}

@@ -10,7 +10,7 @@ use Rattle.vt_spec.specs.Machine.Mounts.{Location, Mount, mount_in}
 use Rattle.vt_spec.specs.Machine.Outcome.Descriptors.{with_descriptor}
 use Rattle.vt_spec.specs.Machine.Settled.{filesystem_lives, is_mounted, mount_lives, settled, without_dead_mounts}
 use Rattle.vt_spec.specs.Machine.World.{Filesystem, Layer, Overlay, Task, World, mount_at, with_task}
-use Rattle.vt_spec.specs.Machine.WorldLaws.{IsWorld}
+use Rattle.vt_spec.specs.Machine.Invariants.{IsWorld}
 use Rattle.vt_layer_laws.proofs.LowersWorld.{number_of_filesystem}
 use Rattle.vt_letting_go.specs.InUse.{HasTrees, UppersArePlain}
 use Rattle.vt_letting_go.specs.Leaving.{only_these_are_left, with_tasks}

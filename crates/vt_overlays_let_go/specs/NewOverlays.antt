@@ -7,7 +7,7 @@ use Rattle.vt_spec.specs.Machine.Mounts.{Location}
 use Rattle.vt_spec.specs.Machine.Permits.Permit.{ToMountOverlay}
 use Rattle.vt_spec.specs.Machine.Settled.{settled}
 use Rattle.vt_spec.specs.Machine.World.{Overlay, Task, World}
-use Rattle.vt_spec.specs.Machine.WorldLaws.{IsWorld}
+use Rattle.vt_spec.specs.Machine.Invariants.{IsWorld}
 use Rattle.vt_layer_laws.specs.Layers.Mounted.{AreLayers}
 use Rattle.vt_layer_laws.specs.Layers.NewOverlays.{OfNewOverlays}
 use Rattle.vt_letting_go.specs.Attaching.{is_attached}

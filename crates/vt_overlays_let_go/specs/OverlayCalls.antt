@@ -12,7 +12,7 @@ use Rattle.vt_spec.specs.Machine.Mounts.{Location}
 use Rattle.vt_spec.specs.Machine.Permits.Permit.{ToMake, ToOpenNew, ToRemoveDirectory, ToRename}
 use Rattle.vt_spec.specs.Machine.Settled.{is_mounted, settled, without_dead_mounts}
 use Rattle.vt_spec.specs.Machine.World.{Layer, Overlay, Task, World, mount_at}
-use Rattle.vt_spec.specs.Machine.WorldLaws.{IsWorld}
+use Rattle.vt_spec.specs.Machine.Invariants.{IsWorld}
 use Rattle.vt_spec.specs.Tree.{Node}
 use Rattle.vt_letting_go.specs.MountingOverlays.{used_by_gone_with_layers}
 use Rattle.vt_letting_go.specs.Overlays.{let_go_all, let_go_all_inodes}

@@ -15,7 +15,7 @@ use Rattle.vt_spec.specs.Machine.Outcome.Descriptors.{is_copied_up}
 use Rattle.vt_spec.specs.Machine.Permits.Permit.{ToOpen}
 use Rattle.vt_spec.specs.Machine.Settled.{settled}
 use Rattle.vt_spec.specs.Machine.World.{Layer, Overlay, Task, World, files_at, filesystem_numbered}
-use Rattle.vt_spec.specs.Machine.WorldLaws.{IsWorld}
+use Rattle.vt_spec.specs.Machine.Invariants.{IsWorld}
 use Rattle.vt_spec.specs.TreeLaws.{entry_at}
 use Rattle.vt_layer_laws.specs.Layers.ChangesUpper.{copied_for}
 use Rattle.vt_letting_go.specs.FileChanges.{names_lost}

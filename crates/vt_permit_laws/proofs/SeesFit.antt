@@ -19,7 +19,7 @@ use Rattle.vt_spec.specs.Machine.Outcome.Descriptors.{overwritten, padded}
 use Rattle.vt_spec.specs.Machine.Permits.{Permit}
 use Rattle.vt_spec.specs.Machine.Permits.Permit.{Allowed, ToBind, ToChange, ToClose, ToEnterNamespace, ToExit, ToFork, ToList, ToListMounts, ToMake, ToMountOverlay, ToMountPlain, ToMove, ToOpen, ToOpenNew, ToPivot, ToRead, ToReadPart, ToRemoveDirectory, ToRename, ToSetCredentials, ToSetDirectory, ToSetFlags, ToSetRoot, ToSetType, ToSetUmask, ToStat, ToUnmount, ToUnmountLazily, ToUnshare, ToWritePart}
 use Rattle.vt_spec.specs.Machine.World.{Filesystem, Task, World, files_at, mount_at, node_at}
-use Rattle.vt_spec.specs.Machine.WorldLaws.{IsWorld, ListsNumbers, has_fit_names, has_fit_text, is_fit_filesystem, is_no_larger}
+use Rattle.vt_spec.specs.Machine.Invariants.{IsWorld, ListsNumbers, has_fit_names, has_fit_text, is_fit_filesystem, is_no_larger}
 use Rattle.vt_spec.specs.OneTree.Fits.{Fits, MayReplace}
 use Rattle.vt_spec.specs.OneTree.Inodes.{Inode, Inodes, parent_above, tree_of}
 use Rattle.vt_spec.specs.PathText.{is_empty}

@@ -21,7 +21,7 @@ use Rattle.vt_spec.specs.Machine.Walk.{LastWord, Place, entry_location, is_dot, 
 use Rattle.vt_spec.specs.Machine.Walk.LastWord.{Dot, DotDot, Named, NoWord}
 use Rattle.vt_spec.specs.Machine.Walking.{file_walk, is_directory_there, new_leaf_walk, new_walk, object_walk, old_leaf_walk, old_walk, symlink_walk}
 use Rattle.vt_spec.specs.Machine.World.{Filesystem, Task, World, files_at, is_directory_at, mount_at, node_at}
-use Rattle.vt_spec.specs.Machine.WorldLaws.{IsWorld}
+use Rattle.vt_spec.specs.Machine.Invariants.{IsWorld}
 use Rattle.vt_spec.specs.PathText.{is_empty}
 use Rattle.vt_spec.specs.Tree.{Entries, Node, entries_in, entry_named, is_directory_node, new_directory}
 use Rattle.vt_spec.specs.Tree.Content.{Symlink, Whiteout}

@@ -30,22 +30,22 @@ use Rattle.vt_spec.specs.Machine.Rules.Tasks.{enter_rules, fork_rules}
 use Rattle.vt_spec.specs.Machine.Walk.{Here}
 use Rattle.vt_spec.specs.Machine.Walking.{directory_walk, object_walk, symlink_walk}
 use Rattle.vt_spec.specs.Machine.World.{Task, World, node_at, task_called}
-use Rattle.vt_spec.specs.Machine.WorldLaws.{IsWorld}
+use Rattle.vt_spec.specs.Machine.Invariants.{IsWorld}
 use Rattle.vt_spec.specs.Rights.{cap_sys_admin, cap_sys_chroot, is_directory, owns}
 use Rattle.vt_spec.specs.Tree.{Content, Node, is_directory_node, kind_of}
 use Rattle.vt_spec.specs.Tree.Content.{Directory, Regular, Symlink, Whiteout}
-use Rattle.vt_spec.specs.declared.attributes.Kind.TheVariants.{Link}
+use Rattle.vt_spec.specs.declared.attributes.Kind.TheVariants.{Symlink as SymlinkKind}
 use Rattle.vt_tree_laws.specs.Trees.Calls.{mounts_overlay}
 use Rattle.vt_tree_laws.proofs.TreesWalked.{ends_anyhow, first_false, not_true, second_false}
 use Rattle.vt_world_laws.proofs.ReachedWalks.{FoundDirectory, directory_walk_end}
 use Rattle.vt_world_laws.specs.Worlds.Kept.{IsPlain}
 
 -- a symlink is no directory
-link_is_no_directory : (o : Option (Node ℕ)) → is_kind_in Link o ≡ true → is_directory_node o ≡ false
+link_is_no_directory : (o : Option (Node ℕ)) → is_kind_in SymlinkKind o ≡ true → is_directory_node o ≡ false
 link_is_no_directory None e = refl
 link_is_no_directory (Some node) e = by node.content e
   where
-    by : (content : Content ℕ) → is_kind_in Link (Some (record { attr = node.attr; content = content })) ≡ true
+    by : (content : Content ℕ) → is_kind_in SymlinkKind (Some (record { attr = node.attr; content = content })) ≡ true
         → is_directory (kind_of content) ≡ false
     by (Directory parent entries opaque) h = absurd (true≢false (sym h))
     by (Regular bytes) h = refl
@@ -88,7 +88,7 @@ module _ (world : World ℕ) (whole : IsWorld nat_eq world) (plain : IsPlain wor
       gives_walk (SeesTo world task) (λ here. ⊤) (symlink_walk nat_eq looks task path) _
       (ends_anyhow (symlink_walk nat_eq looks task path)) (λ here any.
       gives_unless (SeesTo world task) (readlink_rules looks here.location) _ (λ passed.
-      link_is_no_directory (node_at nat_eq world here.location) (not_true (kind_at looks here.location Link) passed.0)))
+      link_is_no_directory (node_at nat_eq world here.location) (not_true (kind_at looks here.location SymlinkKind) passed.0)))
 
   read_seen : (path : List ℕ) → Seen (read_permit nat_eq looks task path)
   unfolding read_permit

@@ -27,7 +27,7 @@ use Rattle.vt_spec.specs.Machine.Permits.Permit.{Allowed, ToBind, ToChange, ToCl
 use Rattle.vt_spec.specs.Machine.Settled.{settled}
 use Rattle.vt_spec.specs.Machine.Types.{named_mounts, retyped}
 use Rattle.vt_spec.specs.Machine.World.{Filesystem, Namespace, Overlay, Task, World, filesystem_at, is_overlay, mount_at, mount_numbered, mounts_of, new_plain, node_at, task_called}
-use Rattle.vt_spec.specs.Machine.WorldLaws.{IsWorld, has_one_root, is_listed, is_root_mount}
+use Rattle.vt_spec.specs.Machine.Invariants.{IsWorld, has_one_root, is_listed, is_root_mount}
 use Rattle.vt_spec.specs.Tree.{Node, bytes_in}
 use Rattle.vt_spec.proofs.Lists.{among_from_list_all, among_numbers, among-from_map}
 use Rattle.vt_tree_laws.proofs.TreesOfWorlds.{taken_filesystems}

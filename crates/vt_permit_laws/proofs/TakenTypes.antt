@@ -11,7 +11,7 @@ use Rattle.vt_spec.specs.Machine.Mounts.Propagation.{Private, Shared, Slave, Unb
 use Rattle.vt_spec.specs.Machine.Receives.{is_member_of, regrouped}
 use Rattle.vt_spec.specs.Machine.Types.{master_after, named_mounts, retyped, retyped_mount, type_after, with_master, with_new_groups}
 use Rattle.vt_spec.specs.Machine.World.{World, mount_numbered}
-use Rattle.vt_spec.specs.Machine.WorldLaws.{IsWorld}
+use Rattle.vt_spec.specs.Machine.Invariants.{IsWorld}
 use Rattle.vt_world_laws.proofs.RaisedInUse.{worlds_are_in_use}
 
 abbrev pub makes_groups : TypeWord → Bool

@@ -5,7 +5,7 @@ use Rattle.vt_run_laws.specs.Handed.{counts_from, handed_from, is_counted_before
 use Rattle.vt_spec.specs.Lists.{is_among}
 use Rattle.vt_spec.specs.Machine.Run.{Serves, numbers_in_use}
 use Rattle.vt_spec.specs.Machine.World.{World}
-use Rattle.vt_spec.specs.Machine.WorldLaws.{IsWorld}
+use Rattle.vt_spec.specs.Machine.Invariants.{IsWorld}
 use Rattle.vt_world_laws.specs.Worlds.Kept.{IsPlain}
 
 -- a mount, a group, a filesystem, a namespace or an inode has the number

@@ -4,7 +4,7 @@ use Rattle.std.specs.Prelude.{Bool, nat_eq, ℕ}
 use Rattle.vt_laws.specs.Numbers.{KeepsTo}
 use Rattle.vt_spec.specs.Machine.SameWorlds.{SameWorlds}
 use Rattle.vt_spec.specs.Machine.World.{World}
-use Rattle.vt_spec.specs.Machine.WorldLaws.{IsWorld}
+use Rattle.vt_spec.specs.Machine.Invariants.{IsWorld}
 use Rattle.vt_world_laws.specs.Worlds.Kept.{IsPlain, IsWorldButForUse}
 
 -- Where the one has the invariants, so has the other,

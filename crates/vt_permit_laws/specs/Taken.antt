@@ -18,7 +18,7 @@ use Rattle.vt_spec.specs.Machine.Permits.Permit.{ToBind, ToMake, ToMountPlain, T
 use Rattle.vt_spec.specs.Machine.Run.{Serves}
 use Rattle.vt_spec.specs.Machine.Types.{named_mounts}
 use Rattle.vt_spec.specs.Machine.World.{Task, World, mounts_of, task_called}
-use Rattle.vt_spec.specs.Machine.WorldLaws.{IsWorld}
+use Rattle.vt_spec.specs.Machine.Invariants.{IsWorld}
 use Rattle.vt_tree_laws.specs.Trees.Calls.{mounts_overlay}
 use Rattle.vt_world_laws.specs.Worlds.Kept.{IsPlain}
 

@@ -11,7 +11,7 @@ use Rattle.vt_spec.specs.Lists.{any_pair, folded, holds_of, is_among}
 use Rattle.vt_spec.specs.Machine.Attach.{Copies, Graft, attached_by, copies_at, copy_at, graft_of, has_too_many, parts_of, pushed_onto, pushed_up, receiver_below, receivers_of, takes_part, twig_of}
 use Rattle.vt_spec.specs.Machine.Mounts.{Location, Mount, group_of, mount_in, no_mount, with_mount}
 use Rattle.vt_spec.specs.Machine.World.{Namespace, World, mount_at}
-use Rattle.vt_spec.specs.Machine.WorldLaws.{NamespaceInvariants, is_listed}
+use Rattle.vt_spec.specs.Machine.Invariants.{NamespaceInvariants, is_listed}
 use Rattle.vt_spec.proofs.Lists.{Among, among-from_filter, among-from_map, among-map, among_from_all, among_from_contains, among_from_list_all, among_numbers, any_among, any_from_among, is_among_numbers, none_among}
 use Rattle.vt_mount_laws.proofs.MountsFound.{number_found}
 use Rattle.vt_mount_laws.proofs.MountsReplaced.{found-with_mount_other, found_itself, numbers-with_mount, one_number_by_numbers}

@@ -10,8 +10,8 @@ use Rattle.vt_spec.specs.Machine.Mounts.{Location, Mount, Propagation, group_of,
 use Rattle.vt_spec.specs.Machine.Mounts.Propagation.{Private, Shared, Slave, Unbindable}
 use Rattle.vt_spec.specs.Machine.Receives.{groups_up, has_members, is_member_of, slave_of_heir}
 use Rattle.vt_spec.specs.Machine.World.{World, mount_at}
-use Rattle.vt_spec.specs.Machine.WorldLaws.{HasLivingGroups, Lives}
-use Rattle.vt_spec.specs.Machine.WorldLaws.Lives.{has_master, has_no_master}
+use Rattle.vt_spec.specs.Machine.Invariants.{HasLivingGroups, Lives}
+use Rattle.vt_spec.specs.Machine.Invariants.Lives.{has_master, has_no_master}
 use Rattle.vt_spec.proofs.Lists.{Among, among-from_filter, among_from_all, chain_ends, chain_goes_on}
 use Rattle.vt_group.specs.Grouping.{Grouping, master_in}
 use Rattle.vt_location.specs.Locations.{location_of}

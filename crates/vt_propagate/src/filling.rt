@@ -9,7 +9,7 @@ ghost use Rattle.vt_spec.specs.Lists.{holds_of};
 ghost use Rattle.vt_spec.specs.Machine.Attach.{Copies, attached_by, has_too_many, parts_of};
 ghost use Rattle.vt_spec.specs.Machine.Mounts as meant;
 ghost use Rattle.vt_spec.specs.Machine.World.{World};
-ghost use Rattle.vt_spec.specs.Machine.WorldLaws.{NamespaceInvariants};
+ghost use Rattle.vt_spec.specs.Machine.Invariants.{NamespaceInvariants};
 ghost use Rattle.vt_location.specs.declared.numbers.NamespaceId.{NamespaceId};
 ghost use Rattle.vt_location.specs.MountValue.{mount_of};
 ghost use Rattle.vt_mount.specs.MountsValue.{mounts_in};

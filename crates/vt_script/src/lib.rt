@@ -16,4 +16,4 @@ pub use vt_request::{
     Access, Answer, Call, CapsWord, Creation, ForkWords, MountLine, Spot, StatLine, TaskName,
     TypeLine, TypeWord,
 };
-pub use vt_world::World;
+pub use vt_ns::World;

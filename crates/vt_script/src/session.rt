@@ -14,7 +14,7 @@ use vt_line::fault::RunFault;
 use vt_line::line::Line;
 use vt_line::print::write_reply;
 use vt_spec::errors::Rule;
-use vt_world::World;
+use vt_ns::World;
 
 /// The world, how many lines are answered, and the line that is being read.
 #[derive(Drop)]

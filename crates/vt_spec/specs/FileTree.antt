@@ -3,7 +3,7 @@ use Rattle.std.specs.Prelude.{Bool, List, None, Option, Some, [], false, filter_
 use Rattle.std.specs.List.{list_any}
 use Rattle.vt_spec.specs.declared.attributes.Attr.{Attr}
 use Rattle.vt_spec.specs.declared.attributes.Kind.{Kind}
-use Rattle.vt_spec.specs.declared.attributes.Kind.TheVariants.{Dir, File, Link, White}
+use Rattle.vt_spec.specs.declared.attributes.Kind.TheVariants.{Dir, File, Symlink as SymlinkKind, White}
 use Rattle.vt_spec.specs.Lists.{before_first, chain, first_of_list, is_among, when}
 use Rattle.vt_spec.specs.Tree.{Content, Node, Tree, bytes_in, entries_in, is_directory_node, kind_of, parent_in}
 use Rattle.vt_spec.specs.Tree.Content.{Directory, Regular, Symlink, Whiteout}
@@ -19,7 +19,7 @@ no_attr = record { uid = 0; gid = 0; mode = 0 }
 abbrev pub is_kind : Kind → Kind → Bool
 is_kind Dir Dir = true
 is_kind File File = true
-is_kind Link Link = true
+is_kind SymlinkKind SymlinkKind = true
 is_kind White White = true
 is_kind wanted found = false
 
@@ -49,7 +49,7 @@ module _ {N : Type 0} where
   is_opaque_in (Some node) = opaque_of node.content
 
   abbrev pub symlink_text : Option (Node N) → Option (List ℕ)
-  symlink_text node = when (is_kind_in Link node) (bytes_in node)
+  symlink_text node = when (is_kind_in SymlinkKind node) (bytes_in node)
 
   -- the numbers that a directory's entries lead to
   abbrev pub targets_in : Option (Node N) → List N

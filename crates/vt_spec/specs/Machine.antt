@@ -30,5 +30,5 @@ pub mod SameWorlds
 pub mod Sealed
 pub mod Run
 pub mod Turns
-pub mod WorldLaws
+pub mod Invariants
 pub mod Renaming

@@ -2,7 +2,7 @@
 use Rattle.std.specs.Prelude.{ℕ, ◌+◌, ◌-◌, ◌/◌, ◌%◌, ◌==◌, Bool, true, false, not, ◌&&◌, ◌||◌, List, if◌then◌else◌, bit_and}
 use Rattle.std.specs.List.{list_any}
 use Rattle.vt_spec.specs.declared.attributes.Kind.{Kind}
-use Rattle.vt_spec.specs.declared.attributes.Kind.TheVariants.{Dir, File, Link, White}
+use Rattle.vt_spec.specs.declared.attributes.Kind.TheVariants.{Dir, File, Symlink, White}
 use Rattle.vt_spec.specs.declared.attributes.Attr.{Attr}
 
 -- what a task acts as: credentials(7). Capabilities are a set of bits, as in capget(2)
@@ -86,7 +86,7 @@ class_bits who attr =
 abbrev pub is_directory : Kind → Bool
 is_directory Dir = true
 is_directory File = false
-is_directory Link = false
+is_directory Symlink = false
 is_directory White = false
 
 -- one of the three execute bits is set

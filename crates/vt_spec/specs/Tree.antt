@@ -5,7 +5,7 @@ use Rattle.std.specs.Ordering.{nat_cmp}
 use Rattle.std.specs.Cmp.Lexicographic.{slice_cmp}
 use Rattle.std.specs.FinMap.Entries.{find, put}
 use Rattle.vt_spec.specs.declared.attributes.Kind.{Kind}
-use Rattle.vt_spec.specs.declared.attributes.Kind.TheVariants.{Dir, File, Link, White}
+use Rattle.vt_spec.specs.declared.attributes.Kind.TheVariants.{Dir, File, Symlink as SymlinkKind, White}
 use Rattle.vt_spec.specs.declared.attributes.Attr.{Attr}
 use Rattle.vt_spec.specs.Rights.{is_directory}
 
@@ -38,7 +38,7 @@ module _ {N : Type 0} where
   abbrev pub kind_of : Content N → Kind
   kind_of (Directory parent entries opaque) = Dir
   kind_of (Regular bytes) = File
-  kind_of (Symlink text) = Link
+  kind_of (Symlink text) = SymlinkKind
   kind_of Whiteout = White
 
   -- the number that a name leads to

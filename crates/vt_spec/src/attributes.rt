@@ -8,7 +8,7 @@ use std::marker::Model;
 pub enum Kind {
     Dir,
     File,
-    Link,
+    Symlink,
     /// A whiteout, the character device 0/0 of an overlay's upper layer.
     White,
 }

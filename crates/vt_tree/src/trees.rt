@@ -21,12 +21,9 @@ use crate::changes::{
 };
 use std::alloc::Global;
 use std::marker::Model;
-use vt_node::{Attr, Node, NodeId, copied_bytes};
+use vt_node::{Attr, LARGEST_FILE, Node, NodeId, copied_bytes};
 use vt_slots::Slots;
 use vt_spec::errors::{Deny, Rule};
-
-// The most bytes of a file.
-const LARGEST_FILE: usize = 1_048_576;
 
 /// A tree of directories, files, symlinks and whiteouts, each with a number, and with a count of its uses: the names that
 /// lead to it, and what a caller pins. With its last use an object goes.

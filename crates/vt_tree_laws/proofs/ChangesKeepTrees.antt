@@ -7,7 +7,7 @@ use Rattle.vt_spec.specs.Language.Changes.{changed, changed_node, node_with_attr
 use Rattle.vt_spec.specs.Language.Changes.Change.{AddName, CopyUp, Make, Move, Remove, SetAttr, SetBytes, SetMark}
 use Rattle.vt_spec.specs.FileTree.{FileTree}
 use Rattle.vt_spec.specs.Lists.{is_among}
-use Rattle.vt_spec.specs.Machine.WorldLaws.{ListsNumbers}
+use Rattle.vt_spec.specs.Machine.Invariants.{ListsNumbers}
 use Rattle.vt_spec.proofs.Nodes.{directory_used, entries-node_with_bytes, is_directory-node_with_bytes, is_directory-node_with_entry, is_some-node_with_bytes, is_some-node_with_entry, parent-node_with_bytes}
 use Rattle.vt_spec.proofs.Trees.{entry_kept, entry_new, is_tree-with_object, kept_beside, parent_beside, used_differs}
 use Rattle.vt_tree_laws.specs.Trees.{ChangesKeepNumbers, ChangesKeepOwnParents, ChangesKeepTrees, HasOwnParents, MayMake}

@@ -15,7 +15,7 @@ use Rattle.vt_spec.specs.Lists.{is_among}
 use Rattle.vt_spec.specs.Language.Limits.{largest_file}
 use Rattle.vt_spec.specs.Machine.Settled.{filesystem_lives, only_among, only_used, only_used_by, used_in, without_dead_filesystems, without_dead_in, without_dead_mounts}
 use Rattle.vt_spec.specs.Machine.World.{Filesystem, World, is_overlay}
-use Rattle.vt_spec.specs.Machine.WorldLaws.{has_fit_names, has_fit_text, is_fit_filesystem, is_no_larger}
+use Rattle.vt_spec.specs.Machine.Invariants.{has_fit_names, has_fit_text, is_fit_filesystem, is_no_larger}
 use Rattle.vt_tree_laws.specs.Trees.Sizes.{ChangesKeepSizes, SettlingKeepsSizes, is_fit_name, is_fit_node, is_fit_tree}
 use Rattle.vt_tree_laws.proofs.TreesTasks.{all_filtered, all_mapped, both, both_first, both_second}
 

@@ -34,7 +34,7 @@ use Rattle.vt_spec.specs.Machine.Rows.{exact_attr, lacks, making, new_attr}
 use Rattle.vt_spec.specs.Machine.Settled.{filesystem_lives, settled, without_dead_filesystems, without_dead_in, without_dead_mounts}
 use Rattle.vt_spec.specs.Machine.Walk.{Place, directory_walk, file_walk, is_directory_there, is_special, symlink_walk, new_leaf_walk, new_walk, object_walk, old_leaf_walk, old_walk}
 use Rattle.vt_spec.specs.Machine.World.{Filesystem, Task, World, files_at, filesystem_at, is_overlay, mount_at, new_plain, node_at, root_attr, task_called, with_filesystem, with_task}
-use Rattle.vt_spec.specs.Machine.WorldLaws.{is_fit_filesystem}
+use Rattle.vt_spec.specs.Machine.Invariants.{is_fit_filesystem}
 use Rattle.vt_tree_laws.specs.Trees.Calls.{mounts_overlay}
 use Rattle.vt_tree_laws.specs.Trees.Sizes.{CallsKeepSizes, IsFitChange, IsFitWorld, OpeningIsFit, is_fit_node, is_fit_tree}
 use Rattle.vt_tree_laws.proofs.ChangesByCalls.{without_dead_plain}

@@ -36,7 +36,7 @@ use Rattle.vt_spec.specs.Machine.Rows.{exact_attr, lacks, making, new_attr}
 use Rattle.vt_spec.specs.Machine.Types.{named_mounts, retyped_mount, with_new_groups, with_type}
 use Rattle.vt_spec.specs.Machine.Walk.{Place, directory_walk, file_walk, is_directory_there, is_special, symlink_walk, new_leaf_walk, new_walk, object_walk, old_leaf_walk, old_walk}
 use Rattle.vt_spec.specs.Machine.World.{Layer, Overlay, Task, World, filesystem_at, mount_at, mount_numbered, replaced_if_called, task_called, with_mounts, with_task, without_task}
-use Rattle.vt_spec.specs.Machine.WorldLaws.{is_within_limits}
+use Rattle.vt_spec.specs.Machine.Invariants.{is_within_limits}
 use Rattle.vt_spec.proofs.Nodes.{none_is_not}
 use Rattle.vt_tree_laws.specs.Trees.Limits.{CallsKeepSmallTasks, HasSmallTasks, OpeningHasSmallTasks, names_few_groups}
 use Rattle.vt_tree_laws.proofs.TreesTasks.{all_appended, all_filtered, all_mapped, both_first, both_second, child_within, closed_within, masked_within, opened_within, parent_within, replaced_within}

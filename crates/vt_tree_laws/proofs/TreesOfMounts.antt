@@ -9,7 +9,7 @@ use Rattle.vt_spec.specs.Tree.{is_directory_node}
 use Rattle.vt_spec.specs.Lists.{any_pair}
 use Rattle.vt_spec.specs.Machine.Mounts.{Location, Mount, mount_in, no_mount, root_of}
 use Rattle.vt_spec.specs.Machine.World.{filesystem_numbered, is_directory_at}
-use Rattle.vt_spec.specs.Machine.WorldLaws.{has_its_root}
+use Rattle.vt_spec.specs.Machine.Invariants.{has_its_root}
 use Rattle.vt_spec.proofs.Nodes.{none_is_not}
 use Rattle.vt_tree_laws.specs.Trees.Calls.{WorldsAreStanding}
 use Rattle.vt_tree_laws.proofs.TreesWalked.{first_false, second_false}

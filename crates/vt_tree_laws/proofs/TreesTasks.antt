@@ -9,7 +9,7 @@ use Rattle.vt_spec.specs.Machine.Outcome.Descriptors.{free_from, free_number, in
 use Rattle.vt_spec.specs.Language.Limits.{deepest_name, most_descriptors, most_forks}
 use Rattle.vt_spec.specs.Machine.Outcome.Tasks.{child_credentials, child_name, child_of, permission_bits}
 use Rattle.vt_spec.specs.Machine.World.{Descriptor, Task, replaced_if_called}
-use Rattle.vt_spec.specs.Machine.WorldLaws.{are_ascending_from, is_within_limits}
+use Rattle.vt_spec.specs.Machine.Invariants.{are_ascending_from, is_within_limits}
 
 pub both_first : (a b : Bool) → (a && b) ≡ true → a ≡ true
 both_first true b e = refl

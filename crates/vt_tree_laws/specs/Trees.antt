@@ -8,7 +8,7 @@ use Rattle.vt_spec.specs.Laws.Trees.{IsNewIn}
 use Rattle.vt_spec.specs.Language.Changes.{Change, changed}
 use Rattle.vt_spec.specs.Language.Changes.Change.{AddName, CopyUp, Make, Move, Remove, SetAttr, SetBytes, SetMark}
 use Rattle.vt_spec.specs.FileTree.{FileTree}
-use Rattle.vt_spec.specs.Machine.WorldLaws.{ListsNumbers}
+use Rattle.vt_spec.specs.Machine.Invariants.{ListsNumbers}
 use Rattle.vt_spec.specs.Tree.{Node, Tree, entries_in, is_directory_node, parent_in}
 pub use Rattle.vt_spec.specs.TreeLaws.{HasOwnParents}
 use Rattle.vt_spec.specs.TreeLaws.{HasName, IsDirectory, IsReached, IsTree, entry_at, led}

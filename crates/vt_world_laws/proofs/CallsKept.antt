@@ -16,7 +16,7 @@ use Rattle.vt_spec.specs.Machine.Policy.{call_outcome, filesystems_changed_by, f
 use Rattle.vt_spec.specs.Machine.Run.{Serves, numbers_in_use, used_by_filesystem, used_by_mount}
 use Rattle.vt_spec.specs.Machine.Settled.{settled}
 use Rattle.vt_spec.specs.Machine.World.{Filesystem, Task, World, task_called}
-use Rattle.vt_spec.specs.Machine.WorldLaws.{ForksAreCounted, IsWorld, ListsNumbers, MountInvariants, NamespaceInvariants, is_within_limits}
+use Rattle.vt_spec.specs.Machine.Invariants.{ForksAreCounted, IsWorld, ListsNumbers, MountInvariants, NamespaceInvariants, is_within_limits}
 use Rattle.vt_spec.specs.TreeLaws.{HasOwnParents, IsTree}
 use Rattle.vt_laws.proofs.CallsJudged.{call_is_judged_then_applied}
 use Rattle.vt_laws.proofs.OwnRules.{denial_changes_nothing}

@@ -20,7 +20,7 @@ use Rattle.vt_spec.specs.Machine.Permits.Permit.{Allowed, ToBind, ToChange, ToCl
 use Rattle.vt_spec.specs.Machine.Run.{Serves, numbers_in_use, used_by_filesystem, used_by_mount}
 use Rattle.vt_spec.specs.Machine.Types.{named_mounts, retyped_mount, type_after, with_new_groups, with_type}
 use Rattle.vt_spec.specs.Machine.World.{Namespace, Task, World, mount_at, mount_numbered, mounts_of, task_called, without_task}
-use Rattle.vt_spec.specs.Machine.WorldLaws.{IsWorld, is_listed}
+use Rattle.vt_spec.specs.Machine.Invariants.{IsWorld, is_listed}
 use Rattle.vt_spec.proofs.Lists.{Among, among-append, among-append_right, among-from_map, among_from_list_all, among_numbers, is_among_numbers, none_from_among}
 use Rattle.vt_mount_laws.proofs.MountsFound.{number_found}
 use Rattle.vt_mount_laws.proofs.MountsReplaced.{found_itself}

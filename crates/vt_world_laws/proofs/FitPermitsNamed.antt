@@ -11,7 +11,7 @@ use Rattle.vt_spec.specs.Machine.Permits.{Permit}
 use Rattle.vt_spec.specs.Machine.Permits.Permit.{ToExit, ToListMounts, ToSetCredentials, ToSetUmask}
 use Rattle.vt_spec.specs.Machine.Run.{Serves}
 use Rattle.vt_spec.specs.Machine.World.{Task, World, task_called}
-use Rattle.vt_spec.specs.Machine.WorldLaws.{IsWorld}
+use Rattle.vt_spec.specs.Machine.Invariants.{IsWorld}
 use Rattle.vt_tree_laws.specs.Trees.Calls.{mounts_overlay}
 use Rattle.vt_world_laws.specs.Worlds.Calls.{PermitsFit}
 use Rattle.vt_world_laws.specs.Worlds.Permits.{IsFitPermit}

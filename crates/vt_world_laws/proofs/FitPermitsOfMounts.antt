@@ -16,7 +16,7 @@ use Rattle.vt_spec.specs.Machine.Rules.Mounting.{admin_rules, bind_rules, destin
 use Rattle.vt_spec.specs.Machine.Walk.{Here}
 use Rattle.vt_spec.specs.Machine.Walking.{directory_walk}
 use Rattle.vt_spec.specs.Machine.World.{Task, World, mount_at, mount_numbered, task_called}
-use Rattle.vt_spec.specs.Machine.WorldLaws.{IsWorld}
+use Rattle.vt_spec.specs.Machine.Invariants.{IsWorld}
 use Rattle.vt_mount_laws.proofs.Topmost.{topmost_is_free}
 use Rattle.vt_tree_laws.proofs.TreesWalked.{ends_anyhow, not_true}
 use Rattle.vt_world_laws.specs.Worlds.Permits.{IsDestination, IsOwn, IsReachedDirectory}

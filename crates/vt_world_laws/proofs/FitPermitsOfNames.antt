@@ -24,7 +24,7 @@ use Rattle.vt_spec.specs.Machine.Walk.{Here, LastWord, Place, is_dot, is_dot_dot
 use Rattle.vt_spec.specs.Machine.Walk.LastWord.{Dot, DotDot, Named, NoWord}
 use Rattle.vt_spec.specs.Machine.Walking.{directory_walk, file_walk, is_directory_there, symlink_walk, new_leaf_walk, new_walk, object_walk, old_leaf_walk, old_walk}
 use Rattle.vt_spec.specs.Machine.World.{Task, World, is_directory_at, node_at, task_called}
-use Rattle.vt_spec.specs.Machine.WorldLaws.{IsWorld}
+use Rattle.vt_spec.specs.Machine.Invariants.{IsWorld}
 use Rattle.vt_spec.specs.Rights.{owns}
 use Rattle.vt_spec.specs.Tree.{Node, new_directory}
 use Rattle.vt_spec.specs.Tree.Content.{Symlink, Whiteout}

@@ -24,7 +24,7 @@ use Rattle.vt_spec.specs.Machine.Rules.Tasks.{enter_rules, fork_rules}
 use Rattle.vt_spec.specs.Machine.Walk.{Here, Place, is_special}
 use Rattle.vt_spec.specs.Machine.Walking.{directory_walk, file_walk, new_walk, object_walk}
 use Rattle.vt_spec.specs.Machine.World.{Descriptor, Task, World, node_at, task_called}
-use Rattle.vt_spec.specs.Machine.WorldLaws.{IsWorld, has_regular_files_open, is_listed}
+use Rattle.vt_spec.specs.Machine.Invariants.{IsWorld, has_regular_files_open, is_listed}
 use Rattle.vt_spec.specs.Rights.{cap_sys_admin, cap_sys_chroot}
 use Rattle.std.proofs.lemmas.Option.{same_Some}
 use Rattle.vt_spec.proofs.Lists.{Among, among_from_list_all}

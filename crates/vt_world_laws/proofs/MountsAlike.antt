@@ -7,8 +7,8 @@ use Rattle.vt_spec.specs.Lists.{Fresh}
 use Rattle.vt_spec.specs.Machine.Mounts.{Location, Mount, mount_in}
 use Rattle.vt_spec.specs.Machine.Outcome.Descriptors.{overwritten, pwritten, with_copy}
 use Rattle.vt_spec.specs.Machine.World.{Filesystem, Layer, Overlay, World, filesystem_at, node_at}
-use Rattle.vt_spec.specs.Machine.WorldLaws.{MountInvariants, Stands}
-use Rattle.vt_spec.specs.Machine.WorldLaws.Stands.{at_root, on_parent}
+use Rattle.vt_spec.specs.Machine.Invariants.{MountInvariants, Stands}
+use Rattle.vt_spec.specs.Machine.Invariants.Stands.{at_root, on_parent}
 use Rattle.vt_spec.specs.Tree.{bytes_in}
 use Rattle.vt_spec.proofs.Lists.{all_from_among, among_from_all}
 

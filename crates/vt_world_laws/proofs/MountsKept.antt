@@ -13,7 +13,7 @@ use Rattle.vt_spec.specs.Machine.Permits.{Permit}
 use Rattle.vt_spec.specs.Machine.Permits.Permit.{Allowed, ToBind, ToChange, ToClose, ToEnterNamespace, ToExit, ToFork, ToList, ToListMounts, ToMake, ToMountOverlay, ToMountPlain, ToMove, ToOpen, ToOpenNew, ToPivot, ToRead, ToReadPart, ToRemoveDirectory, ToRename, ToSetCredentials, ToSetDirectory, ToSetFlags, ToSetRoot, ToSetType, ToSetUmask, ToStat, ToUnmount, ToUnmountLazily, ToUnshare, ToWritePart}
 use Rattle.vt_spec.specs.Machine.Run.{Serves}
 use Rattle.vt_spec.specs.Machine.World.{Task, World, mount_at, mount_numbered, without_task}
-use Rattle.vt_spec.specs.Machine.WorldLaws.{MountInvariants}
+use Rattle.vt_spec.specs.Machine.Invariants.{MountInvariants}
 use Rattle.vt_mount_laws.specs.Mounts.Namespaces.{CanPivot}
 use Rattle.vt_mount_laws.proofs.Ending.{ended_namespaces_keep_mounts, points_keep_mounts, replaced_keeps_mounts, unmount_keeps_mounts}
 use Rattle.vt_mount_laws.proofs.EndingLazy.{lazy_unmount_keeps_mounts}

@@ -7,7 +7,7 @@ use Rattle.vt_spec.specs.Language.Calls.{MountFlags}
 use Rattle.vt_spec.specs.Machine.Outcome.Mounting.{bound_at, mounted, moved_to, plain_filesystem, with_new_filesystem}
 use Rattle.vt_spec.specs.Machine.Run.{Serves, numbers_in_use, used_by_filesystem, used_by_mount}
 use Rattle.vt_spec.specs.Machine.World.{Filesystem, Namespace, Task, World, mount_at, mount_numbered}
-use Rattle.vt_spec.specs.Machine.WorldLaws.{MountInvariants, is_there}
+use Rattle.vt_spec.specs.Machine.Invariants.{MountInvariants, is_there}
 use Rattle.vt_spec.proofs.Lists.{Among, among-append, among-map, among-append_left, among-append_right, among-flat_map, among-from_flat_map, among_numbers, is_among_numbers}
 use Rattle.vt_mount_laws.specs.Mounts.Attached.{IsAttachedAt}
 use Rattle.vt_mount_laws.specs.Mounts.Attaching.{is_mount, numbers_of}

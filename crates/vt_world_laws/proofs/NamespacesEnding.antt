@@ -12,7 +12,7 @@ use Rattle.vt_spec.specs.Machine.Receives.{inheriting}
 use Rattle.vt_spec.specs.Machine.Run.{Serves, numbers_in_use, used_by_filesystem, used_by_mount}
 use Rattle.vt_spec.specs.Machine.World.{Namespace, Task, World, mounts_of, without_task}
 use Rattle.vt_spec.specs.Language.Calls.{same_name}
-use Rattle.vt_spec.specs.Machine.WorldLaws.{NamespaceInvariants, is_root_mount}
+use Rattle.vt_spec.specs.Machine.Invariants.{NamespaceInvariants, is_root_mount}
 use Rattle.vt_spec.proofs.Lists.{Among, among-append, among-append_left, among-append_right, among-filter, among-from_filter, among-from_map, among-map, any_among, contains_from_among, is_among_numbers, pair-filter}
 use Rattle.vt_mount_laws.specs.Mounts.Conditions.{OneNumberEach}
 use Rattle.vt_mount_laws.specs.Mounts.Ending.{root_mounts_in}

@@ -13,7 +13,7 @@ use Rattle.vt_spec.specs.Machine.Permits.{Permit}
 use Rattle.vt_spec.specs.Machine.Permits.Permit.{Allowed, ToBind, ToChange, ToClose, ToEnterNamespace, ToExit, ToFork, ToList, ToListMounts, ToMake, ToMountOverlay, ToMountPlain, ToMove, ToOpen, ToOpenNew, ToPivot, ToRead, ToReadPart, ToRemoveDirectory, ToRename, ToSetCredentials, ToSetDirectory, ToSetFlags, ToSetRoot, ToSetType, ToSetUmask, ToStat, ToUnmount, ToUnmountLazily, ToUnshare, ToWritePart}
 use Rattle.vt_spec.specs.Machine.Run.{Serves}
 use Rattle.vt_spec.specs.Machine.World.{Task, World, mount_at, mount_numbered, replaced_if_called}
-use Rattle.vt_spec.specs.Machine.WorldLaws.{IsWorld, NamespaceInvariants, is_root_mount}
+use Rattle.vt_spec.specs.Machine.Invariants.{IsWorld, NamespaceInvariants, is_root_mount}
 use Rattle.vt_spec.proofs.Lists.{Among}
 use Rattle.vt_mount_laws.proofs.EndingCounts.{points_keep_roots, points_take_none_in, unmount_keeps_roots, unmount_takes_none_in}
 use Rattle.vt_mount_laws.proofs.EndingLazyCounts.{lazy_unmount_keeps_roots, lazy_unmount_takes_none_in}

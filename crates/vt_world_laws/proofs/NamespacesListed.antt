@@ -8,7 +8,7 @@ use Rattle.vt_spec.specs.Lists.{any_pair, holds_of}
 use Rattle.vt_spec.specs.Machine.Mounts.{Mount}
 use Rattle.vt_spec.specs.Machine.Namespaces.{has_tasks}
 use Rattle.vt_spec.specs.Machine.World.{Namespace, Task, World, mounts_of}
-use Rattle.vt_spec.specs.Machine.WorldLaws.{NamespaceInvariants, has_one_root, is_listed}
+use Rattle.vt_spec.specs.Machine.Invariants.{NamespaceInvariants, has_one_root, is_listed}
 use Rattle.vt_spec.proofs.Lists.{Among, among-filter, among-from_filter, among-from_map, among-map, among_from_all, among_from_contains, among_from_list_all, among_numbers, any_among, any_from_among, is_among_numbers, list_all_from_among}
 use Rattle.vt_mount_laws.specs.Mounts.Ending.{IsOutOrStays, TakesNoMountsIn, root_mounts_in}
 use Rattle.vt_mount_laws.specs.Mounts.Moving.{StaysInNamespaces}

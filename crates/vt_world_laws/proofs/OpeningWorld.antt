@@ -9,8 +9,8 @@ use Rattle.vt_spec.specs.Lists.{Fresh}
 use Rattle.vt_spec.specs.Machine.Mounts.{Mount, no_mount, root_of}
 use Rattle.vt_spec.specs.Machine.Settled.{has_layer_on, is_mounted}
 use Rattle.vt_spec.specs.Machine.World.{Filesystem, World, filesystem_numbered, first_mount, first_place, is_directory_at, mount_at, mount_numbered, new_plain, node_at, opening}
-use Rattle.vt_spec.specs.Machine.WorldLaws.{ListsNumbers, MountInvariants, NamespaceInvariants, Stands, TaskInvariants, TreeInvariants, is_root_mount}
-use Rattle.vt_spec.specs.Machine.WorldLaws.Stands.{at_root}
+use Rattle.vt_spec.specs.Machine.Invariants.{ListsNumbers, MountInvariants, NamespaceInvariants, Stands, TaskInvariants, TreeInvariants, is_root_mount}
+use Rattle.vt_spec.specs.Machine.Invariants.Stands.{at_root}
 use Rattle.vt_spec.specs.Tree.{Node, is_directory_node}
 use Rattle.vt_spec.specs.TreeLaws.{HasOwnParents, IsTree}
 use Rattle.vt_letting_go.specs.InUse.{AllInUse, is_inode_used}

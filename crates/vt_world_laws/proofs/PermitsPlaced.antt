@@ -20,7 +20,7 @@ use Rattle.vt_spec.specs.Machine.Permits.{Permit}
 use Rattle.vt_spec.specs.Machine.Permits.Permit.{Allowed, ToBind, ToChange, ToClose, ToEnterNamespace, ToExit, ToFork, ToList, ToListMounts, ToMake, ToMountOverlay, ToMountPlain, ToMove, ToOpen, ToOpenNew, ToPivot, ToRead, ToReadPart, ToRemoveDirectory, ToRename, ToSetCredentials, ToSetDirectory, ToSetFlags, ToSetRoot, ToSetType, ToSetUmask, ToStat, ToUnmount, ToUnmountLazily, ToUnshare, ToWritePart}
 use Rattle.vt_spec.specs.Machine.Run.{Serves}
 use Rattle.vt_spec.specs.Machine.World.{Descriptor, Filesystem, Task, World, filesystem_at, is_directory_at, mount_at, mount_numbered, mounts_of, node_at, replaced_if_called, task_called, with_filesystem, without_task}
-use Rattle.vt_spec.specs.Machine.WorldLaws.{IsWorld}
+use Rattle.vt_spec.specs.Machine.Invariants.{IsWorld}
 use Rattle.vt_spec.specs.Tree.{Node, is_directory_node, kind_of}
 use Rattle.vt_spec.proofs.Lists.{Among, among-append, among-from_filter, among-from_map}
 use Rattle.vt_mount_laws.specs.Mounts.Attaching.{is_mount}

@@ -16,7 +16,7 @@ use Rattle.vt_spec.specs.Machine.Permits.{Permit}
 use Rattle.vt_spec.specs.Machine.Permits.Permit.{Allowed, ToBind, ToChange, ToClose, ToEnterNamespace, ToExit, ToFork, ToList, ToListMounts, ToMake, ToMountOverlay, ToMountPlain, ToMove, ToOpen, ToOpenNew, ToPivot, ToRead, ToReadPart, ToRemoveDirectory, ToRename, ToSetCredentials, ToSetDirectory, ToSetFlags, ToSetRoot, ToSetType, ToSetUmask, ToStat, ToUnmount, ToUnmountLazily, ToUnshare, ToWritePart}
 use Rattle.vt_spec.specs.Machine.Run.{Serves}
 use Rattle.vt_spec.specs.Machine.World.{Task, World, files_at, is_overlay, mount_at, mount_numbered, mounts_of, without_task}
-use Rattle.vt_spec.specs.Machine.WorldLaws.{IsWorld, Stands}
+use Rattle.vt_spec.specs.Machine.Invariants.{IsWorld, Stands}
 use Rattle.vt_spec.proofs.Lists.{among_from_all}
 use Rattle.vt_mount_laws.proofs.Unmounting.{all_but_mounts}
 use Rattle.vt_tree_laws.proofs.TreesOfWorlds.{taken_filesystems}

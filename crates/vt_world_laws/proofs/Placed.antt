@@ -7,7 +7,7 @@ use Rattle.vt_spec.specs.Machine.Mounts.{Location}
 use Rattle.vt_spec.specs.Machine.Outcome.Descriptors.{inserted}
 use Rattle.vt_spec.specs.Machine.World.{Descriptor, Task, World, all_locations, is_directory_at, locations_of, mount_at, node_at, replaced_if_called}
 use Rattle.vt_spec.specs.Language.Calls.{same_name}
-use Rattle.vt_spec.specs.Machine.WorldLaws.{has_regular_files_open, is_directory_seen_in, is_located_well, stands_on_directories}
+use Rattle.vt_spec.specs.Machine.Invariants.{has_regular_files_open, is_directory_seen_in, is_located_well, stands_on_directories}
 use Rattle.vt_spec.proofs.Lists.{Among, among-flat_map, among-from_flat_map, among-from_map, among-map, among_from_list_all, list_all_from_among}
 use Rattle.vt_world_laws.specs.Worlds.Tasks.{LocationsAreThere, OpenFilesAreRegular, TasksStandOnDirectories}
 use Rattle.vt_world_laws.proofs.Seen.{KeepsWhatIsSeen, directory_after, file_after, is_in, located_after, mount_of_located}

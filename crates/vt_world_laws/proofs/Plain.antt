@@ -5,7 +5,7 @@ use Rattle.std.specs.List.{list_any, list_all}
 use Rattle.vt_spec.specs.Machine.Locked.{live_upper_and_work, of_overlay, overlaps_one_of, overlay_or, overlays}
 use Rattle.vt_spec.specs.Lists.{any_pair}
 use Rattle.vt_spec.specs.Machine.World.{Filesystem, Overlay, World, filesystem_numbered, is_overlay}
-use Rattle.vt_spec.specs.Machine.WorldLaws.{OverlayInvariants, overlap, live_lowers}
+use Rattle.vt_spec.specs.Machine.Invariants.{OverlayInvariants, overlap, live_lowers}
 use Rattle.vt_spec.proofs.Lists.{Among, all_from_among, among_from_all, filter_none, list_all_from_among, none_from_among}
 use Rattle.vt_letting_go.specs.InUse.{UppersArePlain, has_upper_in}
 use Rattle.vt_tree_laws.proofs.TreesOfWorlds.{numbered_anyhow}

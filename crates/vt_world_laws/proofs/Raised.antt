@@ -9,8 +9,8 @@ use Rattle.vt_spec.specs.Lists.{is_among}
 use Rattle.vt_spec.specs.Machine.Mounts.{Location, Mount}
 use Rattle.vt_spec.specs.Machine.World.{Descriptor, Filesystem, Namespace, Task, World, all_locations, filesystem_numbered, is_overlay, locations_of, mount_at, mount_numbered, mounts_of, no_filesystem}
 use Rattle.vt_spec.specs.Language.Calls.{same_name}
-use Rattle.vt_spec.specs.Machine.WorldLaws.{ForksAreCounted, ListsNumbers, MountInvariants, NamespaceInvariants, Stands, TaskInvariants, TreeInvariants, has_one_root, is_fit_filesystem, is_listed, is_within_limits}
-use Rattle.vt_spec.specs.Machine.WorldLaws.Stands.{at_root, on_parent}
+use Rattle.vt_spec.specs.Machine.Invariants.{ForksAreCounted, ListsNumbers, MountInvariants, NamespaceInvariants, Stands, TaskInvariants, TreeInvariants, has_one_root, is_fit_filesystem, is_listed, is_within_limits}
+use Rattle.vt_spec.specs.Machine.Invariants.Stands.{at_root, on_parent}
 use Rattle.vt_spec.specs.Tree.{Node, is_directory_node}
 use Rattle.vt_spec.specs.declared.attributes.Kind.TheVariants.{File}
 use Rattle.vt_spec.specs.TreeLaws.{HasOwnParents, IsTree}

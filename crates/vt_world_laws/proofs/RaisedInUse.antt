@@ -10,7 +10,7 @@ use Rattle.vt_spec.specs.Machine.Policy.{numbers_raised, raised_namespace, raise
 use Rattle.vt_spec.specs.Machine.Settled.{filesystem_lives, has_layer_on, is_mounted, named_in, objects_of_overlay, settled, used_in}
 use Rattle.vt_spec.specs.Machine.World.{Filesystem, Layer, Namespace, Task, World, all_locations, layers_of, mount_at}
 use Rattle.vt_spec.specs.Language.Calls.{TaskName, same_name}
-use Rattle.vt_spec.specs.Machine.WorldLaws.{IsWorld}
+use Rattle.vt_spec.specs.Machine.Invariants.{IsWorld}
 use Rattle.vt_spec.proofs.Lists.{all-map, among-from_map, among_from_contains, contains_from_among}
 use Rattle.vt_letting_go.specs.InUse.{AllInUse, is_inode_used}
 use Rattle.vt_letting_go.proofs.InUse.{nothing_goes, what_is_left_is_in_use}

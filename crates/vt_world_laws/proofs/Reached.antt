@@ -17,8 +17,8 @@ use Rattle.vt_spec.specs.Machine.Mounts.{Location, Mount, child_at, root_of, sam
 use Rattle.vt_spec.specs.Machine.Walk.{LastWord, entry_location, hop, hops, is_lost, is_top, parent_location, stepped, up_from}
 use Rattle.vt_spec.specs.Machine.Walk.LastWord.{Dot, DotDot, Named, NoWord}
 use Rattle.vt_spec.specs.Machine.World.{Filesystem, Task, World, files_at, is_directory_at, mount_at, mount_numbered, node_at}
-use Rattle.vt_spec.specs.Machine.WorldLaws.{IsWorld, Stands, is_nowhere_or_attached, is_private}
-use Rattle.vt_spec.specs.Machine.WorldLaws.Stands.{at_root, on_parent}
+use Rattle.vt_spec.specs.Machine.Invariants.{IsWorld, Stands, is_nowhere_or_attached, is_private}
+use Rattle.vt_spec.specs.Machine.Invariants.Stands.{at_root, on_parent}
 use Rattle.vt_spec.proofs.Lists.{Among, among_from_all, among_from_list_all}
 use Rattle.vt_spec.proofs.Nodes.{directory_used, none_is_not}
 use Rattle.vt_mount_laws.specs.Mounts.Attaching.{numbers_of}

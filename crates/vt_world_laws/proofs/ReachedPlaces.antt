@@ -14,7 +14,7 @@ use Rattle.vt_spec.specs.Machine.Walk.{Here, LastWord, Place, Stop, directory_wa
 use Rattle.vt_spec.specs.Language.Limits.{most_symlinks}
 use Rattle.vt_spec.specs.Machine.Walk.LastWord.{Dot, DotDot, Named, NoWord}
 use Rattle.vt_spec.specs.Machine.World.{Task, World, is_directory_at, is_removed_at, node_at, task_called}
-use Rattle.vt_spec.specs.Machine.WorldLaws.{IsWorld}
+use Rattle.vt_spec.specs.Machine.Invariants.{IsWorld}
 use Rattle.vt_spec.proofs.Nodes.{none_is_not}
 use Rattle.vt_tree_laws.proofs.TreesWalked.{Ends, ends_next, ends_step, ends_then, ends_unless, not_true, ok_same}
 use Rattle.vt_world_laws.proofs.Reached.{IsDirectory, entry_found, step_found, topmost_directory, topmost_end}

@@ -11,7 +11,7 @@ use Rattle.vt_spec.specs.Language.Limits.{most_symlinks}
 use Rattle.vt_spec.specs.Machine.Walk.LastWord.{Dot, DotDot, Named, NoWord}
 use Rattle.vt_spec.specs.Machine.World.{Task, World, all_locations, is_directory_at, locations_of, node_at, task_called}
 use Rattle.vt_spec.specs.Language.Calls.{same_name}
-use Rattle.vt_spec.specs.Machine.WorldLaws.{IsWorld, is_directory_seen_in, is_located_well, stands_on_directories}
+use Rattle.vt_spec.specs.Machine.Invariants.{IsWorld, is_directory_seen_in, is_located_well, stands_on_directories}
 use Rattle.vt_spec.proofs.Lists.{Among, all_from_among, among-flat_map, among_from_list_all}
 use Rattle.vt_tree_laws.proofs.TreesEntered.{found_all}
 use Rattle.vt_tree_laws.proofs.TreesWalked.{Ends, ends_next, ends_step, ends_then, ends_unless, not_true}

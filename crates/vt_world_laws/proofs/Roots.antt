@@ -9,8 +9,8 @@ use Rattle.vt_spec.specs.Lists.{Fresh, chain, evens, holds_of, last_or, odds}
 use Rattle.vt_spec.specs.Machine.Mounts.{Location, Mount, child_at, numbers_by, root_of, stands_at, topmost}
 use Rattle.vt_spec.specs.Machine.Namespaces.{copied_mount, is_copied, location_on_copy, moved_location, namespace_root, pivoted_location, pivoted_task, unshared, unshared_task}
 use Rattle.vt_spec.specs.Machine.World.{Namespace, Task, World, filesystem_numbered, is_directory_at, mount_at, mount_numbered, mounts_of, node_at, root_mount}
-use Rattle.vt_spec.specs.Machine.WorldLaws.{IsWorld, Stands, has_its_root, has_one_root, is_listed, is_root_mount}
-use Rattle.vt_spec.specs.Machine.WorldLaws.Stands.{at_root, on_parent}
+use Rattle.vt_spec.specs.Machine.Invariants.{IsWorld, Stands, has_its_root, has_one_root, is_listed, is_root_mount}
+use Rattle.vt_spec.specs.Machine.Invariants.Stands.{at_root, on_parent}
 use Rattle.vt_spec.specs.Tree.{Node, is_directory_node}
 use Rattle.vt_spec.proofs.Lists.{Among, among-append_right, among-filter, among-from_filter, among-from_map, among-map, among_from_all, among_from_list_all, among_numbers, any_among, chain_ends, chain_goes_on, is_among_numbers, none_among}
 use Rattle.vt_mount_laws.specs.Mounts.Attaching.{is_mount, numbers_of}

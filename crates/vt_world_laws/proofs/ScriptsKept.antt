@@ -8,7 +8,7 @@ use Rattle.vt_spec.specs.Language.Script.{Grammar, Request, is_silent, request_o
 use Rattle.vt_spec.specs.Language.Limits.{longest_line}
 use Rattle.vt_spec.specs.Language.Script.Request.{Asking, Calling}
 use Rattle.vt_spec.specs.Machine.World.{World, opening}
-use Rattle.vt_spec.specs.Machine.WorldLaws.{IsWorld}
+use Rattle.vt_spec.specs.Machine.Invariants.{IsWorld}
 use Rattle.vt_laws.proofs.Unchanged.{directive_changes_nothing, refused_memory_changes_nothing}
 use Rattle.vt_world_laws.specs.Worlds.Calls.{HasNoOverlays, LeadsTo, ScriptsLeadToWorlds, asks_for_overlay}
 use Rattle.vt_world_laws.specs.Worlds.Kept.{IsPlain}

@@ -10,8 +10,8 @@ use Rattle.vt_spec.specs.Machine.Namespaces.{pivoted, pivoted_mount}
 use Rattle.vt_spec.specs.Machine.Outcome.Mounting.{mounted, new_mount, with_new_filesystem}
 use Rattle.vt_spec.specs.Machine.Types.{with_type}
 use Rattle.vt_spec.specs.Machine.World.{Filesystem, World, mount_at, mount_numbered, no_filesystem, with_mounts}
-use Rattle.vt_spec.specs.Machine.WorldLaws.{Stands}
-use Rattle.vt_spec.specs.Machine.WorldLaws.Stands.{at_root, on_parent}
+use Rattle.vt_spec.specs.Machine.Invariants.{Stands}
+use Rattle.vt_spec.specs.Machine.Invariants.Stands.{at_root, on_parent}
 use Rattle.vt_spec.proofs.Lists.{Among, among-append_left, among-from_filter, among-from_flat_map, among-from_map, among_numbers, is_among_numbers}
 use Rattle.vt_mount_laws.specs.Mounts.Attaching.{OneNumberAMount, is_mount, numbers_of}
 use Rattle.vt_mount_laws.proofs.MountsAttached.{arrives, arriving, attach_keeps_mounts, found_attached, moved_mounts_show, moved_ones, numbers_attached, others, push_keeps, supplied}

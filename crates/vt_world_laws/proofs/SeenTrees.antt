@@ -11,7 +11,7 @@ use Rattle.vt_spec.specs.Lists.{Fresh, holds_of, is_among}
 use Rattle.vt_spec.specs.Machine.Mounts.{Location}
 use Rattle.vt_spec.specs.Machine.Run.{Serves, numbers_in_use, used_by_filesystem, used_by_mount}
 use Rattle.vt_spec.specs.Machine.World.{Filesystem, World, filesystem_at, is_overlay, mount_at, no_filesystem, replaced_if_numbered, with_filesystem}
-use Rattle.vt_spec.specs.Machine.WorldLaws.{ListsNumbers}
+use Rattle.vt_spec.specs.Machine.Invariants.{ListsNumbers}
 use Rattle.vt_spec.specs.Tree.{Content, Node, entries_in, entries_of, entry_named, kind_of, node_with_bytes, node_with_entry, with_bytes, with_entries, with_entry}
 use Rattle.vt_spec.specs.Tree.Content.{Directory, Regular, Symlink, Whiteout}
 use Rattle.vt_spec.proofs.Lists.{Among, all_from_among, among-append_left, among-append_right, among-flat_map, among_from_all, among_numbers, none_among}

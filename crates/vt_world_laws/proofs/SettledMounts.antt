@@ -7,8 +7,8 @@ use Rattle.vt_spec.specs.Lists.{holds_of}
 use Rattle.vt_spec.specs.Machine.Mounts.{Location, Mount, mount_in, no_mount}
 use Rattle.vt_spec.specs.Machine.Settled.{mount_lives, settled}
 use Rattle.vt_spec.specs.Machine.World.{Namespace, World, mount_at, mount_numbered, mounts_of}
-use Rattle.vt_spec.specs.Machine.WorldLaws.{MountInvariants, NamespaceInvariants, Stands, is_listed, is_root_mount}
-use Rattle.vt_spec.specs.Machine.WorldLaws.Stands.{at_root, on_parent}
+use Rattle.vt_spec.specs.Machine.Invariants.{MountInvariants, NamespaceInvariants, Stands, is_listed, is_root_mount}
+use Rattle.vt_spec.specs.Machine.Invariants.Stands.{at_root, on_parent}
 use Rattle.vt_spec.proofs.Lists.{all-filter}
 use Rattle.vt_letting_go.proofs.Lists.{Among, all_from_among, among-from_filter, among_from_all, filter_twice}
 use Rattle.vt_mount_laws.proofs.GroupsLiving.{all_live, tested_live}

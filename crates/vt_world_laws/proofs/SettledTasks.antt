@@ -10,7 +10,7 @@ use Rattle.vt_spec.specs.Lists.{any_pair, is_among}
 use Rattle.vt_spec.specs.Machine.Mounts.{Location, Mount, mount_in, no_mount, root_of}
 use Rattle.vt_spec.specs.Machine.Settled.{filesystem_lives, mount_lives, only_used, settled, without_dead_filesystems, without_dead_in, without_dead_mounts}
 use Rattle.vt_spec.specs.Machine.World.{Descriptor, Filesystem, Task, World, all_locations, filesystem_numbered, is_directory_at, is_overlay, locations_of, mount_at, mount_numbered, node_at}
-use Rattle.vt_spec.specs.Machine.WorldLaws.{ListsNumbers, IsWorld, Stands, TaskInvariants, TreeInvariants, has_its_root, has_regular_files_open, is_located_well, stands_on_directories}
+use Rattle.vt_spec.specs.Machine.Invariants.{ListsNumbers, IsWorld, Stands, TaskInvariants, TreeInvariants, has_its_root, has_regular_files_open, is_located_well, stands_on_directories}
 use Rattle.vt_spec.specs.Tree.{is_directory_node}
 use Rattle.vt_letting_go.proofs.InUse.{one_sweep_is_enough}
 use Rattle.vt_letting_go.proofs.Lists.{Among, all_from_among, all_pass, among-append_left, among-append_right, among-filter, among-filter_map, among-flat_map, among-from_filter, among-map, among_from_all, is_among_numbers, passes}
@@ -23,7 +23,7 @@ use Rattle.vt_tree_laws.proofs.ChangesOfSizes.{settling_keeps_sizes}
 use Rattle.vt_tree_laws.proofs.TreesForgotten.{settling_keeps_trees}
 use Rattle.std.proofs.lemmas.Option.{same_Some}
 use Rattle.vt_spec.specs.TreeLaws.{HasOwnParents, IsTree}
-use Rattle.vt_spec.specs.Machine.WorldLaws.Stands.{at_root, on_parent}
+use Rattle.vt_spec.specs.Machine.Invariants.Stands.{at_root, on_parent}
 use Rattle.vt_world_laws.specs.Worlds.Kept.{IsPlain, IsWorldButForUse, MountsShow, SettlingLeavesAWorld}
 use Rattle.vt_world_laws.proofs.Plain.{uppers_plain}
 use Rattle.vt_world_laws.proofs.RaisedInUse.{world_of}

@@ -13,8 +13,8 @@ use Rattle.vt_spec.specs.Machine.Receives.{inheriting}
 use Rattle.vt_spec.specs.Machine.Run.{Serves}
 use Rattle.vt_spec.specs.Machine.Types.{named_mounts, with_type}
 use Rattle.vt_spec.specs.Machine.World.{Task, World, is_directory_at, mount_at, mount_numbered, mounts_of, node_at, with_mounts}
-use Rattle.vt_spec.specs.Machine.WorldLaws.{IsWorld, Stands, has_its_root, is_nowhere_or_attached, is_private}
-use Rattle.vt_spec.specs.Machine.WorldLaws.Stands.{at_root, on_parent}
+use Rattle.vt_spec.specs.Machine.Invariants.{IsWorld, Stands, has_its_root, is_nowhere_or_attached, is_private}
+use Rattle.vt_spec.specs.Machine.Invariants.Stands.{at_root, on_parent}
 use Rattle.vt_spec.specs.Tree.{is_directory_node}
 use Rattle.vt_spec.proofs.Lists.{Among, among-append, among-filter, among-from_filter, among-from_map, among_from_all, among_from_list_all, list_all_from_among}
 use Rattle.vt_mount_laws.specs.Mounts.Attaching.{is_mount}

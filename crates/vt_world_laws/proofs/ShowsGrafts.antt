@@ -8,7 +8,7 @@ use Rattle.vt_spec.specs.Language.Calls.{MountFlags}
 use Rattle.vt_spec.specs.Machine.Outcome.Mounting.{bound_at, mounted, new_mount, plain_filesystem, with_new_filesystem}
 use Rattle.vt_spec.specs.Machine.Run.{Serves, numbers_in_use, used_by_filesystem, used_by_mount}
 use Rattle.vt_spec.specs.Machine.World.{Filesystem, World, is_directory_at, mount_at, mount_numbered, no_filesystem, root_attr}
-use Rattle.vt_spec.specs.Machine.WorldLaws.{IsWorld}
+use Rattle.vt_spec.specs.Machine.Invariants.{IsWorld}
 use Rattle.vt_spec.specs.Tree.{is_directory_node, new_directory}
 use Rattle.vt_spec.proofs.Lists.{Among, among-append, among-append_left, among-append_right, among-flat_map, among-from_filter, among-from_flat_map, none_from_among}
 use Rattle.vt_mount_laws.proofs.BindsStand.{binds_keep_numbers, moves_keep_numbers, new_mounts_keep_numbers}

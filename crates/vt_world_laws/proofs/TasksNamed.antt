@@ -10,7 +10,7 @@ use Rattle.vt_spec.specs.Machine.Namespaces.{pivoted_location, pivoted_task}
 use Rattle.vt_spec.specs.Machine.Filesystems.{raised}
 use Rattle.vt_spec.specs.Machine.Policy.{numbers_raised, raised_task}
 use Rattle.vt_spec.specs.Machine.Outcome.Tasks.{child_name, child_of}
-use Rattle.vt_spec.specs.Machine.WorldLaws.{ForksAreCounted}
+use Rattle.vt_spec.specs.Machine.Invariants.{ForksAreCounted}
 use Rattle.vt_spec.specs.Machine.World.{Task, World, first_task, opening, replaced_if_called}
 use Rattle.vt_spec.specs.Language.Calls.{TaskName, same_name}
 use Rattle.vt_spec.specs.Rights.{Credentials}

@@ -1,6 +1,6 @@
 //! What a permit that fits keeps in a world without overlays, before what nothing uses is gone.
 ghost use Rattle.std.specs.Prelude.{nat_eq};
-ghost use Rattle.vt_spec.specs.Machine.WorldLaws.{MountInvariants, NamespaceInvariants};
+ghost use Rattle.vt_spec.specs.Machine.Invariants.{MountInvariants, NamespaceInvariants};
 ghost use Rattle.vt_world_laws.specs.Worlds.Kept.{KeptByPermits};
 
 /// In a world with all invariants and without overlays, a permit that fits, of a task that exists, applied with unused

@@ -7,7 +7,7 @@ use Rattle.vt_spec.specs.Machine.Layers.{OpenLayer, node_at_path}
 use Rattle.vt_spec.specs.Lists.{Fresh, then_some}
 use Rattle.vt_spec.specs.Machine.Outcome.Mounting.{overlay_filesystem}
 use Rattle.vt_spec.specs.Machine.World.{Filesystem, Overlay, World, filesystem_numbered, open_layer, shown_layers}
-use Rattle.vt_spec.specs.Machine.WorldLaws.{IsMerged, IsWorld, SameObject, is_plain_layer, number_at_path}
+use Rattle.vt_spec.specs.Machine.Invariants.{IsMerged, IsWorld, SameObject, is_plain_layer, number_at_path}
 use Rattle.vt_spec.specs.Tree.{Node, bytes_in}
 
 -- layers that may be mounted: there is one, and each is a directory of a plain tree

@@ -8,7 +8,7 @@ use Rattle.vt_spec.specs.Lists.{Fresh, evens, is_among}
 use Rattle.vt_spec.specs.Machine.Outcome.Mounting.{LayerPlaces, layers_walked, overlay_at, overlay_filesystem}
 use Rattle.vt_spec.specs.Machine.Policy.{call_outcome}
 use Rattle.vt_spec.specs.Machine.World.{Task, World, filesystem_numbered}
-use Rattle.vt_spec.specs.Machine.WorldLaws.{IsWorld, OverlayInvariants, TreeInvariants}
+use Rattle.vt_spec.specs.Machine.Invariants.{IsWorld, OverlayInvariants, TreeInvariants}
 
 -- No filesystem has one of these numbers, and they differ.
 pub record AreNewNumbers (fresh : Fresh ℕ) (world : World ℕ) : Type 0 where

@@ -2,7 +2,7 @@
 use Rattle.std.specs.Prelude.{All, List, Some, false, ℕ, nat_eq, ◌≡◌}
 use Rattle.vt_spec.specs.Lists.{any_pair}
 use Rattle.vt_spec.specs.Machine.Mounts.{Location, Mount, child_at}
-use Rattle.vt_spec.specs.Machine.WorldLaws.{share_a_mount_point}
+use Rattle.vt_spec.specs.Machine.Invariants.{share_a_mount_point}
 
 -- no two mounts stand at one place
 abbrev pub OneMountAPlace : List (Mount ℕ) → Type 0

@@ -5,7 +5,7 @@ use Rattle.vt_spec.specs.Machine.Mounts.{Mount}
 use Rattle.vt_spec.specs.Machine.Mounts.Propagation.{Shared, Slave}
 use Rattle.vt_spec.specs.Machine.Receives.{Receives, receivers, receives}
 use Rattle.vt_spec.specs.Machine.World.{World}
-use Rattle.vt_spec.specs.Machine.WorldLaws.{HasLivingGroups, has_living_groups}
+use Rattle.vt_spec.specs.Machine.Invariants.{HasLivingGroups, has_living_groups}
 
 -- the group or master of each mount has members, and so has each group up the masters, which come to an end
 abbrev pub GroupsLive : World ℕ → Type 0

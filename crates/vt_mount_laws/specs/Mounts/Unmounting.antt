@@ -13,7 +13,7 @@ use Rattle.vt_spec.specs.Machine.Receives.{Receives, groups_up, has_members, sla
 use Rattle.vt_spec.specs.Machine.Walk.{Here, directory_walk, walk_end}
 use Rattle.vt_spec.specs.Machine.World.{Task, World, mount_at, mount_numbered, task_called}
 use Rattle.vt_spec.specs.Language.Calls.{TaskName}
-use Rattle.vt_spec.specs.Machine.WorldLaws.{stands_in_its_namespace}
+use Rattle.vt_spec.specs.Machine.Invariants.{stands_in_its_namespace}
 use Rattle.vt_mount_laws.specs.Mounts.FileCalls.{HasLiving}
 use Rattle.vt_mount_laws.specs.Mounts.Receivers.{GroupsLive}
 

@@ -2,7 +2,7 @@
 use Rattle.std.specs.Prelude.{Bool, Err, List, None, Ok, Option, Result, Some, [], codes, decimal, flat_map, if◌then◌else◌, length, map, nat_lt, ℕ, ◌%◌, ◌++◌, ◌+◌, ◌/◌, ◌∷◌}
 use Rattle.vt_spec.specs.declared.attributes.Attr.{Attr}
 use Rattle.vt_spec.specs.declared.attributes.Kind.{Kind}
-use Rattle.vt_spec.specs.declared.attributes.Kind.TheVariants.{Dir, File, Link, White}
+use Rattle.vt_spec.specs.declared.attributes.Kind.TheVariants.{Dir, File, Symlink, White}
 use Rattle.vt_spec.specs.declared.errors.Deny.{Deny}
 use Rattle.vt_spec.specs.Errors.{errno_name, number_of, rule_name}
 use Rattle.vt_spec.specs.Lists.{counted_from}
@@ -41,7 +41,7 @@ owner_words kind attr = kind ∷ printed_mode attr.mode ∷ decimal attr.uid ∷
 abbrev pub stat_words : Kind → StatLine → List (List ℕ)
 stat_words Dir line = owner_words (codes "dir") line.attr ++ (if line.opaque then codes "opaque" ∷ [] else [])
 stat_words File line = owner_words (codes "file") line.attr ++ (decimal line.size ∷ [])
-stat_words Link line = owner_words (codes "link") line.attr ++ (decimal line.size ∷ [])
+stat_words Symlink line = owner_words (codes "link") line.attr ++ (decimal line.size ∷ [])
 stat_words White line = owner_words (codes "white") line.attr
 
 -- `t` and the numbers of a task's name

@@ -3,7 +3,7 @@ use Rattle.std.specs.Prelude.{Bool, List, Option, [], find, is_some, length, nat
 use Rattle.std.specs.Str.{bytes_eq}
 use Rattle.vt_spec.specs.declared.attributes.Attr.{Attr}
 use Rattle.vt_spec.specs.declared.attributes.Kind.{Kind}
-use Rattle.vt_spec.specs.declared.attributes.Kind.TheVariants.{File, Link, White}
+use Rattle.vt_spec.specs.declared.attributes.Kind.TheVariants.{File, Symlink, White}
 use Rattle.vt_spec.specs.declared.errors.Deny.{Deny}
 use Rattle.vt_spec.specs.declared.errors.Rule.TheVariants.{C1, C2, C3, E1, E2, E3, E4, E5, E6, E7, E8, E9, K1, P1, S3, S4, S6}
 use Rattle.vt_spec.specs.Errors.{Rules, denial}
@@ -63,7 +63,7 @@ module _ {N : Type 0} where
       ∷ []
 
   abbrev pub readlink_rules : Tree N → N → Rules
-  readlink_rules tree object = (not (is_kind_at tree object Link), E5) ∷ []
+  readlink_rules tree object = (not (is_kind_at tree object Symlink), E5) ∷ []
 
   -- Calls that make a name
   abbrev pub new_rules : Tree N → Credentials → Place N → Rules

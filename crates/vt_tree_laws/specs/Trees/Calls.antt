@@ -6,7 +6,7 @@ use Rattle.vt_spec.specs.Lists.{Fresh}
 use Rattle.vt_spec.specs.Machine.Mounts.{Location, root_of}
 use Rattle.vt_spec.specs.Machine.Policy.{policy}
 use Rattle.vt_spec.specs.Machine.World.{World, is_directory_at, is_overlay, opening}
-use Rattle.vt_spec.specs.Machine.WorldLaws.{IsWorld}
+use Rattle.vt_spec.specs.Machine.Invariants.{IsWorld}
 use Rattle.vt_tree_laws.specs.Trees.Settling.{HasFileTrees}
 
 -- a world without overlays, whose filesystems are trees

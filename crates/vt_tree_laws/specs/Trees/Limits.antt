@@ -6,7 +6,7 @@ use Rattle.vt_spec.specs.Language.Calls.Call.{Fork}
 use Rattle.vt_spec.specs.Lists.{Fresh}
 use Rattle.vt_spec.specs.Machine.Policy.{policy}
 use Rattle.vt_spec.specs.Machine.World.{World, opening}
-use Rattle.vt_spec.specs.Machine.WorldLaws.{is_within_limits}
+use Rattle.vt_spec.specs.Machine.Invariants.{is_within_limits}
 
 -- each task has at most 256 open descriptors, in order, was forked from at most 64 times, and so on
 abbrev pub HasSmallTasks : World ℕ → Type 0

@@ -10,7 +10,7 @@ use Rattle.vt_spec.specs.Language.Limits.{largest_file, longest_name}
 use Rattle.vt_spec.specs.Machine.Policy.{policy}
 use Rattle.vt_spec.specs.Machine.Settled.{settled}
 use Rattle.vt_spec.specs.Machine.World.{World, is_overlay, opening}
-use Rattle.vt_spec.specs.Machine.WorldLaws.{has_fit_names, has_fit_text, is_fit_filesystem, is_no_larger}
+use Rattle.vt_spec.specs.Machine.Invariants.{has_fit_names, has_fit_text, is_fit_filesystem, is_no_larger}
 use Rattle.vt_spec.specs.PathText.{is_empty}
 use Rattle.vt_spec.specs.Tree.{Node}
 use Rattle.vt_tree_laws.specs.Trees.Calls.{mounts_overlay}

@@ -9,7 +9,7 @@ use Rattle.vt_spec.specs.Machine.Run.{Serves, line_step, step_world}
 use Rattle.vt_spec.specs.Language.Script.{Grammar, Request, request_of}
 use Rattle.vt_spec.specs.Language.Script.Request.{Asking, Calling}
 use Rattle.vt_spec.specs.Machine.World.{Task, World, opening, task_called}
-use Rattle.vt_spec.specs.Machine.WorldLaws.{IsWorld}
+use Rattle.vt_spec.specs.Machine.Invariants.{IsWorld}
 use Rattle.vt_tree_laws.specs.Trees.Calls.{mounts_overlay}
 use Rattle.vt_tree_laws.specs.Trees.Limits.{names_few_groups}
 use Rattle.vt_world_laws.specs.Worlds.Kept.{IsPlain}

@@ -7,7 +7,7 @@ use Rattle.vt_spec.specs.Machine.Permits.{Permit}
 use Rattle.vt_spec.specs.Machine.Run.{Serves}
 use Rattle.vt_spec.specs.Machine.Settled.{settled}
 use Rattle.vt_spec.specs.Machine.World.{Task, World, is_overlay, task_called}
-use Rattle.vt_spec.specs.Machine.WorldLaws.{IsWorld, MountInvariants, NamespaceInvariants, TaskInvariants, TreeInvariants, has_its_root}
+use Rattle.vt_spec.specs.Machine.Invariants.{IsWorld, MountInvariants, NamespaceInvariants, TaskInvariants, TreeInvariants, has_its_root}
 use Rattle.vt_world_laws.specs.Worlds.Permits.{IsFitPermit}
 
 -- no filesystem is an overlay

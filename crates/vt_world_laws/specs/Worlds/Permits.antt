@@ -16,7 +16,7 @@ use Rattle.vt_spec.specs.Machine.Permits.{Permit}
 use Rattle.vt_spec.specs.Machine.Permits.Permit.{Allowed, ToBind, ToChange, ToClose, ToEnterNamespace, ToExit, ToFork, ToList, ToListMounts, ToMake, ToMountOverlay, ToMountPlain, ToMove, ToOpen, ToOpenNew, ToPivot, ToRead, ToReadPart, ToRemoveDirectory, ToRename, ToSetCredentials, ToSetDirectory, ToSetFlags, ToSetRoot, ToSetType, ToSetUmask, ToStat, ToUnmount, ToUnmountLazily, ToUnshare, ToWritePart}
 use Rattle.vt_spec.specs.Machine.Rules.Mounting.{is_below_mount, lies_under_place}
 use Rattle.vt_spec.specs.Machine.World.{Task, World, is_directory_at, mount_at, mount_numbered, node_at}
-use Rattle.vt_spec.specs.Machine.WorldLaws.{is_listed, is_located_well}
+use Rattle.vt_spec.specs.Machine.Invariants.{is_listed, is_located_well}
 
 -- what a walk of a task reaches is there, on a mount of the task's namespace or on one that is in none: path_resolution(7)
 pub record IsReached (world : World ℕ) (task : Task ℕ) (location : Location ℕ) : Type 0 where

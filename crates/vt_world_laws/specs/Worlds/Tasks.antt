@@ -9,7 +9,7 @@ use Rattle.vt_spec.specs.Machine.Run.{Serves}
 use Rattle.vt_spec.specs.Machine.Settled.{settled}
 use Rattle.vt_spec.specs.Machine.World.{Task, World, all_locations, opening, task_called}
 use Rattle.vt_spec.specs.Language.Calls.{TaskName, same_name}
-use Rattle.vt_spec.specs.Machine.WorldLaws.{IsWorld, has_regular_files_open, is_located_well, is_within_limits, stands_on_directories}
+use Rattle.vt_spec.specs.Machine.Invariants.{IsWorld, has_regular_files_open, is_located_well, is_within_limits, stands_on_directories}
 use Rattle.vt_world_laws.specs.Worlds.Kept.{IsPlain}
 use Rattle.vt_world_laws.specs.Worlds.Permits.{IsFitPermit}
 

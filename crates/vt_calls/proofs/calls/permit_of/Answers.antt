@@ -1,6 +1,6 @@
 use Rattle.std.proofs.Common.{sym}
 use Rattle.vt_request.specs.Requests.{call_of}
-use Rattle.vt_task.specs.TaskValue.{task_of}
+use Rattle.vt_tasks.specs.TaskValue.{task_of}
 use Rattle.vt_calls.proofs.Endings.{nobody}
 use Rattle.vt_calls.proofs.Judging.{denied, given}
 use Rattle.vt_calls.proofs.calls.permit_of.Goals as goal

@@ -6,7 +6,7 @@ use Rattle.vt_spec.specs.Machine.Mounts.{Location}
 use Rattle.vt_spec.specs.Machine.Rules.Conditions.{kind_at, may_not, mounter_may_not}
 use Rattle.vt_spec.specs.Machine.World.{Task}
 use Rattle.vt_spec.specs.Rights.{execute_right, read_right}
-use Rattle.vt_spec.specs.declared.attributes.Kind.TheVariants.{File, Link, White}
+use Rattle.vt_spec.specs.declared.attributes.Kind.TheVariants.{File, Symlink, White}
 use Rattle.vt_spec.specs.declared.errors.Rule.TheVariants.{B1, C1, E2, E5, E8, E9, F3}
 
 module _ {N : Type 0} where
@@ -37,4 +37,4 @@ module _ {N : Type 0} where
 
   -- readlink(2): EINVAL
   abbrev pub readlink_rules : Looks N → Location N → Rules
-  readlink_rules looks object = (not (kind_at looks object Link), E5) ∷ []
+  readlink_rules looks object = (not (kind_at looks object Symlink), E5) ∷ []

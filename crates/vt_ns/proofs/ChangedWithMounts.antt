@@ -1,0 +1,318 @@
+-- A tree is changed first, and then mounts are detached that stand on what is removed: rmdir(2), rename(2).
+use Rattle.std.proofs.Common.{◌≡◌, refl, sym, ap, subst, ◌∙◌, ℕ, nat_eq, eq-eqb, Bool, true, false, cond, not, ◌&&◌, List, [], ◌∷◌, ◌++◌, map, filter, flat_map, None, Some, unwrap_or}
+use Rattle.std.specs.Prelude.{filter_map}
+use Rattle.std.specs.List.{list_all}
+use Rattle.vt_spec.specs.Language.Calls.{TaskName}
+use Rattle.vt_spec.specs.Language.Changes.{Change}
+use Rattle.vt_spec.specs.Language.Changes as Trees
+use Rattle.vt_spec.specs.Lists.{Fresh, is_among}
+use Rattle.vt_spec.specs.Machine.Apply.{apply}
+use Rattle.vt_spec.specs.Machine.Attach.{has_too_many}
+use Rattle.vt_spec.specs.Machine.Filesystems.{filesystem_changed, with_change, with_files}
+use Rattle.vt_spec.specs.Machine.Mounts.{Location, Mount, root_of}
+use Rattle.vt_spec.specs.Machine.Permits.{Permit}
+use Rattle.vt_spec.specs.Machine.Permits.Permit.{ToChange}
+use Rattle.vt_spec.specs.Machine.SameWorlds.{SameWorlds}
+use Rattle.vt_spec.specs.Machine.Settled.{layers_in, located_in, named_in, objects_of_overlay, settled}
+use Rattle.vt_spec.specs.Machine.World.{Filesystem, World, all_locations, filesystem_at, filesystem_numbered, mount_at, replaced_if_numbered, with_filesystem}
+use Rattle.vt_spec.specs.Machine.Invariants.{IsWorld, ListsNumbers, is_within_limits}
+use Rattle.vt_spec.specs.TreeLaws.{IsTree}
+use Rattle.vt_count_laws.specs.Changing.{filesystem_of}
+use Rattle.vt_count_laws.specs.Counted.{IsPlain}
+use Rattle.vt_count_laws.specs.Sweeping.{living}
+use Rattle.vt_fs.specs.FilesystemsValue.{Filesystems, filesystem_seen, inodes_seen, no_entry}
+use Rattle.vt_permit_laws.specs.Named.{permit_named}
+use Rattle.vt_permit_laws.proofs.PermitsKeepTo.{same_keeps_to_numbers_too}
+use Rattle.vt_permit_laws.proofs.PermitsLeave.{given_permits_are_under_way, given_permits_leave_worlds}
+use Rattle.vt_permit_laws.proofs.SameInUse.{same_worlds_are_worlds}
+use Rattle.vt_letting_go.proofs.Lists.{Among, all_from_among, among-append_right, among-filter, among-filter_map, among-map, among_from_all, is_among_left, is_among_numbers, is_among_right, map_same, or_second}
+use Rattle.vt_letting_go.proofs.NamesKept.{changes_keep_names}
+use Rattle.vt_letting_go.proofs.OfWorlds.{worlds_have_trees}
+use Rattle.vt_letting_go.proofs.TreesChanged.{unnamed_go}
+use Rattle.vt_letting_go.specs.FileChanges.{MayChange, names_lost}
+use Rattle.vt_letting_go.specs.InUse.{IsListedTree, is_inode_used}
+use Rattle.vt_letting_go.specs.OneByOne.{let_go_inode, let_go_inode_of, without_inode}
+use Rattle.vt_letting_go.specs.TreeChanges.{ChangesTree}
+use Rattle.vt_mount.specs.MountsValue.{MountEntry}
+use Rattle.vt_run_laws.specs.Handed.{is_counted_before}
+use Rattle.vt_run_laws.proofs.AlikeSettled.{settled_alike}
+use Rattle.vt_run_laws.proofs.AlikeWorlds.{alike_from_same, same_from_alike, sameness_is_an_equivalence}
+use Rattle.vt_world_laws.specs.Worlds.Kept.{IsWorldButForUse}
+use Rattle.vt_world_laws.specs.Worlds.Permits.{IsFitPermit, NamesWhatIsThere}
+use Rattle.vt_world_laws.proofs.MountsKept.{mounts_kept}
+use Rattle.vt_world_laws.proofs.NamespacesKept.{namespaces_kept}
+use Rattle.vt_world_laws.proofs.PermitsNamed.{permits_keep_counting_forks, permits_keep_names}
+use Rattle.vt_world_laws.proofs.PermitsPlaced.{permits_keep_directories, permits_keep_locations, permits_keep_open_files}
+use Rattle.vt_world_laws.proofs.PermitsShow.{permits_keep_mounts_showing}
+use Rattle.vt_world_laws.proofs.SettledTasks.{settling_leaves_a_world}
+use Rattle.vt_ns.specs.Events.{Permits, supply_of}
+use Rattle.vt_ns.specs.Detached.{LeaveInTurn}
+use Rattle.vt_ns.specs.Held.{CountsItsMounts, CountsWhatIsInIt, HasOwnInodes, IsHeld}
+use Rattle.vt_ns.specs.Uses.{kept}
+use Rattle.vt_ns.specs.WorldValue.{WorldValue, world_of}
+use Rattle.vt_ns.proofs.ChangedFiles.{ChangesFiles, change_is_held, change_is_swept, with_filesystems}
+use Rattle.vt_ns.proofs.Bridging.{swept_is_counted, swept_is_same}
+use Rattle.vt_ns.proofs.DetachingBegins.{HasChildrenOf, detached_world, detaching_begins, filesystem_kept}
+use Rattle.vt_ns.proofs.DetachingEnds.{detached_counted, detached_swept, held_is_kept}
+use Rattle.vt_ns.proofs.Finishing.{own_exchanged}
+use Rattle.vt_ns.proofs.FilesSeen.{files_are_plain}
+use Rattle.vt_ns.proofs.Keeping.{IsKeptBut, detached_in}
+use Rattle.vt_ns.proofs.MountsGone.{pending_filesystem, pending_number}
+use Rattle.vt_ns.proofs.NumbersBeside.{found_by_number}
+use Rattle.vt_ns.proofs.OwnInodesKept.{IsOwn}
+use Rattle.vt_ns.proofs.Remaining.{remade}
+use Rattle.vt_ns.proofs.Staying.{IsDone, becomes_so, held_is_settled, world_is_plain}
+use Rattle.vt_ns.proofs.UnmountedLazily.{all_detached}
+
+module _ (value : WorldValue) (held : IsHeld value) (location : Location ℕ) (change : Change ℕ) (filesystems : Filesystems)
+    (made : ChangesFiles value location change filesystems) where
+  abbrev world : World ℕ
+  world = world_of value
+
+  abbrev changed_first : Fresh ℕ → World ℕ
+  changed_first fresh = with_change nat_eq fresh world location change
+
+  abbrev changed_files : Filesystem ℕ
+  changed_files = with_files (filesystem_at nat_eq world location) (Trees.changed nat_eq (filesystem_at nat_eq world location).files change)
+
+  no_overlay : (filesystem_at nat_eq world location).overlay ≡ None
+  no_overlay =
+      ap (λ (f : Filesystem ℕ). f.overlay)
+      (ap (filesystem_numbered nat_eq world) made.shows
+      ∙ found_by_number value.filesystems made.entry.count
+      ∙ ap (λ found. filesystem_seen (unwrap_or found (no_entry made.entry.count))) made.found)
+
+  pub changed_is : (fresh : Fresh ℕ) → changed_first fresh ≡ with_filesystem nat_eq world changed_files
+  changed_is fresh = ap (λ overlay. filesystem_changed nat_eq fresh world (filesystem_at nat_eq world location) overlay change) no_overlay
+
+  -- mounts that are detached and a tree that is changed are apart
+  pub changed_detached : (fresh : Fresh ℕ) (gone : List ℕ)
+      → with_change nat_eq fresh (detached_world gone world) location change ≡ detached_world gone (changed_first fresh)
+  changed_detached fresh gone =
+      ap (λ n. filesystem_changed nat_eq fresh (detached_world gone world) (filesystem_numbered nat_eq world n) (filesystem_numbered nat_eq world n).overlay change)
+      (filesystem_kept (detached_in gone) (pending_number gone) (pending_filesystem gone) world.mounts location.mount)
+      ∙ ap (λ overlay. filesystem_changed nat_eq fresh (detached_world gone world) (filesystem_at nat_eq world location) overlay change) no_overlay
+      ∙ ap (detached_world gone) (sym (changed_is fresh))
+
+  module _ (name : TaskName) (permit : Permit ℕ) (permits : Permits value name permit) (gone : List ℕ)
+      (names : NamesWhatIsThere world permits.task (ToChange location change))
+      (named : permit_named (is_counted_before value.next) (ToChange location change) ≡ true)
+      (is_named : permit_named (is_counted_before value.next) permit ≡ true)
+      (applied : (supply : Fresh ℕ) → (apply nat_eq supply world permits.task permit).world ≡ with_change nat_eq supply (detached_world gone world) location change) where
+    abbrev fresh : Fresh ℕ
+    fresh = supply_of value permit
+
+    -- what the permit leaves before the sweep, whatever numbers are handed in
+    leaves : (supply : Fresh ℕ) → (apply nat_eq supply world permits.task permit).world ≡ detached_world gone (changed_first fresh)
+    leaves supply =
+        applied supply ∙ changed_detached supply gone
+        ∙ ap (detached_world gone) (changed_is supply ∙ sym (changed_is fresh))
+
+    last_under_way : IsWorldButForUse (detached_world gone (changed_first fresh))
+    last_under_way =
+        subst IsWorldButForUse (leaves fresh)
+        (given_permits_are_under_way world fresh permits.task permit held.in_world (files_are_plain value.filesystems) permits.given)
+
+    fit : IsFitPermit fresh world permits.task (ToChange location change)
+    fit = record {
+      names = names;
+      few_mounts = subst (λ (w : World ℕ). has_too_many nat_eq w ≡ false) (sym (changed_is fresh)) held.in_world.namespaces.few_mounts;
+    }
+
+    first_under_way : IsWorldButForUse (changed_first fresh)
+    first_under_way =
+        let is = held.in_world in
+        let plain = files_are_plain value.filesystems in
+        let serves = permits.given.serves in
+        let found = permits.given.called in
+        let task = permits.task in
+        let last = last_under_way in
+        record {
+          plain = last.plain;
+          files = record {
+            trees = last.files.trees;
+            own_parents = last.files.own_parents;
+            numbers = last.files.numbers;
+            one_filesystem = last.files.one_filesystem;
+            fit_filesystems = last.files.fit_filesystems;
+          };
+          mounts = mounts_kept world fresh task (ToChange location change) is plain serves found fit;
+          namespaces = namespaces_kept world fresh task (ToChange location change) is plain serves found fit;
+          tasks = record {
+            one_task = permits_keep_names world fresh task (ToChange location change) is plain serves found fit;
+            small_tasks = subst (λ (w : World ℕ). list_all is_within_limits w.tasks ≡ true) (sym (changed_is fresh)) is.tasks.small_tasks;
+            forks_counted = permits_keep_counting_forks world fresh task (ToChange location change) is plain serves found fit;
+            locations_live = permits_keep_locations world fresh task (ToChange location change) is plain serves found fit;
+            directories = permits_keep_directories world fresh task (ToChange location change) is plain serves found fit;
+            open_files = permits_keep_open_files world fresh task (ToChange location change) is plain serves found fit;
+          };
+          roots = permits_keep_mounts_showing world fresh task (ToChange location change) is plain serves found fit;
+        }
+
+    -- the world with the tree changed has its invariants, and counts what is in it
+    pub changed_first_is_held : IsHeld (with_filesystems value filesystems)
+    changed_first_is_held =
+        let left = settling_leaves_a_world (changed_first fresh) first_under_way in
+        change_is_held value held location change filesystems made
+        (same_worlds_are_worlds (settled nat_eq (changed_first fresh)) (world_of (with_filesystems value filesystems))
+        (change_is_swept value held location change filesystems made fresh) left.1 left.0).0
+        (same_keeps_to_numbers_too (is_counted_before value.next) (λ k. 0) world permits.task (ToChange location change)
+        (world_of (with_filesystems value filesystems)) permits.given.called held.given (λ k. refl) named
+        (change_is_swept value held location change filesystems made (λ k. 0)) (files_are_plain filesystems))
+
+    abbrev number : ℕ
+    number = filesystem_of world location
+
+    filesystem_is : filesystem_at nat_eq world location ≡ filesystem_seen made.entry
+    filesystem_is =
+        ap (filesystem_numbered nat_eq world) made.shows
+        ∙ found_by_number value.filesystems made.entry.count
+        ∙ ap (λ found. filesystem_seen (unwrap_or found (no_entry made.entry.count))) made.found
+
+    seen_among : Among (filesystem_at nat_eq world location) world.filesystems
+    seen_among =
+        subst (λ f. Among f world.filesystems) (sym filesystem_is) (among-map filesystem_seen value.filesystems made.entry made.among)
+
+    abbrev changed_plainly : World ℕ
+    changed_plainly = with_filesystem nat_eq world changed_files
+
+    changed_among : Among changed_files changed_plainly.filesystems
+    changed_among =
+        subst (λ f. Among f changed_plainly.filesystems)
+        (ap (λ b. cond b changed_files (filesystem_at nat_eq world location)) (eq-eqb changed_files.number (filesystem_at nat_eq world location).number refl))
+        (among-map (replaced_if_numbered nat_eq changed_files) world.filesystems (filesystem_at nat_eq world location) seen_among)
+
+    listed_after : IsListedTree changed_files.files
+    listed_after =
+        let files = subst IsWorldButForUse (changed_is fresh) first_under_way in
+        record {
+          tree = among_from_all (λ (f : Filesystem ℕ). IsTree f.files.tree) changed_plainly.filesystems files.files.trees changed_files changed_among;
+          numbers = among_from_all (λ (f : Filesystem ℕ). ListsNumbers nat_eq f.files) changed_plainly.filesystems files.files.numbers changed_files changed_among;
+        }
+
+    -- Where the one object that loses its name is a mount point, nothing goes by the change alone.
+    module _ (object : ℕ) (lost_is : names_lost (filesystem_at nat_eq world location).files change ≡ object ∷ [])
+        (may : MayChange (filesystem_at nat_eq world location).files change)
+        (mount : Mount ℕ) (among : Among mount world.mounts) (place : Location ℕ) (placed : mount.mount_point ≡ Some place)
+        (at : place.node ≡ object) (shows : filesystem_of world place ≡ number) where
+      changes_tree : ChangesTree (filesystem_at nat_eq world location).files changed_files.files (object ∷ [])
+      changes_tree =
+          subst (ChangesTree (filesystem_at nat_eq world location).files changed_files.files) lost_is
+          (changes_keep_names (filesystem_at nat_eq world location).files change
+          (among_from_all (λ (f : Filesystem ℕ). IsListedTree f.files) world.filesystems (worlds_have_trees world held.in_world) (filesystem_at nat_eq world location) seen_among)
+          listed_after may)
+
+      there : is_among nat_eq number (map (λ (f : Filesystem ℕ). f.number) world.filesystems) ≡ true
+      there =
+          is_among_numbers number (map (λ (f : Filesystem ℕ). f.number) world.filesystems)
+          (subst (λ n. Among n (map (λ (f : Filesystem ℕ). f.number) world.filesystems)) (sym made.shows)
+          (among-map (λ (f : Filesystem ℕ). f.number) world.filesystems (filesystem_seen made.entry)
+          (among-map filesystem_seen value.filesystems made.entry made.among)))
+
+      located : (f : Filesystem ℕ) → nat_eq f.number number ≡ true → is_among nat_eq object (located_in nat_eq changed_plainly f.number) ≡ true
+      located f same =
+          is_among_numbers object (located_in nat_eq changed_plainly f.number)
+          (subst (λ n. Among n (located_in nat_eq changed_plainly f.number)) at
+          (among-map (λ (one : Location ℕ). one.node)
+          (filter (λ (one : Location ℕ). nat_eq f.number (mount_at nat_eq world one).filesystem)
+          (all_locations world ++ map root_of world.mounts ++ filter_map (λ (x : Mount ℕ). x.mount_point) world.mounts)) place
+          (among-filter (λ (one : Location ℕ). nat_eq f.number (mount_at nat_eq world one).filesystem)
+          (all_locations world ++ map root_of world.mounts ++ filter_map (λ (x : Mount ℕ). x.mount_point) world.mounts) place
+          (among-append_right (all_locations world ++ map root_of world.mounts) (filter_map (λ (x : Mount ℕ). x.mount_point) world.mounts) place
+          (among-filter_map (λ (x : Mount ℕ). x.mount_point) world.mounts mount place among placed))
+          (ap (nat_eq f.number) shows ∙ same))))
+
+      used : (f : Filesystem ℕ) → nat_eq f.number number ≡ true → is_inode_used changed_plainly f object ≡ true
+      used f same =
+          or_second (nat_eq object f.files.tree.root) _
+          (is_among_left object ((named_in f.files ++ located_in nat_eq changed_plainly f.number) ++ layers_in nat_eq changed_plainly f.number)
+          (flat_map (objects_of_overlay nat_eq f.number) changed_plainly.filesystems)
+          (is_among_left object (named_in f.files ++ located_in nat_eq changed_plainly f.number) (layers_in nat_eq changed_plainly f.number)
+          (is_among_right object (named_in f.files) (located_in nat_eq changed_plainly f.number) (located f same))))
+
+      object_stays : let_go_inode changed_plainly (number, object) ≡ changed_plainly
+      object_stays =
+          ap (λ all. record changed_plainly { filesystems = all })
+          (map_same (let_go_inode_of changed_plainly (number, object)) changed_plainly.filesystems (λ f m. by f (nat_eq f.number number) refl))
+        where
+          by : (f : Filesystem ℕ) (b : Bool) → nat_eq f.number number ≡ b
+              → cond (b && not (is_inode_used changed_plainly f object)) (record f { files = without_inode object f.files }) f ≡ f
+          by f true e = ap (λ c. cond (not c) (record f { files = without_inode object f.files }) f) (used f e)
+          by f false e = refl
+
+      pub nothing_goes : settled nat_eq (changed_first fresh) ≡ changed_first fresh
+      nothing_goes =
+          subst (λ w. settled nat_eq w ≡ w) (sym (changed_is fresh))
+          (unnamed_go world number changed_files.files (object ∷ []) (held_is_settled value held.in_world) there changes_tree ∙ object_stays)
+
+    -- Where nothing goes by the change alone, the mounts are detached in the world with the tree changed.
+    module _ (still : settled nat_eq (changed_first fresh) ≡ changed_first fresh) (closed : HasChildrenOf gone world.mounts) where
+      abbrev value_changed : WorldValue
+      value_changed = with_filesystems value filesystems
+
+      abbrev after : World ℕ
+      after = detached_world gone (world_of value_changed)
+
+      abbrev last : World ℕ
+      last = detached_world gone (changed_first fresh)
+
+      same_first : SameWorlds (changed_first fresh) (world_of value_changed)
+      same_first = subst (λ w. SameWorlds w (world_of value_changed)) still (change_is_swept value held location change filesystems made fresh)
+
+      same_left : SameWorlds (settled nat_eq last) (settled nat_eq after)
+      same_left =
+          let alike = alike_from_same (changed_first fresh) (world_of value_changed) same_first first_under_way.plain in
+          same_from_alike (settled nat_eq last) (settled nat_eq after) (settled_alike last after (record {
+            mounts = ap (map (detached_in gone)) alike.mounts;
+            master = alike.master;
+            filesystems = alike.filesystems;
+            namespaces = alike.namespaces;
+            tasks = alike.tasks;
+          }))
+
+      left_world : IsWorld nat_eq (settled nat_eq last) × IsPlain (settled nat_eq last)
+      left_world =
+          subst (λ w. IsWorld nat_eq (settled nat_eq w) × IsPlain (settled nat_eq w)) (leaves fresh)
+          (given_permits_leave_worlds world fresh permits.task permit held.in_world (files_are_plain value.filesystems) permits.given)
+
+      after_world : IsWorld nat_eq (settled nat_eq after) × IsPlain (settled nat_eq after)
+      after_world = same_worlds_are_worlds (settled nat_eq last) (settled nat_eq after) same_left left_world.1 left_world.0
+
+      pub changed_then_detached : (mounts : List MountEntry) (others : Filesystems)
+          → LeaveInTurn gone (kept value.mounts filesystems) (kept mounts others) → IsDone value name permit (remade value mounts others value.tasks)
+      changed_then_detached mounts others turn =
+          let new = remade value mounts others value.tasks in
+          let held_first = changed_first_is_held in
+          let detaching = all_detached value_changed [] (living after) gone (kept value.mounts filesystems) (kept mounts others)
+          (detaching_begins value_changed [] [] (world_of value_changed) (kept value.mounts filesystems) (held_is_kept value_changed held_first) gone closed) turn in
+          let lost = detaching.lost in
+          let kept_last = subst (λ one. IsKeptBut value_changed [] [] [] lost one (kept mounts others)) detaching.ends detaching.is in
+          let swept = detached_swept value_changed after [] lost new kept_last refl (world_is_plain value_changed) (λ group. refl) after_world.1 refl refl in
+          let same = sameness_is_an_equivalence.onward (settled nat_eq last) (settled nat_eq after) (world_of new) same_left
+          (swept_is_same value_changed held_first after [] lost new swept after_world.0) in
+          let is = (same_worlds_are_worlds (settled nat_eq last) (world_of new) same left_world.1 left_world.0).0 in
+          let counts = detached_counted value_changed after [] lost new kept_last refl
+          (all_from_among (CountsWhatIsInIt (world_of new)) value.namespaces (λ entry m.
+          let was = among_from_all (CountsWhatIsInIt (world_of value)) value.namespaces held.namespaces entry m in record { tasks = was.tasks })) in
+          record {
+            held = record {
+              in_world = is;
+              ungrouped = counts.ungrouped;
+              given = same_keeps_to_numbers_too (is_counted_before value.next) (λ k. 0) world permits.task permit (world_of new)
+                  permits.given.called held.given (λ k. refl) is_named
+                  (subst (λ w. SameWorlds (settled nat_eq w) (world_of new)) (sym (leaves (λ k. 0))) same) (files_are_plain others);
+              mounts = counts.uses;
+              filesystems = all_from_among (CountsItsMounts (world_of new)) others (λ entry m. record {
+                mounts = counts.mounts entry m;
+                inodes = swept_is_counted value_changed held_first after [] lost new swept after_world.0 entry m is;
+              });
+              own_inodes = all_from_among HasOwnInodes others (λ entry m. let from = swept.entries entry m in
+                  subst (λ count. IsOwn count (inodes_seen entry)) (sym from.count)
+                  (subst (IsOwn from.was.count) (sym from.inodes)
+                  (own_exchanged from.was.count [] lost (inodes_seen from.was)
+                  (among_from_all HasOwnInodes filesystems held_first.own_inodes from.was from.among))));
+              namespaces = counts.namespaces;
+            };
+            becomes = becomes_so value name permit new permits.task permits.called
+                (subst (λ w. SameWorlds (settled nat_eq w) (world_of new)) (sym (leaves fresh)) same);
+          }

@@ -1,0 +1,117 @@
+-- Room for further uses, and the counts of tasks beside namespaces.
+use Rattle.std.proofs.Common.{◌≡◌, ◌≤◌, refl, sym, ap, subst, ◌∙◌, ℕ, ◌+◌, Bool, true, false, cond, nat_eq, eqb-true, List, [], ◌∷◌, find, Option, Some, None, option_map, unwrap_or, arith}
+use Rattle.std.specs.List.{IsDistinct}
+use Rattle.std.specs.Map.{keys_of, lookup, set_value}
+use Rattle.vt_count_laws.specs.Using.{pinned_if}
+use Rattle.vt_fs.specs.FilesystemsValue.{Filesystems, inodes_at, inodes_seen, no_entry, shown, shown_entry}
+use Rattle.vt_letting_go.specs.OneByOne.{Inode}
+use Rattle.vt_location.specs.declared.locations.Location.{Location}
+use Rattle.vt_location.specs.Locations.{number_of}
+use Rattle.vt_location.specs.Numbers.{counted}
+use Rattle.vt_mount.specs.MountsValue.{MountEntry, changed, entry_numbered, held, uses_of, writers_of}
+use Rattle.vt_spec.specs.OneTree.Inodes as Trees
+use Rattle.vt_spec.specs.OneTree.Inodes.{Inodes, pinned, used_once_more, uses_in}
+use Rattle.vt_ns.specs.declared.namespaces.Namespace.{Namespace}
+use Rattle.vt_ns.specs.Forking.{HasRoom, more_tasks, with_task_more}
+use Rattle.vt_ns.specs.Uses.{kept, pinned_in, with_location}
+use Rattle.vt_ns.specs.WorldValue.{entries_of}
+use Rattle.vt_ns.proofs.NamespaceEntries.{Entries, entries_written, is_id, none_written, same_namespace}
+
+-- Uses
+
+-- with one use more somewhere no mount has more than one use more
+uses_grow : (m n : ℕ) (entries : List MountEntry)
+    → (uses_of (changed m (held false) entries) n ≤ uses_of entries n + 1) × (writers_of (changed m (held false) entries) n ≡ writers_of entries n)
+uses_grow m n [] = (omega arith, refl)
+uses_grow m n (entry ∷ entries) = by (nat_eq m entry.mount.number) (uses_grow m n entries)
+  where
+    later : List MountEntry
+    later = changed m (held false) entries
+
+    at : (one was : MountEntry) → one.mount ≡ was.mount → one.uses ≤ was.uses + 1 → one.writers ≡ was.writers
+        → (uses_of later n ≤ uses_of entries n + 1) × (writers_of later n ≡ writers_of entries n)
+        → (uses_of (one ∷ later) n ≤ uses_of (was ∷ entries) n + 1) × (writers_of (one ∷ later) n ≡ writers_of (was ∷ entries) n)
+    at one was mount uses writers rest =
+        subst (λ (x : ℕ).
+        (unwrap_or (option_map (λ (e : MountEntry). e.uses) (cond (nat_eq n x) (Some one) (entry_numbered later n))) 0 ≤ uses_of (was ∷ entries) n + 1)
+        × (unwrap_or (option_map (λ (e : MountEntry). e.writers) (cond (nat_eq n x) (Some one) (entry_numbered later n))) 0 ≡ writers_of (was ∷ entries) n))
+        (ap (λ x. x.number) (sym mount)) (found (nat_eq n was.mount.number))
+      where
+        found : (b : Bool)
+            → (unwrap_or (option_map (λ (e : MountEntry). e.uses) (cond b (Some one) (entry_numbered later n))) 0
+            ≤ unwrap_or (option_map (λ (e : MountEntry). e.uses) (cond b (Some was) (entry_numbered entries n))) 0 + 1)
+            × (unwrap_or (option_map (λ (e : MountEntry). e.writers) (cond b (Some one) (entry_numbered later n))) 0
+            ≡ unwrap_or (option_map (λ (e : MountEntry). e.writers) (cond b (Some was) (entry_numbered entries n))) 0)
+        found true = (uses, writers)
+        found false = rest
+
+    by : (b : Bool) → (uses_of later n ≤ uses_of entries n + 1) × (writers_of later n ≡ writers_of entries n)
+        → (uses_of (cond b (held false entry) entry ∷ later) n ≤ uses_of (entry ∷ entries) n + 1)
+        × (writers_of (cond b (held false entry) entry ∷ later) n ≡ writers_of (entry ∷ entries) n)
+    by true rest = at (held false entry) entry refl (omega arith) (omega arith) rest
+    by false rest = at entry entry refl (omega arith) refl rest
+
+-- nor has an inode
+pins_grow : (filesystem : ℕ) (inodes : Inodes ℕ) (inode : Inode) (number : ℕ)
+    → uses_in ((pinned_if filesystem inodes inode).inode number) ≤ uses_in (inodes.inode number) + 1
+pins_grow filesystem inodes inode number = by (nat_eq filesystem inode.0)
+  where
+    more : (o : Option (Trees.Inode ℕ)) → uses_in (used_once_more o) ≤ uses_in o + 1
+    more None = omega arith
+    more (Some one) = omega arith
+
+    at : (b : Bool) → nat_eq number inode.1 ≡ b
+        → uses_in (cond b (used_once_more (inodes.inode inode.1)) (inodes.inode number)) ≤ uses_in (inodes.inode number) + 1
+    at true e = subst (λ k. uses_in (used_once_more (inodes.inode k)) ≤ uses_in (inodes.inode number) + 1) (eqb-true number inode.1 e) (more (inodes.inode number))
+    at false e = omega arith
+
+    by : (b : Bool) → uses_in ((cond b (pinned nat_eq inodes inode.1) inodes).inode number) ≤ uses_in (inodes.inode number) + 1
+    by true = at (nat_eq number inode.1) refl
+    by false = omega arith
+
+inodes_grow : (inode : Inode) (count number : ℕ) (old new : Filesystems) → shown new ≡ pinned_in inode (shown old)
+    → uses_in ((inodes_at new count).inode number) ≤ uses_in ((inodes_at old count).inode number) + 1
+inodes_grow inode count number [] [] is = omega arith
+inodes_grow inode count number [] (new ∷ news) is = absurd cc
+inodes_grow inode count number (old ∷ olds) [] is = absurd cc
+inodes_grow inode count number (old ∷ olds) (new ∷ news) is =
+    let head : shown_entry new ≡ record (shown_entry old) { inodes = pinned_if (counted old.count) (inodes_seen old) inode } = cc in
+    let tail : shown news ≡ pinned_in inode (shown olds) = cc in
+    subst (λ k. uses_in ((inodes_seen (unwrap_or (cond (nat_eq count k) (Some new) (find (λ e. nat_eq count e.count) news)) (no_entry count))).inode number)
+    ≤ uses_in ((inodes_at (old ∷ olds) count).inode number) + 1)
+    (ap (λ one. one.count) (sym head))
+    (by (nat_eq count old.count) (ap (λ one. one.inodes) head) (inodes_grow inode count number olds news tail))
+  where
+    by : (b : Bool) → inodes_seen new ≡ pinned_if (counted old.count) (inodes_seen old) inode
+        → uses_in ((inodes_at news count).inode number) ≤ uses_in ((inodes_at olds count).inode number) + 1
+        → uses_in ((inodes_seen (unwrap_or (cond b (Some new) (find (λ e. nat_eq count e.count) news)) (no_entry count))).inode number)
+        ≤ uses_in ((inodes_seen (unwrap_or (cond b (Some old) (find (λ e. nat_eq count e.count) olds)) (no_entry count))).inode number) + 1
+    by true here later =
+        subst (λ (inodes : Inodes ℕ). uses_in (inodes.inode number) ≤ uses_in ((inodes_seen old).inode number) + 1) (sym here)
+        (pins_grow (counted old.count) (inodes_seen old) inode number)
+    by false here later = later
+
+-- where there was room for two uses there is room for one after one
+pub room_left : (other at : Location) (mounts news : List MountEntry) (filesystems new_filesystems : Filesystems)
+    → HasRoom 2 at mounts filesystems → kept news new_filesystems ≡ with_location other false (kept mounts filesystems)
+    → HasRoom 1 at news new_filesystems
+room_left other at mounts news filesystems new_filesystems room is =
+    let grown = uses_grow (counted other.mount.count) (counted at.mount.count) mounts in
+    let inode = inodes_grow (counted other.node.filesystem.count, number_of other.node) at.node.filesystem.count (number_of at.node) filesystems new_filesystems
+    (ap (λ k. k.filesystems) is) in
+    subst (λ all. HasRoom 1 at all new_filesystems) (sym (ap (λ k. k.mounts) is)) (record {
+      uses = (let most = room.uses in let more = grown.0 in omega (arith, most, more));
+      writers = (let most = room.writers in let more = grown.1 in omega (arith, most, more));
+      inode = (let most = room.inode in omega (arith, most, inode));
+    })
+
+-- Tasks of namespaces
+
+pub nothing_counted : (count : ℕ) (es : Entries) → lookup (is_id count) es ≡ None → entries_of es ≡ with_task_more count (entries_of es)
+nothing_counted count es absent = sym (none_written count more_tasks es absent)
+
+pub task_counted : (count : ℕ) (es new : Entries) (was now : Namespace) → IsDistinct same_namespace (keys_of es)
+    → lookup (is_id count) es ≡ Some was → new ≡ set_value (is_id count) es now → now.tasks ≡ was.tasks + 1
+    → entries_of new ≡ with_task_more count (entries_of es)
+task_counted count es new was now apart found is more =
+    ap entries_of is ∙ entries_written count more_tasks es was now apart found (λ id i. record { count = id.count; tasks = more i })

@@ -1,0 +1,135 @@
+-- The event that removes a directory, with the mounts on it: rmdir(2).
+use Rattle.std.proofs.Common.{◌≡◌, ◌≢◌, refl, sym, ap, subst, ◌∙◌, ℕ, nat_eq, true, ◌&&◌, List, [], map, filter, flat_map}
+use Rattle.std.specs.Prelude.{Ok, Result, option_to_list}
+use Rattle.vt_spec.specs.declared.errors.Deny.{Deny}
+use Rattle.vt_spec.specs.Language.Calls.{TaskName}
+use Rattle.vt_spec.specs.Language.Changes.{Change}
+use Rattle.vt_spec.specs.Language.Changes.Change.{Remove}
+use Rattle.vt_spec.specs.Lists.{Fresh}
+use Rattle.vt_spec.specs.Machine.Apply.{apply}
+use Rattle.vt_spec.specs.Machine.Filesystems.{with_change}
+use Rattle.vt_spec.specs.Machine.Mounts.{Mount}
+use Rattle.vt_spec.specs.Machine.Permits.{Permit}
+use Rattle.vt_spec.specs.Machine.Permits.Permit.{ToChange, ToRemoveDirectory}
+use Rattle.vt_spec.specs.Machine.World.{World, mount_numbered}
+use Rattle.vt_spec.specs.OneTree.Fits.{Fits}
+use Rattle.vt_spec.specs.OneTree.Inodes.{Inodes, changed, tree_of}
+use Rattle.vt_fs.specs.FilesystemsValue.{ChangesInodes, Filesystems, inodes_at, inodes_seen}
+use Rattle.vt_location.specs.declared.locations.Location.{Location}
+use Rattle.vt_location.specs.Locations.{location_of, number_of}
+use Rattle.vt_mount.specs.MountsValue.{MountEntry, mounts_in, stands_over}
+use Rattle.vt_permit_laws.specs.Named.{permit_named}
+use Rattle.vt_permit_laws.specs.Sees.{SeesTo}
+use Rattle.vt_permit_laws.proofs.SeesFit.{given_changes_fit}
+use Rattle.vt_permit_laws.proofs.SeesTasks.{given_permits_are_seen_to}
+use Rattle.vt_run_laws.specs.Handed.{is_counted_before}
+use Rattle.vt_world_laws.specs.Worlds.Permits.{NamesWhatIsThere}
+use Rattle.vt_ns.specs.Detached.{LeaveInTurn, tree_numbers}
+use Rattle.vt_ns.specs.Events.{Permits, supply_of}
+use Rattle.vt_ns.specs.Held.{IsHeld}
+use Rattle.vt_ns.specs.Uses.{kept}
+use Rattle.vt_ns.specs.WorldValue.{WorldValue, world_of}
+use Rattle.vt_ns.proofs.ChangedFiles.{ChangesFiles, with_filesystems}
+use Rattle.vt_ns.proofs.ChangedWithMounts.{changed_then_detached, nothing_goes}
+use Rattle.vt_ns.proofs.DetachingBegins.{HasChildrenOf, detached_world}
+use Rattle.vt_ns.proofs.DetachingEnds.{held_is_kept, taken_is_detached}
+use Rattle.vt_ns.proofs.FileAnswers.{IsAnswered, unlink_passes}
+use Rattle.vt_ns.proofs.FileEvents.{IsSmall, permit_fits}
+use Rattle.vt_ns.proofs.FileRemoving.{removal_is_answered}
+use Rattle.vt_ns.proofs.FilesSeen.{IsLocated, files_are_plain, inodes_named, located, located_filesystem, located_inodes}
+use Rattle.vt_ns.proofs.LazilyUnmounted.{trees_have_children, trees_numbers}
+use Rattle.vt_ns.proofs.MountsOn.{none_on, one_on, tops_on, trees_collected}
+use Rattle.vt_ns.proofs.Remaining.{remade}
+use Rattle.vt_ns.proofs.Staying.{IsDone}
+
+abbrev pub no_refusal : Result (Unit {0}) Deny
+no_refusal = Ok tt
+
+module _ (value : WorldValue) (held : IsHeld value) (name : TaskName) (parent : Location) (entry : List ℕ) (directory : Location)
+    (small : IsSmall parent) (small_directory : IsSmall directory)
+    (permits : Permits value name (ToRemoveDirectory (location_of parent) entry (location_of directory))) where
+  abbrev world : World ℕ
+  world = world_of value
+
+  abbrev permit : Permit ℕ
+  permit = ToRemoveDirectory (location_of parent) entry (location_of directory)
+
+  abbrev change : Change ℕ
+  change = Remove (number_of parent.node) entry (number_of directory.node)
+
+  abbrev tops : List (Mount ℕ)
+  tops = tops_on value directory
+
+  abbrev gone : List ℕ
+  gone = trees_numbers world tops
+
+  names : NamesWhatIsThere world permits.task permit
+  names = (permit_fits value held name permit permits).names
+
+  seen : IsLocated value parent
+  seen = located value held parent small names.0.reached.there
+
+  directory_seen : IsLocated value directory
+  directory_seen = located value held directory small_directory names.1.reached.there
+
+  sees : SeesTo world permits.task permit
+  sees = given_permits_are_seen_to world (supply_of value permit) permits.task permit held.in_world (files_are_plain value.filesystems) permits.given
+
+  -- what is collected are the mounts on the directory, with their descendants
+  pub collected_are : (numbers : List ℕ)
+      → numbers ≡ flat_map (tree_numbers (mounts_in value.mounts))
+      (map (λ (mount : Mount ℕ). mount.number) (filter (stands_over (number_of directory.node)) (mounts_in value.mounts)))
+      → numbers ≡ gone
+  collected_are numbers is = is ∙ trees_collected value held directory small_directory names.1.reached.there
+
+  closed : HasChildrenOf gone world.mounts
+  closed = trees_have_children world held.in_world.mounts tops
+
+  applied : (supply : Fresh ℕ) → (apply nat_eq supply world permits.task permit).world ≡ with_change nat_eq supply (detached_world gone world) (location_of parent) change
+  applied supply =
+      ap (λ w. with_change nat_eq supply w (location_of parent) change) (taken_is_detached world gone (held_is_kept value held).ungrouped closed)
+
+  fits : (inodes : Inodes ℕ) → inodes ≡ inodes_seen seen.entry → Fits inodes change
+  fits inodes same =
+      given_changes_fit world (supply_of value permit) permits.task permit (location_of parent)
+      change inodes held.in_world (files_are_plain value.filesystems) permits.given refl
+      (ap tree_of same ∙ ap (λ filesystem. filesystem.files.tree) (sym (located_filesystem value parent seen)))
+
+  pub unlink_fits : Fits (inodes_at value.filesystems parent.node.filesystem.count) change
+  unlink_fits = fits (inodes_at value.filesystems parent.node.filesystem.count) (located_inodes value parent seen)
+
+  -- where no mount stands on it
+  pub alone_is_removed : gone ≡ [] → (filesystems : Filesystems)
+      → ChangesInodes parent.node.filesystem.count (λ inodes. changed nat_eq inodes change) value.filesystems filesystems
+      → IsAnswered value name permit (with_filesystems value filesystems) no_refusal
+  alone_is_removed none filesystems changes =
+      removal_is_answered value held name parent entry directory small small_directory permits (none_on world tops none) filesystems no_refusal changes
+      (sym (unlink_passes (inodes_at value.filesystems parent.node.filesystem.count) (number_of parent.node) entry (number_of directory.node) unlink_fits)) tt
+
+  pub directory_is_removed : (filesystems others : Filesystems) (mounts : List MountEntry) → gone ≢ []
+      → ChangesInodes parent.node.filesystem.count (λ inodes. changed nat_eq inodes change) value.filesystems filesystems
+      → LeaveInTurn gone (kept value.mounts filesystems) (kept mounts others)
+      → IsDone value name permit (remade value mounts others value.tasks)
+  directory_is_removed filesystems others mounts some changes turn =
+      let made : ChangesFiles value (location_of parent) change filesystems = record {
+        entry = seen.entry;
+        among = seen.among;
+        found = seen.found;
+        shows = seen.shows;
+        fits = fits (inodes_seen seen.entry) refl;
+        links = tt;
+        changes =
+            subst (λ count. ChangesInodes count (λ inodes. changed nat_eq inodes change) value.filesystems filesystems) (sym seen.count_is) changes;
+        own = λ number other. tt;
+      } in
+      let reached : NamesWhatIsThere world permits.task (ToChange (location_of parent) change) = (names.0.reached, tt) in
+      let named : permit_named (is_counted_before value.next) (ToChange (location_of parent) change) ≡ true =
+      (λ i. seen.named i && (inodes_named value.next parent.node.filesystem.count parent.node.slot i
+      && inodes_named value.next directory.node.filesystem.count directory.node.slot i)) in
+      let is_named : permit_named (is_counted_before value.next) permit ≡ true = (λ i. seen.named i && directory_seen.named i) in
+      let on = one_on value held directory small_directory (λ none. some (ap (trees_numbers world) none)) in
+      changed_then_detached value held (location_of parent) change filesystems made name permit permits gone reached named is_named applied
+      (nothing_goes value held (location_of parent) change filesystems made name permit permits gone reached named is_named applied
+      (number_of directory.node) (ap option_to_list sees.1.named) tt on.mount on.among on.place on.placed on.at_inode
+      (on.shows ∙ ap (λ n. (mount_numbered nat_eq world n).filesystem) sees.0))
+      closed mounts others turn

@@ -1,0 +1,154 @@
+-- The event that makes an inode: mkdir(2), symlink(2), mknod(2).
+use Rattle.std.proofs.Common.{◌≡◌, refl, sym, ap, subst, ◌∙◌, ⊎_elim, inl, inr, true≢false, ℕ, ◌<◌, ◌/◌, ◌&&◌, Bool, true, false, nat_eq, List, [], ◌∷◌, map, arith}
+use Rattle.std.specs.Prelude.{Err, Ok, is_ok, ◌⊎◌}
+use Rattle.vt_spec.specs.declared.errors.Deny.{Deny}
+use Rattle.vt_spec.specs.declared.errors.Rule.TheVariants.{S5}
+use Rattle.vt_spec.specs.Errors.{Rules, denial}
+use Rattle.vt_spec.specs.Language.Calls.{TaskName}
+use Rattle.vt_spec.specs.Language.Changes.{Change}
+use Rattle.vt_spec.specs.Language.Changes.Change.{Make}
+use Rattle.vt_spec.specs.Laws.Trees.{IsNewIn}
+use Rattle.vt_spec.specs.Lists.{odds}
+use Rattle.vt_spec.specs.Machine.Filesystems.{with_change}
+use Rattle.vt_spec.specs.Machine.Permits.{Permit}
+use Rattle.vt_spec.specs.Machine.Permits.Permit.{ToMake}
+use Rattle.vt_spec.specs.Machine.Renaming.{renamed_entry}
+use Rattle.vt_spec.specs.OneTree.Fits.{Fits}
+use Rattle.vt_spec.specs.OneTree.Inodes.{Inodes, changed, tree_of}
+use Rattle.vt_spec.specs.Rights.{is_directory}
+use Rattle.vt_spec.specs.Tree.{Content, Entries, Node, kind_of}
+use Rattle.vt_spec.specs.Tree.Content.{Directory, Regular, Symlink, Whiteout}
+use Rattle.vt_fs.specs.FilesystemsValue.{ChangesInodes, Filesystems, entry_at, inodes_at, inodes_seen, next_seen, node_seen}
+use Rattle.vt_laws.specs.Numbers.{content_named}
+use Rattle.vt_location.specs.declared.locations.Location.{Location}
+use Rattle.vt_location.specs.declared.locations.NodeRef.{NodeRef}
+use Rattle.vt_location.specs.Locations.{location_of, number_of}
+use Rattle.vt_location.specs.Numbers.{counted, exchanged, inode_number, is_inode_of}
+use Rattle.vt_location.proofs.NumberLemmas.{exchanged_same, exchanged_slot, is_inode}
+use Rattle.vt_permit_laws.specs.Sees.{MayBeMade}
+use Rattle.vt_permit_laws.proofs.SeesFit.{given_changes_fit}
+use Rattle.vt_permit_laws.proofs.SeesTasks.{given_permits_are_seen_to}
+use Rattle.vt_run_laws.specs.Handed.{is_counted_before}
+use Rattle.vt_tree.specs.TreeRules.{make_rules, ruling}
+use Rattle.vt_ns.specs.Events.{Permits, next_inode, supply_of}
+use Rattle.vt_ns.specs.Held.{IsHeld}
+use Rattle.vt_ns.specs.WorldValue.{WorldValue, world_of}
+use Rattle.vt_ns.proofs.ChangedFiles.{IsFilesEvent, files_are_changed, with_filesystems}
+use Rattle.vt_ns.proofs.FileAnswers.{make_passes}
+use Rattle.vt_ns.proofs.FileEvents.{IsSmall, permit_fits}
+use Rattle.vt_ns.proofs.FilesSeen.{IsLocated, files_are_plain, inodes_named, located, located_filesystem, located_inodes}
+
+-- a new node, in the slots of its filesystem
+pub new_in_slot : (count slot : ℕ) → slot < 18446744073709551616 → (node : Node ℕ)
+    → IsNewIn (inode_number count slot) (node_seen count node) → IsNewIn slot node
+new_in_slot count slot small node fits = by node.content fits
+  where
+    no_entries : (entries : Entries ℕ) → map (renamed_entry (exchanged count) (exchanged count)) entries ≡ [] → entries ≡ []
+    no_entries [] e = refl
+    no_entries (entry ∷ entries) e = absurd cc
+
+    by : (content : Content ℕ)
+        → IsNewIn (inode_number count slot) (node_seen count (record { attr = node.attr; content = content }))
+        → IsNewIn slot (record { attr = node.attr; content = content })
+    by (Directory parent entries opaque) new =
+        ⊎_elim
+        (λ same.
+        let up : exchanged count parent ≡ inode_number count slot = cc in
+        let names : map (renamed_entry (exchanged count) (exchanged count)) entries ≡ [] = cc in
+        let mark : opaque ≡ false = cc in
+        inl (λ i. Directory (exchanged_same count parent slot (up ∙ sym (exchanged_slot count slot small)) i) (no_entries entries names i) (mark i)))
+        (λ none. absurd (true≢false none)) new
+    by (Regular bytes) new = inr refl
+    by (Symlink text) new = inr refl
+    by Whiteout new = inr refl
+
+pub new_is_named : (named : ℕ → Bool) (directory : ℕ) (node : Node ℕ) → named directory ≡ true → IsNewIn directory node
+    → content_named named node.content ≡ true
+new_is_named named directory node there new =
+    ⊎_elim (λ same. ap (content_named named) same ∙ (λ i. there i && true)) (λ other. by node.content other) new
+  where
+    by : (content : Content ℕ) → is_directory (kind_of content) ≡ false → content_named named content ≡ true
+    by (Directory parent entries opaque) e = absurd (true≢false e)
+    by (Regular bytes) e = refl
+    by (Symlink text) e = refl
+    by Whiteout e = refl
+
+pub only_memory : (rules : Rules) (deny : Deny) → ruling rules ≡ Ok tt
+    → (ruling rules ≡ Err deny) ⊎ ((ruling rules ≡ Ok tt) × (deny ≡ denial S5)) → deny ≡ denial S5
+only_memory rules deny clear by =
+    ⊎_elim (λ refused. absurd (true≢false (sym (ap is_ok clear) ∙ ap is_ok refused))) (λ memory. memory.1) by
+
+module _ (value : WorldValue) (held : IsHeld value) (name : TaskName) (directory : Location) (entry : List ℕ) (node : Node ℕ)
+    (small : IsSmall directory)
+    (permits : Permits value name (ToMake (location_of directory) entry (node_seen directory.node.filesystem.count node))) where
+  abbrev permit : Permit ℕ
+  permit = ToMake (location_of directory) entry (node_seen directory.node.filesystem.count node)
+
+  seen : IsLocated value directory
+  seen = located value held directory small (permit_fits value held name permit permits).names.reached.there
+
+  sees : MayBeMade (world_of value) (location_of directory) entry (node_seen directory.node.filesystem.count node)
+  sees =
+      given_permits_are_seen_to (world_of value) (supply_of value permit) permits.task permit held.in_world
+      (files_are_plain value.filesystems) permits.given
+
+  pub new_in_directory : IsNewIn directory.node.slot node
+  new_in_directory = new_in_slot directory.node.filesystem.count directory.node.slot small node sees.fits
+
+  abbrev change : ℕ → Change ℕ
+  change number = Make (number_of directory.node) entry number (node_seen directory.node.filesystem.count node)
+
+  fits_next : (inodes : Inodes ℕ) → inodes ≡ inodes_seen seen.entry → Fits inodes (change (next_inode value (location_of directory)))
+  fits_next inodes same =
+      given_changes_fit (world_of value) (supply_of value permit) permits.task permit (location_of directory)
+      (change (next_inode value (location_of directory))) inodes held.in_world (files_are_plain value.filesystems) permits.given refl
+      (ap tree_of same ∙ ap (λ filesystem. filesystem.files.tree) (sym (located_filesystem value directory seen)))
+
+  pub make_clear : ruling (make_rules (inodes_at value.filesystems directory.node.filesystem.count) (number_of directory.node) entry) ≡ Ok tt
+  make_clear =
+      let fits = fits_next (inodes_at value.filesystems directory.node.filesystem.count) (located_inodes value directory seen) in
+      make_passes (inodes_at value.filesystems directory.node.filesystem.count) (number_of directory.node) entry [] fits.0 fits.1 refl
+
+  pub make_is_done : (filesystems : Filesystems) (made : NodeRef) → made.slot < 18446744073709551616
+      → made.filesystem ≡ directory.node.filesystem
+      → number_of made ≡ next_seen (entry_at value.filesystems directory.node.filesystem.count)
+      → ChangesInodes directory.node.filesystem.count (λ inodes. changed nat_eq inodes (change (number_of made))) value.filesystems filesystems
+      → IsFilesEvent value name permit (with_filesystems value filesystems)
+  make_is_done filesystems made small_made inside number changes =
+      files_are_changed value name permit (location_of directory) (change (number_of made)) filesystems held permits
+      (record {
+        named = λ i. seen.named i
+            && new_is_named (is_counted_before value.next) (number_of directory.node) (node_seen directory.node.filesystem.count node)
+            (inodes_named value.next directory.node.filesystem.count directory.node.slot) sees.fits i;
+        rest = odds (supply_of value permit);
+        applied =
+            ap (λ n. with_change nat_eq (odds (supply_of value permit)) (world_of value) (location_of directory) (change n)) next_is;
+        named_supply = λ k. number_of made;
+        are_named = λ k. inodes_named value.next made.filesystem.count made.slot;
+        named_rest = λ k. number_of made;
+        applied_named = refl;
+      })
+      (record {
+        entry = seen.entry;
+        among = seen.among;
+        found = seen.found;
+        shows = seen.shows;
+        fits = subst (λ n. Fits (inodes_seen seen.entry) (change n)) next_is (fits_next (inodes_seen seen.entry) refl);
+        links = tt;
+        changes =
+            subst (λ count. ChangesInodes count (λ inodes. changed nat_eq inodes (change (number_of made))) value.filesystems filesystems)
+            (sym seen.count_is) changes;
+        own = λ n other same.
+            true≢false (sym (ap (λ count. is_inode_of count (number_of made)) (seen.count_is ∙ ap (λ filesystem. filesystem.count) (sym inside))
+            ∙ is_inode made.filesystem.count made.slot small_made)
+            ∙ ap (is_inode_of seen.entry.count) (sym same) ∙ other);
+      })
+    where
+      quarter : (count : ℕ) → counted count / 4 ≡ count
+      quarter count = omega arith
+
+      next_is : next_inode value (location_of directory) ≡ number_of made
+      next_is =
+          ap (λ n. next_seen (entry_at value.filesystems (n / 4))) seen.shows
+          ∙ ap (λ n. next_seen (entry_at value.filesystems n)) (quarter seen.entry.count ∙ seen.count_is)
+          ∙ sym number

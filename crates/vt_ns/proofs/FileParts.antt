@@ -1,0 +1,165 @@
+-- The event that writes a part of a file: pwrite(2).
+use Rattle.std.proofs.Common.{◌≡◌, refl, sym, ap, subst, ◌∙◌, inr, true≢false, ℕ, ◌+◌, Bool, true, false, nat_eq, nat_lt, List, [], ◌∷◌, map, length, is_some, OnErr, OnOk, eqb-true, eq-eqb, arith}
+use Rattle.std.specs.Prelude.{Ok, Result, ◌==◌}
+use Rattle.vt_spec.specs.declared.errors.Deny.{Deny}
+use Rattle.vt_spec.specs.declared.errors.Rule.TheVariants.{E2, E6}
+use Rattle.vt_spec.specs.Language.Calls.{TaskName, same_name}
+use Rattle.vt_spec.specs.Language.Changes.{Change}
+use Rattle.vt_spec.specs.Language.Changes.Change.{SetBytes}
+use Rattle.vt_spec.specs.Language.Limits.{largest_file}
+use Rattle.vt_spec.specs.Machine.Mounts as meant
+use Rattle.vt_spec.specs.Machine.Outcome.Descriptors.{overwritten}
+use Rattle.vt_spec.specs.Machine.Permits.{Permit}
+use Rattle.vt_spec.specs.Machine.Permits.Permit.{ToWritePart}
+use Rattle.vt_spec.specs.Machine.SameWorlds.{SameWorlds}
+use Rattle.vt_spec.specs.Machine.World.{Descriptor, Task, all_locations, locations_of, node_at}
+use Rattle.vt_spec.specs.Machine.Invariants.{is_located_well}
+use Rattle.vt_spec.specs.OneTree.Fits.{Fits}
+use Rattle.vt_spec.specs.OneTree.Inodes.{Inodes, changed, tree_of}
+use Rattle.vt_spec.specs.OneTree.Walk.{is_directory_at}
+use Rattle.vt_spec.specs.Tree.{bytes_in}
+use Rattle.vt_fs.specs.FilesystemsValue.{ChangesInodes, Filesystems, entry_of, files_at, inodes_at, inodes_seen}
+use Rattle.vt_letting_go.proofs.Lists.{Among, among-flat_map, among-map}
+use Rattle.vt_spec.proofs.Lists.{among_from_list_all}
+use Rattle.vt_location.specs.declared.locations.Location.{Location}
+use Rattle.vt_location.specs.Locations.{location_of, number_of}
+use Rattle.vt_permit_laws.specs.Sees.{HasOpen, SeesTo}
+use Rattle.vt_permit_laws.proofs.SeesFit.{given_changes_fit}
+use Rattle.vt_permit_laws.proofs.SeesTasks.{given_permits_are_seen_to}
+use Rattle.vt_run_laws.proofs.AlikeWorlds.{sameness_is_an_equivalence}
+use Rattle.vt_tree.specs.TreeRules.{AnswersBy, ruling, write_rules}
+use Rattle.vt_world_laws.proofs.ReachedWalks.{found_among}
+use Rattle.vt_ns.specs.Events.{Becomes, Permits, supply_of}
+use Rattle.vt_ns.specs.Held.{IsHeld}
+use Rattle.vt_ns.specs.WorldValue.{WorldValue, world_of}
+use Rattle.vt_ns.proofs.ChangedFiles.{files_are_changed, with_filesystems}
+use Rattle.vt_ns.proofs.FileAnswers.{IsAnswered, answered, if_ok, passed}
+use Rattle.vt_ns.proofs.FileEvents.{IsSmall}
+use Rattle.vt_ns.proofs.FilesSeen.{IsLocated, files_are_plain, located, located_filesystem, located_inodes}
+
+-- what a task has open is there
+pub open_there : (value : WorldValue) → IsHeld value → (name : TaskName) (permit : Permit ℕ) (permits : Permits value name permit)
+    → (file : meant.Location ℕ) (fits : Descriptor ℕ → Bool) → HasOpen permits.task file fits
+    → is_located_well nat_eq (world_of value) file ≡ true
+open_there value held name permit permits file fits held_open =
+    among_from_list_all (is_located_well nat_eq (world_of value)) (all_locations (world_of value)) held.in_world.tasks.locations_live file
+    (among-flat_map locations_of (world_of value).tasks permits.task file
+    (found_among (λ (other : Task ℕ). same_name permits.task.name other.name) (world_of value).tasks permits.task permits.given.called)
+    (inr (inr (subst (λ location. Among location (map (λ (descriptor : Descriptor ℕ). descriptor.location) permits.task.descriptors)) held_open.4
+    (among-map (λ (descriptor : Descriptor ℕ). descriptor.location) permits.task.descriptors held_open.1
+    (found_among (λ (descriptor : Descriptor ℕ). nat_eq held_open.0 descriptor.number) permits.task.descriptors held_open.1 held_open.2))))))
+
+-- whether there are bytes, as code asks it
+
+pub no_bytes : (bytes : List ℕ) (b : Bool) → b ≡ (length bytes == 0) → b ≡ true → bytes ≡ []
+no_bytes [] b is e = refl
+no_bytes (byte ∷ bytes) b is e =
+    let none = eqb-true (length (byte ∷ bytes)) 0 (sym is ∙ e) in absurd (omega (arith, none))
+
+pub some_bytes : (bytes : List ℕ) (b : Bool) → b ≡ (length bytes == 0) → b ≡ false → length bytes ≡ 0 → ⊥
+some_bytes [] b is e none = true≢false (sym (is ∙ eq-eqb 0 0 refl) ∙ e)
+some_bytes (byte ∷ bytes) b is e none = omega (arith, none)
+
+-- no bytes change nothing
+pub nothing_is_written : (value : WorldValue) → IsHeld value → (name : TaskName) (file : meant.Location ℕ) (offset : ℕ) (bytes : List ℕ)
+    → bytes ≡ [] → Becomes value name (ToWritePart file offset bytes) value
+nothing_is_written value held name file offset bytes none =
+    subst (λ others. Becomes value name (ToWritePart file offset others) value) (sym none) (λ task called.
+    subst (λ world. SameWorlds world (world_of value)) (sym held.in_world.nothing_unused)
+    (sameness_is_an_equivalence.itself (world_of value)))
+
+module _ (value : WorldValue) (held : IsHeld value) (name : TaskName) (file : Location) (offset byte : ℕ) (rest : List ℕ) (small : IsSmall file)
+    (permits : Permits value name (ToWritePart (location_of file) offset (byte ∷ rest))) where
+  abbrev permit : Permit ℕ
+  permit = ToWritePart (location_of file) offset (byte ∷ rest)
+
+  sees : SeesTo (world_of value) permits.task permit
+  sees =
+      given_permits_are_seen_to (world_of value) (supply_of value permit) permits.task permit held.in_world
+      (files_are_plain value.filesystems) permits.given
+
+  seen : IsLocated value file
+  seen =
+      located value held file small
+      (open_there value held name permit permits (location_of file) (λ descriptor. descriptor.writes) sees.0)
+
+  abbrev change : Change ℕ
+  change = SetBytes (number_of file.node) (overwritten offset (byte ∷ rest) (bytes_in (node_at nat_eq (world_of value) (location_of file))))
+
+  fits : (inodes : Inodes ℕ) → inodes ≡ inodes_seen seen.entry → Fits inodes change
+  fits inodes same =
+      given_changes_fit (world_of value) (supply_of value permit) permits.task permit (location_of file)
+      change inodes held.in_world (files_are_plain value.filesystems) permits.given refl
+      (ap tree_of same ∙ ap (λ filesystem. filesystem.files.tree) (sym (located_filesystem value file seen)))
+
+  abbrev here : Inodes ℕ
+  here = inodes_at value.filesystems file.node.filesystem.count
+
+  same_node : (files_at value.filesystems file.node.filesystem.count).tree.node (number_of file.node)
+      ≡ node_at nat_eq (world_of value) (location_of file)
+  same_node =
+      ap (λ inodes. (tree_of inodes).node (number_of file.node)) (located_inodes value file seen)
+      ∙ ap (λ filesystem. filesystem.files.tree.node (number_of file.node)) (sym (located_filesystem value file seen))
+
+  clear : ruling (write_rules here (number_of file.node) (offset + length (byte ∷ rest))) ≡ Ok tt
+  clear =
+      passed (is_directory_at (tree_of here) (number_of file.node)) E2 ((nat_lt largest_file (offset + length (byte ∷ rest)), E6) ∷ [])
+      (fits here (located_inodes value file seen)).0
+      (passed (nat_lt largest_file (offset + length (byte ∷ rest))) E6 [] sees.1 refl)
+
+  part_is_answered : (filesystems : Filesystems) (result : Result (Unit {0}) Deny)
+      → OnOk result (ChangesInodes file.node.filesystem.count
+      (λ inodes. changed nat_eq inodes (SetBytes (number_of file.node)
+      (overwritten offset (byte ∷ rest) (bytes_in ((files_at value.filesystems file.node.filesystem.count).tree.node (number_of file.node))))))
+      value.filesystems filesystems)
+      → (is_some (entry_of value.filesystems file.node.filesystem.count) ≡ true
+      → AnswersBy (write_rules here (number_of file.node) (offset + length (byte ∷ rest))) result)
+      → OnErr result (filesystems ≡ value.filesystems)
+      → IsAnswered value name permit (with_filesystems value filesystems) result
+  part_is_answered filesystems result ok answer err =
+      answered value held name permit filesystems (write_rules here (number_of file.node) (offset + length (byte ∷ rest))) result clear
+      (answer (ap is_some (ap (entry_of value.filesystems) (sym seen.count_is) ∙ seen.found)))
+      (if_ok result (λ changes.
+      files_are_changed value name permit (location_of file) change filesystems held permits
+      (record {
+        named = seen.named;
+        rest = supply_of value permit;
+        applied = refl;
+        named_supply = λ k. 0;
+        are_named = λ k. refl;
+        named_rest = λ k. 0;
+        applied_named = refl;
+      })
+      (record {
+        entry = seen.entry;
+        among = seen.among;
+        found = seen.found;
+        shows = seen.shows;
+        fits = fits (inodes_seen seen.entry) refl;
+        links = tt;
+        changes =
+            subst (λ node. ChangesInodes seen.entry.count
+            (λ inodes. changed nat_eq inodes (SetBytes (number_of file.node) (overwritten offset (byte ∷ rest) (bytes_in node))))
+            value.filesystems filesystems) same_node
+            (subst (λ count. ChangesInodes count
+            (λ inodes. changed nat_eq inodes (SetBytes (number_of file.node)
+            (overwritten offset (byte ∷ rest) (bytes_in ((files_at value.filesystems file.node.filesystem.count).tree.node (number_of file.node))))))
+            value.filesystems filesystems) (sym seen.count_is) changes);
+        own = λ number other. tt;
+      })) ok)
+      err
+
+pub write_part_is_answered : (value : WorldValue) → IsHeld value → (name : TaskName) (file : Location) (offset : ℕ) (bytes : List ℕ) → IsSmall file
+    → Permits value name (ToWritePart (location_of file) offset bytes) → (length bytes ≡ 0 → ⊥)
+    → (filesystems : Filesystems) (result : Result (Unit {0}) Deny)
+    → OnOk result (ChangesInodes file.node.filesystem.count
+    (λ inodes. changed nat_eq inodes (SetBytes (number_of file.node)
+    (overwritten offset bytes (bytes_in ((files_at value.filesystems file.node.filesystem.count).tree.node (number_of file.node))))))
+    value.filesystems filesystems)
+    → (is_some (entry_of value.filesystems file.node.filesystem.count) ≡ true
+    → AnswersBy (write_rules (inodes_at value.filesystems file.node.filesystem.count) (number_of file.node) (offset + length bytes)) result)
+    → OnErr result (filesystems ≡ value.filesystems)
+    → IsAnswered value name (ToWritePart (location_of file) offset bytes) (with_filesystems value filesystems) result
+write_part_is_answered value held name file offset [] small permits some filesystems result ok answer err = absurd (some refl)
+write_part_is_answered value held name file offset (byte ∷ rest) small permits some filesystems result ok answer err =
+    part_is_answered value held name file offset byte rest small permits filesystems result ok answer err

@@ -1,0 +1,124 @@
+-- The event that removes a directory on which no mount stands: rmdir(2).
+use Rattle.std.proofs.Common.{◌≡◌, refl, sym, ap, subst, ◌∙◌, ℕ, ◌&&◌, ◌||◌, true, false, nat_eq, List, [], ◌∷◌, is_some, OnErr, OnOk}
+use Rattle.std.specs.Prelude.{Result}
+use Rattle.std.proofs.lemmas.Bool.{and_parts}
+use Rattle.std.specs.List.{list_all, list_any}
+use Rattle.vt_spec.specs.declared.errors.Deny.{Deny}
+use Rattle.vt_spec.specs.Language.Calls.{TaskName}
+use Rattle.vt_spec.specs.Language.Changes.{Change}
+use Rattle.vt_spec.specs.Language.Changes.Change.{Remove}
+use Rattle.vt_spec.specs.Machine.Detach.{mounts_on, trees_taken_away, without_mounts_on}
+use Rattle.vt_spec.specs.Machine.Filesystems.{with_change}
+use Rattle.vt_spec.specs.Machine.Mounts as meant
+use Rattle.vt_spec.specs.Machine.Mounts.{Mount, Propagation}
+use Rattle.vt_spec.specs.Machine.Mounts.Propagation.{Private, Shared, Slave, Unbindable}
+use Rattle.vt_spec.specs.Machine.Permits.{Permit}
+use Rattle.vt_spec.specs.Machine.Permits.Permit.{ToRemoveDirectory}
+use Rattle.vt_spec.specs.Machine.Receives.{lost_a_group, regrouped_by}
+use Rattle.vt_spec.specs.Machine.World.{World}
+use Rattle.vt_spec.specs.OneTree.Fits.{Fits}
+use Rattle.vt_spec.specs.OneTree.Inodes.{Inodes, changed, tree_of}
+use Rattle.vt_spec.specs.TreeLaws.{entry_at}
+use Rattle.vt_fs.specs.FilesystemsValue.{ChangesInodes, Filesystems, inodes_at, inodes_seen}
+use Rattle.vt_letting_go.proofs.NamespacesEnd.{nothing_taken}
+use Rattle.vt_location.specs.declared.locations.Location.{Location}
+use Rattle.vt_location.specs.Locations.{location_of, number_of}
+use Rattle.vt_mount.specs.MountsValue.{MountEntry, mounts_in}
+use Rattle.vt_permit_laws.specs.Sees.{SeesTo}
+use Rattle.vt_permit_laws.proofs.SeesFit.{given_changes_fit}
+use Rattle.vt_permit_laws.proofs.SeesTasks.{given_permits_are_seen_to}
+use Rattle.vt_tree.specs.TreeRules.{ruling, unlink_rules}
+use Rattle.vt_ns.specs.Events.{Permits, supply_of}
+use Rattle.vt_ns.specs.Held.{IsHeld, is_ungrouped}
+use Rattle.vt_ns.specs.WorldValue.{WorldValue, world_of}
+use Rattle.vt_ns.proofs.ChangedFiles.{files_are_changed, with_filesystems}
+use Rattle.vt_ns.proofs.FileAnswers.{IsAnswered, answered, by_ruling, if_ok, unlink_passes}
+use Rattle.vt_ns.proofs.FileEvents.{IsSmall, permit_fits}
+use Rattle.vt_ns.proofs.FilesSeen.{IsLocated, also_there, files_are_plain, located, located_filesystem, located_inodes, tree_of_entry}
+use Rattle.vt_ns.proofs.Ungrouped.{not_lost}
+
+-- Where no mount stands nothing is detached
+
+none_lost : (world : World ℕ) (entries : List MountEntry) → list_all (λ entry. is_ungrouped entry.mount.propagation) entries ≡ true
+    → list_any (lost_a_group nat_eq world) (mounts_in entries) ≡ false
+none_lost world [] all = refl
+none_lost world (entry ∷ entries) all =
+    let parts = and_parts (is_ungrouped entry.mount.propagation) _ all in
+    λ i. not_lost world entry.mount parts.0 i || none_lost world entries parts.1 i
+
+pub nothing_detached : (value : WorldValue) → IsHeld value → (at : meant.Location ℕ) → mounts_on nat_eq (world_of value) at ≡ []
+    → without_mounts_on nat_eq (world_of value) at ≡ world_of value
+nothing_detached value held at none =
+    ap (trees_taken_away nat_eq (world_of value)) none
+    ∙ nothing_taken (world_of value)
+    ∙ ap (λ lost. regrouped_by nat_eq lost (world_of value)) (none_lost (world_of value) value.mounts held.ungrouped)
+
+module _ (value : WorldValue) (held : IsHeld value) (name : TaskName) (parent : Location) (entry : List ℕ) (directory : Location)
+    (small : IsSmall parent) (small_directory : IsSmall directory)
+    (permits : Permits value name (ToRemoveDirectory (location_of parent) entry (location_of directory))) where
+  abbrev permit : Permit ℕ
+  permit = ToRemoveDirectory (location_of parent) entry (location_of directory)
+
+  seen : IsLocated value parent
+  seen = located value held parent small (permit_fits value held name permit permits).names.0.reached.there
+
+  directory_seen : IsLocated value directory
+  directory_seen = located value held directory small_directory (permit_fits value held name permit permits).names.1.reached.there
+
+  sees : SeesTo (world_of value) permits.task permit
+  sees =
+      given_permits_are_seen_to (world_of value) (supply_of value permit) permits.task permit held.in_world
+      (files_are_plain value.filesystems) permits.given
+
+  abbrev change : Change ℕ
+  change = Remove (number_of parent.node) entry (number_of directory.node)
+
+  pub removed_in : directory.node.filesystem ≡ parent.node.filesystem
+  removed_in =
+      also_there value held parent seen directory.node small_directory
+      (ap (λ filesystem. is_some (filesystem.files.tree.node (number_of directory.node))) (located_filesystem value parent seen)
+      ∙ (tree_of_entry value held seen.entry seen.among).alive (number_of parent.node) entry (number_of directory.node)
+      (ap (λ filesystem. entry_at filesystem.files.tree (number_of parent.node) entry) (sym (located_filesystem value parent seen))
+      ∙ sees.1.named))
+
+  fits : (inodes : Inodes ℕ) → inodes ≡ inodes_seen seen.entry → Fits inodes change
+  fits inodes same =
+      given_changes_fit (world_of value) (supply_of value permit) permits.task permit (location_of parent)
+      change inodes held.in_world (files_are_plain value.filesystems) permits.given refl
+      (ap tree_of same ∙ ap (λ filesystem. filesystem.files.tree) (sym (located_filesystem value parent seen)))
+
+  pub removal_is_answered : mounts_on nat_eq (world_of value) (location_of directory) ≡ []
+      → (filesystems : Filesystems) (result : Result (Unit {0}) Deny)
+      → OnOk result (ChangesInodes parent.node.filesystem.count (λ inodes. changed nat_eq inodes change) value.filesystems filesystems)
+      → result ≡ ruling (unlink_rules (inodes_at value.filesystems parent.node.filesystem.count) (number_of parent.node) entry (number_of directory.node))
+      → OnErr result (filesystems ≡ value.filesystems)
+      → IsAnswered value name permit (with_filesystems value filesystems) result
+  removal_is_answered none filesystems result ok answer err =
+      let clear = unlink_passes (inodes_at value.filesystems parent.node.filesystem.count) (number_of parent.node) entry (number_of directory.node)
+      (fits (inodes_at value.filesystems parent.node.filesystem.count) (located_inodes value parent seen)) in
+      answered value held name permit filesystems
+      (unlink_rules (inodes_at value.filesystems parent.node.filesystem.count) (number_of parent.node) entry (number_of directory.node)) result clear
+      (by_ruling (unlink_rules (inodes_at value.filesystems parent.node.filesystem.count) (number_of parent.node) entry (number_of directory.node)) result answer clear)
+      (if_ok result (λ changes.
+      files_are_changed value name permit (location_of parent) change filesystems held permits
+      (record {
+        named = λ i. seen.named i && directory_seen.named i;
+        rest = supply_of value permit;
+        applied = ap (λ world. with_change nat_eq (supply_of value permit) world (location_of parent) change) (nothing_detached value held (location_of directory) none);
+        named_supply = λ k. 0;
+        are_named = λ k. refl;
+        named_rest = λ k. 0;
+        applied_named = ap (λ world. with_change nat_eq (λ k. 0) world (location_of parent) change) (nothing_detached value held (location_of directory) none);
+      })
+      (record {
+        entry = seen.entry;
+        among = seen.among;
+        found = seen.found;
+        shows = seen.shows;
+        fits = fits (inodes_seen seen.entry) refl;
+        links = tt;
+        changes =
+            subst (λ count. ChangesInodes count (λ inodes. changed nat_eq inodes change) value.filesystems filesystems) (sym seen.count_is) changes;
+        own = λ number other. tt;
+      })) ok)
+      err

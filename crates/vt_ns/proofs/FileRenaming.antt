@@ -1,0 +1,149 @@
+-- The event that renames, where no mount stands on what is replaced: rename(2).
+use Rattle.std.proofs.Common.{◌≡◌, refl, sym, ap, subst, ◌∙◌, ℕ, ◌&&◌, true, nat_eq, List, [], map, Option, None, Some, option_map, is_some, OnErr, OnOk}
+use Rattle.std.specs.Prelude.{Err, IfSome, IsOkUnless, Ok, Result}
+use Rattle.std.proofs.lemmas.Bool.{and_parts}
+use Rattle.vt_spec.specs.declared.errors.Deny.{Deny}
+use Rattle.vt_spec.specs.declared.errors.Rule.TheVariants.{S5}
+use Rattle.vt_spec.specs.Errors.{denial}
+use Rattle.vt_spec.specs.Language.Calls.{TaskName}
+use Rattle.vt_spec.specs.Language.Changes.{Change}
+use Rattle.vt_spec.specs.Language.Changes.Change.{Move}
+use Rattle.vt_spec.specs.Lists.{is_among}
+use Rattle.vt_spec.specs.Machine.Detach.{mounts_on}
+use Rattle.vt_spec.specs.Machine.Filesystems.{with_change}
+use Rattle.vt_spec.specs.Machine.Mounts as meant
+use Rattle.vt_spec.specs.Machine.Outcome.Removing.{without_replaced}
+use Rattle.vt_spec.specs.Machine.Permits.{Permit}
+use Rattle.vt_spec.specs.Machine.Permits.Permit.{ToRename}
+use Rattle.vt_spec.specs.Machine.World.{filesystem_numbered, mount_at, mount_numbered}
+use Rattle.vt_spec.specs.Machine.Invariants.{is_located_well, is_there}
+use Rattle.vt_spec.specs.OneTree.Fits.{Fits}
+use Rattle.vt_spec.specs.OneTree.Inodes.{Inodes, changed, tree_of}
+use Rattle.vt_fs.specs.FilesystemsValue.{ChangesInodes, Filesystems, inodes_at, inodes_seen}
+use Rattle.vt_laws.specs.Numbers.{location_named, none_or}
+use Rattle.vt_location.specs.declared.locations.Location.{Location}
+use Rattle.vt_location.specs.Locations.{location_of, number_of}
+use Rattle.vt_permit_laws.specs.Named.{permit_named}
+use Rattle.vt_permit_laws.specs.Sees.{MayBeRenamed}
+use Rattle.vt_permit_laws.proofs.SeesFit.{given_changes_fit}
+use Rattle.vt_permit_laws.proofs.SeesTasks.{given_permits_are_seen_to}
+use Rattle.vt_run_laws.specs.Handed.{is_counted_before}
+use Rattle.vt_world_laws.specs.Worlds.Permits.{IsReached, NamesWhatIsThere}
+use Rattle.vt_ns.specs.Events.{Permits, supply_of}
+use Rattle.vt_ns.specs.Held.{IsHeld}
+use Rattle.vt_ns.specs.WorldValue.{WorldValue, world_of}
+use Rattle.vt_ns.proofs.ChangedFiles.{IsFilesEvent, files_are_changed, with_filesystems}
+use Rattle.vt_ns.proofs.FileAnswers.{IsAnswered, if_ok}
+use Rattle.vt_ns.proofs.FileEvents.{IsSmall, permit_fits}
+use Rattle.vt_ns.proofs.FileRemoving.{nothing_detached}
+use Rattle.vt_ns.proofs.Places.{located_is_named}
+use Rattle.vt_ns.proofs.FilesSeen.{IsLocated, also_there, files_are_plain, located, located_filesystem, located_inodes}
+
+module _ (value : WorldValue) (held : IsHeld value) (name : TaskName) (from : Location) (old : List ℕ) (to : Location) (new : List ℕ)
+    (object : Location) (replaced : Option Location) (small : IsSmall from) (small_to : IsSmall to) (small_object : IsSmall object)
+    (permits : Permits value name (ToRename (location_of from) old (location_of to) new (location_of object) (option_map location_of replaced))) where
+  abbrev permit : Permit ℕ
+  permit = ToRename (location_of from) old (location_of to) new (location_of object) (option_map location_of replaced)
+
+  abbrev change : Change ℕ
+  change = Move (number_of from.node) old (number_of to.node) new (number_of object.node)
+
+  pub names : NamesWhatIsThere (world_of value) permits.task permit
+  names = (permit_fits value held name permit permits).names
+
+  pub seen : IsLocated value from
+  seen = located value held from small names.0.reached.there
+
+  to_seen : IsLocated value to
+  to_seen = located value held to small_to names.1.reached.there
+
+  object_seen : IsLocated value object
+  object_seen = located value held object small_object names.2.there
+
+  pub sees : MayBeRenamed (world_of value) (location_of from) old (location_of to) new (location_of object) (option_map location_of replaced)
+  sees =
+      given_permits_are_seen_to (world_of value) (supply_of value permit) permits.task permit held.in_world
+      (files_are_plain value.filesystems) permits.given
+
+  -- an inode that is seen through the same mount is in the same filesystem
+  same_filesystem : (at : Location) → IsSmall at → (location_of at).mount ≡ (location_of from).mount → is_located_well nat_eq (world_of value) (location_of at) ≡ true
+      → at.node.filesystem ≡ from.node.filesystem
+  same_filesystem at small_at same well =
+      also_there value held from seen at.node small_at
+      (ap (λ mount. is_some ((filesystem_numbered nat_eq (world_of value) (mount_numbered nat_eq (world_of value) mount).filesystem).files.tree.node (number_of at.node)))
+      (sym same) ∙ (and_parts (is_among nat_eq (location_of at).mount (map (λ mount. mount.number) (world_of value).mounts))
+      (is_there nat_eq (world_of value) (mount_at nat_eq (world_of value) (location_of at)).filesystem (location_of at).node) well).1)
+
+  pub renamed_to : to.node.filesystem ≡ from.node.filesystem
+  renamed_to = same_filesystem to small_to sees.to_mount names.1.reached.there
+
+  pub renamed_object : object.node.filesystem ≡ from.node.filesystem
+  renamed_object = same_filesystem object small_object sees.object_mount names.2.there
+
+  pub fits : (inodes : Inodes ℕ) → inodes ≡ inodes_seen seen.entry → Fits inodes change
+  fits inodes same =
+      given_changes_fit (world_of value) (supply_of value permit) permits.task permit (location_of from)
+      change inodes held.in_world (files_are_plain value.filesystems) permits.given refl
+      (ap tree_of same ∙ ap (λ filesystem. filesystem.files.tree) (sym (located_filesystem value from seen)))
+
+  pub rename_fits : Fits (inodes_at value.filesystems from.node.filesystem.count) change
+  rename_fits = fits (inodes_at value.filesystems from.node.filesystem.count) (located_inodes value from seen)
+
+  pub is_named : permit_named (is_counted_before value.next) permit ≡ true
+  is_named = λ i. seen.named i && to_seen.named i && object_seen.named i && by replaced names.3 i
+    where
+      by : (o : Option Location) → ((other : meant.Location ℕ) → option_map location_of o ≡ Some other → IsReached (world_of value) permits.task other)
+          → none_or (location_named (is_counted_before value.next)) (option_map location_of o) ≡ true
+      by None there = refl
+      by (Some other) there = located_is_named value held (location_of other) (there (location_of other) refl).there
+
+  nothing_replaced : (o : Option Location) → IfSome o (λ other. mounts_on nat_eq (world_of value) (location_of other) ≡ [])
+      → without_replaced nat_eq (world_of value) (option_map location_of o) ≡ world_of value
+  nothing_replaced None none = refl
+  nothing_replaced (Some other) none = nothing_detached value held (location_of other) none
+
+  pub rename_is_answered : IfSome replaced (λ other. mounts_on nat_eq (world_of value) (location_of other) ≡ [])
+      → (filesystems : Filesystems) (result : Result (Unit {0}) Deny)
+      → (Fits (inodes_at value.filesystems from.node.filesystem.count) change → IsOkUnless result (denial S5))
+      → (Fits (inodes_at value.filesystems from.node.filesystem.count) change
+      → OnOk result (ChangesInodes from.node.filesystem.count (λ inodes. changed nat_eq inodes change) value.filesystems filesystems))
+      → OnErr result (filesystems ≡ value.filesystems)
+      → IsAnswered value name permit (with_filesystems value filesystems) result
+  rename_is_answered none filesystems result unless_memory ok err =
+      let fitting = fits (inodes_at value.filesystems from.node.filesystem.count) (located_inodes value from seen) in
+      by result (unless_memory fitting) (if_ok result event (ok fitting)) err
+    where
+      event : ChangesInodes from.node.filesystem.count (λ inodes. changed nat_eq inodes change) value.filesystems filesystems
+          → IsFilesEvent value name permit (with_filesystems value filesystems)
+      event changes =
+          files_are_changed value name permit (location_of from) change filesystems held permits
+          (record {
+            named = is_named;
+            rest = supply_of value permit;
+            applied = ap (λ world. with_change nat_eq (supply_of value permit) world (location_of from) change) (nothing_replaced replaced none);
+            named_supply = λ k. 0;
+            are_named = λ k. refl;
+            named_rest = λ k. 0;
+            applied_named = ap (λ world. with_change nat_eq (λ k. 0) world (location_of from) change) (nothing_replaced replaced none);
+          })
+          (record {
+            entry = seen.entry;
+            among = seen.among;
+            found = seen.found;
+            shows = seen.shows;
+            fits = fits (inodes_seen seen.entry) refl;
+            links = tt;
+            changes =
+                subst (λ count. ChangesInodes count (λ inodes. changed nat_eq inodes change) value.filesystems filesystems) (sym seen.count_is) changes;
+            own = λ number other. tt;
+          })
+
+      by : (result : Result (Unit {0}) Deny) → IsOkUnless result (denial S5) → OnOk result (IsFilesEvent value name permit (with_filesystems value filesystems))
+          → OnErr result (filesystems ≡ value.filesystems) → IsAnswered value name permit (with_filesystems value filesystems) result
+      by (Ok done) unless_memory event kept = record { held = event.held; ok = event.becomes; memory = tt; err = tt }
+      by (Err deny) unless_memory event kept = record {
+        held = subst (λ fs. IsHeld (with_filesystems value fs)) (sym kept) held;
+        ok = tt;
+        memory = unless_memory;
+        err = ap (with_filesystems value) kept;
+      }

@@ -1,0 +1,147 @@
+-- What code finds in what is kept of a world is what the definitions see of its value.
+use Rattle.std.proofs.Common.{◌≡◌, refl, sym, ap, subst, ◌∙◌, ℕ, ◌<◌, nat_eq, Bool, true, false, ◌&&◌, [], ◌∷◌, Option, Some, None, filter, flat_map, map, option_map, unwrap_or}
+use Rattle.std.specs.Prelude.{find, option_to_list}
+use Rattle.std.specs.List.{list_any}
+use Rattle.vt_spec.specs.FileTree.{is_directory_under, is_removed}
+use Rattle.vt_spec.specs.Machine.Detach.{mounts_on}
+use Rattle.vt_spec.specs.Machine.Filesystems.{overlay_rules, path_of_name}
+use Rattle.vt_spec.specs.Machine.Layers.{has_lower_directory}
+use Rattle.vt_spec.specs.Machine.Locked.{lies_or_counts_under, of_overlay, overlay_or}
+use Rattle.vt_spec.specs.Machine.Mounts as meant
+use Rattle.vt_spec.specs.Machine.Mounts.{no_mount}
+use Rattle.vt_spec.specs.Machine.World.{Filesystem, filesystem_at, filesystem_numbered, is_overlay, is_removed_at, layers_of, mount_at, mount_numbered, node_at, open_layer}
+use Rattle.vt_location.specs.declared.locations.Location.{Location}
+use Rattle.vt_location.specs.declared.locations.NodeRef.{NodeRef}
+use Rattle.vt_location.specs.declared.mounts.Mount.{Mount}
+use Rattle.vt_location.specs.Locations.{location_of, number_of}
+use Rattle.vt_location.specs.MountValue.{mount_of}
+use Rattle.vt_location.specs.Numbers.{counted}
+use Rattle.vt_location.proofs.NumberLemmas.{counted_test, nodes_test}
+use Rattle.vt_looks.specs.Looking.{HasNoOverlays}
+use Rattle.vt_fs.specs.FilesystemsValue.{Filesystems, files_at, filesystems_seen}
+use Rattle.vt_fs.proofs.Numbers.{found_by_number}
+use Rattle.vt_mount.specs.MountsValue.{mounts_in, stands_over}
+use Rattle.vt_ns.specs.Held.{IsHeld}
+use Rattle.vt_ns.specs.Looking.{is_seen, looks_of_value}
+use Rattle.vt_ns.specs.WorldValue.{WorldValue, world_of}
+use Rattle.vt_ns.proofs.FilesystemsFound.{found_plain}
+use Rattle.vt_ns.proofs.LookLemmas.{any_point, missing_root, seen_filesystem, under_another, unseen_node, unseen_removed, unseen_root}
+
+-- the mount that is found, or what stands for one that is not there
+module _ (value : WorldValue) (number : ℕ) (got : Option Mount)
+    (is_found : option_map mount_of got ≡ find (λ (mount : meant.Mount ℕ). nat_eq number mount.number) (mounts_in value.mounts)) where
+  pub mount_found : (mount : Mount) → got ≡ Some mount → mount_numbered nat_eq (world_of value) number ≡ mount_of mount
+  mount_found mount is = ap (λ o. unwrap_or o (no_mount number)) (sym is_found ∙ ap (option_map mount_of) is)
+
+  pub mount_missing : got ≡ None → mount_numbered nat_eq (world_of value) number ≡ no_mount number
+  mount_missing is = ap (λ o. unwrap_or o (no_mount number)) (sym is_found ∙ ap (option_map mount_of) is)
+
+module _ (kept value : WorldValue) (is : kept ≡ value) (held : IsHeld kept) (at : Location) (small : at.node.slot < 18446744073709551616) where
+  pub node_is : is_seen value at ≡ true
+      → (files_at kept.filesystems at.node.filesystem.count).tree.node (number_of at.node) ≡ node_at nat_eq (world_of value) (location_of at)
+  node_is =
+      subst (λ (v : WorldValue). is_seen v at ≡ true
+      → (files_at kept.filesystems at.node.filesystem.count).tree.node (number_of at.node) ≡ node_at nat_eq (world_of v) (location_of at)) is
+      (λ seen. ap (λ (filesystem : Filesystem ℕ). filesystem.files.tree.node (number_of at.node)) (sym (seen_filesystem kept held at small seen)))
+
+  pub no_node : is_seen value at ≡ false → node_at nat_eq (world_of value) (location_of at) ≡ None
+  no_node =
+      subst (λ (v : WorldValue). is_seen v at ≡ false → node_at nat_eq (world_of v) (location_of at) ≡ None) is
+      (unseen_node kept held at small)
+
+  pub removed_is : is_seen value at ≡ true
+      → is_removed nat_eq (files_at kept.filesystems at.node.filesystem.count).tree (number_of at.node) ≡ is_removed_at nat_eq (world_of value) (location_of at)
+  removed_is =
+      subst (λ (v : WorldValue). is_seen v at ≡ true
+      → is_removed nat_eq (files_at kept.filesystems at.node.filesystem.count).tree (number_of at.node) ≡ is_removed_at nat_eq (world_of v) (location_of at)) is
+      (λ seen. ap (λ (filesystem : Filesystem ℕ). is_removed nat_eq filesystem.files.tree (number_of at.node)) (sym (seen_filesystem kept held at small seen)))
+
+  pub removed_unseen : is_seen value at ≡ false → is_removed_at nat_eq (world_of value) (location_of at) ≡ true
+  removed_unseen =
+      subst (λ (v : WorldValue). is_seen v at ≡ false → is_removed_at nat_eq (world_of v) (location_of at) ≡ true) is
+      (unseen_removed kept held at small)
+
+  pub under_is : (directory : NodeRef) → is_seen value at ≡ true
+      → is_directory_under nat_eq (files_at kept.filesystems at.node.filesystem.count) (number_of at.node) (number_of directory)
+      ≡ is_directory_under nat_eq (filesystem_at nat_eq (world_of value) (location_of at)).files (number_of at.node) (number_of directory)
+  under_is directory =
+      subst (λ (v : WorldValue). is_seen v at ≡ true
+      → is_directory_under nat_eq (files_at kept.filesystems at.node.filesystem.count) (number_of at.node) (number_of directory)
+      ≡ is_directory_under nat_eq (filesystem_at nat_eq (world_of v) (location_of at)).files (number_of at.node) (number_of directory)) is
+      (λ seen. ap (λ (filesystem : Filesystem ℕ). is_directory_under nat_eq filesystem.files (number_of at.node) (number_of directory))
+      (sym (seen_filesystem kept held at small seen)))
+
+  pub under_apart : (directory : NodeRef) → directory.slot < 18446744073709551616
+      → (is_seen value at && nat_eq directory.filesystem.count at.node.filesystem.count) ≡ false
+      → (nat_eq at.node.filesystem.count directory.filesystem.count && nat_eq at.node.slot directory.slot)
+      ≡ is_directory_under nat_eq (filesystem_at nat_eq (world_of value) (location_of at)).files (number_of at.node) (number_of directory)
+  under_apart directory directory_small =
+      subst (λ (v : WorldValue). (is_seen v at && nat_eq directory.filesystem.count at.node.filesystem.count) ≡ false
+      → (nat_eq at.node.filesystem.count directory.filesystem.count && nat_eq at.node.slot directory.slot)
+      ≡ is_directory_under nat_eq (filesystem_at nat_eq (world_of v) (location_of at)).files (number_of at.node) (number_of directory)) is
+      (λ apart. sym (under_another kept held at small directory directory_small apart ∙ nodes_test at.node directory small directory_small))
+
+  pub points_seen : (test : meant.Mount ℕ → Bool) → is_seen value at ≡ true
+      → list_any (λ mount. stands_over (number_of at.node) mount && test mount) (mounts_in kept.mounts)
+      ≡ list_any test (mounts_on nat_eq (world_of value) (location_of at))
+  points_seen test =
+      subst (λ (v : WorldValue). is_seen v at ≡ true
+      → list_any (λ mount. stands_over (number_of at.node) mount && test mount) (mounts_in kept.mounts)
+      ≡ list_any test (mounts_on nat_eq (world_of v) (location_of at))) is
+      (λ seen. sym (any_point kept held at small test
+      ∙ ap (λ b. b && list_any (λ mount. stands_over (number_of at.node) mount && test mount) (mounts_in kept.mounts)) seen))
+
+  pub no_points : (test : meant.Mount ℕ → Bool) → is_seen value at ≡ false
+      → list_any test (mounts_on nat_eq (world_of value) (location_of at)) ≡ false
+  no_points test =
+      subst (λ (v : WorldValue). is_seen v at ≡ false → list_any test (mounts_on nat_eq (world_of v) (location_of at)) ≡ false) is
+      (λ unseen. any_point kept held at small test
+      ∙ ap (λ b. b && list_any (λ mount. stands_over (number_of at.node) mount && test mount) (mounts_in kept.mounts)) unseen)
+
+  -- under the root of the mount, as it is found
+  module _ (got : Option Mount)
+      (is_found : option_map mount_of got ≡ find (λ (mount : meant.Mount ℕ). nat_eq (counted at.mount.count) mount.number) (mounts_in kept.mounts)) where
+    abbrev UnderRoot : Bool → WorldValue → Type 0
+    UnderRoot answer v =
+        answer ≡ is_directory_under nat_eq (filesystem_at nat_eq (world_of v) (location_of at)).files
+        (mount_at nat_eq (world_of v) (location_of at)).root (number_of at.node)
+
+    pub under_root : (mount : Mount) → got ≡ Some mount
+        → UnderRoot (is_directory_under nat_eq (files_at kept.filesystems mount.root.filesystem.count) (number_of mount.root) (number_of at.node)) value
+    under_root mount some =
+        subst (UnderRoot (is_directory_under nat_eq (files_at kept.filesystems mount.root.filesystem.count) (number_of mount.root) (number_of at.node))) is
+        (sym (ap (λ (m : meant.Mount ℕ). is_directory_under nat_eq (filesystem_numbered nat_eq (world_of kept) m.filesystem).files m.root (number_of at.node))
+        (mount_found kept (counted at.mount.count) got is_found mount some)
+        ∙ ap (λ (filesystem : Filesystem ℕ). is_directory_under nat_eq filesystem.files (number_of mount.root) (number_of at.node))
+        (found_by_number kept.filesystems mount.root.filesystem.count)))
+
+    pub under_root_apart : (mount : Mount) → got ≡ Some mount → nat_eq mount.root.filesystem.count at.node.filesystem.count ≡ false → UnderRoot false value
+    under_root_apart mount some other =
+        subst (UnderRoot false) is
+        (sym (unseen_root kept held at small
+        (ap (λ (m : meant.Mount ℕ). nat_eq m.filesystem (counted at.node.filesystem.count)) (mount_found kept (counted at.mount.count) got is_found mount some)
+        ∙ counted_test mount.root.filesystem.count at.node.filesystem.count ∙ other)))
+
+    pub under_root_missing : got ≡ None → UnderRoot false value
+    under_root_missing none =
+        subst (UnderRoot false) is (sym (missing_root kept held at small (mount_missing kept (counted at.mount.count) got is_found none)))
+
+-- no filesystem is an overlay
+no_overlays : (fs : Filesystems) → filter is_overlay (filesystems_seen fs) ≡ []
+no_overlays [] = refl
+no_overlays (x ∷ fs) = no_overlays fs
+
+pub has_no_overlays : (value : WorldValue) → HasNoOverlays (looks_of_value value)
+has_no_overlays value =
+    record {
+      overlay = λ location. plain location;
+      mounter = λ location change. ap (overlay_or [] (overlay_rules nat_eq (filesystem_at nat_eq (world_of value) location) change)) (plain location);
+      lower = λ location name. ap (overlay_or false (λ overlay. has_lower_directory
+          (map (open_layer nat_eq (world_of value)) (option_to_list overlay.upper)) (map (open_layer nat_eq (world_of value)) overlay.lowers)
+          (path_of_name nat_eq (world_of value) location name))) (plain location);
+      unlocked = λ location. ap (λ all. list_any (lies_or_counts_under nat_eq (world_of value) (mount_at nat_eq (world_of value) location).filesystem location.node)
+          (flat_map (of_overlay [] layers_of) all)) (no_overlays value.filesystems);
+    }
+  where
+    plain : (location : meant.Location ℕ) → (filesystem_at nat_eq (world_of value) location).overlay ≡ None
+    plain location = found_plain value.filesystems (mount_at nat_eq (world_of value) location).filesystem

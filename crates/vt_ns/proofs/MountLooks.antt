@@ -1,0 +1,146 @@
+-- What the rules of mount calls look at, by what is counted beside the mounts.
+use Rattle.std.proofs.Common.{◌≡◌, refl, sym, ap, ◌∙◌, ⊎_elim, inr, ℕ, zero, suc, ◌+◌, nat_eq, nat_lt, eqb-true, Bool, true, false, cond, ◌||◌, ◌&&◌, List, [], ◌∷◌, map, Option, Some, None, option_map, unwrap_or, arith}
+use Rattle.std.specs.List.{list_any}
+use Rattle.std.proofs.lemmas.Bool.{and_parts}
+use Rattle.std.proofs.lemmas.Bool.Decides.{nat_tests}
+use Rattle.vt_spec.specs.Lists.{is_among}
+use Rattle.vt_spec.specs.Machine.Detach.{going, going_at, going_from, is_busy, is_used, is_written_through}
+use Rattle.vt_spec.specs.Machine.Mounts as meant
+use Rattle.vt_spec.specs.Machine.Mounts.{Propagation, is_shared, stands_on}
+use Rattle.vt_spec.specs.Machine.Mounts.Propagation.{Private, Shared, Slave, Unbindable}
+use Rattle.vt_spec.specs.Machine.Settled.{is_located}
+use Rattle.vt_spec.specs.Machine.World.{Descriptor, Task, all_locations, locations_of, mount_at, mount_numbered}
+use Rattle.vt_spec.specs.Machine.Invariants.{is_located_well, is_there}
+use Rattle.vt_spec.proofs.Lists.{Among, among-flat_map, among-from_map, among-map, among_from_all, among_from_list_all, none_among, none_from_among}
+use Rattle.vt_letting_go.specs.Counts.{mount_uses, times}
+use Rattle.vt_letting_go.proofs.UsesCounted.{located_while_counted}
+use Rattle.vt_mount_laws.proofs.MountsFound.{found_or_none, number_found}
+use Rattle.vt_mount.specs.MountsValue.{MountEntry, entry_numbered, mounts_in, uses_of, writers_of}
+use Rattle.vt_ns.specs.Held.{CountsItsUses, IsHeld, is_ungrouped, writes_of, writes_on}
+use Rattle.vt_ns.specs.WorldValue.{WorldValue, world_of}
+use Rattle.vt_ns.proofs.LookLemmas.{turned}
+use Rattle.vt_ns.proofs.TreesLookedAt.{or_nothing}
+use Rattle.vt_ns.proofs.LostUses.{entry_found_at}
+
+either_counted : (a b : ℕ) → (nat_lt 0 a || nat_lt 0 b) ≡ nat_lt 0 (a + b)
+either_counted zero b = ap (nat_lt 0) (omega arith)
+either_counted (suc a) b = grind (arith, nat_tests)
+
+any_counted : {A : Type 0} (test : A → Bool) (list : List A) → list_any test list ≡ nat_lt 0 (times test list)
+any_counted test [] = refl
+any_counted test (a ∷ rest) = by (test a) (any_counted test rest)
+  where
+    by : (b : Bool) → list_any test rest ≡ nat_lt 0 (times test rest) → (b || list_any test rest) ≡ nat_lt 0 (cond b 1 0 + times test rest)
+    by true e = either_counted 1 (times test rest)
+    by false e = e ∙ either_counted 0 (times test rest)
+
+any_written : (mount : ℕ) (tasks : List (Task ℕ)) → list_any (λ task. list_any (writes_on mount) task.descriptors) tasks ≡ nat_lt 0 (writes_of mount tasks)
+any_written mount [] = refl
+any_written mount (task ∷ rest) =
+    (λ i. any_counted (writes_on mount) task.descriptors i || any_written mount rest i)
+    ∙ either_counted (times (writes_on mount) task.descriptors) (writes_of mount rest)
+
+-- where no entry is found by a number, none has it
+entry_missing : (entries : List MountEntry) (number : ℕ) → entry_numbered entries number ≡ None
+    → is_among nat_eq number (map (λ mount. mount.number) (mounts_in entries)) ≡ false
+entry_missing [] number e = refl
+entry_missing (x ∷ entries) number e = by (nat_eq number x.mount.number) e (entry_missing entries number)
+  where
+    by : (b : Bool) → cond b (Some x) (entry_numbered entries number) ≡ None
+        → (entry_numbered entries number ≡ None → is_among nat_eq number (map (λ mount. mount.number) (mounts_in entries)) ≡ false)
+        → (b || is_among nat_eq number (map (λ mount. mount.number) (mounts_in entries))) ≡ false
+    by true e rest = absurd cc
+    by false e rest = rest e
+
+unshared : (kind : Propagation ℕ) → is_ungrouped kind ≡ true → is_shared kind ≡ false
+unshared (Shared group) e = sym e
+unshared (Slave master) e = refl
+unshared Private e = refl
+unshared Unbindable e = refl
+
+module _ (value : WorldValue) (held : IsHeld value) (number : ℕ) where
+  -- no location is on a mount that is not there
+  none_located : entry_numbered value.mounts number ≡ None → is_located nat_eq (world_of value) number ≡ false
+  none_located missing =
+      none_from_among (λ location. nat_eq number location.mount) (all_locations (world_of value))
+      (λ location m. by location m (nat_eq number location.mount) refl)
+    where
+      by : (location : meant.Location ℕ) → Among location (all_locations (world_of value)) → (b : Bool) → nat_eq number location.mount ≡ b → b ≡ false
+      by location m false e = refl
+      by location m true e =
+          let well = and_parts (is_among nat_eq location.mount (map (λ (mount : meant.Mount ℕ). mount.number) (mounts_in value.mounts)))
+          (is_there nat_eq (world_of value) (mount_at nat_eq (world_of value) location).filesystem location.node)
+          (among_from_list_all (is_located_well nat_eq (world_of value)) (all_locations (world_of value)) held.in_world.tasks.locations_live location m) in
+          sym well.0
+          ∙ ap (λ n. is_among nat_eq n (map (λ (mount : meant.Mount ℕ). mount.number) (mounts_in value.mounts))) (sym (eqb-true number location.mount e))
+          ∙ entry_missing value.mounts number missing
+
+  pub uses_tested : nat_lt 0 (uses_of value.mounts number) ≡ is_located nat_eq (world_of value) number
+  uses_tested = by (entry_numbered value.mounts number) refl
+    where
+      by : (o : Option MountEntry) → entry_numbered value.mounts number ≡ o
+          → nat_lt 0 (uses_of value.mounts number) ≡ is_located nat_eq (world_of value) number
+      by None e = ap (λ o. nat_lt 0 (unwrap_or (option_map (λ (entry : MountEntry). entry.uses) o) 0)) e ∙ sym (none_located e)
+      by (Some entry) e =
+          let found = entry_found_at value.mounts number entry e in
+          let counts = among_from_all (CountsItsUses (world_of value)) value.mounts held.mounts entry found.0 in
+          ap (λ o. nat_lt 0 (unwrap_or (option_map (λ (entry : MountEntry). entry.uses) o) 0)) e
+          ∙ ap (nat_lt 0) (counts.uses ∙ ap (mount_uses (world_of value)) (sym found.1))
+          ∙ sym (located_while_counted (world_of value) number)
+
+  pub written_through : nat_lt 0 (writers_of value.mounts number) ≡ is_written_through nat_eq (world_of value) number
+  written_through = by (entry_numbered value.mounts number) refl
+    where
+      none_written : entry_numbered value.mounts number ≡ None → is_written_through nat_eq (world_of value) number ≡ false
+      none_written missing =
+          none_from_among (λ task. list_any (writes_on number) task.descriptors) value.tasks (λ task t.
+          none_from_among (writes_on number) task.descriptors (λ descriptor d.
+          ap (λ b. descriptor.writes && b)
+          (none_among (λ location. nat_eq number location.mount) (all_locations (world_of value)) (none_located missing) descriptor.location
+          (among-flat_map locations_of value.tasks task descriptor.location t
+          (inr (inr (among-map (λ (one : Descriptor ℕ). one.location) task.descriptors descriptor d)))))
+          ∙ nothing descriptor.writes))
+        where
+          nothing : (b : Bool) → (b && false) ≡ false
+          nothing true = refl
+          nothing false = refl
+
+      by : (o : Option MountEntry) → entry_numbered value.mounts number ≡ o
+          → nat_lt 0 (writers_of value.mounts number) ≡ is_written_through nat_eq (world_of value) number
+      by None e = ap (λ o. nat_lt 0 (unwrap_or (option_map (λ (entry : MountEntry). entry.writers) o) 0)) e ∙ sym (none_written e)
+      by (Some entry) e =
+          let found = entry_found_at value.mounts number entry e in
+          let counts = among_from_all (CountsItsUses (world_of value)) value.mounts held.mounts entry found.0 in
+          ap (λ o. nat_lt 0 (unwrap_or (option_map (λ (entry : MountEntry). entry.writers) o) 0)) e
+          ∙ ap (nat_lt 0) (counts.writers ∙ ap (λ n. writes_of n value.tasks) (sym found.1))
+          ∙ sym (any_written number value.tasks)
+
+  -- no mount is shared, so an unmount takes one mount alone
+  never_shared : (other : ℕ) → is_shared (mount_numbered nat_eq (world_of value) other).propagation ≡ false
+  never_shared other =
+      ⊎_elim
+      (λ m.
+      let entry = among-from_map (λ (entry : MountEntry). entry.mount) value.mounts (mount_numbered nat_eq (world_of value) other) m in
+      ap (λ (mount : meant.Mount ℕ). is_shared mount.propagation) entry.2
+      ∙ unshared entry.0.mount.propagation
+      (among_from_list_all (λ (entry : MountEntry). is_ungrouped entry.mount.propagation) value.mounts held.ungrouped entry.0 entry.1))
+      (λ none. ap (λ (mount : meant.Mount ℕ). is_shared mount.propagation) none)
+      (found_or_none (mounts_in value.mounts) other)
+
+  pub goes_alone : going nat_eq (world_of value) (mount_numbered nat_eq (world_of value) number) ≡ number ∷ []
+  goes_alone =
+      by (mount_numbered nat_eq (world_of value) number).mount_point ∙ ap (λ n. n ∷ []) (number_found (mounts_in value.mounts) number)
+    where
+      by : (o : Option (meant.Location ℕ))
+          → going_at nat_eq (world_of value) (mount_numbered nat_eq (world_of value) number) o ≡ (mount_numbered nat_eq (world_of value) number).number ∷ []
+      by None = refl
+      by (Some place) =
+          ap (going_from nat_eq (world_of value) (mount_numbered nat_eq (world_of value) number) place) (never_shared place.mount)
+
+  pub busy_is : (list_any (stands_on nat_eq number) (mounts_in value.mounts) || nat_lt 0 (uses_of value.mounts number))
+      ≡ is_busy nat_eq (world_of value) number
+  busy_is =
+      ap (λ b. list_any (stands_on nat_eq number) (mounts_in value.mounts) || b)
+      (uses_tested
+      ∙ (λ i. list_any (λ (location : meant.Location ℕ). (turned number location.mount ∙ sym (or_nothing (nat_eq location.mount number))) i) (all_locations (world_of value)))
+      ∙ ap (is_used nat_eq (world_of value)) (sym goes_alone))

@@ -1,0 +1,387 @@
+-- A new file is made in a directory, and opened: open(2) with O_CREAT.
+use Rattle.std.proofs.Common.{◌≡◌, refl, sym, ap, subst, ◌∙◌, inl, inr, true≢false, ℕ, ◌<◌, ◌/◌, ◌&&◌, true, cond, nat_eq, eq-eqb, List, [], ◌∷◌, map, Option, Some, is_some, option_map, unwrap_or, arith}
+use Rattle.std.specs.Prelude.{Ok}
+use Rattle.std.specs.List.{list_all}
+use Rattle.std.proofs.lemmas.Option.{same_Some}
+use Rattle.vt_spec.specs.declared.errors.Rule.TheVariants.{S3, S5}
+use Rattle.vt_spec.specs.Errors.{denial}
+use Rattle.vt_spec.specs.Language.Calls.{TaskName}
+use Rattle.vt_spec.specs.Language.Calls as spoken
+use Rattle.vt_spec.specs.Language.Changes.{Change}
+use Rattle.vt_spec.specs.Language.Changes.Change.{Make}
+use Rattle.vt_spec.specs.Laws.Trees.{IsNewIn}
+use Rattle.vt_spec.specs.Lists.{Fresh, odds}
+use Rattle.vt_spec.specs.Machine.Apply.{apply}
+use Rattle.vt_spec.specs.Machine.Filesystems.{with_change}
+use Rattle.vt_spec.specs.Machine.Outcome.Descriptors.{free_number, with_descriptor}
+use Rattle.vt_spec.specs.Machine.Permits.{Permit}
+use Rattle.vt_spec.specs.Machine.Permits.Permit.{ToMake, ToOpenNew}
+use Rattle.vt_spec.specs.Machine.SameWorlds.{SameWorlds}
+use Rattle.vt_spec.specs.Machine.Settled.{settled, without_dead_mounts}
+use Rattle.vt_spec.specs.Machine.World.{Descriptor, Task, World, all_locations, locations_of, replaced_if_called, with_task}
+use Rattle.vt_spec.specs.Machine.Invariants.{IsWorld, is_located_well, is_within_limits}
+use Rattle.vt_spec.specs.OneTree.Fits.{Fits}
+use Rattle.vt_spec.specs.OneTree.Inodes.{Inodes, changed, tree_of, uses_in, with_changed}
+use Rattle.vt_spec.specs.Tree.{Node, node_with_entry}
+use Rattle.vt_count_laws.specs.Counted.{IsPlain}
+use Rattle.vt_count_laws.proofs.Changes.{only_files_change}
+use Rattle.vt_count_laws.proofs.KeptAll.{names_keep_all}
+use Rattle.vt_fs.specs.FilesystemsValue.{ChangesInodes, Filesystems, entry_at, entry_of, inodes_at, inodes_seen, next_seen, no_entry, node_seen}
+use Rattle.vt_letting_go.proofs.Lists.{Among, among-append_right, among-flat_map, among-map}
+use Rattle.vt_letting_go.specs.Mounting.{inode_at}
+use Rattle.vt_spec.proofs.Lists.{among_from_list_all}
+use Rattle.vt_location.specs.declared.locations.Location.{Location}
+use Rattle.vt_location.specs.declared.locations.NodeRef.{NodeRef}
+use Rattle.vt_location.specs.Locations.{location_of, number_of}
+use Rattle.vt_location.specs.Numbers.{counted, is_inode_of}
+use Rattle.vt_location.proofs.NumberLemmas.{is_inode}
+use Rattle.vt_mount.specs.MountsValue.{MountEntry}
+use Rattle.vt_permit_laws.specs.Named.{permit_named}
+use Rattle.vt_permit_laws.specs.Sees.{HasRoom, MayBeMade}
+use Rattle.vt_permit_laws.proofs.PermitsKeepTo.{same_keeps_to_numbers_too}
+use Rattle.vt_permit_laws.proofs.PermitsLeave.{given_permits_are_under_way, given_permits_leave_worlds}
+use Rattle.vt_permit_laws.proofs.SameInUse.{same_worlds_are_worlds}
+use Rattle.vt_permit_laws.proofs.SameInvariants.{same_worlds_are_under_way}
+use Rattle.vt_permit_laws.proofs.SeesFit.{given_changes_fit}
+use Rattle.vt_permit_laws.proofs.SeesTasks.{given_permits_are_seen_to}
+use Rattle.vt_run_laws.specs.Handed.{is_counted_before}
+use Rattle.vt_run_laws.proofs.AlikeSettled.{settled_alike}
+use Rattle.vt_run_laws.proofs.AlikeWorlds.{alike_from_same, same_from_alike, same_worlds_are_plain_alike, sameness_is_an_equivalence}
+use Rattle.vt_tasks.specs.TasksValue.{Tasks, called, changed_by, changed_called, open_refusal, replaced}
+use Rattle.vt_tree.specs.TreeRules.{make_rules, ruling}
+use Rattle.vt_world_laws.specs.Worlds.Kept.{IsWorldButForUse}
+use Rattle.vt_world_laws.specs.Worlds.Permits.{IsFitPermit}
+use Rattle.vt_world_laws.proofs.MountsKept.{mounts_kept}
+use Rattle.vt_world_laws.proofs.NamespacesKept.{namespaces_kept}
+use Rattle.vt_world_laws.proofs.PermitsNamed.{permits_keep_counting_forks, permits_keep_names}
+use Rattle.vt_world_laws.proofs.PermitsPlaced.{permits_keep_directories, permits_keep_locations, permits_keep_open_files}
+use Rattle.vt_world_laws.proofs.PermitsShow.{permits_keep_mounts_showing}
+use Rattle.vt_world_laws.proofs.SettledTasks.{settling_leaves_a_world}
+use Rattle.vt_ns.specs.Events.{Permits, next_inode, supply_of}
+use Rattle.vt_ns.specs.Held.{IsHeld}
+use Rattle.vt_ns.specs.Uses.{kept, with_location, with_use}
+use Rattle.vt_ns.specs.WorldValue.{WorldValue, world_of}
+use Rattle.vt_ns.proofs.Bridging.{IsSwept, swept_is_same}
+use Rattle.vt_ns.proofs.ChangedFiles.{ChangesFiles, change_is_held, change_is_swept, inodes_after, is_change, partner, with_filesystems}
+use Rattle.vt_ns.proofs.FileAnswers.{make_passes}
+use Rattle.vt_ns.proofs.FileEvents.{IsSmall, permit_fits}
+use Rattle.vt_ns.proofs.FileMaking.{new_in_slot, new_is_named}
+use Rattle.vt_ns.proofs.FilesOpened.{inserted_goes, opened_moves, opened_stays, opened_tasks}
+use Rattle.vt_ns.proofs.FilesSeen.{IsLocated, files_are_plain, inodes_named, located, located_filesystem, located_inodes, one_entry}
+use Rattle.vt_ns.proofs.Finishing.{swept_held}
+use Rattle.vt_ns.proofs.LocationsSeen.{seen_where_located}
+use Rattle.vt_ns.proofs.Closing.{used_by}
+use Rattle.vt_ns.proofs.Moving.{Moves}
+use Rattle.vt_ns.proofs.Remaining.{remade, remains_counted, remains_swept}
+use Rattle.vt_ns.proofs.Shown.{is_some_mapped}
+use Rattle.vt_ns.proofs.Splits.{replaced_split}
+use Rattle.vt_ns.proofs.Staying.{IsDone, after, becomes_so}
+
+-- a new inode has one use
+used_when_made : (inodes : Inodes ℕ) (directory : ℕ) (name : List ℕ) (number : ℕ) (node : Node ℕ)
+    → uses_in ((changed nat_eq inodes (Make directory name number node)).inode number) ≡ 1
+used_when_made inodes directory name number node =
+    ap (λ b. uses_in (cond b (Some (record { node = node; uses = 1 })) ((with_changed nat_eq inodes directory (node_with_entry name number)).inode number)))
+    (eq-eqb number number refl)
+
+module _ (value : WorldValue) (held : IsHeld value) (name : TaskName) (directory : Location) (entry : List ℕ) (node : Node ℕ)
+    (access : spoken.Access) (small : IsSmall directory)
+    (permits : Permits value name (ToOpenNew (location_of directory) entry (node_seen directory.node.filesystem.count node) access)) where
+  abbrev count : ℕ
+  count = directory.node.filesystem.count
+
+  abbrev permit : Permit ℕ
+  permit = ToOpenNew (location_of directory) entry (node_seen count node) access
+
+  abbrev making : Permit ℕ
+  making = ToMake (location_of directory) entry (node_seen count node)
+
+  abbrev handed : Fresh ℕ
+  handed = supply_of value permit
+
+  abbrev next_number : ℕ
+  next_number = next_inode value (location_of directory)
+
+  fits : IsFitPermit handed (world_of value) permits.task permit
+  fits = permit_fits value held name permit permits
+
+  seen : IsLocated value directory
+  seen = located value held directory small fits.names.0.reached.there
+
+  sees : MayBeMade (world_of value) (location_of directory) entry (node_seen count node) × HasRoom permits.task
+  sees =
+      given_permits_are_seen_to (world_of value) handed permits.task permit held.in_world
+      (files_are_plain value.filesystems) permits.given
+
+  pub new_in_directory : IsNewIn directory.node.slot node
+  new_in_directory = new_in_slot count directory.node.slot small node sees.0.fits
+
+  -- the task may open another file, so only memory was missing
+  pub room_for_one : open_refusal (called name value.tasks) ≡ denial S5
+  room_for_one = ap open_refusal permits.called ∙ ap (λ b. denial (cond b S3 S5)) sees.1
+
+  abbrev change : ℕ → Change ℕ
+  change number = Make (number_of directory.node) entry number (node_seen count node)
+
+  fits_next : (inodes : Inodes ℕ) → inodes ≡ inodes_seen seen.entry → Fits inodes (change next_number)
+  fits_next inodes same =
+      given_changes_fit (world_of value) handed permits.task permit (location_of directory) (change next_number) inodes held.in_world
+      (files_are_plain value.filesystems) permits.given refl
+      (ap tree_of same ∙ ap (λ filesystem. filesystem.files.tree) (sym (located_filesystem value directory seen)))
+
+  pub make_is_clear : ruling (make_rules (inodes_at value.filesystems count) (number_of directory.node) entry) ≡ Ok tt
+  make_is_clear =
+      let fit = fits_next (inodes_at value.filesystems count) (located_inodes value directory seen) in
+      make_passes (inodes_at value.filesystems count) (number_of directory.node) entry [] fit.0 fit.1 refl
+
+  -- the filesystem is there, and has a number for one more inode
+  has_filesystem : entry_of value.filesystems count ≡ Some seen.entry
+  has_filesystem = ap (entry_of value.filesystems) (sym seen.count_is) ∙ seen.found
+
+  pub has_next : (next : Option NodeRef) → option_map number_of next ≡ option_map next_seen (entry_of value.filesystems count) → is_some next ≡ true
+  has_next next is = sym (is_some_mapped number_of next) ∙ ap is_some is ∙ ap (λ o. is_some (option_map next_seen o)) has_filesystem
+
+  pub next_is_numbered : (next : Option NodeRef) (file : NodeRef) → option_map number_of next ≡ option_map next_seen (entry_of value.filesystems count)
+      → next ≡ Some file → number_of file ≡ next_seen (entry_at value.filesystems count)
+  next_is_numbered next file is some =
+      let same : Some (number_of file) ≡ Some (next_seen seen.entry) =
+      ap (option_map number_of) (sym some) ∙ is ∙ ap (option_map next_seen) has_filesystem in
+      same_Some (number_of file) (next_seen seen.entry) same ∙ ap (λ o. next_seen (unwrap_or o (no_entry count))) (sym has_filesystem)
+
+  named : permit_named (is_counted_before value.next) making ≡ true
+  named =
+      λ i. seen.named i
+      && new_is_named (is_counted_before value.next) (number_of directory.node) (node_seen count node)
+      (inodes_named value.next count directory.node.slot) sees.0.fits i
+
+  under_way : IsWorldButForUse (apply nat_eq handed (world_of value) permits.task permit).world
+  under_way =
+      given_permits_are_under_way (world_of value) handed permits.task permit held.in_world (files_are_plain value.filesystems) permits.given
+
+  making_fits : IsFitPermit handed (world_of value) permits.task making
+  making_fits = record { names = fits.names.0; few_mounts = fits.few_mounts }
+
+  -- the file is made
+  module _ (made_in : Filesystems) (made : NodeRef) (small_made : made.slot < 18446744073709551616)
+      (inside : made.filesystem ≡ directory.node.filesystem)
+      (number : number_of made ≡ next_seen (entry_at value.filesystems count))
+      (changes : ChangesInodes count (λ inodes. changed nat_eq inodes (change (number_of made))) value.filesystems made_in) where
+    abbrev mid : WorldValue
+    mid = with_filesystems value made_in
+
+    next_is : next_number ≡ number_of made
+    next_is =
+        ap (λ n. next_seen (entry_at value.filesystems (n / 4))) seen.shows
+        ∙ ap (λ n. next_seen (entry_at value.filesystems n)) (quarter seen.entry.count ∙ seen.count_is)
+        ∙ sym number
+      where
+        quarter : (n : ℕ) → counted n / 4 ≡ n
+        quarter n = omega arith
+
+    is_made : ChangesFiles value (location_of directory) (change (number_of made)) made_in
+    is_made = record {
+      entry = seen.entry;
+      among = seen.among;
+      found = seen.found;
+      shows = seen.shows;
+      fits = subst (λ n. Fits (inodes_seen seen.entry) (change n)) next_is (fits_next (inodes_seen seen.entry) refl);
+      links = tt;
+      changes =
+          subst (λ n. ChangesInodes n (λ inodes. changed nat_eq inodes (change (number_of made))) value.filesystems made_in)
+          (sym seen.count_is) changes;
+      own = λ n other same.
+          true≢false (sym (ap (λ k. is_inode_of k (number_of made)) (seen.count_is ∙ ap (λ filesystem. filesystem.count) (sym inside))
+          ∙ is_inode made.filesystem.count made.slot small_made)
+          ∙ ap (is_inode_of seen.entry.count) (sym same) ∙ other);
+    }
+
+    -- the world once it is made, whatever numbers are left over
+    abbrev with_made : Fresh ℕ → World ℕ
+    with_made rest = with_change nat_eq rest (world_of value) (location_of directory) (change (number_of made))
+
+    nothing_goes : (rest : Fresh ℕ) → settled nat_eq (with_made rest) ≡ with_made rest
+    nothing_goes rest =
+        names_keep_all rest (world_of value) (location_of directory) (inodes_seen is_made.entry) (change (number_of made))
+        (is_change value held (location_of directory) (change (number_of made)) made_in is_made) tt
+
+    same_tasks : (rest : Fresh ℕ) → (with_made rest).tasks ≡ value.tasks
+    same_tasks rest =
+        ap (λ (world : World ℕ). world.tasks) (sym (nothing_goes rest)
+        ∙ only_files_change rest (world_of value) (location_of directory) (inodes_seen is_made.entry) (change (number_of made))
+        (is_change value held (location_of directory) (change (number_of made)) made_in is_made))
+
+    made_same : (rest : Fresh ℕ) → SameWorlds (with_made rest) (world_of mid)
+    made_same rest =
+        subst (λ world. SameWorlds world (world_of mid)) (nothing_goes rest)
+        (change_is_swept value held (location_of directory) (change (number_of made)) made_in is_made rest)
+
+    -- it is a world
+    is_applied : (apply nat_eq handed (world_of value) permits.task making).world ≡ with_made (odds handed)
+    is_applied = ap (λ n. with_change nat_eq (odds handed) (world_of value) (location_of directory) (change n)) next_is
+
+    unsettled : IsWorldButForUse (apply nat_eq handed (world_of value) permits.task making).world
+    unsettled = record {
+      plain = under_way.plain;
+      files = record {
+        trees = under_way.files.trees;
+        own_parents = under_way.files.own_parents;
+        numbers = under_way.files.numbers;
+        one_filesystem = under_way.files.one_filesystem;
+        fit_filesystems = under_way.files.fit_filesystems;
+      };
+      mounts = mounts_kept (world_of value) handed permits.task making held.in_world plain permits.given.serves permits.given.called making_fits;
+      namespaces = namespaces_kept (world_of value) handed permits.task making held.in_world plain permits.given.serves permits.given.called making_fits;
+      tasks = record {
+        one_task = permits_keep_names (world_of value) handed permits.task making held.in_world plain permits.given.serves permits.given.called making_fits;
+        small_tasks =
+            ap (λ (world : World ℕ). list_all is_within_limits world.tasks) is_applied
+            ∙ ap (list_all is_within_limits) (same_tasks (odds handed)) ∙ held.in_world.tasks.small_tasks;
+        forks_counted = permits_keep_counting_forks (world_of value) handed permits.task making held.in_world plain permits.given.serves permits.given.called making_fits;
+        locations_live = permits_keep_locations (world_of value) handed permits.task making held.in_world plain permits.given.serves permits.given.called making_fits;
+        directories = permits_keep_directories (world_of value) handed permits.task making held.in_world plain permits.given.serves permits.given.called making_fits;
+        open_files = permits_keep_open_files (world_of value) handed permits.task making held.in_world plain permits.given.serves permits.given.called making_fits;
+      };
+      roots = permits_keep_mounts_showing (world_of value) handed permits.task making held.in_world plain permits.given.serves permits.given.called making_fits;
+    }
+      where
+        plain : IsPlain (world_of value)
+        plain = files_are_plain value.filesystems
+
+    mid_is_world : IsWorld nat_eq (world_of mid)
+    mid_is_world =
+        let left = subst (λ world. IsWorld nat_eq (settled nat_eq world) × IsPlain (settled nat_eq world)) is_applied
+        (settling_leaves_a_world (apply nat_eq handed (world_of value) permits.task making).world unsettled) in
+        (same_worlds_are_worlds (settled nat_eq (with_made (odds handed))) (world_of mid)
+        (change_is_swept value held (location_of directory) (change (number_of made)) made_in is_made (odds handed)) left.1 left.0).0
+
+    pub mid_held : IsHeld mid
+    mid_held =
+        change_is_held value held (location_of directory) (change (number_of made)) made_in is_made mid_is_world
+        (same_keeps_to_numbers_too (is_counted_before value.next) (λ k. number_of made) (world_of value) permits.task making (world_of mid)
+        permits.given.called held.given (λ k. inodes_named value.next made.filesystem.count made.slot) named
+        (change_is_swept value held (location_of directory) (change (number_of made)) made_in is_made (λ k. number_of made))
+        (files_are_plain made_in))
+
+    -- the new inode has one use
+    pub used_once : uses_in ((inodes_at made_in count).inode (number_of made)) ≡ 1
+    unfolding is_made seen
+    used_once =
+        let with_file = partner value held (location_of directory) (change (number_of made)) made_in is_made in
+        let found : entry_of made_in count ≡ Some with_file.entry =
+        ap (entry_of made_in) (sym (with_file.is.count_is ∙ seen.count_is))
+        ∙ one_entry made_in mid_is_world.files.one_filesystem with_file.entry with_file.among in
+        ap (λ o. uses_in ((inodes_seen (unwrap_or o (no_entry count))).inode (number_of made))) found
+        ∙ ap (λ (inodes : Inodes ℕ). uses_in (inodes.inode (number_of made)))
+        (inodes_after value held (location_of directory) (change (number_of made)) made_in is_made)
+        ∙ used_when_made (inodes_seen is_made.entry) (number_of directory.node) entry (number_of made) (node_seen count node)
+
+    -- and then it is opened
+    abbrev file : Location
+    file = record { mount = directory.mount; node = made }
+
+    abbrev descriptor : Descriptor ℕ
+    descriptor = record { number = free_number permits.task; location = location_of file; reads = access.reads; writes = access.writes }
+
+    abbrev opens : Task ℕ
+    opens = with_descriptor permits.task (location_of file) access
+
+    abbrev tasks : Tasks
+    tasks = replaced opens value.tasks
+
+    abbrev next : World ℕ
+    next = world_of (after mid tasks)
+
+    abbrev opened_at : Fresh ℕ → World ℕ
+    opened_at rest = with_task (with_made rest) opens
+
+    opened_same : (rest : Fresh ℕ) → SameWorlds (opened_at rest) next
+    opened_same rest = let same = made_same rest in record {
+      mounts = same.mounts;
+      master = same.master;
+      filesystems = same.filesystems;
+      namespaces = same.namespaces;
+      tasks = ap (λ all. map (λ (task : Task ℕ). record task { change = 0 }) (map (replaced_if_called opens) all)) (same_tasks rest);
+    }
+
+    opened_applied : (apply nat_eq handed (world_of value) permits.task permit).world ≡ opened_at (odds handed)
+    opened_applied =
+        ap (λ n. with_task (with_change nat_eq (odds handed) (world_of value) (location_of directory) (change n))
+        (with_descriptor permits.task (record { mount = counted directory.mount.count; node = n }) access)) next_is
+
+    under_next : IsWorldButForUse next
+    under_next =
+        same_worlds_are_under_way (opened_at (odds handed)) next (opened_same (odds handed)) (subst IsWorldButForUse opened_applied under_way)
+
+    there : is_located_well nat_eq (world_of mid) (location_of file) ≡ true
+    there =
+        among_from_list_all (is_located_well nat_eq next) (all_locations next) under_next.tasks.locations_live (location_of file)
+        (among-flat_map locations_of tasks opens (location_of file) opens_among (inr (inr file_among)))
+      where
+        opens_among : Among opens tasks
+        opens_among =
+            let split = replaced_split name value.tasks permits.task opens held.in_world.tasks.one_task permits.called refl in
+            subst (λ all. Among opens all) (sym split.is) (among-append_right split.front (opens ∷ split.back) opens (inl refl))
+
+        file_among : Among (location_of file) (map (λ (one : Descriptor ℕ). one.location) opens.descriptors)
+        file_among =
+            let goes = inserted_goes descriptor permits.task.descriptors in
+            among-map (λ (one : Descriptor ℕ). one.location) opens.descriptors descriptor
+            (subst (λ all. Among descriptor all) (sym goes.was) (among-append_right goes.front (descriptor ∷ goes.back) descriptor (inl refl)))
+
+    moves : Moves mid tasks (used_by descriptor ∷ []) []
+    moves = opened_moves mid mid_held name permits.task permits.called descriptor there
+
+    stay : without_dead_mounts nat_eq next ≡ next
+    stay = opened_stays mid mid_held name permits.task permits.called descriptor there
+
+    opened_alike : (rest : Fresh ℕ) → SameWorlds (settled nat_eq (opened_at rest)) (settled nat_eq next)
+    opened_alike rest =
+        same_from_alike (settled nat_eq (opened_at rest)) (settled nat_eq next)
+        (settled_alike (opened_at rest) next (alike_from_same (opened_at rest) next (opened_same rest)
+        (same_worlds_are_plain_alike next (opened_at rest)
+        (sameness_is_an_equivalence.back (opened_at rest) next (opened_same rest)) (files_are_plain made_in))))
+
+    left : IsWorld nat_eq (settled nat_eq next) × IsPlain (settled nat_eq next)
+    left =
+        let given = subst (λ world. IsWorld nat_eq (settled nat_eq world) × IsPlain (settled nat_eq world)) opened_applied
+        (given_permits_leave_worlds (world_of value) handed permits.task permit held.in_world (files_are_plain value.filesystems) permits.given) in
+        same_worlds_are_worlds (settled nat_eq (opened_at (odds handed))) (settled nat_eq next) (opened_alike (odds handed)) given.1 given.0
+
+    -- a use of its mount and of its inode
+    module _ (mounts : List MountEntry) (filesystems : Filesystems)
+        (is_kept : kept mounts filesystems ≡ with_location file access.writes (kept value.mounts made_in)) where
+      abbrev new : WorldValue
+      new = remade mid mounts filesystems tasks
+
+      moved : kept mounts filesystems
+          ≡ with_use (counted directory.mount.count) (inode_at (world_of mid) (location_of file)) access.writes (kept value.mounts made_in)
+      moved =
+          is_kept ∙ (λ i. with_use (counted directory.mount.count) (sym (seen_where_located mid mid_held file small_made there) i, number_of made)
+          access.writes (kept value.mounts made_in))
+
+      swept : IsSwept mid next (inode_at (world_of mid) (location_of file) ∷ []) [] new
+      swept = remains_swept mid mid_held tasks (used_by descriptor ∷ []) [] moves mounts filesystems moved stay left.1
+
+      same : (rest : Fresh ℕ) → SameWorlds (settled nat_eq (opened_at rest)) (world_of new)
+      same rest =
+          sameness_is_an_equivalence.onward (settled nat_eq (opened_at rest)) (settled nat_eq next) (world_of new) (opened_alike rest)
+          (swept_is_same mid mid_held next (inode_at (world_of mid) (location_of file) ∷ []) [] new swept left.0)
+
+      new_is_opened : IsDone value name permit new
+      new_is_opened = record {
+        held = swept_held mid mid_held next left (inode_at (world_of mid) (location_of file) ∷ []) [] new swept
+            (remains_counted mid mid_held tasks (used_by descriptor ∷ []) [] moves mounts filesystems moved stay
+            (opened_tasks mid mid_held name permits.task permits.called descriptor there))
+            (same_keeps_to_numbers_too (is_counted_before value.next) (λ k. number_of made) (world_of value) permits.task permit (world_of new)
+            permits.given.called held.given (λ k. inodes_named value.next made.filesystem.count made.slot) named
+            (same (λ k. number_of made)) (files_are_plain filesystems));
+        becomes = becomes_so value name permit new permits.task permits.called
+            (subst (λ world. SameWorlds (settled nat_eq world) (world_of new)) (sym opened_applied) (same (odds handed)));
+      }
+
+      -- with the tasks as code opens the file
+      pub new_opens : (opened : Tasks) → opened ≡ changed_called name (λ task. with_descriptor task (location_of file) access) value.tasks
+          → IsDone value name permit (remade mid mounts filesystems opened)
+      new_opens opened is =
+          subst (λ all. IsDone value name permit (remade mid mounts filesystems all))
+          (sym (is ∙ ap (changed_by (λ task. with_descriptor task (location_of file) access) value.tasks) permits.called)) new_is_opened

@@ -1,0 +1,83 @@
+-- Events of tasks after which all mounts are still in use, and in which tasks come to namespaces: fork(2).
+use Rattle.std.proofs.Common.{◌≡◌, refl, sym, ap, subst, ◌∙◌, ℕ, nat_eq, List, map}
+use Rattle.vt_spec.specs.Language.Calls.{TaskName}
+use Rattle.vt_spec.specs.Machine.Mounts.{Mount}
+use Rattle.vt_spec.specs.Machine.Permits.{Permit}
+use Rattle.vt_spec.specs.Machine.Settled.{settled, without_dead_mounts}
+use Rattle.vt_spec.specs.Machine.World as meant
+use Rattle.vt_spec.specs.Machine.World.{Task, World}
+use Rattle.vt_count_laws.specs.Counted.{IsPlain}
+use Rattle.vt_fs.specs.FilesystemsValue.{Filesystems, Shown}
+use Rattle.vt_letting_go.specs.Counts.{times}
+use Rattle.vt_letting_go.proofs.Lists.{Among, all_from_among, all_pass, among_from_all, passes}
+use Rattle.vt_location.specs.Numbers.{counted}
+use Rattle.vt_mount.specs.MountsValue.{MountEntry}
+use Rattle.vt_tasks.specs.TasksValue.{Tasks}
+use Rattle.vt_ns.specs.Held.{CountsItsMounts, CountsItsUses, CountsWhatIsInIt, IsHeld, is_ungrouped}
+use Rattle.vt_ns.specs.Uses.{kept}
+use Rattle.vt_ns.specs.WorldValue.{NamespaceEntry, WorldValue, namespace_of, world_of}
+use Rattle.vt_ns.proofs.Bridging.{IsSwept}
+use Rattle.vt_ns.proofs.Finishing.{CountsBeside, IsApplied, finished, is_left}
+use Rattle.vt_ns.proofs.Moving.{Moves, Use, entry_counts, inodes_of_uses, moved_kept}
+use Rattle.vt_ns.proofs.Remaining.{entry_was, remade, remains_swept, same_mount, same_mounts, shown_was}
+use Rattle.vt_ns.proofs.Staying.{IsDone, after}
+
+-- the code's world with other mounts, filesystems, namespaces and tasks
+abbrev pub remade_in : WorldValue → List MountEntry → Filesystems → List NamespaceEntry → Tasks → WorldValue
+remade_in value mounts filesystems namespaces tasks = record (remade value mounts filesystems tasks) { namespaces = namespaces }
+
+-- the same namespaces, each with the count of its tasks now
+pub record CountsTasks (value : WorldValue) (namespaces : List NamespaceEntry) (tasks : Tasks) : Type 0 where
+  pub same : map namespace_of namespaces ≡ map namespace_of value.namespaces
+  pub counts : (entry : NamespaceEntry) → Among entry namespaces
+      → entry.tasks ≡ times (λ task. nat_eq (counted entry.count) task.namespace) tasks
+
+module _ (value : WorldValue) (whole : IsHeld value) (tasks : Tasks) (more less : List Use) (moves : Moves value tasks more less)
+    (mounts : List MountEntry) (filesystems : Filesystems) (namespaces : List NamespaceEntry)
+    (is_kept : kept mounts filesystems ≡ moved_kept (world_of value) more less (kept value.mounts value.filesystems))
+    (inside : CountsTasks value namespaces tasks)
+    (stay : without_dead_mounts nat_eq (world_of (after value tasks)) ≡ world_of (after value tasks)) where
+  abbrev next : World ℕ
+  next = world_of (after value tasks)
+
+  abbrev new : WorldValue
+  new = remade_in value mounts filesystems namespaces tasks
+
+  swept_in : IsPlain (settled nat_eq next) → IsSwept value next (inodes_of_uses (world_of value) more) (inodes_of_uses (world_of value) less) new
+  swept_in plain =
+      let swept = remains_swept value whole tasks more less moves mounts filesystems is_kept stay plain in
+      record {
+        plain = swept.plain;
+        mounts = swept.mounts;
+        ungrouped = swept.ungrouped;
+        plain_left = swept.plain_left;
+        numbers = swept.numbers;
+        entries = swept.entries;
+        namespaces = ap (map (λ (namespace : meant.Namespace ℕ). record namespace { change = 0 })) (sym inside.same);
+        tasks = swept.tasks;
+      }
+
+  counted_in : CountsBeside new
+  counted_in = record {
+    ungrouped = all_pass (λ entry. is_ungrouped entry.mount.propagation) mounts (λ entry m.
+        let from = entry_was value whole tasks more less moves mounts filesystems is_kept entry m in
+        ap (λ (one : MountEntry). is_ungrouped one.mount.propagation) from.2
+        ∙ ap (λ (mount : Mount ℕ). is_ungrouped mount.propagation) (same_mount value whole tasks more less moves mounts filesystems is_kept from.0)
+        ∙ passes (λ one. is_ungrouped one.mount.propagation) value.mounts whole.ungrouped from.0 from.1);
+    uses = all_from_among (CountsItsUses (world_of new)) mounts (λ entry m.
+        let from = entry_was value whole tasks more less moves mounts filesystems is_kept entry m in
+        let counts = subst (CountsItsUses next) (sym from.2) (entry_counts value whole tasks more less moves from.0 from.1) in
+        record { uses = counts.uses; writers = counts.writers });
+    mounts = λ entry m. let from = shown_was value whole tasks more less moves mounts filesystems is_kept entry m in
+        ap (λ (one : Shown). one.mounts) from.2
+        ∙ (among_from_all (CountsItsMounts (world_of value)) value.filesystems whole.filesystems from.0 from.1).mounts
+        ∙ (λ i. times (λ (mount : Mount ℕ). nat_eq (counted (sym (ap (λ (one : Shown). one.count) from.2) i)) mount.filesystem)
+        (sym (same_mounts value whole tasks more less moves mounts filesystems is_kept) i));
+    namespaces = all_from_among (CountsWhatIsInIt (world_of new)) namespaces (λ entry m. record { tasks = inside.counts entry m });
+  }
+
+  pub remains_done_in : (name : TaskName) (permit : Permit ℕ) (task : Task ℕ) → IsApplied value name permit task next
+      → IsDone value name permit new
+  remains_done_in name permit task is =
+      finished value whole name permit task next is (inodes_of_uses (world_of value) more) (inodes_of_uses (world_of value) less) new
+      (swept_in (is_left value whole name permit task next is).1) counted_in refl

@@ -1,0 +1,170 @@
+-- The event that renames, with the mounts on what is replaced: rename(2).
+use Rattle.std.proofs.Common.{◌≡◌, ◌≢◌, refl, sym, ap, subst, ◌∙◌, true, ℕ, nat_eq, ◌&&◌, List, [], ◌∷◌, Option, None, Some, option_map}
+use Rattle.std.specs.Prelude.{IfSome, option_to_list}
+use Rattle.std.proofs.lemmas.Option.{same_Some}
+use Rattle.vt_spec.specs.Language.Calls.{TaskName}
+use Rattle.vt_spec.specs.Language.Changes.{Change}
+use Rattle.vt_spec.specs.Language.Changes.Change.{Move}
+use Rattle.vt_spec.specs.Lists.{Fresh}
+use Rattle.vt_spec.specs.Machine.Apply.{apply}
+use Rattle.vt_spec.specs.Machine.Detach.{mounts_on}
+use Rattle.vt_spec.specs.Machine.Filesystems.{with_change}
+use Rattle.vt_spec.specs.Machine.Mounts as meant
+use Rattle.vt_spec.specs.Machine.Mounts.{Mount, mount_tree}
+use Rattle.vt_spec.specs.Machine.Outcome.Removing.{without_replaced}
+use Rattle.vt_spec.specs.Machine.Permits.{Permit}
+use Rattle.vt_spec.specs.Machine.Permits.Permit.{ToChange, ToRename}
+use Rattle.vt_spec.specs.Machine.World.{World, filesystem_at, filesystem_numbered, mount_at, mount_numbered, with_mounts}
+use Rattle.vt_spec.specs.TreeLaws.{entry_at}
+use Rattle.vt_fs.specs.FilesystemsValue.{ChangesInodes, Filesystems, inodes_seen}
+use Rattle.vt_spec.specs.OneTree.Inodes.{changed}
+use Rattle.vt_letting_go.specs.FileChanges.{names_lost}
+use Rattle.vt_letting_go.proofs.Lists.{Among}
+use Rattle.vt_location.specs.declared.locations.Location.{Location}
+use Rattle.vt_location.specs.Locations.{location_of, number_of}
+use Rattle.vt_mount.specs.MountsValue.{MountEntry, mounts_in}
+use Rattle.vt_permit_laws.specs.Named.{permit_named}
+use Rattle.vt_permit_laws.specs.Sees.{MayBeRenamed}
+use Rattle.vt_run_laws.specs.Handed.{is_counted_before}
+use Rattle.vt_world_laws.specs.Worlds.Permits.{IsReached, NamesWhatIsThere}
+use Rattle.vt_ns.specs.Detached.{LeaveInTurn, trees_of_replaced}
+use Rattle.vt_ns.specs.Events.{Permits}
+use Rattle.vt_ns.specs.Held.{IsHeld}
+use Rattle.vt_ns.specs.Uses.{kept}
+use Rattle.vt_ns.specs.WorldValue.{WorldValue, world_of}
+use Rattle.vt_ns.proofs.ChangedFiles.{ChangesFiles}
+use Rattle.vt_ns.proofs.ChangedWithMounts.{changed_then_detached, nothing_goes}
+use Rattle.vt_ns.proofs.DetachingBegins.{HasChildrenOf, detached_world}
+use Rattle.vt_ns.proofs.DetachingEnds.{held_is_kept, taken_is_detached}
+use Rattle.vt_ns.proofs.FileEvents.{IsSmall}
+use Rattle.vt_ns.proofs.FileRenaming as Renaming
+use Rattle.vt_ns.proofs.FilesSeen.{inodes_named}
+use Rattle.vt_ns.proofs.LazilyUnmounted.{trees_have_children, trees_numbers}
+use Rattle.vt_ns.proofs.MountsOn.{none_on, one_on, tops_on, trees_collected}
+use Rattle.vt_ns.proofs.Moving.{map_itself}
+use Rattle.vt_ns.proofs.Remaining.{remade}
+use Rattle.vt_ns.proofs.Staying.{IsDone}
+
+abbrev pub tops_on_replaced : WorldValue → Option Location → List (Mount ℕ)
+tops_on_replaced value None = []
+tops_on_replaced value (Some other) = tops_on value other
+
+module _ (value : WorldValue) (held : IsHeld value) (name : TaskName) (from : Location) (old : List ℕ) (to : Location) (new : List ℕ)
+    (object : Location) (replaced : Option Location) (small : IsSmall from) (small_to : IsSmall to) (small_object : IsSmall object)
+    (small_replaced : IfSome replaced IsSmall)
+    (permits : Permits value name (ToRename (location_of from) old (location_of to) new (location_of object) (option_map location_of replaced))) where
+  abbrev world : World ℕ
+  world = world_of value
+
+  abbrev permit : Permit ℕ
+  permit = ToRename (location_of from) old (location_of to) new (location_of object) (option_map location_of replaced)
+
+  abbrev change : Change ℕ
+  change = Move (number_of from.node) old (number_of to.node) new (number_of object.node)
+
+  abbrev gone : List ℕ
+  gone = trees_numbers world (tops_on_replaced value replaced)
+
+  names : NamesWhatIsThere world permits.task permit
+  names = Renaming.names value held name from old to new object replaced small small_to small_object permits
+
+  sees : MayBeRenamed world (location_of from) old (location_of to) new (location_of object) (option_map location_of replaced)
+  sees = Renaming.sees value held name from old to new object replaced small small_to small_object permits
+
+  pub replaced_collected : (numbers : List ℕ) → numbers ≡ trees_of_replaced (mounts_in value.mounts) replaced → numbers ≡ gone
+  replaced_collected numbers is = is ∙ by replaced small_replaced names.3
+    where
+      by : (o : Option Location) → IfSome o IsSmall
+          → ((other : meant.Location ℕ) → option_map location_of o ≡ Some other → IsReached (world_of value) permits.task other)
+          → trees_of_replaced (mounts_in value.mounts) o ≡ trees_numbers (world_of value) (tops_on_replaced value o)
+      by None few there = refl
+      by (Some other) few there = trees_collected value held other few (there (location_of other) refl).there
+
+  pub nothing_on_replaced : gone ≡ [] → IfSome replaced (λ other. mounts_on nat_eq (world_of value) (location_of other) ≡ [])
+  nothing_on_replaced none = by replaced none
+    where
+      by : (o : Option Location) → trees_numbers (world_of value) (tops_on_replaced value o) ≡ [] → IfSome o (λ other. mounts_on nat_eq (world_of value) (location_of other) ≡ [])
+      by None e = tt
+      by (Some other) e = none_on world (tops_on value other) e
+
+  closed : HasChildrenOf gone world.mounts
+  closed = trees_have_children world held.in_world.mounts (tops_on_replaced value replaced)
+
+  taken : (o : Option Location) → without_replaced nat_eq world (option_map location_of o) ≡ detached_world (trees_numbers world (tops_on_replaced value o)) world
+  taken None = ap (with_mounts world) (map_itself world.mounts)
+  taken (Some other) =
+      taken_is_detached world (trees_numbers world (tops_on value other)) (held_is_kept value held).ungrouped
+      (trees_have_children world held.in_world.mounts (tops_on value other))
+
+  applied : (supply : Fresh ℕ) → (apply nat_eq supply world permits.task permit).world ≡ with_change nat_eq supply (detached_world gone world) (location_of from) change
+  applied supply = ap (λ w. with_change nat_eq supply w (location_of from) change) (taken replaced)
+
+  -- a mount that stands on what is replaced
+  record IsOnReplaced : Type 0 where
+    inode : ℕ
+    lost : names_lost (filesystem_at nat_eq world (location_of from)).files change ≡ inode ∷ []
+    mount : Mount ℕ
+    among : Among mount world.mounts
+    place : meant.Location ℕ
+    placed : mount.mount_point ≡ Some place
+    at : place.node ≡ inode
+    shows : (mount_at nat_eq world place).filesystem ≡ (mount_at nat_eq world (location_of from)).filesystem
+
+  facts : (other : Location) → replaced ≡ Some other
+      → (names_lost (filesystem_at nat_eq world (location_of from)).files change ≡ number_of other.node ∷ []) × ((location_of other).mount ≡ (location_of from).mount)
+  facts other is =
+      by (entry_at (filesystem_at nat_eq world (location_of to)).files.tree (number_of to.node) new) refl (sym (ap (option_map location_of) is) ∙ sees.replaces)
+    where
+      by : (o : Option ℕ) → entry_at (filesystem_at nat_eq world (location_of to)).files.tree (number_of to.node) new ≡ o
+          → Some (location_of other) ≡ option_map (λ number. record { mount = (location_of to).mount; node = number }) o
+          → (names_lost (filesystem_at nat_eq world (location_of from)).files change ≡ number_of other.node ∷ []) × ((location_of other).mount ≡ (location_of from).mount)
+      by None e h = absurd cc
+      by (Some n) e h =
+          let same : location_of other ≡ record { mount = (location_of to).mount; node = n } = same_Some _ _ h in (
+            ap option_to_list
+                (ap (λ m. entry_at (filesystem_numbered nat_eq world (mount_numbered nat_eq world m).filesystem).files.tree (number_of to.node) new) (sym sees.to_mount) ∙ e)
+                ∙ ap (λ k. k ∷ []) (sym (ap (λ (l : meant.Location ℕ). l.node) same)),
+            ap (λ (l : meant.Location ℕ). l.mount) same ∙ sees.to_mount,
+          )
+
+  some_on : (o : Option Location) → replaced ≡ o → IfSome o IsSmall → trees_numbers world (tops_on_replaced value o) ≢ [] → IsOnReplaced
+  some_on None is few some = absurd (some refl)
+  some_on (Some other) is few some =
+      let on = one_on value held other few (λ none. some (ap (trees_numbers world) none)) in record {
+        inode = number_of other.node;
+        lost = (facts other is).0;
+        mount = on.mount;
+        among = on.among;
+        place = on.place;
+        placed = on.placed;
+        at = on.at_inode;
+        shows = on.shows ∙ ap (λ n. (mount_numbered nat_eq world n).filesystem) (facts other is).1;
+      }
+
+  pub rename_is_done : (filesystems others : Filesystems) (mounts : List MountEntry) → gone ≢ []
+      → ChangesInodes from.node.filesystem.count (λ inodes. changed nat_eq inodes change) value.filesystems filesystems
+      → LeaveInTurn gone (kept value.mounts filesystems) (kept mounts others)
+      → IsDone value name permit (remade value mounts others value.tasks)
+  rename_is_done filesystems others mounts some changes turn =
+      let seen = Renaming.seen value held name from old to new object replaced small small_to small_object permits in
+      let made : ChangesFiles value (location_of from) change filesystems = record {
+        entry = seen.entry;
+        among = seen.among;
+        found = seen.found;
+        shows = seen.shows;
+        fits = Renaming.fits value held name from old to new object replaced small small_to small_object permits (inodes_seen seen.entry) refl;
+        links = tt;
+        changes =
+            subst (λ count. ChangesInodes count (λ inodes. changed nat_eq inodes change) value.filesystems filesystems) (sym seen.count_is) changes;
+        own = λ number other. tt;
+      } in
+      let reached : NamesWhatIsThere world permits.task (ToChange (location_of from) change) = (names.0.reached, tt) in
+      let named : permit_named (is_counted_before value.next) (ToChange (location_of from) change) ≡ true =
+      (λ i. seen.named i && (inodes_named value.next from.node.filesystem.count from.node.slot i
+      && inodes_named value.next to.node.filesystem.count to.node.slot i && inodes_named value.next object.node.filesystem.count object.node.slot i)) in
+      let is_named = Renaming.is_named value held name from old to new object replaced small small_to small_object permits in
+      let on = some_on replaced refl small_replaced some in
+      changed_then_detached value held (location_of from) change filesystems made name permit permits gone reached named is_named applied
+      (nothing_goes value held (location_of from) change filesystems made name permit permits gone reached named is_named applied
+      on.inode on.lost (record { named = sees.moves.named; in_directory = sees.moves.in_directory }) on.mount on.among on.place on.placed on.at on.shows)
+      closed mounts others turn

@@ -1,0 +1,20 @@
+use Rattle.vt_spec.specs.Machine.Permits.Permit.{ToSetCredentials}
+use Rattle.vt_spec.specs.Machine.Outcome.Tasks.{with_dropped}
+use Rattle.vt_cred.specs.Caps.{capability_bits}
+use Rattle.vt_ns.specs.Events.{credentials_called}
+use Rattle.std.proofs.Common.{sym, subst}
+use Rattle.vt_ns.proofs.Staying.{after, caps_are_dropped}
+use Rattle.vt_ns.specs.contracts.world.World.{the_view}
+use Rattle.vt_ns.specs.Events.{Becomes, Permits}
+use Rattle.vt_ns.proofs.world.World.drop_caps.Goals as goal
+
+pub invariant_of-self : goal.invariant_of-self
+invariant_of-self c =
+    (caps_are_dropped (the_view c.self.inside) c.args.name.now (capability_bits c.args.dropped) c.drop_caps.new.self c.self.invariant
+    (subst (λ value. Permits value c.args.name.now (ToSetCredentials (with_dropped (credentials_called value c.args.name.now) (capability_bits c.args.dropped)))) (sym c.self.view_is) c.requires) c.drop_caps.ensures).held
+
+pub returns : goal.returns
+returns c =
+    subst (λ value. Becomes value c.args.name.now (ToSetCredentials (with_dropped (credentials_called value c.args.name.now) (capability_bits c.args.dropped))) (after (the_view c.self.inside) c.drop_caps.new.self)) c.self.view_is
+    (caps_are_dropped (the_view c.self.inside) c.args.name.now (capability_bits c.args.dropped) c.drop_caps.new.self c.self.invariant
+    (subst (λ value. Permits value c.args.name.now (ToSetCredentials (with_dropped (credentials_called value c.args.name.now) (capability_bits c.args.dropped)))) (sym c.self.view_is) c.requires) c.drop_caps.ensures).becomes

@@ -1,0 +1,73 @@
+use Rattle.std.proofs.Common.{ap, false, option_map, rules, subst, sym, ◌∙◌}
+use Rattle.vt_location.specs.Locations.{location_of}
+use Rattle.vt_location.specs.Numbers.{counted}
+use Rattle.vt_spec.specs.Machine.Permits.Permit.{ToEnterNamespace}
+use Rattle.vt_tasks.specs.TasksValue.{left_of}
+use Rattle.vt_ns.specs.contracts.world.World.{the_view}
+use Rattle.vt_ns.specs.Events.{Becomes, Permits}
+use Rattle.vt_ns.specs.NamespacesLeft.{MountsAreLeft, namespace_entry, with_one_task_less}
+use Rattle.vt_ns.specs.Uses.{kept, with_location, without_location}
+use Rattle.vt_ns.specs.WorldValue.{WorldValue, entries_of}
+use Rattle.vt_ns.proofs.CountingLemmas.{room_left}
+use Rattle.vt_ns.proofs.Entered.{namespace_has_a_root, task_enters}
+use Rattle.vt_ns.proofs.world.World.enter_namespace.Goals as goal
+
+pub unwrap-root-requires : goal.unwrap-root-requires
+unwrap-root-requires c =
+    namespace_has_a_root (the_view c.self.inside) c.self.invariant c.args.name.now c.args.namespace.count c.namespace_root.result
+    (subst (λ value. Permits value c.args.name.now (ToEnterNamespace (counted c.args.namespace.count))) (sym c.self.view_is) c.requires)
+    c.namespace_root.ensures
+
+pub hold_once_more-requires-2 : goal.hold_once_more-requires-2
+hold_once_more-requires-2 c =
+    room_left c.unwrap-root.result c.unwrap-root.result c.self.inside.mounts c.hold_once_more.new.mounts c.self.inside.filesystems c.hold_once_more.new.filesystems
+    (c.has_room_for_two.ensures (let room = c.if-not-has_room_for_two.false in search rules))
+    c.hold_once_more.ensures.held
+
+pub invariant_of-self : goal.invariant_of-self
+invariant_of-self c =
+    let left = c.in-Some.left in
+    (task_enters (the_view c.self.inside) c.args.name.now c.args.namespace.count c.unwrap-root.result left
+    c.leave_namespace.new.mounts c.leave_namespace.new.filesystems (entries_of c.leave_namespace.new.namespaces.entries) c.enter.new.self
+    (kept c.leave-in-Some.new.mounts c.leave-in-Some.new.filesystems)
+    c.self.invariant
+    (subst (λ value. Permits value c.args.name.now (ToEnterNamespace (counted c.args.namespace.count))) (sym c.self.view_is) c.requires)
+    (sym (ap (option_map location_of) c.unwrap-root.ensures) ∙ c.namespace_root.ensures)
+    c.hold_once_more.ensures.slot c.leave.ensures.slot c.leave-in-Some.ensures.slot
+    (sym (ap (option_map left_of) c.in-Some.is) ∙ c.enter.ensures.left)
+    c.enter.ensures.rest
+    (c.leave-in-Some.ensures.left ∙ ap (without_location left.directory false)
+    (c.leave.ensures.left ∙ ap (without_location left.root false)
+    (c.hold_once_more-2.ensures.held ∙ ap (with_location c.unwrap-root.result false) c.hold_once_more.ensures.held)))
+    (c.leave_namespace.ensures.namespaces ∙ ap (with_one_task_less left.namespace.count) c.count_task.ensures)
+    (subst (λ all. MountsAreLeft (counted left.namespace.count) (namespace_entry left.namespace.count all)
+    (kept c.leave-in-Some.new.mounts c.leave-in-Some.new.filesystems) (kept c.leave_namespace.new.mounts c.leave_namespace.new.filesystems))
+    c.count_task.ensures c.leave_namespace.ensures.mounts)).held
+
+pub returns-in-Some-clause-ok : goal.returns-in-Some-clause-ok
+returns-in-Some-clause-ok c =
+    let left = c.in-Some.left in
+    let new : WorldValue = record {
+      mounts = c.leave_namespace.new.mounts;
+      filesystems = c.leave_namespace.new.filesystems;
+      namespaces = entries_of c.leave_namespace.new.namespaces.entries;
+      tasks = c.enter.new.self;
+      next = c.self.inside.next;
+    } in
+    subst (λ value. Becomes value c.args.name.now (ToEnterNamespace (counted c.args.namespace.count)) new) c.self.view_is
+    (task_enters (the_view c.self.inside) c.args.name.now c.args.namespace.count c.unwrap-root.result left
+    c.leave_namespace.new.mounts c.leave_namespace.new.filesystems (entries_of c.leave_namespace.new.namespaces.entries) c.enter.new.self
+    (kept c.leave-in-Some.new.mounts c.leave-in-Some.new.filesystems)
+    c.self.invariant
+    (subst (λ value. Permits value c.args.name.now (ToEnterNamespace (counted c.args.namespace.count))) (sym c.self.view_is) c.requires)
+    (sym (ap (option_map location_of) c.unwrap-root.ensures) ∙ c.namespace_root.ensures)
+    c.hold_once_more.ensures.slot c.leave.ensures.slot c.leave-in-Some.ensures.slot
+    (sym (ap (option_map left_of) c.in-Some.is) ∙ c.enter.ensures.left)
+    c.enter.ensures.rest
+    (c.leave-in-Some.ensures.left ∙ ap (without_location left.directory false)
+    (c.leave.ensures.left ∙ ap (without_location left.root false)
+    (c.hold_once_more-2.ensures.held ∙ ap (with_location c.unwrap-root.result false) c.hold_once_more.ensures.held)))
+    (c.leave_namespace.ensures.namespaces ∙ ap (with_one_task_less left.namespace.count) c.count_task.ensures)
+    (subst (λ all. MountsAreLeft (counted left.namespace.count) (namespace_entry left.namespace.count all)
+    (kept c.leave-in-Some.new.mounts c.leave-in-Some.new.filesystems) (kept c.leave_namespace.new.mounts c.leave_namespace.new.filesystems))
+    c.count_task.ensures c.leave_namespace.ensures.mounts)).becomes

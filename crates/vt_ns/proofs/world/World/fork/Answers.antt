@@ -1,0 +1,48 @@
+use Rattle.std.proofs.Common.{ap, false, option_map, option_copied, rules, subst, sym, ◌∙◌}
+use Rattle.vt_spec.specs.Machine.Permits.Permit.{ToFork}
+use Rattle.vt_tasks.specs.TaskValue.{task_of}
+use Rattle.vt_ns.specs.contracts.world.World.{the_view}
+use Rattle.vt_ns.specs.Events.{Becomes, Permits}
+use Rattle.vt_ns.specs.Uses.{with_location}
+use Rattle.vt_ns.specs.WorldValue.{entries_of}
+use Rattle.vt_ns.proofs.CountingLemmas.{room_left}
+use Rattle.vt_ns.proofs.ForkedTasks.{fork_refused_for_memory, task_is_forked}
+use Rattle.vt_ns.proofs.RemainingTasks.{remade_in}
+use Rattle.vt_ns.proofs.world.World.fork.Goals as goal
+
+pub returns-in_err-child-clause-memory : goal.returns-in_err-child-clause-memory
+returns-in_err-child-clause-memory c =
+    let few = fork_refused_for_memory (the_view c.self.inside) c.self.invariant c.args.name.now c.args.cred
+    (subst (λ value. Permits value c.args.name.now (ToFork c.args.cred)) (sym c.self.view_is) c.requires) in
+    let refused = c.in_err-child.ensures.refused ∙ few in
+    let ends = c.from_residual.ensures in search rules
+
+pub hold_once_more-requires-2 : goal.hold_once_more-requires-2
+hold_once_more-requires-2 c =
+    room_left c.in-Some.parent.now.root c.in-Some.parent.now.directory c.self.inside.mounts c.hold_once_more.new.mounts
+    c.self.inside.filesystems c.hold_once_more.new.filesystems
+    (c.has_room_for_two-else-not-has_room_for_two.ensures (let room = c.if-not-has_room_for_two-2.false in search rules))
+    c.hold_once_more.ensures.held
+
+pub invariant_of-self-2 : goal.invariant_of-self-2
+invariant_of-self-2 c =
+    (task_is_forked (the_view c.self.inside) c.self.invariant c.args.name.now c.args.cred
+    (subst (λ value. Permits value c.args.name.now (ToFork c.args.cred)) (sym c.self.view_is) c.requires)
+    c.in-Some.parent.now (sym (ap (λ found. option_map task_of (option_copied found)) c.in-Some.is) ∙ c.get.ensures)
+    c.hold_once_more.ensures.slot c.hold_once_more-2.ensures.slot
+    c.hold_once_more-2.new.mounts c.hold_once_more-2.new.filesystems (entries_of c.count_task.new.namespaces.entries) c.fork.new.self
+    c.count_task.ensures c.in_ok-child.ensures.ok
+    (c.hold_once_more-2.ensures.held ∙ ap (with_location c.in-Some.parent.now.directory false) c.hold_once_more.ensures.held)).held
+
+pub returns-clause-ok : goal.returns-clause-ok
+returns-clause-ok c =
+    subst (λ value. Becomes value c.args.name.now (ToFork c.args.cred)
+    (remade_in (the_view c.self.inside) c.hold_once_more-2.new.mounts c.hold_once_more-2.new.filesystems
+    (entries_of c.count_task.new.namespaces.entries) c.fork.new.self)) c.self.view_is
+    (task_is_forked (the_view c.self.inside) c.self.invariant c.args.name.now c.args.cred
+    (subst (λ value. Permits value c.args.name.now (ToFork c.args.cred)) (sym c.self.view_is) c.requires)
+    c.in-Some.parent.now (sym (ap (λ found. option_map task_of (option_copied found)) c.in-Some.is) ∙ c.get.ensures)
+    c.hold_once_more.ensures.slot c.hold_once_more-2.ensures.slot
+    c.hold_once_more-2.new.mounts c.hold_once_more-2.new.filesystems (entries_of c.count_task.new.namespaces.entries) c.fork.new.self
+    c.count_task.ensures c.in_ok-child.ensures.ok
+    (c.hold_once_more-2.ensures.held ∙ ap (with_location c.in-Some.parent.now.directory false) c.hold_once_more.ensures.held)).becomes

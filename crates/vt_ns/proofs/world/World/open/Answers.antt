@@ -1,0 +1,39 @@
+use Rattle.std.proofs.Common.{sym, subst, ap, ◌∙◌, rules}
+use Rattle.vt_location.specs.Locations.{location_of}
+use Rattle.vt_request.specs.Requests.{access_of}
+use Rattle.vt_spec.specs.Machine.Permits.Permit.{ToOpen}
+use Rattle.vt_ns.specs.contracts.world.World.{the_view}
+use Rattle.vt_ns.specs.Events.{Becomes, Permits}
+use Rattle.vt_ns.specs.Uses.{kept, with_location}
+use Rattle.vt_ns.proofs.FilesOpened.{file_is_opened, nothing_copied, refused_for_memory}
+use Rattle.vt_ns.proofs.Remaining.{remade}
+use Rattle.vt_ns.proofs.world.World.open.Goals as goal
+
+pub returns-in_err-number-clause-memory : goal.returns-in_err-number-clause-memory
+returns-in_err-number-clause-memory c =
+    let few = refused_for_memory (the_view c.self.inside) c.self.invariant c.args.name.now (location_of c.args.file) (access_of c.args.access)
+    (subst (λ value. Permits value c.args.name.now (ToOpen (location_of c.args.file) (access_of c.args.access))) (sym c.self.view_is) c.requires) in
+    let refused = c.in_err-number.ensures.refused ∙ few in
+    let ends = c.from_residual.ensures in search rules
+
+pub invariant_of-self-in_default : goal.invariant_of-self-in_default
+invariant_of-self-in_default c =
+    (file_is_opened (the_view c.self.inside) c.args.name.now (record { location = c.args.file; access = c.args.access }) c.hold.new.mounts c.hold.new.filesystems c.open.new.self
+    c.self.invariant
+    (subst (λ value. Permits value c.args.name.now (ToOpen (location_of c.args.file) (access_of c.args.access))) (sym c.self.view_is) c.requires)
+    (nothing_copied (the_view c.self.inside) (location_of c.args.file) (access_of c.args.access))
+    c.hold.ensures.slot
+    c.in_ok-number.ensures.ok
+    (c.in_default.ensures.ok ∙ ap (λ writes. with_location c.args.file writes (kept c.self.inside.mounts c.self.inside.filesystems)) c.writes.ensures)).held
+
+pub returns-clause-ok : goal.returns-clause-ok
+returns-clause-ok c =
+    subst (λ value. Becomes value c.args.name.now (ToOpen (location_of c.args.file) (access_of c.args.access))
+    (remade (the_view c.self.inside) c.hold.new.mounts c.hold.new.filesystems c.open.new.self)) c.self.view_is
+    (file_is_opened (the_view c.self.inside) c.args.name.now (record { location = c.args.file; access = c.args.access }) c.hold.new.mounts c.hold.new.filesystems c.open.new.self
+    c.self.invariant
+    (subst (λ value. Permits value c.args.name.now (ToOpen (location_of c.args.file) (access_of c.args.access))) (sym c.self.view_is) c.requires)
+    (nothing_copied (the_view c.self.inside) (location_of c.args.file) (access_of c.args.access))
+    c.hold.ensures.slot
+    c.in_ok-number.ensures.ok
+    (c.in_default.ensures.ok ∙ ap (λ writes. with_location c.args.file writes (kept c.self.inside.mounts c.self.inside.filesystems)) c.writes.ensures)).becomes

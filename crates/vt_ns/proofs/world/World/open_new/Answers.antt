@@ -1,0 +1,116 @@
+use Rattle.std.proofs.Common.{◌≡◌, sym, subst, ap, ◌∙◌, arith, nat_eq, IfSome}
+use Rattle.std.specs.Prelude.{Err}
+use Rattle.vt_spec.specs.Language.Changes.Change.{Make}
+use Rattle.vt_spec.specs.Machine.Permits.Permit.{ToOpenNew}
+use Rattle.vt_spec.specs.OneTree.Inodes.{changed, uses_in}
+use Rattle.vt_fs.specs.FilesystemsValue.{ChangesInodes, inodes_at, node_seen}
+use Rattle.vt_location.specs.declared.locations.NodeRef.{NodeRef}
+use Rattle.vt_location.specs.Locations.{location_of, number_of}
+use Rattle.vt_location.specs.Numbers.{counted}
+use Rattle.vt_mount.specs.MountsValue.{changed as changed_mounts, held}
+use Rattle.vt_request.specs.Requests.{access_of}
+use Rattle.vt_tree.specs.TreeRules.{make_rules}
+use Rattle.vt_ns.specs.contracts.world.World.{the_view}
+use Rattle.vt_ns.specs.Events.{Becomes, Permits}
+use Rattle.vt_ns.proofs.ChangedFiles.{with_filesystems}
+use Rattle.vt_ns.proofs.FileMaking.{only_memory}
+use Rattle.vt_ns.proofs.OpeningNew.{has_next, make_is_clear, new_in_directory, new_opens, next_is_numbered, room_for_one, used_once}
+use Rattle.vt_ns.proofs.Remaining.{remade}
+use Rattle.vt_ns.proofs.Shown.{pins}
+use Rattle.vt_ns.proofs.world.World.open_new.Goals as goal
+
+pub unwrap-file-requires : goal.unwrap-file-requires
+unwrap-file-requires c =
+    has_next (the_view c.self.inside) c.self.invariant c.args.name.now c.args.directory c.args.entry.items c.args.node (access_of c.args.access) (omega arith)
+    (subst (λ value. Permits value c.args.name.now (ToOpenNew (location_of c.args.directory) c.args.entry.items (node_seen c.args.directory.node.filesystem.count c.args.node) (access_of c.args.access))) (sym c.self.view_is) c.requires)
+    c.next_number.result c.next_number.ensures.number
+
+pub returns-in-Err-clause-memory : goal.returns-in-Err-clause-memory
+returns-in-Err-clause-memory c =
+    c.in-Err.ensures.refused
+    ∙ room_for_one (the_view c.self.inside) c.self.invariant c.args.name.now c.args.directory c.args.entry.items c.args.node (access_of c.args.access) (omega arith)
+    (subst (λ value. Permits value c.args.name.now (ToOpenNew (location_of c.args.directory) c.args.entry.items (node_seen c.args.directory.node.filesystem.count c.args.node) (access_of c.args.access))) (sym c.self.view_is) c.requires)
+
+pub create-requires : goal.create-requires
+create-requires c =
+    new_in_directory (the_view c.self.inside) c.self.invariant c.args.name.now c.args.directory c.args.entry.items c.args.node (access_of c.args.access) (omega arith)
+    (subst (λ value. Permits value c.args.name.now (ToOpenNew (location_of c.args.directory) c.args.entry.items (node_seen c.args.directory.node.filesystem.count c.args.node) (access_of c.args.access))) (sym c.self.view_is) c.requires)
+
+pub returns-in-Err-create-clause-memory : goal.returns-in-Err-create-clause-memory
+returns-in-Err-create-clause-memory c =
+    only_memory (make_rules (inodes_at c.self.inside.filesystems c.args.directory.node.filesystem.count) (number_of c.args.directory.node) c.args.entry.items)
+    c.in-Err-create.deny
+    (make_is_clear (the_view c.self.inside) c.self.invariant c.args.name.now c.args.directory c.args.entry.items c.args.node (access_of c.args.access) (omega arith)
+    (subst (λ value. Permits value c.args.name.now (ToOpenNew (location_of c.args.directory) c.args.entry.items (node_seen c.args.directory.node.filesystem.count c.args.node) (access_of c.args.access))) (sym c.self.view_is) c.requires))
+    c.in-Err-create.ensures.answer
+
+-- a new inode has one use, and room for another
+pub invariant_of-self-in_err-pin : goal.invariant_of-self-in_err-pin
+invariant_of-self-in_err-pin c =
+    let permits = subst (λ value. Permits value c.args.name.now (ToOpenNew (location_of c.args.directory) c.args.entry.items (node_seen c.args.directory.node.filesystem.count c.args.node) (access_of c.args.access))) (sym c.self.view_is) c.requires in
+    let number = next_is_numbered (the_view c.self.inside) c.self.invariant c.args.name.now c.args.directory c.args.entry.items c.args.node (access_of c.args.access) (omega arith)
+    permits c.next_number.result c.unwrap-file.result c.next_number.ensures.number c.unwrap-file.ensures in
+    let inside = subst (λ next. IfSome next (λ (node : NodeRef). node.filesystem ≡ c.args.directory.node.filesystem)) c.unwrap-file.ensures c.next_number.ensures.filesystem in
+    let once = used_once (the_view c.self.inside) c.self.invariant c.args.name.now c.args.directory c.args.entry.items c.args.node (access_of c.args.access) (omega arith)
+    permits c.create.new.self c.unwrap-file.result (omega arith) inside number
+    (subst (λ n. ChangesInodes c.args.directory.node.filesystem.count
+    (λ inodes. changed nat_eq inodes (Make (number_of c.args.directory.node) c.args.entry.items n (node_seen c.args.directory.node.filesystem.count c.args.node)))
+    c.self.inside.filesystems c.create.new.self) (c.in_default.ensures.number ∙ sym number) c.in_default.ensures.ok) in
+    let full = c.in_err-pin.ensures.limit.0 (ap Err c.in_err-pin.ensures.memory) in
+    let never : 1 ≡ 18446744073709551615 =
+    sym once ∙ ap (λ filesystem. uses_in ((inodes_at c.create.new.self filesystem.count).inode (number_of c.unwrap-file.result))) (sym inside) ∙ full in
+    absurd (omega (arith, never))
+
+pub returns-in_err-pin-clause-err : goal.returns-in_err-pin-clause-err
+returns-in_err-pin-clause-err c =
+    let permits = subst (λ value. Permits value c.args.name.now (ToOpenNew (location_of c.args.directory) c.args.entry.items (node_seen c.args.directory.node.filesystem.count c.args.node) (access_of c.args.access))) (sym c.self.view_is) c.requires in
+    let number = next_is_numbered (the_view c.self.inside) c.self.invariant c.args.name.now c.args.directory c.args.entry.items c.args.node (access_of c.args.access) (omega arith)
+    permits c.next_number.result c.unwrap-file.result c.next_number.ensures.number c.unwrap-file.ensures in
+    let inside = subst (λ next. IfSome next (λ (node : NodeRef). node.filesystem ≡ c.args.directory.node.filesystem)) c.unwrap-file.ensures c.next_number.ensures.filesystem in
+    let once = used_once (the_view c.self.inside) c.self.invariant c.args.name.now c.args.directory c.args.entry.items c.args.node (access_of c.args.access) (omega arith)
+    permits c.create.new.self c.unwrap-file.result (omega arith) inside number
+    (subst (λ n. ChangesInodes c.args.directory.node.filesystem.count
+    (λ inodes. changed nat_eq inodes (Make (number_of c.args.directory.node) c.args.entry.items n (node_seen c.args.directory.node.filesystem.count c.args.node)))
+    c.self.inside.filesystems c.create.new.self) (c.in_default.ensures.number ∙ sym number) c.in_default.ensures.ok) in
+    let full = c.in_err-pin.ensures.limit.0 (ap Err c.in_err-pin.ensures.memory) in
+    let never : 1 ≡ 18446744073709551615 =
+    sym once ∙ ap (λ filesystem. uses_in ((inodes_at c.create.new.self filesystem.count).inode (number_of c.unwrap-file.result))) (sym inside) ∙ full in
+    absurd (omega (arith, never))
+
+pub invariant_of-self-2 : goal.invariant_of-self-2
+invariant_of-self-2 c =
+    let permits = subst (λ value. Permits value c.args.name.now (ToOpenNew (location_of c.args.directory) c.args.entry.items (node_seen c.args.directory.node.filesystem.count c.args.node) (access_of c.args.access))) (sym c.self.view_is) c.requires in
+    let number = next_is_numbered (the_view c.self.inside) c.self.invariant c.args.name.now c.args.directory c.args.entry.items c.args.node (access_of c.args.access) (omega arith)
+    permits c.next_number.result c.unwrap-file.result c.next_number.ensures.number c.unwrap-file.ensures in
+    let inside = subst (λ next. IfSome next (λ (node : NodeRef). node.filesystem ≡ c.args.directory.node.filesystem)) c.unwrap-file.ensures c.next_number.ensures.filesystem in
+    (new_opens (the_view c.self.inside) c.self.invariant c.args.name.now c.args.directory c.args.entry.items c.args.node (access_of c.args.access) (omega arith)
+    permits c.create.new.self c.unwrap-file.result (omega arith) inside number
+    (subst (λ n. ChangesInodes c.args.directory.node.filesystem.count
+    (λ inodes. changed nat_eq inodes (Make (number_of c.args.directory.node) c.args.entry.items n (node_seen c.args.directory.node.filesystem.count c.args.node)))
+    c.self.inside.filesystems c.create.new.self) (c.in_default.ensures.number ∙ sym number) c.in_default.ensures.ok)
+    c.hold.new.self c.pin.new.self
+    (λ i. record {
+      mounts = (c.in_ok-hold.ensures.ok ∙ ap (λ writes. changed_mounts (counted c.args.directory.mount.count) (held writes) c.self.inside.mounts) c.writes-writes.ensures) i;
+      filesystems = pins c.unwrap-file.result.filesystem.count (number_of c.unwrap-file.result) c.create.new.self c.pin.new.self c.in_ok-pin.ensures.ok i;
+    })
+    c.open-opened.new.self c.in-Ok.ensures.ok).held
+
+pub returns-clause-ok : goal.returns-clause-ok
+returns-clause-ok c =
+    let permits = subst (λ value. Permits value c.args.name.now (ToOpenNew (location_of c.args.directory) c.args.entry.items (node_seen c.args.directory.node.filesystem.count c.args.node) (access_of c.args.access))) (sym c.self.view_is) c.requires in
+    let number = next_is_numbered (the_view c.self.inside) c.self.invariant c.args.name.now c.args.directory c.args.entry.items c.args.node (access_of c.args.access) (omega arith)
+    permits c.next_number.result c.unwrap-file.result c.next_number.ensures.number c.unwrap-file.ensures in
+    let inside = subst (λ next. IfSome next (λ (node : NodeRef). node.filesystem ≡ c.args.directory.node.filesystem)) c.unwrap-file.ensures c.next_number.ensures.filesystem in
+    subst (λ value. Becomes value c.args.name.now (ToOpenNew (location_of c.args.directory) c.args.entry.items (node_seen c.args.directory.node.filesystem.count c.args.node) (access_of c.args.access))
+    (remade (with_filesystems (the_view c.self.inside) c.create.new.self) c.hold.new.self c.pin.new.self c.open-opened.new.self)) c.self.view_is
+    (new_opens (the_view c.self.inside) c.self.invariant c.args.name.now c.args.directory c.args.entry.items c.args.node (access_of c.args.access) (omega arith)
+    permits c.create.new.self c.unwrap-file.result (omega arith) inside number
+    (subst (λ n. ChangesInodes c.args.directory.node.filesystem.count
+    (λ inodes. changed nat_eq inodes (Make (number_of c.args.directory.node) c.args.entry.items n (node_seen c.args.directory.node.filesystem.count c.args.node)))
+    c.self.inside.filesystems c.create.new.self) (c.in_default.ensures.number ∙ sym number) c.in_default.ensures.ok)
+    c.hold.new.self c.pin.new.self
+    (λ i. record {
+      mounts = (c.in_ok-hold.ensures.ok ∙ ap (λ writes. changed_mounts (counted c.args.directory.mount.count) (held writes) c.self.inside.mounts) c.writes-writes.ensures) i;
+      filesystems = pins c.unwrap-file.result.filesystem.count (number_of c.unwrap-file.result) c.create.new.self c.pin.new.self c.in_ok-pin.ensures.ok i;
+    })
+    c.open-opened.new.self c.in-Ok.ensures.ok).becomes

@@ -1,0 +1,44 @@
+use Rattle.std.proofs.Common.{Err, Ok, OnOk, Result, ap, filter, length, map, rules, subst, sym, nat_eq, ◌&&◌, ◌≡◌, ◌∙◌, ◌++◌}
+use Rattle.std.specs.Prelude.{reverse}
+use Rattle.std.proofs.lemmas.Iterator.{YieldsList-from_map}
+use Rattle.std.proofs.lemmas.Iterator.Adapters.{YieldsList-from_rev_slice, items_from_extend}
+use Rattle.std.proofs.lemmas.Iterator.Consumers.{YieldsList-from_filter}
+use Rattle.std.proofs.lemmas.List.{length-map}
+use Rattle.vt_location.specs.declared.numbers.MountId.{MountId}
+use Rattle.vt_location.specs.Locations.{location_of}
+use Rattle.vt_location.specs.Numbers.{counted}
+use Rattle.vt_mount.proofs.PlaceLemmas.{numbers}
+use Rattle.vt_mount.specs.MountsValue.{MountEntry, mounts_in}
+use Rattle.vt_spec.specs.Machine.Attach.{bindable_children, stands_under}
+use Rattle.vt_spec.specs.Machine.Mounts.{children, mount_in}
+use Rattle.vt_ns.specs.Held.{IsHeld}
+use Rattle.vt_ns.specs.Trees.{bindable_to_come}
+use Rattle.vt_ns.specs.WorldValue.{WorldValue, world_of}
+use Rattle.vt_ns.proofs.BoundTrees.{bindable, bound_kids, branch_of, chosen-come}
+use Rattle.vt_ns.proofs.world.World.push_bound.Goals as goal
+
+on-ok : {A E P Q : Type 0} (r : Result A E) → (P → Q) → OnOk r P → OnOk r Q
+on-ok (Ok a) so p = so p
+on-ok (Err e) so p = tt
+
+pub returns : goal.returns
+returns c =
+    let mounts = mounts_in c.args.self.now.mounts in
+    let under = stands_under nat_eq (world_of c.args.self.now) (location_of c.args.source) in
+    let number = counted c.args.source.mount.count in
+    let test = λ (id : MountId). bindable mounts id && under (mount_in nat_eq mounts (counted id.count)) in
+    let held = subst IsHeld c.self.view_is c.self.invariant in
+    let deep = c.len-depth.ensures ∙ ap (λ (value : WorldValue). length value.mounts) c.self.view_is
+    ∙ sym (length-map c.args.self.now.mounts (λ (entry : MountEntry). entry.mount)) in
+    let kids = bound_kids mounts held.in_world.mounts.one_number number c.children.result.now
+    (c.children.ensures ∙ ap (λ (value : WorldValue). numbers (children nat_eq (mounts_in value.mounts) number)) c.self.view_is) under in
+    on-ok c.extend.result
+    (λ pushed.
+    ap (bindable_to_come mounts) pushed.0
+    ∙ ap (λ depth. bindable_to_come mounts (c.args.waiting.now.items ++ map (branch_of depth) (filter test (reverse c.children.result.now)))) deep
+    ∙ chosen-come mounts (length mounts) c.args.waiting.now.items test c.children.result.now
+    (filter under (bindable_children nat_eq mounts number)) kids)
+    (items_from_extend c.extend.result c.extend.ensures.ran
+    (YieldsList-from_map _ (branch_of c.len-depth.result)
+    (YieldsList-from_filter _ test (YieldsList-from_rev_slice c.children.result.now cc) (let same : c.map.result.iter.p ≡ c.filter.result.p = cc in same ∙ c.filter.ensures.closure) (λ x b q k. search rules))
+    c.map.ensures.closure (λ x r q k. search rules)))

@@ -1,0 +1,77 @@
+use Rattle.std.proofs.Common.{rules, ◌≡◌, ◌≢◌, ◌∙◌, sym, subst, ap, arith, map, length, true≢false}
+use Rattle.std.specs.Prelude.{is_ok}
+use Rattle.vt_location.specs.Locations.{location_of}
+use Rattle.vt_location.specs.Numbers.{counted}
+use Rattle.vt_spec.specs.Machine.Permits.Permit.{ToRemoveDirectory}
+use Rattle.vt_ns.specs.contracts.world.World.{the_view}
+use Rattle.vt_ns.specs.Detached.{LeaveInTurn}
+use Rattle.vt_ns.specs.Events.{Becomes, Permits}
+use Rattle.vt_ns.specs.Uses.{kept}
+use Rattle.vt_ns.proofs.ChangedFiles.{with_filesystems}
+use Rattle.vt_ns.proofs.DirectoryRemoved.{alone_is_removed, collected_are, directory_is_removed, unlink_fits}
+use Rattle.vt_ns.proofs.MountsOn.{none_counted, some_counted}
+use Rattle.vt_ns.proofs.FileRemoving.{removed_in}
+use Rattle.vt_ns.proofs.Remaining.{remade}
+use Rattle.vt_ns.proofs.world.World.remove_directory.Goals as goal
+use Rattle.vt_ns.proofs.world.World.remove_directory.Goals.{then-not-is_empty, else-not-is_empty}
+
+pub unlink-requires : goal.unlink-requires
+unlink-requires c =
+    removed_in (the_view c.self.inside) c.self.invariant c.args.name.now c.args.parent c.args.entry.now c.args.directory (omega arith) (omega arith)
+    (subst (λ value. Permits value c.args.name.now (ToRemoveDirectory (location_of c.args.parent) c.args.entry.now (location_of c.args.directory))) (sym c.self.view_is) c.requires)
+
+pub returns-in_err-unlink-clause-memory : goal.returns-in_err-unlink-clause-memory
+returns-in_err-unlink-clause-memory c =
+    absurd (true≢false (ap is_ok (sym (c.unlink.ensures.fits (unlink_fits (the_view c.self.inside) c.self.invariant c.args.name.now c.args.parent c.args.entry.now c.args.directory (omega arith) (omega arith)
+    (subst (λ value. Permits value c.args.name.now (ToRemoveDirectory (location_of c.args.parent) c.args.entry.now (location_of c.args.directory))) (sym c.self.view_is) c.requires))) ∙ c.in_err-unlink.was)))
+
+pub invariant_of-self-then-not-is_empty : goal.invariant_of-self-then-not-is_empty
+invariant_of-self-then-not-is_empty c =
+    let some : length c.in_ok-gone.gone.items ≢ 0 = search rules in
+    (directory_is_removed (the_view c.self.inside) c.self.invariant c.args.name.now c.args.parent c.args.entry.now c.args.directory (omega arith) (omega arith)
+    (subst (λ value. Permits value c.args.name.now (ToRemoveDirectory (location_of c.args.parent) c.args.entry.now (location_of c.args.directory))) (sym c.self.view_is) c.requires)
+    c.unlink.new.self c.detach_each.new.filesystems c.detach_each.new.mounts
+    (λ none. some_counted c.in_ok-gone.gone.items some ((collected_are (the_view c.self.inside) c.self.invariant c.args.name.now c.args.parent c.args.entry.now c.args.directory (omega arith) (omega arith)
+    (subst (λ value. Permits value c.args.name.now (ToRemoveDirectory (location_of c.args.parent) c.args.entry.now (location_of c.args.directory))) (sym c.self.view_is) c.requires)
+    (map (λ id. counted id.count) c.in_ok-gone.gone.items) c.in_ok-gone.ensures.ok) ∙ none)) c.in_ok-unlink.ensures.ok
+    (subst (λ ids. LeaveInTurn ids (kept c.self.inside.mounts c.unlink.new.self) (kept c.detach_each.new.mounts c.detach_each.new.filesystems)) (collected_are (the_view c.self.inside) c.self.invariant c.args.name.now c.args.parent c.args.entry.now c.args.directory (omega arith) (omega arith)
+    (subst (λ value. Permits value c.args.name.now (ToRemoveDirectory (location_of c.args.parent) c.args.entry.now (location_of c.args.directory))) (sym c.self.view_is) c.requires)
+    (map (λ id. counted id.count) c.in_ok-gone.gone.items) c.in_ok-gone.ensures.ok)
+    (subst (λ ids. LeaveInTurn (map (λ id. counted id.count) ids) (kept c.self.inside.mounts c.unlink.new.self) (kept c.detach_each.new.mounts c.detach_each.new.filesystems)) c.deref.ensures.value c.detach_each.ensures))).held
+
+pub invariant_of-self-else-not-is_empty : goal.invariant_of-self-else-not-is_empty
+invariant_of-self-else-not-is_empty c =
+    let none : length c.in_ok-gone.gone.items ≡ 0 = search rules in
+    (alone_is_removed (the_view c.self.inside) c.self.invariant c.args.name.now c.args.parent c.args.entry.now c.args.directory (omega arith) (omega arith)
+    (subst (λ value. Permits value c.args.name.now (ToRemoveDirectory (location_of c.args.parent) c.args.entry.now (location_of c.args.directory))) (sym c.self.view_is) c.requires)
+    (sym (collected_are (the_view c.self.inside) c.self.invariant c.args.name.now c.args.parent c.args.entry.now c.args.directory (omega arith) (omega arith)
+    (subst (λ value. Permits value c.args.name.now (ToRemoveDirectory (location_of c.args.parent) c.args.entry.now (location_of c.args.directory))) (sym c.self.view_is) c.requires)
+    (map (λ id. counted id.count) c.in_ok-gone.gone.items) c.in_ok-gone.ensures.ok) ∙ none_counted c.in_ok-gone.gone.items none) c.unlink.new.self c.in_ok-unlink.ensures.ok).held
+
+pub returns-clause-ok : goal.returns-clause-ok
+returns-clause-ok c = elim c.if-not-is_empty.branch [
+  | then-not-is_empty w ↦
+      let some : length c.in_ok-gone.gone.items ≢ 0 = search rules in
+      subst (λ new. Becomes c.args.self.now c.args.name.now (ToRemoveDirectory (location_of c.args.parent) c.args.entry.now (location_of c.args.directory)) new) (sym w.self-is)
+      (subst (λ value. Becomes value c.args.name.now (ToRemoveDirectory (location_of c.args.parent) c.args.entry.now (location_of c.args.directory))
+      (remade (the_view c.self.inside) w.detach_each.new.mounts w.detach_each.new.filesystems (the_view c.self.inside).tasks)) c.self.view_is
+      (directory_is_removed (the_view c.self.inside) c.self.invariant c.args.name.now c.args.parent c.args.entry.now c.args.directory (omega arith) (omega arith)
+      (subst (λ value. Permits value c.args.name.now (ToRemoveDirectory (location_of c.args.parent) c.args.entry.now (location_of c.args.directory))) (sym c.self.view_is) c.requires)
+      c.unlink.new.self w.detach_each.new.filesystems w.detach_each.new.mounts
+      (λ none. some_counted c.in_ok-gone.gone.items some ((collected_are (the_view c.self.inside) c.self.invariant c.args.name.now c.args.parent c.args.entry.now c.args.directory (omega arith) (omega arith)
+      (subst (λ value. Permits value c.args.name.now (ToRemoveDirectory (location_of c.args.parent) c.args.entry.now (location_of c.args.directory))) (sym c.self.view_is) c.requires)
+      (map (λ id. counted id.count) c.in_ok-gone.gone.items) c.in_ok-gone.ensures.ok) ∙ none)) c.in_ok-unlink.ensures.ok
+      (subst (λ ids. LeaveInTurn ids (kept c.self.inside.mounts c.unlink.new.self) (kept w.detach_each.new.mounts w.detach_each.new.filesystems)) (collected_are (the_view c.self.inside) c.self.invariant c.args.name.now c.args.parent c.args.entry.now c.args.directory (omega arith) (omega arith)
+      (subst (λ value. Permits value c.args.name.now (ToRemoveDirectory (location_of c.args.parent) c.args.entry.now (location_of c.args.directory))) (sym c.self.view_is) c.requires)
+      (map (λ id. counted id.count) c.in_ok-gone.gone.items) c.in_ok-gone.ensures.ok)
+      (subst (λ ids. LeaveInTurn (map (λ id. counted id.count) ids) (kept c.self.inside.mounts c.unlink.new.self) (kept w.detach_each.new.mounts w.detach_each.new.filesystems)) w.deref.ensures.value w.detach_each.ensures))).becomes)
+  | else-not-is_empty w ↦
+      let none : length c.in_ok-gone.gone.items ≡ 0 = search rules in
+      subst (λ new. Becomes c.args.self.now c.args.name.now (ToRemoveDirectory (location_of c.args.parent) c.args.entry.now (location_of c.args.directory)) new) (sym w.self-is)
+      (subst (λ value. Becomes value c.args.name.now (ToRemoveDirectory (location_of c.args.parent) c.args.entry.now (location_of c.args.directory)) (with_filesystems (the_view c.self.inside) c.unlink.new.self)) c.self.view_is
+      (alone_is_removed (the_view c.self.inside) c.self.invariant c.args.name.now c.args.parent c.args.entry.now c.args.directory (omega arith) (omega arith)
+      (subst (λ value. Permits value c.args.name.now (ToRemoveDirectory (location_of c.args.parent) c.args.entry.now (location_of c.args.directory))) (sym c.self.view_is) c.requires)
+      (sym (collected_are (the_view c.self.inside) c.self.invariant c.args.name.now c.args.parent c.args.entry.now c.args.directory (omega arith) (omega arith)
+      (subst (λ value. Permits value c.args.name.now (ToRemoveDirectory (location_of c.args.parent) c.args.entry.now (location_of c.args.directory))) (sym c.self.view_is) c.requires)
+      (map (λ id. counted id.count) c.in_ok-gone.gone.items) c.in_ok-gone.ensures.ok) ∙ none_counted c.in_ok-gone.gone.items none) c.unlink.new.self c.in_ok-unlink.ensures.ok).ok)
+]

@@ -1,0 +1,26 @@
+use Rattle.std.proofs.Common.{sym, subst}
+use Rattle.vt_location.specs.Flags.{flags_of}
+use Rattle.vt_location.specs.Numbers.{counted}
+use Rattle.vt_spec.specs.Machine.Permits.Permit.{ToSetFlags}
+use Rattle.vt_ns.specs.contracts.world.World.{the_view}
+use Rattle.vt_ns.specs.Events.{Becomes, Permits}
+use Rattle.vt_ns.proofs.Remaining.{remade}
+use Rattle.vt_ns.proofs.TypesSet.{flags_are_set}
+use Rattle.vt_ns.proofs.Staying.{IsDone}
+use Rattle.vt_ns.proofs.world.World.set_flags.Goals as goal
+
+pub invariant_of-self : goal.invariant_of-self
+invariant_of-self c =
+    (subst (λ mounts. IsDone (the_view c.self.inside) c.args.name.now (ToSetFlags (counted c.args.mount.count) (flags_of c.args.flags))
+    (remade (the_view c.self.inside) mounts c.self.inside.filesystems c.self.inside.tasks)) (sym c.set_flags.ensures)
+    (flags_are_set (the_view c.self.inside) c.self.invariant c.args.name.now (counted c.args.mount.count) (flags_of c.args.flags)
+    (subst (λ value. Permits value c.args.name.now (ToSetFlags (counted c.args.mount.count) (flags_of c.args.flags))) (sym c.self.view_is) c.requires))).held
+
+pub returns : goal.returns
+returns c =
+    subst (λ value. Becomes value c.args.name.now (ToSetFlags (counted c.args.mount.count) (flags_of c.args.flags))
+    (remade (the_view c.self.inside) c.set_flags.new.self c.self.inside.filesystems c.self.inside.tasks)) c.self.view_is
+    (subst (λ mounts. IsDone (the_view c.self.inside) c.args.name.now (ToSetFlags (counted c.args.mount.count) (flags_of c.args.flags))
+    (remade (the_view c.self.inside) mounts c.self.inside.filesystems c.self.inside.tasks)) (sym c.set_flags.ensures)
+    (flags_are_set (the_view c.self.inside) c.self.invariant c.args.name.now (counted c.args.mount.count) (flags_of c.args.flags)
+    (subst (λ value. Permits value c.args.name.now (ToSetFlags (counted c.args.mount.count) (flags_of c.args.flags))) (sym c.self.view_is) c.requires))).becomes

@@ -1,0 +1,20 @@
+-- That the numbers of new inodes are not in use.
+use Rattle.std.specs.Prelude.{false, ℕ, ◌%◌, ◌≡◌}
+use Rattle.vt_location.specs.Numbers.{inode_number}
+use Rattle.vt_permit_laws.specs.InUse.{is_in_use}
+use Rattle.vt_spec.specs.Machine.Mounts.{Location}
+use Rattle.vt_ns.specs.Events.{next_inode}
+use Rattle.vt_ns.specs.WorldValue.{WorldValue, world_of}
+
+-- an even number that is not in use
+pub record IsVacant (value : WorldValue) (number : ℕ) : Type 0 where
+  pub even : number % 2 ≡ 0
+  pub unused : is_in_use (world_of value) number ≡ false
+
+-- the next inode of the filesystem that a location is in
+abbrev pub NextInodeIsVacant : WorldValue → Location ℕ → Type 0
+NextInodeIsVacant value directory = IsVacant value (next_inode value directory)
+
+-- the root of the next filesystem
+abbrev pub NextRootIsVacant : WorldValue → Type 0
+NextRootIsVacant value = IsVacant value (inode_number value.next 0)

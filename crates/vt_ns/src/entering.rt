@@ -1,0 +1,69 @@
+//! Tasks enter namespaces: setns(2).
+ghost use Rattle.std.specs.Prelude.{◌≡◌, IfErr, OnErr, OnOk, nat_eq, option_map};
+ghost use Rattle.vt_location.specs.Locations.{location_of};
+ghost use Rattle.vt_location.specs.Numbers.{counted};
+ghost use Rattle.vt_mount.specs.MountsValue.{mounts_in};
+ghost use Rattle.vt_spec.specs.Errors.{denial};
+ghost use Rattle.vt_spec.specs.declared.errors.Rule.TheVariants.{S5};
+ghost use Rattle.vt_spec.specs.Machine.Mounts.{root_of, topmost};
+ghost use Rattle.vt_spec.specs.Machine.Permits.Permit.{ToEnterNamespace};
+ghost use Rattle.vt_ns.specs.Entering.{root_mount_in};
+ghost use Rattle.vt_ns.specs.Events.{Becomes, Permits};
+
+use crate::ending::leave_namespace;
+use crate::forking::{count_task, has_room_for_task, has_room_for_two, hold_once_more};
+use crate::uses::leave;
+use crate::world::World;
+use vt_location::{Location, NamespaceId};
+use vt_mount::Mounts;
+use vt_request::TaskName;
+use vt_spec::errors::{Deny, Rule};
+
+impl World {
+    /// Moves a task to a namespace, with its root and its working directory at the root of that one: setns(2). The namespace that
+    /// it leaves ends with its last task. It takes no memory.
+    ///
+    /// S5 (ENOMEM): the root or the namespace has 2^64 - 2 uses.
+    pub fn enter_namespace(&mut self, name: &TaskName, namespace: NamespaceId) -> Result<(), Deny>
+        requires { Permits self.old name.now (ToEnterNamespace (counted namespace.count)) }
+        ensures ok { OnOk result (Becomes self.old name.now (ToEnterNamespace (counted namespace.count)) self.new) }
+        ensures memory { IfErr result (λ deny. deny ≡ denial S5) }
+        ensures err { OnErr result (self.new ≡ self.old) }
+    {
+        let root = namespace_root(&self.mounts, namespace).unwrap();
+        if !has_room_for_two(&self.mounts, &self.filesystems, root)
+            || !has_room_for_task(&self.namespaces, namespace)
+        {
+            return Err(Rule::S5.denial());
+        }
+        let mounts = &mut self.mounts;
+        let filesystems = &mut self.filesystems;
+        hold_once_more(mounts, filesystems, root);
+        hold_once_more(mounts, filesystems, root);
+        count_task(&mut self.namespaces, namespace);
+        if let Some(left) = self.tasks.enter(name, namespace, root) {
+            leave(mounts, filesystems, left.root, false);
+            leave(mounts, filesystems, left.directory, false);
+            leave_namespace(mounts, filesystems, &mut self.namespaces, left.namespace);
+        }
+        Ok(())
+    }
+}
+
+// The root of the topmost mount over the root of a namespace's root mount.
+fn namespace_root(mounts: &Mounts, namespace: NamespaceId) -> Option<Location>
+    ensures { option_map location_of result
+        ≡ option_map (λ mount. topmost nat_eq (mounts_in mounts.now) (root_of mount))
+        (root_mount_in (counted namespace.count) (mounts_in mounts.now)) }
+{
+    mounts.are_ascending();
+    for id in mounts.attached_in(namespace) {
+        let number = *id;
+        if let Some(mount) = mounts.get(number) {
+            if mount.mount_point.is_none() {
+                return Some(mounts.topmost(mount.root_location()));
+            }
+        }
+    }
+    None
+}

@@ -1,0 +1,43 @@
+//! Tasks end: _exit(2).
+ghost use Rattle.std.specs.Prelude.{◌≡◌, fold, nat_lt, true};
+ghost use Rattle.std.specs.List.{list_all};
+ghost use Rattle.vt_spec.specs.Machine.Permits.Permit.{ToExit};
+ghost use Rattle.vt_ns.specs.Events.{Becomes, Permits};
+ghost use Rattle.vt_ns.specs.NamespacesLeft.{has_slot, without_file};
+ghost use Rattle.vt_ns.specs.Uses.{kept};
+
+use crate::ending::leave_namespace;
+use crate::uses::leave;
+use crate::world::World;
+use vt_fs::Filesystems;
+use vt_mount::Mounts;
+use vt_request::TaskName;
+use vt_tasks::OpenFile;
+
+impl World {
+    /// Ends a task, which leaves its root, its working directory, its open files and its namespace: _exit(2). It takes no memory.
+    pub fn exit(&mut self, name: &TaskName)
+        requires { Permits self.old name.now ToExit }
+        ensures { Becomes self.old name.now ToExit self.new }
+    {
+        let Some(task) = self.tasks.exit(name) else {
+            return;
+        };
+        let mounts = &mut self.mounts;
+        let filesystems = &mut self.filesystems;
+        leave(mounts, filesystems, task.root, false);
+        leave(mounts, filesystems, task.directory, false);
+        leave_files(mounts, filesystems, task.descriptors.files());
+        leave_namespace(mounts, filesystems, &mut self.namespaces, task.namespace);
+    }
+}
+
+// One use less for each of these open files.
+fn leave_files(mounts: &mut Mounts, filesystems: &mut Filesystems, files: &[OpenFile])
+    ensures left { kept mounts.new filesystems.new ≡ fold without_file (kept mounts.old filesystems.old) files.now }
+    ensures slots { list_all has_slot files.now ≡ true }
+{
+    for file in files {
+        leave(mounts, filesystems, file.location, file.access.writes());
+    }
+}

@@ -1,0 +1,94 @@
+//! A task that forks: fork(2).
+ghost use Rattle.std.specs.Prelude.{◌<◌, ◌≡◌, IfErr, IfOk, IfSome, OnErr, OnOk, Some, false, find, nat_eq, option_map, true, unwrap_or};
+ghost use Rattle.vt_spec.specs.Machine.Outcome.Tasks.{child_name};
+ghost use Rattle.vt_spec.specs.Machine.Permits.Permit.{ToFork};
+ghost use Rattle.vt_spec.specs.Machine.World.{task_called};
+ghost use Rattle.vt_spec.specs.declared.errors.Rule.TheVariants.{S5};
+ghost use Rattle.vt_spec.specs.Errors.{denial};
+ghost use Rattle.vt_ns.specs.Events.{Becomes, Permits};
+ghost use Rattle.vt_ns.specs.Forking.{HasRoom, with_task_more};
+ghost use Rattle.vt_ns.specs.Uses.{kept, with_location};
+ghost use Rattle.vt_ns.specs.WorldValue.{entries_of, world_of};
+
+use crate::namespaces::Namespace;
+use crate::world::World;
+use indexmap::IndexMap;
+use vt_cred::Cred;
+use vt_fs::Filesystems;
+use vt_location::{Location, NamespaceId};
+use vt_mount::Mounts;
+use vt_request::TaskName;
+use vt_spec::errors::{Deny, Rule};
+
+impl World {
+    /// Forks a task, and returns the name of its child: fork(2). The child has these credentials.
+    ///
+    /// S5 (ENOMEM): memory was refused, or the task's root, working directory or namespace has 2^64 - 2 uses.
+    pub fn fork(&mut self, name: &TaskName, cred: Cred) -> Result<TaskName, Deny>
+        requires { Permits self.old name.now (ToFork cred) }
+        ensures name { IfOk result (λ child. Some child ≡ option_map child_name (task_called (world_of self.old) name.now)) }
+        ensures ok { OnOk result (Becomes self.old name.now (ToFork cred) self.new) }
+        ensures memory { IfErr result (λ deny. deny ≡ denial S5) }
+        ensures err { OnErr result (self.new ≡ self.old) }
+    {
+        let Some(parent) = self.tasks.get(name) else {
+            return Err(Rule::S2.denial());
+        };
+        let (namespace, root, directory) = (parent.namespace, parent.root, parent.directory);
+        if !has_room_for_two(&self.mounts, &self.filesystems, root)
+            || !has_room_for_two(&self.mounts, &self.filesystems, directory)
+            || !has_room_for_task(&self.namespaces, namespace)
+        {
+            return Err(Rule::S5.denial());
+        }
+        let child = self.tasks.fork(name, cred)?;
+        hold_once_more(&mut self.mounts, &mut self.filesystems, root);
+        hold_once_more(&mut self.mounts, &mut self.filesystems, directory);
+        count_task(&mut self.namespaces, namespace);
+        Ok(child)
+    }
+}
+
+// Whether two more uses of a location may be counted.
+pub(crate) fn has_room_for_two(mounts: &Mounts, filesystems: &Filesystems, at: Location) -> bool
+    ensures { result ≡ true → HasRoom 2 at mounts.now filesystems.now }
+{
+    mounts.uses(at.mount) < u64::MAX - 1
+        && mounts.writers(at.mount) < u64::MAX
+        && filesystems.uses(at.node) < u64::MAX - 1
+}
+
+// One use more of a location, for which there is room. It takes no memory.
+pub(crate) fn hold_once_more(mounts: &mut Mounts, filesystems: &mut Filesystems, at: Location)
+    requires { HasRoom 1 at mounts.old filesystems.old }
+    ensures held { kept mounts.new filesystems.new ≡ with_location at false (kept mounts.old filesystems.old) }
+    ensures slot { at.node.slot < 18446744073709551616 }
+{
+    let _ = mounts.hold(at.mount, false);
+    let _ = filesystems.pin(at.node);
+}
+
+// Whether one more task may be counted in a namespace.
+pub(crate) fn has_room_for_task(
+    namespaces: &IndexMap<NamespaceId, Namespace>,
+    id: NamespaceId,
+) -> bool
+    ensures { result ≡ true → IfSome (find (λ entry. nat_eq id.count entry.count) (entries_of namespaces.now.entries))
+        (λ entry. entry.tasks < u64.MAX) }
+{
+    match namespaces.get(&id) {
+        Some(namespace) => namespace.tasks < u64::MAX,
+        None => true,
+    }
+}
+
+// One task more in a namespace. It takes no memory.
+pub(crate) fn count_task(namespaces: &mut IndexMap<NamespaceId, Namespace>, id: NamespaceId)
+    requires { IfSome (find (λ entry. nat_eq id.count entry.count) (entries_of namespaces.old.entries))
+        (λ entry. entry.tasks < u64.MAX) }
+    ensures { entries_of namespaces.new.entries ≡ with_task_more id.count (entries_of namespaces.old.entries) }
+{
+    if let Some(namespace) = namespaces.get_mut(&id) {
+        namespace.tasks += 1;
+    }
+}

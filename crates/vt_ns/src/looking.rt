@@ -1,0 +1,91 @@
+//! The world, as walks and rules look at it.
+ghost use Rattle.std.specs.Prelude.{◌≡◌, nat_eq};
+ghost use Rattle.vt_spec.specs.Machine.World.{mount_numbered};
+ghost use Rattle.vt_location.specs.Locations.{location_of, number_of};
+ghost use Rattle.vt_location.specs.Numbers.{counted};
+ghost use Rattle.vt_ns.specs.Looking.{is_seen, looks_of_value};
+ghost use Rattle.vt_ns.specs.WorldValue.{world_of};
+
+use crate::world::World;
+use vt_location::{FilesystemId, Location, Mount, MountId, NamespaceId, NodeRef};
+use vt_looks::Look;
+use vt_node::Node;
+use vt_request::TaskName;
+
+impl World {
+    /// The filesystem that a mount shows. A number that no mount has stands for a mount of the filesystem with that number.
+    pub(crate) fn shown(&self, mount: MountId) -> FilesystemId
+        ensures { counted result.count ≡ (mount_numbered nat_eq (world_of self.now) (counted mount.count)).filesystem }
+    {
+        match self.mounts.get(mount) {
+            Some(mount) => mount.root.filesystem,
+            None => FilesystemId::new(mount.count),
+        }
+    }
+
+    // Whether an inode is in the filesystem that the mount of a location shows.
+    fn is_seen(&self, at: Location) -> bool
+        ensures { result ≡ is_seen self.now at }
+    {
+        self.shown(at.mount) == at.node.filesystem
+    }
+}
+
+impl Look for World {
+    ghost looks = { looks_of_value };
+
+    fn namespace_called(&self, name: &TaskName) -> Option<NamespaceId> {
+        self.tasks.namespace_called(name)
+    }
+
+    fn mount(&self, id: MountId) -> Option<Mount> {
+        self.mounts.get(id)
+    }
+
+    fn mount_count(&self) -> usize {
+        self.mounts.len()
+    }
+
+    fn topmost(&self, at: Location) -> Location {
+        self.mounts.topmost(at)
+    }
+
+    fn is_point_in(&self, namespace: NamespaceId, at: Location) -> bool {
+        self.is_seen(at) && self.mounts.is_point_in(namespace, at.node)
+    }
+
+    fn is_point_anywhere(&self, at: Location) -> bool {
+        self.is_seen(at) && self.mounts.is_point_anywhere(at.node)
+    }
+
+    fn node(&self, at: Location) -> Option<&Node> {
+        if self.is_seen(at) {
+            self.filesystems.node(at.node)
+        } else {
+            None
+        }
+    }
+
+    fn is_removed(&self, at: Location) -> bool {
+        !self.is_seen(at) || self.filesystems.is_removed(at.node)
+    }
+
+    fn is_under(&self, top: Location, directory: NodeRef) -> bool {
+        if self.is_seen(top) && directory.filesystem == top.node.filesystem {
+            self.filesystems.is_under(top.node, directory)
+        } else {
+            top.node == directory
+        }
+    }
+
+    fn is_under_root(&self, at: Location) -> bool {
+        match self.mounts.get(at.mount) {
+            Some(mount) if mount.root.filesystem == at.node.filesystem => {
+                self.filesystems.is_under(mount.root, at.node)
+            }
+            _ => false,
+        }
+    }
+
+    fn has_no_overlays(&self) {}
+}

@@ -1,0 +1,161 @@
+//! The list of a namespace's mounts: mountinfo of proc(5).
+ghost use Rattle.std.specs.Prelude.{List, ℕ, ◌≡◌, IfErr, IfOk, Some, map, nat_eq, option_map, true};
+ghost use Rattle.vt_location.specs.Locations.{location_of};
+ghost use Rattle.vt_location.specs.MountValue.{mount_of, propagation_of};
+ghost use Rattle.vt_location.specs.Numbers.{counted};
+ghost use Rattle.vt_request.specs.Answers.{mount_line_of, spot_of, type_line_of};
+ghost use Rattle.vt_spec.specs.declared.errors.Rule.TheVariants.{S5};
+ghost use Rattle.vt_spec.specs.Errors.{denial};
+ghost use Rattle.vt_spec.specs.Language.Answers as answers;
+ghost use Rattle.vt_spec.specs.Machine.Listing as listing;
+ghost use Rattle.vt_spec.specs.Machine.Mounts as meant;
+ghost use Rattle.vt_spec.specs.Machine.Permits.Permit.{ToListMounts};
+ghost use Rattle.vt_spec.specs.Machine.World.{Task, World as Meant, task_called};
+ghost use Rattle.vt_ns.specs.Copying.{AreOf, are_rising, attached_in};
+ghost use Rattle.vt_ns.specs.Events.{Permits};
+ghost use Rattle.vt_ns.specs.Held.{is_ungrouped};
+ghost use Rattle.vt_ns.specs.WorldValue.{world_of};
+
+use crate::world::World;
+use indexmap::IndexSet;
+use vt_location::{FilesystemId, Location, Mount, MountId, NamespaceId, Propagation};
+use vt_request::{MountLine, Spot, TaskName, TypeLine};
+use vt_spec::errors::{Deny, Rule};
+
+impl World {
+    /// The mounts of the caller's namespace, in the order of their attachment: mountinfo of proc(5).
+    ///
+    /// S5 (ENOMEM): memory was refused.
+    pub fn mounts(&self, name: &TaskName) -> Result<Vec<MountLine>, Deny>
+        requires { Permits self.now name.now ToListMounts }
+        ensures ok { (task : Task ℕ) → task_called (world_of self.now) name.now ≡ Some task
+            → IfOk result (λ lines. map mount_line_of lines.items ≡ listing.mount_lines nat_eq (world_of self.now) task.namespace) }
+        ensures memory { IfErr result (λ deny. deny ≡ denial S5) }
+    {
+        match self.tasks.namespace_called(name) {
+            Some(namespace) => self.mount_lines(namespace),
+            None => Ok(Vec::new(self.alloc)),
+        }
+    }
+
+    // The lines of the mounts of a namespace. S5 (ENOMEM): memory was refused.
+    fn mount_lines(&self, namespace: NamespaceId) -> Result<Vec<MountLine>, Deny>
+        ensures ok { IfOk result (λ lines. map mount_line_of lines.items
+            ≡ listing.mount_lines nat_eq (world_of self.now) (counted namespace.count)) }
+        ensures memory { IfErr result (λ deny. deny ≡ denial S5) }
+    {
+        self.mounts.are_ascending();
+        let listed = self.mounts.attached_in(namespace);
+        let filesystems = self.filesystems_in(namespace)?;
+        let mut lines = Vec::new(self.alloc);
+        for id in listed {
+            if let Some(mount) = self.mounts.get(*id) {
+                let line = self.mount_line(&mount, listed, &filesystems)?;
+                let Ok(()) = lines.push(line) else {
+                    return Err(Rule::S5.denial());
+                };
+            }
+        }
+        Ok(lines)
+    }
+
+    // The filesystems that the mounts of a namespace show, in the order in which they first stand in its list.
+    // S5 (ENOMEM): memory was refused.
+    fn filesystems_in(&self, namespace: NamespaceId) -> Result<IndexSet<FilesystemId>, Deny>
+        ensures ok { IfOk result (λ seen. map (λ id. counted id.count) seen.keys
+            ≡ listing.filesystems_seen nat_eq (attached_in (counted namespace.count) self.now.mounts)) }
+        ensures memory { IfErr result (λ deny. deny ≡ denial S5) }
+    {
+        self.mounts.are_ascending();
+        let mut seen = IndexSet::new(self.alloc);
+        for id in self.mounts.attached_in(namespace) {
+            if let Some(mount) = self.mounts.get(*id) {
+                let Ok(_) = seen.insert(mount.root.filesystem) else {
+                    return Err(Rule::S5.denial());
+                };
+            }
+        }
+        Ok(seen)
+    }
+
+    // The line of a mount in a list of mounts, by the filesystems of that list in their order.
+    // S5 (ENOMEM): memory was refused.
+    fn mount_line(
+        &self,
+        mount: &Mount,
+        listed: &[MountId],
+        filesystems: &IndexSet<FilesystemId>,
+    ) -> Result<MountLine, Deny>
+        requires order { are_rising listed.now ≡ true }
+        requires ungrouped { is_ungrouped (propagation_of mount.now.propagation) ≡ true }
+        ensures ok { IfOk result (λ line. (mounts : List (meant.Mount ℕ)) → AreOf listed.now mounts
+            → map (λ id. counted id.count) filesystems.now.keys ≡ listing.filesystems_seen nat_eq mounts
+            → mount_line_of line ≡ listing.mount_line nat_eq (world_of self.now) mounts (mount_of mount.now)) }
+        ensures memory { IfErr result (λ deny. deny ≡ denial S5) }
+    {
+        Ok(MountLine {
+            mount_point: self.point_shown(mount.mount_point, listed)?,
+            overlay: false,
+            filesystem: filesystem_place(mount.root.filesystem, filesystems),
+            root: self.root_spot(mount)?,
+            flags: mount.flags,
+            kind: kind_shown(mount.propagation),
+        })
+    }
+
+    // A mount point as a list of mounts shows it. S5 (ENOMEM): memory was refused.
+    fn point_shown(
+        &self,
+        point: Option<Location>,
+        listed: &[MountId],
+    ) -> Result<Option<(usize, Spot)>, Deny>
+        requires order { are_rising listed.now ≡ true }
+        ensures ok { IfOk result (λ shown. (mounts : List (meant.Mount ℕ)) → AreOf listed.now mounts
+            → option_map {U = ℕ × answers.Spot} (λ point. (point.0, spot_of point.1)) shown
+            ≡ option_map (λ place. (
+              listing.number_among nat_eq (map (λ other. other.number) mounts) place.mount,
+              listing.place_spot nat_eq (world_of self.now) place,
+            )) (option_map location_of point)) }
+        ensures memory { IfErr result (λ deny. deny ≡ denial S5) }
+    {
+        match point {
+            Some(place) => Ok(Some((mount_place(place.mount, listed), self.place_spot(place)?))),
+            None => Ok(None),
+        }
+    }
+}
+
+// The place of a mount in a list, from 1 on; 0 if it is not in it.
+fn mount_place(id: MountId, listed: &[MountId]) -> usize
+    requires order { are_rising listed.now ≡ true }
+    ensures { (mounts : List (meant.Mount ℕ)) → AreOf listed.now mounts
+        → result ≡ listing.number_among nat_eq (map (λ other. other.number) mounts) (counted id.count) }
+{
+    match listed.binary_search_by_key(&id.count, |other| other.count) {
+        Ok(index) => index + 1,
+        Err(_) => 0,
+    }
+}
+
+// The place of a filesystem among others, from 1 on; 0 if it is not among them.
+fn filesystem_place(id: FilesystemId, filesystems: &IndexSet<FilesystemId>) -> usize
+    ensures { result ≡ listing.number_among nat_eq (map (λ other. counted other.count) filesystems.now.keys) (counted id.count) }
+{
+    // The index is less than the length, which fits.
+    let _ = filesystems.len();
+    match filesystems.get_index_of(&id) {
+        Some(index) => index + 1,
+        None => 0,
+    }
+}
+
+// The type of a mount in no group, as its line shows it.
+fn kind_shown(kind: Propagation) -> TypeLine
+    requires { is_ungrouped (propagation_of kind) ≡ true }
+    ensures { (world : Meant ℕ) (seen : List ℕ) → type_line_of result ≡ listing.type_line nat_eq world seen (propagation_of kind) }
+{
+    match kind {
+        Propagation::Unbindable => TypeLine::Unbindable,
+        _ => TypeLine::Private,
+    }
+}

@@ -1,0 +1,109 @@
+//! The opening world: one namespace with one mount of one filesystem, and one task.
+ghost use Rattle.std.specs.Prelude.{◌≡◌, ◌∷◌, [], nat_eq, IfErr, IfOk};
+ghost use Rattle.vt_spec.specs.declared.errors.Rule.TheVariants.{S5};
+ghost use Rattle.vt_spec.specs.Errors.{denial};
+ghost use Rattle.vt_spec.specs.Machine.World.{opening};
+ghost use Rattle.vt_fs.specs.FilesystemsValue.{shown};
+ghost use Rattle.vt_location.specs.MountValue.{mount_of};
+ghost use Rattle.vt_ns.specs.Opening.{first_shown, opening_numbers};
+ghost use Rattle.vt_ns.specs.WorldValue.{entries_of, world_of};
+
+use crate::mounting::root_attr;
+use crate::namespaces::Namespace;
+use crate::world::World;
+use indexmap::IndexMap;
+use std::alloc::Global;
+use vt_fs::Filesystems;
+use vt_location::{
+    FilesystemId, Location, Mount, MountFlags, MountId, NamespaceId, NodeRef, Propagation,
+};
+use vt_mount::Mounts;
+use vt_spec::errors::{Deny, Rule};
+use vt_tasks::Tasks;
+
+impl World {
+    /// The opening world: a namespace with a root mount of an empty filesystem, and the first task, which may do all.
+    ///
+    /// S5 (ENOMEM): memory was refused.
+    pub fn new(alloc: Global) -> Result<World, Deny>
+        ensures opening { IfOk result (λ world. world_of world ≡ opening nat_eq opening_numbers) }
+        ensures memory { IfErr result (λ deny. deny ≡ denial S5) }
+    {
+        let number = MountId::new(0);
+        let namespace = NamespaceId::new(1);
+        let filesystem = FilesystemId::new(2);
+        let root = NodeRef {
+            filesystem,
+            slot: 0,
+        };
+        let mount = Mount {
+            number,
+            namespace: Some(namespace),
+            mount_point: None,
+            root,
+            flags: MountFlags::plain(),
+            propagation: Propagation::Private,
+        };
+        Ok(World {
+            mounts: first_mounts(alloc, mount)?,
+            filesystems: first_filesystems(alloc, filesystem)?,
+            namespaces: first_namespaces(alloc, namespace)?,
+            tasks: Tasks::new(
+                alloc,
+                namespace,
+                Location {
+                    mount: number,
+                    node: root,
+                },
+            )?,
+            next: 3,
+            alloc,
+        })
+    }
+}
+
+// A mount alone, with the root and the working directory of one task on it.
+fn first_mounts(alloc: Global, mount: Mount) -> Result<Mounts, Deny>
+    ensures ok { IfOk result (λ mounts. mounts ≡ record { mount = mount_of mount; uses = 2; writers = 0 } ∷ []) }
+    ensures memory { IfErr result (λ deny. deny ≡ denial S5) }
+{
+    let mut mounts = Mounts::new(alloc);
+    mounts.attach(mount)?;
+    mounts.hold(mount.number, false)?;
+    mounts.hold(mount.number, false)?;
+    Ok(mounts)
+}
+
+// A filesystem alone, whose root directory is the root of one mount, and the root and the working directory of one task.
+fn first_filesystems(alloc: Global, filesystem: FilesystemId) -> Result<Filesystems, Deny>
+    ensures ok { IfOk result (λ filesystems. shown filesystems ≡ first_shown filesystem.count) }
+    ensures memory { IfErr result (λ deny. deny ≡ denial S5) }
+{
+    let mut filesystems = Filesystems::new(alloc);
+    filesystems.add(filesystem, root_attr())?;
+    filesystems.hold_mount(filesystem)?;
+    let root = NodeRef {
+        filesystem,
+        slot: 0,
+    };
+    filesystems.pin(root)?;
+    filesystems.pin(root)?;
+    filesystems.pin(root)?;
+    Ok(filesystems)
+}
+
+// A namespace alone, with one task.
+fn first_namespaces(
+    alloc: Global,
+    namespace: NamespaceId,
+) -> Result<IndexMap<NamespaceId, Namespace>, Deny>
+    ensures ok { IfOk result (λ namespaces. entries_of namespaces.entries
+        ≡ record { count = namespace.count; tasks = 1 } ∷ []) }
+    ensures memory { IfErr result (λ deny. deny ≡ denial S5) }
+{
+    let mut namespaces = IndexMap::new(alloc);
+    let Ok(_) = namespaces.insert(namespace, Namespace { tasks: 1 }) else {
+        return Err(Rule::S5.denial());
+    };
+    Ok(namespaces)
+}

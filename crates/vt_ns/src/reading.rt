@@ -1,0 +1,123 @@
+//! Events that only look at files: readdir(3), stat(2), read(2), pread(2); and what is seen of a task.
+ghost use Rattle.std.specs.Prelude.{◌≡◌, IfErr, IfOk, drop, map, nat_eq, option_copied, option_map, take, None, Some, ℕ};
+ghost use Rattle.vt_location.specs.Locations.{location_of};
+ghost use Rattle.vt_spec.specs.Errors.{denial};
+ghost use Rattle.vt_spec.specs.declared.errors.Rule.TheVariants.{S5};
+ghost use Rattle.vt_request.specs.Answers.{stat_line_of};
+ghost use Rattle.vt_spec.specs.Machine.Outcome.Looking.{stat_line};
+ghost use Rattle.vt_spec.specs.Machine.Permits.Permit.{ToList, ToRead, ToReadPart, ToStat};
+ghost use Rattle.vt_spec.specs.Machine.World.{node_at, task_called};
+ghost use Rattle.vt_spec.specs.Tree.{bytes_in, names_in};
+ghost use Rattle.vt_tasks.specs.TaskValue.{task_of};
+ghost use Rattle.vt_ns.specs.Events.{Permits};
+ghost use Rattle.vt_ns.specs.LookingAlone.{LookingChangesNothing};
+ghost use Rattle.vt_ns.specs.WorldValue.{world_of};
+
+use crate::world::World;
+use vt_location::Location;
+use vt_looks::Look;
+use vt_node::{Attr, Kind, Mode, Node, copied_bytes};
+use vt_request::{StatLine, TaskName};
+use vt_spec::errors::{Deny, Rule};
+use vt_tasks::Task;
+
+impl World {
+    /// A theorem, which does nothing: an event that only looks leaves the world as it was.
+    pub fn looking_changes_nothing(&self)
+        ensures { LookingChangesNothing self.now }
+    {
+        let _ = &self.tasks;
+    }
+
+    /// The task of this name.
+    pub fn task(&self, name: &TaskName) -> Option<&Task>
+        ensures { option_map task_of (option_copied result) ≡ task_called (world_of self.now) name.now }
+    {
+        self.tasks.get(name)
+    }
+
+    /// Kind, owner, mode and size of an object: stat(2), lstat(2). It takes no memory.
+    pub fn stat(&self, name: &TaskName, object: Location) -> StatLine
+        requires { Permits self.now name.now (ToStat (location_of object)) }
+        ensures { stat_line_of result ≡ stat_line (node_at nat_eq (world_of self.now) (location_of object)) }
+    {
+        match self.node(object) {
+            Some(node) => told(node),
+            None => told_of_nothing(),
+        }
+    }
+
+    /// The bytes of a file, or the text of a symlink: read(2), readlink(2).
+    ///
+    /// S5 (ENOMEM): memory was refused.
+    pub fn read(&self, name: &TaskName, file: Location) -> Result<Vec<u8>, Deny>
+        requires { Permits self.now name.now (ToRead (location_of file)) }
+        ensures ok { IfOk result (λ bytes. bytes.items ≡ bytes_in (node_at nat_eq (world_of self.now) (location_of file))) }
+        ensures memory { IfErr result (λ deny. deny ≡ denial S5) }
+    {
+        match self.node(file) {
+            Some(node) => {
+                copied_bytes(self.alloc, node.bytes()).map_err(|_error| Rule::S5.denial())
+            }
+            None => Ok(Vec::new(self.alloc)),
+        }
+    }
+
+    /// The names of a directory, in the order of their bytes: readdir(3).
+    ///
+    /// S5 (ENOMEM): memory was refused.
+    pub fn list(&self, name: &TaskName, directory: Location) -> Result<Vec<Vec<u8>>, Deny>
+        requires { Permits self.now name.now (ToList (location_of directory)) }
+        ensures ok { IfOk result (λ names. map (λ name. name.items) names.items
+            ≡ names_in (node_at nat_eq (world_of self.now) (location_of directory))) }
+        ensures memory { IfErr result (λ deny. deny ≡ denial S5) }
+    {
+        self.filesystems.list(directory.node)
+    }
+
+    /// At most `size` bytes of an open file from an offset on: pread(2). Past the end there are none.
+    ///
+    /// S5 (ENOMEM): memory was refused.
+    pub fn read_part(
+        &self,
+        name: &TaskName,
+        file: Location,
+        offset: usize,
+        size: usize,
+    ) -> Result<Vec<u8>, Deny>
+        requires { Permits self.now name.now (ToReadPart (location_of file) offset size) }
+        ensures ok { IfOk result (λ bytes. bytes.items
+            ≡ take size (drop offset (bytes_in (node_at nat_eq (world_of self.now) (location_of file))))) }
+        ensures memory { IfErr result (λ deny. deny ≡ denial S5) }
+    {
+        self.filesystems.read_part(file.node, offset, size)
+    }
+}
+
+// What stat(2) tells of an inode.
+fn told(node: &Node) -> StatLine
+    ensures { stat_line_of result ≡ stat_line (Some node.now) }
+{
+    StatLine {
+        kind: node.kind(),
+        attr: node.attr(),
+        size: node.bytes().len(),
+        opaque: node.is_opaque(),
+    }
+}
+
+// What the definitions tell of an inode that does not exist.
+fn told_of_nothing() -> StatLine
+    ensures { stat_line_of result ≡ stat_line {N = ℕ} None }
+{
+    StatLine {
+        kind: Kind::White,
+        attr: Attr {
+            uid: 0,
+            gid: 0,
+            mode: Mode::new(0).unwrap(),
+        },
+        size: 0,
+        opaque: false,
+    }
+}

@@ -1,0 +1,61 @@
+//! The event that removes a directory: rmdir(2).
+ghost use Rattle.std.specs.Prelude.{◌≡◌, IfErr, IfOk, OnErr, OnOk, filter, flat_map, map};
+ghost use Rattle.vt_location.specs.Locations.{location_of, number_of};
+ghost use Rattle.vt_location.specs.Numbers.{counted};
+ghost use Rattle.vt_mount.specs.MountsValue.{mounts_in, stands_over};
+ghost use Rattle.vt_spec.specs.Errors.{denial};
+ghost use Rattle.vt_spec.specs.declared.errors.Rule.TheVariants.{S5};
+ghost use Rattle.vt_spec.specs.Machine.Permits.Permit.{ToRemoveDirectory};
+ghost use Rattle.vt_ns.specs.Detached.{tree_numbers};
+ghost use Rattle.vt_ns.specs.Events.{Becomes, Permits};
+
+use crate::detaching::detach_each;
+use crate::world::World;
+use std::alloc::Global;
+use vt_location::{Location, MountId, NodeRef};
+use vt_mount::Mounts;
+use vt_request::TaskName;
+use vt_spec::errors::{Deny, Rule};
+
+impl World {
+    /// Removes an empty directory: rmdir(2). Mounts on it are detached with all their descendants. With its last use it goes.
+    ///
+    /// S5 (ENOMEM): memory was refused.
+    pub fn remove_directory(
+        &mut self,
+        name: &TaskName,
+        parent: Location,
+        entry: &[u8],
+        directory: Location,
+    ) -> Result<(), Deny>
+        requires { Permits self.old name.now (ToRemoveDirectory (location_of parent) entry.now (location_of directory)) }
+        ensures ok { OnOk result
+            (Becomes self.old name.now (ToRemoveDirectory (location_of parent) entry.now (location_of directory)) self.new) }
+        ensures memory { IfErr result (λ deny. deny ≡ denial S5) }
+        ensures err { OnErr result (self.new ≡ self.old) }
+    {
+        let gone = trees_on(&self.mounts, directory.node, self.alloc)?;
+        self.filesystems.unlink(parent.node, entry, directory.node)?;
+        if !gone.is_empty() {
+            detach_each(&mut self.mounts, &mut self.filesystems, &gone);
+        }
+        Ok(())
+    }
+}
+
+// The mounts on an inode, through whatever mount it is seen, with all their descendants.
+pub(crate) fn trees_on(mounts: &Mounts, inode: NodeRef, alloc: Global) -> Result<Vec<MountId>, Deny>
+    ensures ok { IfOk result (λ ids. map (λ id. counted id.count) ids.items
+        ≡ flat_map (tree_numbers (mounts_in mounts.now))
+        (map (λ mount. mount.number) (filter (stands_over (number_of inode)) (mounts_in mounts.now)))) }
+    ensures memory { IfErr result (λ deny. deny ≡ denial S5) }
+{
+    let mut all = Vec::new(alloc);
+    for id in mounts.mounts_on(inode) {
+        let tree = mounts.tree(*id)?;
+        if all.extend_from_slice(&tree).is_err() {
+            return Err(Rule::S5.denial());
+        }
+    }
+    Ok(all)
+}

@@ -1,0 +1,67 @@
+//! The event that renames: rename(2).
+ghost use Rattle.std.specs.Prelude.{◌<◌, ◌≡◌, IfErr, IfOk, IfSome, OnErr, OnOk, map, option_map};
+ghost use Rattle.vt_location.specs.Locations.{location_of};
+ghost use Rattle.vt_location.specs.Numbers.{counted};
+ghost use Rattle.vt_mount.specs.MountsValue.{mounts_in};
+ghost use Rattle.vt_spec.specs.Errors.{denial};
+ghost use Rattle.vt_spec.specs.declared.errors.Rule.TheVariants.{S5};
+ghost use Rattle.vt_spec.specs.Machine.Permits.Permit.{ToRename};
+ghost use Rattle.vt_ns.specs.Detached.{trees_of_replaced};
+ghost use Rattle.vt_ns.specs.Events.{Becomes, Permits};
+
+use crate::detaching::detach_each;
+use crate::removing::trees_on;
+use crate::world::World;
+use std::alloc::Global;
+use vt_location::{Location, MountId};
+use vt_mount::Mounts;
+use vt_request::TaskName;
+use vt_spec::errors::Deny;
+
+impl World {
+    /// Renames an inode, and replaces what had the new name: rename(2). Mounts on what is replaced are detached with all their
+    /// descendants.
+    ///
+    /// S5 (ENOMEM): memory was refused.
+    pub fn rename(
+        &mut self,
+        name: &TaskName,
+        from: Location,
+        old: &[u8],
+        to: Location,
+        new: Vec<u8>,
+        object: Location,
+        replaced: Option<Location>,
+    ) -> Result<(), Deny>
+        requires { Permits self.old name.now (ToRename (location_of from) old.now (location_of to) new.items
+            (location_of object) (option_map location_of replaced)) }
+        ensures ok { OnOk result (Becomes self.old name.now (ToRename (location_of from) old.now (location_of to) new.items
+            (location_of object) (option_map location_of replaced)) self.new) }
+        ensures memory { IfErr result (λ deny. deny ≡ denial S5) }
+        ensures err { OnErr result (self.new ≡ self.old) }
+    {
+        let gone = trees_replaced(&self.mounts, replaced, self.alloc)?;
+        self.filesystems
+            .rename(from.node, old, to.node, new, object.node)?;
+        if !gone.is_empty() {
+            detach_each(&mut self.mounts, &mut self.filesystems, &gone);
+        }
+        Ok(())
+    }
+}
+
+// The mounts on what is replaced, with all their descendants.
+fn trees_replaced(
+    mounts: &Mounts,
+    replaced: Option<Location>,
+    alloc: Global,
+) -> Result<Vec<MountId>, Deny>
+    ensures ok { IfOk result (λ ids. map (λ id. counted id.count) ids.items ≡ trees_of_replaced (mounts_in mounts.now) replaced) }
+    ensures slot { IfSome replaced (λ other. other.node.slot < 18446744073709551616) }
+    ensures memory { IfErr result (λ deny. deny ≡ denial S5) }
+{
+    match replaced {
+        Some(other) => trees_on(mounts, other.node, alloc),
+        None => Ok(Vec::new(alloc)),
+    }
+}

@@ -1,0 +1,117 @@
+//! Events of tasks: umask(2), capset(2), chdir(2), chroot(2), open(2), close(2).
+ghost use Rattle.std.specs.Prelude.{◌≡◌, IfErr, IfOk, OnErr, OnOk, Some, option_map};
+ghost use Rattle.vt_request.specs.Requests.{access_of};
+ghost use Rattle.vt_spec.specs.Machine.Outcome.Descriptors.{free_number};
+ghost use Rattle.vt_spec.specs.Machine.World.{task_called};
+ghost use Rattle.vt_ns.specs.WorldValue.{world_of};
+ghost use Rattle.vt_location.specs.Locations.{location_of};
+ghost use Rattle.vt_spec.specs.declared.errors.Rule.TheVariants.{S5};
+ghost use Rattle.vt_spec.specs.Errors.{denial};
+ghost use Rattle.vt_cred.specs.Caps.{capability_bits};
+ghost use Rattle.vt_spec.specs.Machine.Outcome.Tasks.{with_dropped};
+ghost use Rattle.vt_spec.specs.Machine.Permits.Permit.{ToClose, ToOpen, ToSetCredentials, ToSetDirectory, ToSetRoot, ToSetUmask};
+ghost use Rattle.vt_ns.specs.Events.{Becomes, Permits, credentials_called};
+
+use crate::uses::{hold, leave};
+use crate::world::World;
+use vt_cred::{Caps, Mode};
+use vt_location::Location;
+use vt_request::{Access, TaskName};
+use vt_spec::errors::Deny;
+use vt_tasks::OpenFile;
+
+impl World {
+    /// Sets the umask of a task: umask(2). It takes no memory.
+    pub fn set_umask(&mut self, name: &TaskName, umask: Mode)
+        requires { Permits self.old name.now (ToSetUmask umask) }
+        ensures { Becomes self.old name.now (ToSetUmask umask) self.new }
+    {
+        self.tasks.set_umask(name, umask);
+    }
+
+    /// Drops capabilities of a task for good: capset(2). It takes no memory.
+    pub fn drop_caps(&mut self, name: &TaskName, dropped: Caps)
+        requires { Permits self.old name.now
+            (ToSetCredentials (with_dropped (credentials_called self.old name.now) (capability_bits dropped))) }
+        ensures { Becomes self.old name.now
+            (ToSetCredentials (with_dropped (credentials_called self.old name.now) (capability_bits dropped))) self.new }
+    {
+        self.tasks.drop_caps(name, dropped);
+    }
+
+    /// Sets the working directory of a task: chdir(2). It takes no memory.
+    ///
+    /// S5 (ENOMEM): the mount or the inode has 2^64 - 1 uses.
+    pub fn set_directory(&mut self, name: &TaskName, directory: Location) -> Result<(), Deny>
+        requires { Permits self.old name.now (ToSetDirectory (location_of directory)) }
+        ensures ok { OnOk result (Becomes self.old name.now (ToSetDirectory (location_of directory)) self.new) }
+        ensures memory { IfErr result (λ deny. deny ≡ denial S5) }
+        ensures err { OnErr result (self.new ≡ self.old) }
+    {
+        hold(&mut self.mounts, &mut self.filesystems, directory, false)?;
+        if let Some(left) = self.tasks.set_directory(name, directory) {
+            leave(&mut self.mounts, &mut self.filesystems, left, false);
+        }
+        Ok(())
+    }
+
+    /// Sets the root of a task: chroot(2). It takes no memory.
+    ///
+    /// S5 (ENOMEM): the mount or the inode has 2^64 - 1 uses.
+    pub fn set_root(&mut self, name: &TaskName, root: Location) -> Result<(), Deny>
+        requires { Permits self.old name.now (ToSetRoot (location_of root)) }
+        ensures ok { OnOk result (Becomes self.old name.now (ToSetRoot (location_of root)) self.new) }
+        ensures memory { IfErr result (λ deny. deny ≡ denial S5) }
+        ensures err { OnErr result (self.new ≡ self.old) }
+    {
+        hold(&mut self.mounts, &mut self.filesystems, root, false)?;
+        if let Some(left) = self.tasks.set_root(name, root) {
+            leave(&mut self.mounts, &mut self.filesystems, left, false);
+        }
+        Ok(())
+    }
+
+    /// Closes a file of a task: close(2). It takes no memory.
+    pub fn close(&mut self, name: &TaskName, descriptor: u8)
+        requires { Permits self.old name.now (ToClose descriptor) }
+        ensures { Becomes self.old name.now (ToClose descriptor) self.new }
+    {
+        self.tasks.files_are_in_order();
+        if let Some(closed) = self.tasks.close(name, descriptor) {
+            leave(
+                &mut self.mounts,
+                &mut self.filesystems,
+                closed.location,
+                closed.access.writes(),
+            );
+        }
+    }
+
+    /// Opens a file of a task under the least number that is free, and tells that number: open(2).
+    ///
+    /// S5 (ENOMEM): memory was refused, or the mount or the inode has 2^64 - 1 uses.
+    pub fn open(&mut self, name: &TaskName, file: Location, access: Access) -> Result<u8, Deny>
+        requires { Permits self.old name.now (ToOpen (location_of file) (access_of access)) }
+        ensures number { IfOk result (λ number.
+            Some number ≡ option_map free_number (task_called (world_of self.old) name.now)) }
+        ensures ok { OnOk result (Becomes self.old name.now (ToOpen (location_of file) (access_of access)) self.new) }
+        ensures memory { IfErr result (λ deny. deny ≡ denial S5) }
+        ensures err { OnErr result (self.new ≡ self.old) }
+    {
+        let opened = OpenFile {
+            location: file,
+            access,
+        };
+        let number = self.tasks.open(name, opened)?;
+        if let Err(deny) = hold(
+            &mut self.mounts,
+            &mut self.filesystems,
+            file,
+            access.writes(),
+        ) {
+            self.tasks.close(name, number);
+            return Err(deny);
+        }
+        Ok(number)
+    }
+}

@@ -1,0 +1,33 @@
+//! The numbers of new inodes, which nothing has yet.
+ghost use Rattle.vt_location.specs.Locations.{location_of};
+ghost use Rattle.vt_ns.specs.Vacancy.{NextInodeIsVacant, NextRootIsVacant};
+
+use crate::world::World;
+use std::alloc::Global;
+use vt_location::Location;
+
+impl World {
+    /// The allocator of all that it has.
+    pub fn alloc(&self) -> Global {
+        self.alloc
+    }
+
+    /// A theorem, which changes nothing: the number that the next inode gets in the filesystem that a location is in is not in
+    /// use.
+    pub fn next_inode_is_vacant(&self, directory: Location)
+        ensures { NextInodeIsVacant self.now (location_of directory) }
+    {
+        self.mounts.are_counted();
+        let filesystem = self.shown(directory.mount);
+        if let Some(next) = self.filesystems.next_number(filesystem) {
+            let _slot = next.slot;
+        }
+    }
+
+    /// A theorem, which changes nothing: the number of the root of the next filesystem is not in use.
+    pub fn next_root_is_vacant(&self)
+        ensures { NextRootIsVacant self.now }
+    {
+        self.mounts.are_counted();
+    }
+}

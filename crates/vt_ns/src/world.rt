@@ -1,0 +1,59 @@
+//! The world that calls are made in.
+
+use crate::namespaces::Namespace;
+use indexmap::IndexMap;
+use std::alloc::Global;
+use std::marker::Model;
+use vt_fs::Filesystems;
+use vt_location::NamespaceId;
+use vt_mount::Mounts;
+use vt_tasks::Tasks;
+
+/// The most mounts of a namespace: mount-max of proc(5).
+pub const MOST_MOUNTS: u64 = 4096;
+
+/// Filesystems, mounts, namespaces and tasks.
+#[derive(Debug, Drop)]
+pub struct World {
+    pub(crate) mounts: Mounts,
+    pub(crate) filesystems: Filesystems,
+    pub(crate) namespaces: IndexMap<NamespaceId, Namespace>,
+    pub(crate) tasks: Tasks,
+    // What is counted next.
+    pub(crate) next: u64,
+    pub(crate) alloc: Global,
+}
+
+impl Model for World {
+    ghost use Rattle.vt_ns.specs.WorldValue.{WorldValue, entries_of};
+    ghost use Rattle.vt_ns.specs.Held.{IsHeld};
+
+    ghost Value = { WorldValue };
+
+    ghost view = { λ w. record {
+      mounts = w.mounts;
+      filesystems = w.filesystems;
+      namespaces = entries_of w.namespaces.entries;
+      tasks = w.tasks;
+      next = w.next;
+    } };
+
+    ghost invariant = { λ w. IsHeld (record {
+      mounts = w.mounts;
+      filesystems = w.filesystems;
+      namespaces = entries_of w.namespaces.entries;
+      tasks = w.tasks;
+      next = w.next;
+    }) };
+}
+
+impl World {
+    ghost use Rattle.vt_ns.specs.Held.{IsHeld};
+
+    /// It has the invariants of a world, and what is counted is exact.
+    pub fn is_held(&self)
+        ensures { IsHeld self.now }
+    {
+        let _ = &self.tasks;
+    }
+}

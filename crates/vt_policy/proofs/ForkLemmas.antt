@@ -1,0 +1,32 @@
+-- A child with the caller's credentials is refused by no rule on credentials.
+use Rattle.std.proofs.Common.{◌≡◌, ℕ, Bool, false, [], not, ◌&&◌, ◌||◌, ◌==◌, Ok, None, length, nat_le, eq-eqb, refl, ap, ◌∙◌}
+use Rattle.std.proofs.lemmas.Slice.Eq.{bytes_eq-Decides}
+use Rattle.std.specs.Int.Bits.{and_self, bit_and}
+use Rattle.std.specs.Str.{bytes_eq}
+use Rattle.vt_spec.specs.declared.errors.Rule.TheVariants.{K1, S6}
+use Rattle.vt_spec.specs.Language.Limits.{deepest_name, most_forks}
+use Rattle.vt_spec.specs.Machine.Judge.{fork_permit}
+use Rattle.vt_spec.specs.Machine.Permits.Permit.{ToFork}
+use Rattle.vt_spec.specs.Machine.Rules.Conditions.{lacks}
+use Rattle.vt_spec.specs.Machine.World.{Task}
+use Rattle.vt_policy.proofs.Rows.{skipped}
+
+differs : (a : ℕ) (lacking : Bool) → (not (a == a) && lacking) ≡ false
+differs a lacking = ap (λ same. not same && lacking) (eq-eqb a a refl)
+
+has_its_own : (task : Task ℕ) → lacks task task.credentials.capabilities ≡ false
+has_its_own task = ap not (eq-eqb (bit_and task.credentials.capabilities task.credentials.capabilities) task.credentials.capabilities (and_self task.credentials.capabilities))
+
+same_groups : (gid : ℕ) (groups : _) (lacking : Bool) → (not (gid == gid && bytes_eq groups groups) && lacking) ≡ false
+same_groups gid groups lacking =
+    ap (λ same. not (same && bytes_eq groups groups) && lacking) (eq-eqb gid gid refl)
+    ∙ ap (λ same. not same && lacking) ((bytes_eq-Decides groups groups).1 refl)
+
+pub forked_alike : (task : Task ℕ) → (nat_le most_forks task.forks || nat_le deepest_name (length task.name)) ≡ false
+    → fork_permit task None ≡ Ok (ToFork task.credentials)
+unfolding fork_permit
+forked_alike task fertile =
+    skipped (nat_le most_forks task.forks || nat_le deepest_name (length task.name)) S6 _ _ fertile
+    ∙ skipped _ K1 _ _ (differs task.credentials.uid _)
+    ∙ skipped _ K1 _ _ (same_groups task.credentials.gid task.credentials.groups _)
+    ∙ skipped _ K1 [] _ (has_its_own task)

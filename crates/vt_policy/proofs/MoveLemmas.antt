@@ -1,0 +1,48 @@
+-- A move of a mount that has passed its walks: the rules before the receivers are asked for, and those after.
+use Rattle.std.proofs.Common.{◌≡◌, ℕ, Bool, false, List, [], ◌∷◌, Ok, Err, is_some, nat_eq, not, ◌∙◌}
+use Rattle.vt_spec.specs.declared.errors.Deny.{Deny}
+use Rattle.vt_spec.specs.declared.errors.Rule.TheVariants.{M10, M9}
+use Rattle.vt_spec.specs.Errors.{Rules, unless}
+use Rattle.vt_spec.specs.Machine.Judge.{move_permit}
+use Rattle.vt_spec.specs.Machine.Looks.{Looks, mount_at}
+use Rattle.vt_spec.specs.Machine.Mounts.{Location}
+use Rattle.vt_spec.specs.Machine.Permits.{Permit}
+use Rattle.vt_spec.specs.Machine.Permits.Permit.{ToMove}
+use Rattle.vt_spec.specs.Machine.Rules.Conditions.{lacks}
+use Rattle.vt_spec.specs.Machine.Rules.Mounting.{destination_walk, source_walk}
+use Rattle.vt_spec.specs.Machine.Walking.{walk_end}
+use Rattle.vt_spec.specs.Machine.World.{Task}
+use Rattle.vt_spec.specs.Rights.{cap_sys_admin}
+use Rattle.vt_policy.specs.Tables.{move_table}
+use Rattle.vt_policy.proofs.MountLemmas.{Reaches, move_asked}
+use Rattle.vt_policy.proofs.Refusals.{unless-let_through, unless-stopped}
+use Rattle.vt_policy.proofs.Rows.{one_by_one}
+
+-- the rules after the receivers are asked for
+abbrev pub last_rows : Looks ℕ → Location ℕ → Bool → Rules
+last_rows looks source overfull = (overfull, M9) ∷ (not (is_some (mount_at looks source).mount_point), M10) ∷ []
+
+pub move_refused : (looks : Looks ℕ) (overfills : Permit ℕ → Bool) (task : Task ℕ) (old new : List ℕ) (source place : Location ℕ)
+    → lacks task cap_sys_admin ≡ false
+    → Reaches (walk_end (source_walk nat_eq looks task old)) source
+    → Reaches (walk_end (destination_walk nat_eq looks task new)) place
+    → (deny : Deny) → Err deny ≡ unless {A = Unit {0}} (move_table looks task source place) (Ok tt)
+    → move_permit nat_eq looks overfills task old new ≡ Err deny
+move_refused looks overfills task old new source place admin from there deny refused =
+    let permit = ToMove source.mount place in
+    move_asked looks overfills task old new source place admin from there
+    ∙ one_by_one (move_table looks task source place) (last_rows looks source (overfills permit)) (Ok permit)
+    ∙ unless-stopped (move_table looks task source place) (unless (last_rows looks source (overfills permit)) (Ok permit)) deny refused
+
+pub move_left : (looks : Looks ℕ) (overfills : Permit ℕ → Bool) (task : Task ℕ) (old new : List ℕ) (source place : Location ℕ)
+    → lacks task cap_sys_admin ≡ false
+    → Reaches (walk_end (source_walk nat_eq looks task old)) source
+    → Reaches (walk_end (destination_walk nat_eq looks task new)) place
+    → Ok tt ≡ unless {A = Unit {0}} (move_table looks task source place) (Ok tt)
+    → move_permit nat_eq looks overfills task old new
+    ≡ unless (last_rows looks source (overfills (ToMove source.mount place))) (Ok (ToMove source.mount place))
+move_left looks overfills task old new source place admin from there passed =
+    let permit = ToMove source.mount place in
+    move_asked looks overfills task old new source place admin from there
+    ∙ one_by_one (move_table looks task source place) (last_rows looks source (overfills permit)) (Ok permit)
+    ∙ unless-let_through (move_table looks task source place) (unless (last_rows looks source (overfills permit)) (Ok permit)) passed

@@ -1,0 +1,75 @@
+use Rattle.std.proofs.Common.{[], ℕ, Ok, ap, arith, is_some, le-ltb, length, nat_eq, rules, sym, ◌≡◌, ◌∙◌}
+use Rattle.std.proofs.lemmas.Result.{err_from_is_err_and}
+use Rattle.vt_spec.specs.Machine.Judge.{make_permit, symlink_permit, unnumbered}
+use Rattle.vt_spec.specs.Machine.Permits.Permit.{ToMake}
+use Rattle.vt_spec.specs.Machine.Rules.Making.{make_rules}
+use Rattle.vt_spec.specs.Machine.Walking.{Place, is_special, name_of, new_leaf_walk, walk_end}
+use Rattle.vt_spec.specs.PathText.{is_empty}
+use Rattle.vt_spec.specs.Tree.{Node}
+use Rattle.vt_permits.specs.PermitValue.{node_in}
+use Rattle.vt_tasks.specs.TaskValue.{task_of}
+use Rattle.vt_policy.proofs.Judged.{refused, without_memory}
+use Rattle.vt_policy.proofs.PlaceLemmas.{is_some_mapped, made_asked}
+use Rattle.vt_policy.proofs.Refusals.{unless-let_through, unless-stopped}
+use Rattle.vt_spec.specs.declared.errors.Rule.TheVariants.{W1, W2}
+use Rattle.vt_spec.specs.Machine.Outcome.Making.{symlink_mode}
+use Rattle.vt_spec.specs.Machine.Rows.{exact_attr}
+use Rattle.vt_spec.specs.Tree.Content.{Symlink}
+use Rattle.vt_policy.proofs.Rows.{skipped}
+use Rattle.vt_policy.proofs.making.symlink.Goals as goal
+
+pub returns-in_err-may_make : goal.returns-in_err-may_make
+unfolding symlink_permit
+returns-in_err-may_make g c =
+    let looks = g.L.Look.looks c.args.world.now in
+    let task = task_of c.args.who.now in
+    let at = c.in_ok-place.ensures.ok in
+    let node : Place ℕ → Node ℕ = λ place. record { attr = exact_attr task symlink_mode; content = Symlink c.args.text.items } in
+    let rows = make_rules looks task at.0 (unnumbered at.0 (node at.0)) in
+    let permit = make_permit at.0 (node at.0) in
+    let special = ap is_special at.2.last ∙ sym c.is_special.ensures ∙ c.if-is_special.false in
+    let missing = ap is_some at.2.object ∙ is_some_mapped c.in_ok-place.place.object ∙ sym c.is_some.ensures ∙ c.if-is_some.false in
+    let p = err_from_is_err_and c.from_residual-in_err-may_make.result c.from_residual-in_err-may_make.ensures.1 in
+    rw (p.1, p.2) (refused task (symlink_permit nat_eq looks task c.args.text.items c.args.path.now) _
+    (skipped (is_empty c.args.text.items) W1 _ _ (search rules)
+    ∙ skipped _ W2 [] _ (le-ltb 4095 (length c.args.text.items) (omega arith))
+    ∙ made_asked looks task (walk_end (new_leaf_walk nat_eq looks task c.args.path.now)) at.0 node at.1 special missing
+    ∙ unless-stopped rows (Ok permit) _ (c.in_err-may_make.ensures at.0 (unnumbered at.0 (node at.0)) at.2.parent)))
+
+pub returns-in_err-name_at : goal.returns-in_err-name_at
+unfolding symlink_permit
+returns-in_err-name_at g c =
+    let looks = g.L.Look.looks c.args.world.now in
+    let task = task_of c.args.who.now in
+    let at = c.in_ok-place.ensures.ok in
+    let node : Place ℕ → Node ℕ = λ place. record { attr = exact_attr task symlink_mode; content = Symlink c.args.text.items } in
+    let rows = make_rules looks task at.0 (unnumbered at.0 (node at.0)) in
+    let permit = make_permit at.0 (node at.0) in
+    let special = ap is_special at.2.last ∙ sym c.is_special.ensures ∙ c.if-is_special.false in
+    let missing = ap is_some at.2.object ∙ is_some_mapped c.in_ok-place.place.object ∙ sym c.is_some.ensures ∙ c.if-is_some.false in
+    let p = err_from_is_err_and c.from_residual-in_err-name_at.result c.from_residual-in_err-name_at.ensures.1 in
+    rw (p.1, p.2) (without_memory task (symlink_permit nat_eq looks task c.args.text.items c.args.path.now) permit _
+    (skipped (is_empty c.args.text.items) W1 _ _ (search rules)
+    ∙ skipped _ W2 [] _ (le-ltb 4095 (length c.args.text.items) (omega arith))
+    ∙ made_asked looks task (walk_end (new_leaf_walk nat_eq looks task c.args.path.now)) at.0 node at.1 special missing
+    ∙ unless-let_through rows (Ok permit) (c.in_ok-may_make.ensures at.0 (unnumbered at.0 (node at.0)) at.2.parent))
+    c.in_err-name_at.ensures.memory)
+
+pub returns : goal.returns
+unfolding symlink_permit
+returns g c =
+    let looks = g.L.Look.looks c.args.world.now in
+    let task = task_of c.args.who.now in
+    let at = c.in_ok-place.ensures.ok in
+    let node : Place ℕ → Node ℕ = λ place. record { attr = exact_attr task symlink_mode; content = Symlink c.args.text.items } in
+    let rows = make_rules looks task at.0 (unnumbered at.0 (node at.0)) in
+    let permit = make_permit at.0 (node at.0) in
+    let special = ap is_special at.2.last ∙ sym c.is_special.ensures ∙ c.if-is_special.false in
+    let missing = ap is_some at.2.object ∙ is_some_mapped c.in_ok-place.place.object ∙ sym c.is_some.ensures ∙ c.if-is_some.false in
+    let name = ap name_of at.2.last ∙ sym c.in_ok-name_at.ensures.ok in
+    let built : node at.0 ≡ node_in c.in_ok-place.place.parent c.new_link.result = search rules in
+    skipped (is_empty c.args.text.items) W1 _ _ (search rules)
+    ∙ skipped _ W2 [] _ (le-ltb 4095 (length c.args.text.items) (omega arith))
+    ∙ made_asked looks task (walk_end (new_leaf_walk nat_eq looks task c.args.path.now)) at.0 node at.1 special missing
+    ∙ unless-let_through rows (Ok permit) (c.in_ok-may_make.ensures at.0 (unnumbered at.0 (node at.0)) at.2.parent)
+    ∙ (λ i. Ok (ToMake (at.2.parent i) (name i) (built i)))

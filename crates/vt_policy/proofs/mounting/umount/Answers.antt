@@ -1,0 +1,21 @@
+use Rattle.std.proofs.Common.{[], ◌∷◌, is_some, nat_eq, not, Ok}
+use Rattle.std.proofs.lemmas.Result.{err_from_is_err_and}
+use Rattle.vt_spec.specs.declared.errors.Rule.TheVariants.{M10, M8}
+use Rattle.vt_spec.specs.Machine.Judge.{umount_permit}
+use Rattle.vt_spec.specs.Machine.Looks.{mount_at}
+use Rattle.vt_spec.specs.Machine.Permits.Permit.{ToUnmount}
+use Rattle.vt_tasks.specs.TaskValue.{task_of}
+use Rattle.vt_policy.proofs.Judged.{refused_before}
+use Rattle.vt_policy.proofs.MountLemmas.{root_refused}
+use Rattle.vt_policy.proofs.mounting.umount.Goals as goal
+
+pub returns-in_err-here : goal.returns-in_err-here
+unfolding umount_permit
+returns-in_err-here g c =
+    let looks = g.L.Look.looks c.args.world.now in
+    let task = task_of c.args.who.now in
+    let p = err_from_is_err_and c.from_residual.result c.from_residual.ensures.1 in
+    rw (p.1, p.2) (refused_before task (umount_permit nat_eq looks task c.args.path.now) _
+    (root_refused looks task c.args.path.now
+    (λ at. (looks.is_busy at.mount, M8) ∷ (not (is_some (mount_at looks at).mount_point), M10) ∷ []) (λ at. Ok (ToUnmount at.mount)) _
+    c.in_err-here.ensures.err))

@@ -1,0 +1,66 @@
+use Rattle.std.proofs.Common.{Ok, ap, nat_eq, sym, unwrap_or, ◌∙◌}
+use Rattle.std.proofs.lemmas.Result.{err_from_is_err_and}
+use Rattle.vt_spec.specs.Language.Changes.Change.{Remove}
+use Rattle.vt_spec.specs.Machine.Judge.{unlink_permit}
+use Rattle.vt_spec.specs.Machine.Permits.Permit.{ToChange}
+use Rattle.vt_spec.specs.Machine.Rules.Removing.{object_there, removing}
+use Rattle.vt_spec.specs.Machine.Walking.{is_special, name_of}
+use Rattle.vt_location.specs.Locations.{location_of}
+use Rattle.vt_tasks.specs.TaskValue.{task_of}
+use Rattle.vt_policy.specs.Tables.{remove_rules}
+use Rattle.vt_policy.proofs.Judged.{refused, without_memory}
+use Rattle.vt_policy.proofs.PlaceLemmas.{there_mapped, unlink_asked}
+use Rattle.vt_policy.proofs.Refusals.{unless-let_through, unless-stopped}
+use Rattle.vt_policy.proofs.removing.unlink.Goals as goal
+
+pub returns-in_err-may_remove : goal.returns-in_err-may_remove
+returns-in_err-may_remove g c =
+    let looks = g.L.Look.looks c.args.world.now in
+    let task = task_of c.args.who.now in
+    let at = c.in_ok-place.ensures.ok in
+    let parent = location_of c.in_ok-place.place.parent in
+    let object = location_of c.unwrap_or-object.result in
+    let there = (λ i. unwrap_or (at.2.object i) (at.2.parent i)) ∙ there_mapped c.in_ok-place.place.object c.in_ok-place.place.parent
+    ∙ ap location_of (sym c.unwrap_or-object.ensures) in
+    let permit = ToChange at.0.parent (removing at.0 (object_there at.0)) in
+    let asked = unlink_asked looks c.has_no_overlays.ensures task c.args.path.now at.0 parent object at.1
+    (ap is_special at.2.last ∙ sym c.is_special.ensures ∙ c.if-is_special.false) at.2.parent there
+    (sym c.is_directory.ensures ∙ c.if-is_directory.false) (sym c.is_read_only.ensures ∙ c.if-is_read_only.false) in
+    let p = err_from_is_err_and c.from_residual-in_err-may_remove.result c.from_residual-in_err-may_remove.ensures.1 in
+    rw (p.1, p.2) (refused task (unlink_permit nat_eq looks task c.args.path.now) _
+    (asked ∙ unless-stopped (remove_rules looks task parent object) (Ok permit) _ c.in_err-may_remove.ensures))
+
+pub returns-in_err-name_at : goal.returns-in_err-name_at
+returns-in_err-name_at g c =
+    let looks = g.L.Look.looks c.args.world.now in
+    let task = task_of c.args.who.now in
+    let at = c.in_ok-place.ensures.ok in
+    let parent = location_of c.in_ok-place.place.parent in
+    let object = location_of c.unwrap_or-object.result in
+    let there = (λ i. unwrap_or (at.2.object i) (at.2.parent i)) ∙ there_mapped c.in_ok-place.place.object c.in_ok-place.place.parent
+    ∙ ap location_of (sym c.unwrap_or-object.ensures) in
+    let permit = ToChange at.0.parent (removing at.0 (object_there at.0)) in
+    let asked = unlink_asked looks c.has_no_overlays.ensures task c.args.path.now at.0 parent object at.1
+    (ap is_special at.2.last ∙ sym c.is_special.ensures ∙ c.if-is_special.false) at.2.parent there
+    (sym c.is_directory.ensures ∙ c.if-is_directory.false) (sym c.is_read_only.ensures ∙ c.if-is_read_only.false) in
+    let p = err_from_is_err_and c.from_residual-in_err-name_at.result c.from_residual-in_err-name_at.ensures.1 in
+    rw (p.1, p.2) (without_memory task (unlink_permit nat_eq looks task c.args.path.now) permit _
+    (asked ∙ unless-let_through (remove_rules looks task parent object) (Ok permit) c.in_ok-may_remove.ensures)
+    c.in_err-name_at.ensures.memory)
+
+pub returns : goal.returns
+returns g c =
+    let looks = g.L.Look.looks c.args.world.now in
+    let task = task_of c.args.who.now in
+    let at = c.in_ok-place.ensures.ok in
+    let parent = location_of c.in_ok-place.place.parent in
+    let object = location_of c.unwrap_or-object.result in
+    let there = (λ i. unwrap_or (at.2.object i) (at.2.parent i)) ∙ there_mapped c.in_ok-place.place.object c.in_ok-place.place.parent
+    ∙ ap location_of (sym c.unwrap_or-object.ensures) in
+    let permit = ToChange at.0.parent (removing at.0 (object_there at.0)) in
+    let asked = unlink_asked looks c.has_no_overlays.ensures task c.args.path.now at.0 parent object at.1
+    (ap is_special at.2.last ∙ sym c.is_special.ensures ∙ c.if-is_special.false) at.2.parent there
+    (sym c.is_directory.ensures ∙ c.if-is_directory.false) (sym c.is_read_only.ensures ∙ c.if-is_read_only.false) in
+    let name = ap name_of at.2.last ∙ sym c.in_ok-name_at.ensures.ok in
+    asked ∙ unless-let_through (remove_rules looks task parent object) (Ok permit) c.in_ok-may_remove.ensures
+    ∙ (λ i. Ok (ToChange (at.2.parent i) (Remove (at.2.parent i).node (name i) (there i).node)))

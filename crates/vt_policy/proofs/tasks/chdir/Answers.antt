@@ -1,0 +1,33 @@
+use Rattle.std.proofs.Common.{Ok, nat_eq, ◌∙◌}
+use Rattle.std.proofs.lemmas.Result.{err_from_is_err_and}
+use Rattle.vt_spec.specs.Errors.{unless}
+use Rattle.vt_spec.specs.Machine.Judge.{chdir_permit}
+use Rattle.vt_spec.specs.Machine.Permits.Permit.{ToSetDirectory}
+use Rattle.vt_spec.specs.Machine.Rules.Tasks.{enter_rules}
+use Rattle.vt_spec.specs.Machine.Walking.{directory_walk, walk_end}
+use Rattle.vt_location.specs.Locations.{location_of}
+use Rattle.vt_tasks.specs.TaskValue.{task_of}
+use Rattle.vt_policy.proofs.MountLemmas.{reached}
+use Rattle.vt_policy.proofs.Refusals.{unless-let_through, unless-stopped}
+use Rattle.vt_policy.proofs.tasks.chdir.Goals as goal
+
+pub returns-in_err-may_enter : goal.returns-in_err-may_enter
+unfolding chdir_permit
+returns-in_err-may_enter g c =
+    let looks = g.L.Look.looks c.args.world.now in
+    let task = task_of c.args.who.now in
+    let at = location_of c.in_ok-directory.directory in
+    let p = err_from_is_err_and c.from_residual-in_err-may_enter.result c.from_residual-in_err-may_enter.ensures.1 in
+    rw (p.1, p.2) (reached (walk_end (directory_walk nat_eq looks task c.args.path.now)) at
+    (λ at. unless (enter_rules looks task at) (Ok (ToSetDirectory at))) c.in_ok-directory.ensures.ok
+    ∙ unless-stopped (enter_rules looks task at) (Ok (ToSetDirectory at)) _ c.in_err-may_enter.ensures)
+
+pub returns : goal.returns
+unfolding chdir_permit
+returns g c =
+    let looks = g.L.Look.looks c.args.world.now in
+    let task = task_of c.args.who.now in
+    let at = location_of c.in_ok-directory.directory in
+    reached (walk_end (directory_walk nat_eq looks task c.args.path.now)) at
+    (λ at. unless (enter_rules looks task at) (Ok (ToSetDirectory at))) c.in_ok-directory.ensures.ok
+    ∙ unless-let_through (enter_rules looks task at) (Ok (ToSetDirectory at)) c.in_ok-may_enter.ensures

@@ -1,0 +1,23 @@
+use Rattle.std.proofs.Common.{Ok, Some}
+use Rattle.std.proofs.lemmas.Result.{err_from_is_err_and}
+use Rattle.vt_spec.specs.Machine.Judge.{fork_permit}
+use Rattle.vt_spec.specs.Machine.Outcome.Tasks.{child_credentials}
+use Rattle.vt_spec.specs.Machine.Permits.Permit.{ToFork}
+use Rattle.vt_spec.specs.Machine.Rules.Tasks.{fork_rules}
+use Rattle.vt_request.specs.Requests.{fork_words_of}
+use Rattle.vt_tasks.specs.TaskValue.{task_of}
+use Rattle.vt_policy.proofs.Judged.{refused}
+use Rattle.vt_policy.proofs.Refusals.{unless-stopped}
+use Rattle.vt_policy.proofs.tasks.fork.Goals as goal
+
+pub returns-in_default : goal.returns-in_default
+returns-in_default c = rw c.in_default.is c.fork_alike.ensures
+
+pub returns-in_err-may_fork : goal.returns-in_err-may_fork
+unfolding fork_permit
+returns-in_err-may_fork c =
+    let task = task_of c.args.who.now in
+    let p = err_from_is_err_and c.from_residual.result c.from_residual.ensures.1 in
+    let child = child_credentials task.credentials (Some (fork_words_of c.in-Some.words)) in
+    rw (p.1, p.2, c.in-Some.is) (refused task (fork_permit task (Some (fork_words_of c.in-Some.words))) _
+    (unless-stopped (fork_rules task child) (Ok (ToFork child)) _ c.in_err-may_fork.ensures))

@@ -1,0 +1,95 @@
+//! Calls that look: stat(2), readlink(2), read(2), getdents(2), execve(2).
+ghost use Rattle.std.specs.Prelude.{nat_eq};
+ghost use Rattle.vt_spec.specs.Machine.Judge.{exec_permit, list_permit, lstat_permit, read_permit, readlink_permit, stat_permit};
+ghost use Rattle.vt_permits.specs.Memory.{JudgesAlike};
+ghost use Rattle.vt_tasks.specs.TaskValue.{task_of};
+
+use crate::paths::{directory_at, object_at, symlink_at};
+use crate::rights::{is_directory, is_kind, is_noexec, may};
+use vt_cred::Rights;
+use vt_looks::Look;
+use vt_node::Kind;
+use vt_permits::Permit;
+use vt_spec::errors::{Deny, Rule};
+use vt_tasks::Task;
+
+/// After the rules of the walk: C1 (EACCES).
+#[tactic(auto, unfolding(vt_spec::specs::Machine::Judge::list_permit))]
+pub fn list<L: Look>(world: &L, who: &Task, path: &[u8]) -> Result<Permit, Deny>
+    ensures { JudgesAlike (task_of who.now) (list_permit nat_eq (L.looks world.now) (task_of who.now) path.now) result }
+{
+    world.has_no_overlays();
+    let directory = directory_at(world, who, path)?;
+    if !may(world, who, directory, Rights::READ) {
+        return Err(Rule::C1.denial());
+    }
+    Ok(Permit::ToList { directory })
+}
+
+/// The rules of the walk alone.
+#[tactic(auto, unfolding(vt_spec::specs::Machine::Judge::stat_permit))]
+pub fn stat<L: Look>(world: &L, who: &Task, path: &[u8]) -> Result<Permit, Deny>
+    ensures { JudgesAlike (task_of who.now) (stat_permit nat_eq (L.looks world.now) (task_of who.now) path.now) result }
+{
+    let object = object_at(world, who, path)?;
+    Ok(Permit::ToStat { object })
+}
+
+/// The rules of the walk alone.
+#[tactic(auto, unfolding(vt_spec::specs::Machine::Judge::lstat_permit))]
+pub fn lstat<L: Look>(world: &L, who: &Task, path: &[u8]) -> Result<Permit, Deny>
+    ensures { JudgesAlike (task_of who.now) (lstat_permit nat_eq (L.looks world.now) (task_of who.now) path.now) result }
+{
+    let object = symlink_at(world, who, path)?;
+    Ok(Permit::ToStat { object })
+}
+
+/// After the rules of the walk: E5 (EINVAL).
+#[tactic(auto, unfolding(vt_spec::specs::Machine::Judge::readlink_permit))]
+pub fn readlink<L: Look>(world: &L, who: &Task, path: &[u8]) -> Result<Permit, Deny>
+    ensures { JudgesAlike (task_of who.now) (readlink_permit nat_eq (L.looks world.now) (task_of who.now) path.now) result }
+{
+    let symlink = symlink_at(world, who, path)?;
+    if !is_kind(world, symlink, Kind::Symlink) {
+        return Err(Rule::E5.denial());
+    }
+    Ok(Permit::ToRead { file: symlink })
+}
+
+/// After the rules of the walk: E2 (EISDIR), E9 (ENXIO), C1 (EACCES).
+#[tactic(auto, unfolding(vt_spec::specs::Machine::Judge::read_permit))]
+pub fn read<L: Look>(world: &L, who: &Task, path: &[u8]) -> Result<Permit, Deny>
+    ensures { JudgesAlike (task_of who.now) (read_permit nat_eq (L.looks world.now) (task_of who.now) path.now) result }
+{
+    world.has_no_overlays();
+    let file = object_at(world, who, path)?;
+    if is_directory(world, file) {
+        return Err(Rule::E2.denial());
+    }
+    if is_kind(world, file, Kind::White) {
+        return Err(Rule::E9.denial());
+    }
+    if !may(world, who, file, Rights::READ) {
+        return Err(Rule::C1.denial());
+    }
+    Ok(Permit::ToRead { file })
+}
+
+/// After the rules of the walk: E8 (EACCES), F3 (EACCES), C1 (EACCES).
+#[tactic(auto, unfolding(vt_spec::specs::Machine::Judge::exec_permit))]
+pub fn exec<L: Look>(world: &L, who: &Task, path: &[u8]) -> Result<Permit, Deny>
+    ensures { JudgesAlike (task_of who.now) (exec_permit nat_eq (L.looks world.now) (task_of who.now) path.now) result }
+{
+    world.has_no_overlays();
+    let file = object_at(world, who, path)?;
+    if !is_kind(world, file, Kind::File) {
+        return Err(Rule::E8.denial());
+    }
+    if is_noexec(world, file) {
+        return Err(Rule::F3.denial());
+    }
+    if !may(world, who, file, Rights::EXECUTE) {
+        return Err(Rule::C1.denial());
+    }
+    Ok(Permit::Allowed)
+}

@@ -1,0 +1,251 @@
+//! Mount calls: mount(2) in its forms, umount(2).
+ghost use Rattle.std.specs.Prelude.{◌≡◌, is_some, nat_eq, Err, IfErr, IfOk, Ok};
+ghost use Rattle.vt_spec.specs.Errors.{unless};
+ghost use Rattle.vt_spec.specs.Machine.Judge.{bind_permit, lazy_permit, mount_plain_permit, move_permit, remount_permit, type_permit, umount_permit};
+ghost use Rattle.vt_spec.specs.Machine.Rules.Mounting.{has_shared_parent};
+ghost use Rattle.vt_location.specs.Flags.{flags_of};
+ghost use Rattle.vt_location.specs.Locations.{location_of};
+ghost use Rattle.vt_location.specs.Numbers.{counted};
+ghost use Rattle.vt_permits.specs.Memory.{JudgesAlike, JudgesByReceivers};
+ghost use Rattle.vt_request.specs.Requests.{type_word_of};
+ghost use Rattle.vt_tasks.specs.TaskValue.{task_of};
+ghost use Rattle.vt_policy.specs.Tables.{IsRootAt, move_table, root_walk};
+
+use crate::paths::{destination_at, directory_at, source_at};
+use crate::rights::{is_elsewhere, is_no_root, is_shared, is_unbindable, lacks};
+use vt_cred::Caps;
+use vt_location::{Location, Mount, MountFlags, MountId};
+use vt_looks::{Attachment, Look, LookAtMounts};
+use vt_permits::Permit;
+use vt_request::TypeWord;
+use vt_spec::errors::{Deny, Rule};
+use vt_tasks::Task;
+
+// Whether a mount has a mount point; the root mount of a namespace has none.
+fn is_attached_somewhere<L: Look>(world: &L, mount: MountId) -> bool
+    ensures { result ≡ is_some ((L.looks world.now).mount (counted mount.count)).mount_point }
+{
+    match world.mount(mount) {
+        Some(mount) => mount.mount_point.is_some(),
+        None => false,
+    }
+}
+
+// Whether the mount of a location stands on a shared mount.
+fn has_shared_parent<L: Look>(world: &L, at: Location) -> bool
+    ensures { result ≡ has_shared_parent (L.looks world.now) (location_of at) }
+{
+    match world.mount(at.mount) {
+        Some(
+            Mount {
+                mount_point: Some(place),
+                ..
+            },
+        ) => is_shared(world, place.mount),
+        _ => false,
+    }
+}
+
+// The root of a mount of the caller's namespace, to which a path leads: K1 (EPERM), and after the rules of the walk M2
+// (EINVAL), M7 (EINVAL).
+fn root_at<L: Look>(world: &L, who: &Task, path: &[u8]) -> Result<Location, Deny>
+    ensures ok { IfOk result (λ at. IsRootAt (L.looks world.now) (task_of who.now) path.now at) }
+    ensures err { IfErr result (λ deny. root_walk (L.looks world.now) (task_of who.now) path.now ≡ Err deny) }
+{
+    if lacks(who, Caps::CAP_SYS_ADMIN) {
+        return Err(Rule::K1.denial());
+    }
+    let here = directory_at(world, who, path)?;
+    if is_elsewhere(world, who, here) {
+        return Err(Rule::M2.denial());
+    }
+    if is_no_root(world, here) {
+        return Err(Rule::M7.denial());
+    }
+    Ok(here)
+}
+
+// A mount may move: M2 (EINVAL), M4 (EINVAL), M5 (EINVAL), M6 (ELOOP), M7 (EINVAL).
+fn may_move<L: LookAtMounts>(
+    world: &L,
+    who: &Task,
+    source: Location,
+    place: Location,
+) -> Result<(), Deny>
+    ensures { result ≡ unless (move_table (L.looks world.now) (task_of who.now) (location_of source) (location_of place)) (Ok tt) }
+{
+    if is_elsewhere(world, who, source) || is_elsewhere(world, who, place) {
+        return Err(Rule::M2.denial());
+    }
+    if has_shared_parent(world, source) {
+        return Err(Rule::M4.denial());
+    }
+    if is_shared(world, place.mount) && world.has_unbindable(source.mount) {
+        return Err(Rule::M5.denial());
+    }
+    if world.is_at_or_below(source.mount, place.mount) {
+        return Err(Rule::M6.denial());
+    }
+    if is_no_root(world, source) {
+        return Err(Rule::M7.denial());
+    }
+    Ok(())
+}
+
+/// K1 (EPERM), and after the rules of the walk M2 (EINVAL), M9 (ENOSPC).
+#[tactic(auto, unfolding(vt_spec::specs::Machine::Judge::mount_plain_permit))]
+pub fn mount_plain<L: LookAtMounts>(
+    world: &L,
+    who: &Task,
+    path: &[u8],
+    flags: MountFlags,
+) -> Result<Permit, Deny>
+    ensures { JudgesByReceivers (task_of who.now)
+        (mount_plain_permit nat_eq (L.looks world.now) (L.overfills world.now) (task_of who.now) path.now (flags_of flags)) result }
+{
+    if lacks(who, Caps::CAP_SYS_ADMIN) {
+        return Err(Rule::K1.denial());
+    }
+    let place = destination_at(world, who, path)?;
+    if is_elsewhere(world, who, place) {
+        return Err(Rule::M2.denial());
+    }
+    if world.overfills(Attachment::Plain { place, flags })? {
+        return Err(Rule::M9.denial());
+    }
+    Ok(Permit::ToMountPlain { place, flags })
+}
+
+/// K1 (EPERM), and after the rules of both walks M2 (EINVAL), M3 (EINVAL), M9 (ENOSPC).
+#[tactic(auto, unfolding(vt_spec::specs::Machine::Judge::bind_permit))]
+pub fn bind<L: LookAtMounts>(
+    world: &L,
+    who: &Task,
+    source: &[u8],
+    path: &[u8],
+    recursive: bool,
+) -> Result<Permit, Deny>
+    ensures { JudgesByReceivers (task_of who.now)
+        (bind_permit nat_eq (L.looks world.now) (L.overfills world.now) (task_of who.now) source.now path.now recursive) result }
+{
+    if lacks(who, Caps::CAP_SYS_ADMIN) {
+        return Err(Rule::K1.denial());
+    }
+    let source = source_at(world, who, source)?;
+    let place = destination_at(world, who, path)?;
+    if is_elsewhere(world, who, source) || is_elsewhere(world, who, place) {
+        return Err(Rule::M2.denial());
+    }
+    if is_unbindable(world, source.mount) {
+        return Err(Rule::M3.denial());
+    }
+    let attachment = Attachment::Bind {
+        source,
+        place,
+        recursive,
+    };
+    if world.overfills(attachment)? {
+        return Err(Rule::M9.denial());
+    }
+    Ok(Permit::ToBind {
+        source,
+        place,
+        recursive,
+    })
+}
+
+/// K1 (EPERM), and after the rules of both walks M2 (EINVAL), M4 (EINVAL), M5 (EINVAL), M6 (ELOOP), M7 (EINVAL), M9 (ENOSPC),
+/// M10 (EINVAL).
+#[tactic(auto, unfolding(vt_spec::specs::Machine::Judge::move_permit))]
+pub fn move_mount<L: LookAtMounts>(
+    world: &L,
+    who: &Task,
+    source: &[u8],
+    path: &[u8],
+) -> Result<Permit, Deny>
+    ensures { JudgesByReceivers (task_of who.now)
+        (move_permit nat_eq (L.looks world.now) (L.overfills world.now) (task_of who.now) source.now path.now) result }
+{
+    if lacks(who, Caps::CAP_SYS_ADMIN) {
+        return Err(Rule::K1.denial());
+    }
+    let source = source_at(world, who, source)?;
+    let place = destination_at(world, who, path)?;
+    may_move(world, who, source, place)?;
+    let mount = source.mount;
+    if world.overfills(Attachment::Move { mount, place })? {
+        return Err(Rule::M9.denial());
+    }
+    if !is_attached_somewhere(world, mount) {
+        return Err(Rule::M10.denial());
+    }
+    Ok(Permit::ToMove { mount, place })
+}
+
+/// K1 (EPERM), and after the rules of the walk M2 (EINVAL), M7 (EINVAL), M8 (EBUSY), M10 (EINVAL).
+#[tactic(auto, unfolding(vt_spec::specs::Machine::Judge::umount_permit))]
+pub fn umount<L: LookAtMounts>(world: &L, who: &Task, path: &[u8]) -> Result<Permit, Deny>
+    ensures { JudgesByReceivers (task_of who.now) (umount_permit nat_eq (L.looks world.now) (task_of who.now) path.now) result }
+{
+    let here = root_at(world, who, path)?;
+    if world.is_busy(here.mount)? {
+        return Err(Rule::M8.denial());
+    }
+    if !is_attached_somewhere(world, here.mount) {
+        return Err(Rule::M10.denial());
+    }
+    Ok(Permit::ToUnmount { mount: here.mount })
+}
+
+/// K1 (EPERM), and after the rules of the walk M2 (EINVAL), M7 (EINVAL), M10 (EINVAL).
+#[tactic(auto, unfolding(vt_spec::specs::Machine::Judge::lazy_permit))]
+pub fn lazy<L: Look>(world: &L, who: &Task, path: &[u8]) -> Result<Permit, Deny>
+    ensures { JudgesAlike (task_of who.now) (lazy_permit nat_eq (L.looks world.now) (task_of who.now) path.now) result }
+{
+    let here = root_at(world, who, path)?;
+    if !is_attached_somewhere(world, here.mount) {
+        return Err(Rule::M10.denial());
+    }
+    Ok(Permit::ToUnmountLazily { mount: here.mount })
+}
+
+/// K1 (EPERM), and after the rules of the walk M2 (EINVAL), M7 (EINVAL), M8 (EBUSY).
+#[tactic(auto, unfolding(vt_spec::specs::Machine::Judge::remount_permit))]
+pub fn remount<L: LookAtMounts>(
+    world: &L,
+    who: &Task,
+    path: &[u8],
+    flags: MountFlags,
+) -> Result<Permit, Deny>
+    ensures { JudgesAlike (task_of who.now)
+        (remount_permit nat_eq (L.looks world.now) (task_of who.now) path.now (flags_of flags)) result }
+{
+    let here = root_at(world, who, path)?;
+    if flags.is_read_only() && world.is_written_through(here.mount) {
+        return Err(Rule::M8.denial());
+    }
+    Ok(Permit::ToSetFlags {
+        mount: here.mount,
+        flags,
+    })
+}
+
+/// K1 (EPERM), and after the rules of the walk M2 (EINVAL), M7 (EINVAL).
+#[tactic(auto, unfolding(vt_spec::specs::Machine::Judge::type_permit))]
+pub fn set_type<L: Look>(
+    world: &L,
+    who: &Task,
+    path: &[u8],
+    word: TypeWord,
+    recursive: bool,
+) -> Result<Permit, Deny>
+    ensures { JudgesAlike (task_of who.now)
+        (type_permit nat_eq (L.looks world.now) (task_of who.now) path.now (type_word_of word) recursive) result }
+{
+    let here = root_at(world, who, path)?;
+    Ok(Permit::ToSetType {
+        mount: here.mount,
+        word,
+        recursive,
+    })
+}

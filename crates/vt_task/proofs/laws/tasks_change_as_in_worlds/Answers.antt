@@ -1,5 +1,0 @@
-use Rattle.vt_task.proofs.GivenOnce.{name-of-called}
-use Rattle.vt_task.proofs.laws.tasks_change_as_in_worlds.Goals as goal
-
-pub returns-clause-name : goal.returns-clause-name
-returns-clause-name c = name-of-called

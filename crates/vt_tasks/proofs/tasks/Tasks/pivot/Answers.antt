@@ -1,0 +1,45 @@
+use Rattle.std.proofs.Common.{◌≡◌, IsSome, arith, ap, length, map, sym, subst, true≢false, ◌∙◌}
+use Rattle.std.specs.Option.{option_copied_mut}
+use Rattle.std.specs.Map.{keys_of}
+use Rattle.vt_location.specs.MountValue.{mount_of}
+use Rattle.vt_location.specs.Numbers.{counted}
+use Rattle.vt_tasks.specs.TasksValue.{tasks_of}
+use Rattle.vt_tasks.proofs.PivotLemmas.{all-of, as-many, changed-next, fit-pivoted, keys-set_value_at, pivoting}
+use Rattle.vt_tasks.proofs.tasks.Tasks.pivot.Goals as goal
+use Rattle.vt_tasks.proofs.tasks.Tasks.pivot.Goals.{in-Some, in_default}
+
+pub invariant_of-self : goal.invariant_of-self
+invariant_of-self c =
+    let old = c.self.inside.by_name.entries in
+    let new = c.loop-index.self-inside.by_name.entries in
+    let namespace = counted c.args.namespace.count in
+    let root = mount_of c.args.root.now in
+    let other = mount_of c.args.new.now in
+    let last : c.loop-index.index ≡ length old = omega (arith, c.loop-index-test.false, c.loop-index.auto.index-end, c.len-index-end.ensures.len) in
+    fit-pivoted namespace root other old new c.self.invariant c.loop-index.invariant.0
+    (all-of (pivoting namespace root other) c.loop-index.index old new last c.loop-index.invariant.1)
+
+pub loop-index-preserved : goal.loop-index-preserved
+loop-index-preserved c =
+    let old = c.self.inside.by_name.entries in
+    let es = c.loop-index.self-inside.by_name.entries in
+    let change = pivoting (counted c.args.namespace.count) (mount_of c.args.root.now) (mount_of c.args.new.now) in
+    elim c.match-get_index_mut.branch [
+      | in-Some w ↦ (
+        ap (λ inside. keys_of inside.by_name.entries) w.self-inside-is ∙ keys-set_value_at es c.loop-index.index _ ∙ c.loop-index.invariant.0,
+        ap (λ inside. tasks_of inside.by_name.entries) w.self-inside-is
+            ∙ changed-next change c.loop-index.index es (tasks_of old) w.in-Some.task.now _ c.loop-index.invariant.1
+            (sym c.get_index_mut.ensures.value ∙ ap option_copied_mut w.in-Some.is) w.pivot.ensures,
+      )
+      | in_default w ↦
+          absurd (true≢false (sym (subst IsSome w.in_default.is
+          (c.get_index_mut.ensures.found.1 (omega (arith, c.loop-index-test.true, c.len-index-end.ensures.len, as-many old es c.loop-index.invariant.0))))))
+    ]
+
+pub returns : goal.returns
+returns c =
+    let old = c.self.inside.by_name.entries in
+    let new = c.loop-index.self-inside.by_name.entries in
+    let change = pivoting (counted c.args.namespace.count) (mount_of c.args.root.now) (mount_of c.args.new.now) in
+    let last : c.loop-index.index ≡ length old = omega (arith, c.loop-index-test.false, c.loop-index.auto.index-end, c.len-index-end.ensures.len) in
+    all-of change c.loop-index.index old new last c.loop-index.invariant.1 ∙ ap (map change) c.self.view_is

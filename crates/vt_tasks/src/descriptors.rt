@@ -1,0 +1,119 @@
+//! The open files of a task, by their numbers.
+ghost use Rattle.std.specs.Prelude.{◌≡◌, ◌<◌, ◌≤◌, ◌==◌, [], length, map, find, filter, not, option_map, Some, IfOk, IfErr, OnErr};
+ghost use Rattle.vt_spec.specs.Machine.Outcome.Descriptors.{free_from, inserted};
+ghost use Rattle.vt_spec.specs.declared.errors.Rule.TheVariants.{S5};
+ghost use Rattle.vt_spec.specs.Errors.{denial};
+ghost use Rattle.vt_location.specs.Locations.{location_of};
+ghost use Rattle.vt_request.specs.Requests.{access_of};
+ghost use Rattle.vt_tasks.specs.Open.{numbered};
+
+use indexmap::IndexMap;
+use std::alloc::Global;
+use std::marker::Model;
+use vt_location::Location;
+use vt_request::Access;
+use vt_spec::errors::{Deny, Rule};
+
+/// The most files that a task has open: RLIMIT_NOFILE of setrlimit(2).
+pub const MAX_DESCRIPTORS: usize = 256;
+
+/// An open file, and what it was opened for.
+#[derive(Clone, Copy, Debug, PartialEq, Eq)]
+pub struct OpenFile {
+    pub location: Location,
+    pub access: Access,
+}
+
+/// The open files of a task, in the order of their numbers.
+#[derive(Debug, Drop)]
+pub struct Descriptors {
+    by_number: IndexMap<u8, OpenFile>,
+}
+
+impl Model for Descriptors {
+    ghost use Rattle.std.specs.Prelude.{ℕ, List, map, ◌≡◌, true};
+    ghost use Rattle.vt_spec.specs.Machine.World.{Descriptor};
+    ghost use Rattle.vt_tasks.specs.Open.{descriptor_of, are_ascending};
+
+    ghost Value = { List (Descriptor ℕ) };
+
+    ghost view = { λ d. map descriptor_of d.by_number.entries };
+
+    ghost invariant = { λ d. are_ascending 0 d.by_number.entries ≡ true };
+}
+
+impl Descriptors {
+    /// No open files. It does not allocate.
+    pub fn new(alloc: Global) -> Self
+        ensures { result ≡ [] }
+    {
+        Descriptors {
+            by_number: IndexMap::new(alloc),
+        }
+    }
+
+    /// How many files are open.
+    pub fn len(&self) -> usize
+        ensures { result ≡ length self.now }
+    {
+        self.by_number.len()
+    }
+
+    /// The open file of this number.
+    pub fn get(&self, number: u8) -> Option<OpenFile>
+        ensures { option_map (numbered number) result ≡ find (λ descriptor. number == descriptor.number) self.now }
+    {
+        self.by_number.get(&number).copied()
+    }
+
+    /// The least free number.
+    pub fn free_number(&self) -> usize
+        ensures value { result ≡ free_from 0 self.now }
+        ensures limit { result ≤ length self.now }
+    {
+        let mut free = 0;
+        for number in self.by_number.keys() {
+            if usize::from(*number) != free {
+                return free;
+            }
+            free += 1;
+        }
+        free
+    }
+
+    /// Opens a file under the least free number, and returns that number.
+    ///
+    /// S5 (ENOMEM): an allocation failed.
+    pub fn insert(&mut self, opened: OpenFile) -> Result<u8, Deny>
+        requires few { length self.old < MAX_DESCRIPTORS }
+        ensures number { IfOk result (λ number. number ≡ free_from 0 self.old) }
+        ensures ok { IfOk result (λ number. self.new ≡ inserted (numbered number opened) self.old) }
+        // closed again, the others are as they were
+        ensures undone { IfOk result (λ number. filter (λ descriptor. not (number == descriptor.number)) self.new ≡ self.old) }
+        ensures memory { IfErr result (λ deny. deny ≡ denial S5) }
+        ensures err { OnErr result (self.new ≡ self.old) }
+    {
+        let free = self.free_number();
+        let number = free as u8;
+        let Ok(_) = self.by_number.insert_before(free, number, opened) else {
+            return Err(Rule::S5.denial());
+        };
+        Ok(number)
+    }
+
+    /// Closes the file of this number, and returns it. It does not allocate.
+    pub fn remove(&mut self, number: u8) -> Option<OpenFile>
+        ensures value { option_map (numbered number) result ≡ find (λ descriptor. number == descriptor.number) self.old }
+        ensures rest { self.new ≡ filter (λ descriptor. not (number == descriptor.number)) self.old }
+    {
+        self.by_number.shift_remove(&number)
+    }
+
+    /// The open files, in the order of their numbers.
+    pub fn files(&self) -> &[OpenFile]
+        ensures locations { map (λ held. location_of held.location) result.now ≡ map (λ descriptor. descriptor.location) self.now }
+        ensures writes { map (λ held. (access_of held.access).writes) result.now ≡ map (λ descriptor. descriptor.writes) self.now }
+    {
+        self.by_number.values().as_slice()
+    }
+}

@@ -1,0 +1,110 @@
+//! A task: credentials(7), umask(2), fork(2).
+ghost use Rattle.std.specs.Prelude.{◌≡◌, ◌<◌, nat_eq, IfOk};
+ghost use Rattle.vt_spec.specs.Machine.Namespaces.{pivoted_location, pivoted_task};
+ghost use Rattle.vt_spec.specs.Machine.Outcome.Tasks.{child_of};
+ghost use Rattle.vt_location.specs.Locations.{location_of};
+ghost use Rattle.vt_location.specs.MountValue.{mount_of};
+ghost use Rattle.vt_location.specs.Numbers.{counted};
+ghost use Rattle.vt_tasks.specs.TaskValue.{task_of};
+ghost use Rattle.vt_tasks.specs.TasksValue.{first_task_at};
+
+use crate::descriptors::Descriptors;
+use std::alloc::{AllocError, Global};
+use vt_cred::{Cred, Mode};
+use vt_location::{Location, Mount, NamespaceId};
+use vt_request::TaskName;
+
+/// The most forks of a task: RLIMIT_NPROC of setrlimit(2).
+pub const MAX_FORKS: u8 = 64;
+
+/// The most numbers in the name of a task.
+pub const MAX_DEPTH: usize = 8;
+
+/// The umask of the first task, 022.
+const FIRST_UMASK: u16 = 0o022;
+
+/// A task: its credentials, its place among files, and its open files.
+#[derive(Debug, Drop)]
+pub struct Task {
+    pub name: TaskName,
+    pub cred: Cred,
+    /// The bits that the mode of a new object loses.
+    pub umask: Mode,
+    pub namespace: NamespaceId,
+    /// Where its absolute paths begin: chroot(2).
+    pub root: Location,
+    /// Where its other paths begin: chdir(2).
+    pub directory: Location,
+    pub descriptors: Descriptors,
+    /// How often it has forked.
+    pub forks: u8,
+}
+
+/// What a task leaves when it goes to another namespace.
+#[derive(Clone, Copy, Debug, PartialEq, Eq)]
+pub struct Left {
+    pub namespace: NamespaceId,
+    pub root: Location,
+    pub directory: Location,
+}
+
+impl Task {
+    /// The first task: user and group 0, all capabilities, umask 022, no open files. It does not allocate.
+    pub fn first(alloc: Global, namespace: NamespaceId, root: Location) -> Self
+        ensures { task_of result ≡ first_task_at (counted namespace.count) (location_of root) }
+    {
+        Task {
+            name: TaskName::new(alloc),
+            cred: Cred::root(alloc),
+            umask: Mode::new(FIRST_UMASK).unwrap(),
+            namespace,
+            root,
+            directory: root,
+            descriptors: Descriptors::new(alloc),
+            forks: 0,
+        }
+    }
+
+    /// Its next child, with these credentials: fork(2).
+    ///
+    /// The child has the parent's umask, namespace, root and working directory, and no open files. It fails if an allocation
+    /// fails.
+    pub fn child(&self, alloc: Global, cred: Cred) -> Result<Task, AllocError>
+        requires few { self.now.forks < MAX_FORKS }
+        ensures { IfOk result (λ child. task_of child ≡ child_of (task_of self.now) cred) }
+    {
+        Ok(Task {
+            name: self.name.child(self.forks + 1)?,
+            cred,
+            umask: self.umask,
+            namespace: self.namespace,
+            root: self.root,
+            directory: self.directory,
+            descriptors: Descriptors::new(alloc),
+            forks: 0,
+        })
+    }
+
+    /// If it is in this namespace, moves its root and its working directory from the root of the first mount to that of the
+    /// second: pivot_root(2). It does not allocate.
+    pub fn pivot(&mut self, namespace: NamespaceId, root: &Mount, new: &Mount)
+        ensures { task_of self.new
+            ≡ pivoted_task nat_eq (counted namespace.count) (mount_of root.now) (mount_of new.now) (task_of self.old) }
+    {
+        if self.namespace == namespace {
+            self.root = pivoted(self.root, root, new);
+            self.directory = pivoted(self.directory, root, new);
+        }
+    }
+}
+
+/// A location, or the root of the second mount where it is the root of the first.
+fn pivoted(at: Location, root: &Mount, new: &Mount) -> Location
+    ensures { location_of result ≡ pivoted_location nat_eq (mount_of root.now) (mount_of new.now) (location_of at) }
+{
+    if at == root.root_location() {
+        new.root_location()
+    } else {
+        at
+    }
+}

@@ -1,0 +1,277 @@
+//! All tasks, by their names.
+ghost use Rattle.std.specs.Prelude.{◌≡◌, ◌<◌, [], ◌∷◌, length, map, nat_eq, true, Some, IfOk, IfErr, OnOk, OnErr, option_map, option_copied};
+ghost use Rattle.std.specs.List.{list_all};
+ghost use Rattle.std.specs.Option.{option_and_then};
+ghost use Rattle.vt_spec.specs.Language.Limits.{deepest_name};
+ghost use Rattle.vt_spec.specs.Machine.Namespaces.{entered_at, pivoted_task};
+ghost use Rattle.vt_spec.specs.Machine.Outcome.Descriptors.{free_number, without_descriptor};
+ghost use Rattle.vt_spec.specs.Machine.Outcome.Tasks.{child_name, with_dropped};
+ghost use Rattle.vt_spec.specs.Machine.Rules.Descriptors.{descriptor_numbered};
+ghost use Rattle.vt_spec.specs.declared.errors.Rule.TheVariants.{S5};
+ghost use Rattle.vt_spec.specs.Errors.{denial};
+ghost use Rattle.vt_cred.specs.Caps.{capability_bits};
+ghost use Rattle.vt_location.specs.Locations.{location_of};
+ghost use Rattle.vt_location.specs.MountValue.{mount_of};
+ghost use Rattle.vt_location.specs.Numbers.{counted};
+ghost use Rattle.vt_tasks.specs.Counts.{tasks_in};
+ghost use Rattle.vt_tasks.specs.Open.{numbered};
+ghost use Rattle.vt_tasks.specs.TaskValue.{task_of};
+ghost use Rattle.vt_tasks.specs.TasksValue.{AreNamedApart, called, changed_called, first_task_at, fork_refusal, forked, has_files_in_order, left_by, left_of, open_refusal, with_open, without_called};
+
+use crate::descriptors::{MAX_DESCRIPTORS, OpenFile};
+use crate::task::{Left, MAX_DEPTH, MAX_FORKS, Task};
+use indexmap::IndexMap;
+use std::alloc::Global;
+use std::marker::Model;
+use std::mem;
+use vt_cred::{Caps, Cred, Mode};
+use vt_location::{Location, Mount, NamespaceId};
+use vt_request::TaskName;
+use vt_spec::errors::{Deny, Rule};
+
+/// The tasks, in the order in which they were forked.
+///
+/// No name is given twice: the next child of a task has a name that no task has.
+#[derive(Debug, Drop)]
+pub struct Tasks {
+    by_name: IndexMap<Vec<u8>, Task>,
+}
+
+impl Model for Tasks {
+    ghost use Rattle.vt_tasks.specs.TasksValue.{AreFit, Tasks, tasks_of};
+
+    ghost Value = { Tasks };
+
+    ghost view = { λ t. tasks_of t.by_name.entries };
+
+    ghost invariant = { λ t. AreFit t.by_name.entries };
+}
+
+impl Tasks {
+    /// The first task alone, with its root and its working directory here.
+    ///
+    /// S5 (ENOMEM): an allocation failed.
+    pub fn new(alloc: Global, namespace: NamespaceId, root: Location) -> Result<Self, Deny>
+        ensures ok { IfOk result (λ tasks. tasks ≡ first_task_at (counted namespace.count) (location_of root) ∷ []) }
+        ensures memory { IfErr result (λ deny. deny ≡ denial S5) }
+    {
+        let mut by_name = IndexMap::new(alloc);
+        let Ok(_) = by_name.insert(Vec::new(alloc), Task::first(alloc, namespace, root)) else {
+            return Err(Rule::S5.denial());
+        };
+        Ok(Tasks { by_name })
+    }
+
+    /// A theorem, which does nothing: no two tasks have the same name.
+    pub fn names_are_apart(&self)
+        ensures { AreNamedApart self.now }
+    {
+        let _ = &self.by_name;
+    }
+
+    /// A theorem, which does nothing: each task has its open files in the order of their numbers.
+    pub fn files_are_in_order(&self)
+        ensures { list_all has_files_in_order self.now ≡ true }
+    {
+        let _ = &self.by_name;
+    }
+
+    /// The task of this name.
+    pub fn get(&self, name: &TaskName) -> Option<&Task>
+        ensures { option_map task_of (option_copied result) ≡ called name.now self.now }
+    {
+        self.by_name.get(name.numbers())
+    }
+
+    /// The namespace of the task of this name.
+    pub fn namespace_called(&self, name: &TaskName) -> Option<NamespaceId>
+        ensures { option_map (λ namespace. counted namespace.count) result
+            ≡ option_map (λ task. task.namespace) (called name.now self.now) }
+    {
+        let task = self.get(name)?;
+        Some(task.namespace)
+    }
+
+    /// The tasks, in their order.
+    pub fn all(&self) -> &[Task]
+        ensures { map task_of result.now ≡ self.now }
+    {
+        self.by_name.values().as_slice()
+    }
+
+    /// How many tasks are in a namespace.
+    pub fn count_in(&self, namespace: NamespaceId) -> usize
+        ensures { result ≡ tasks_in (counted namespace.count) self.now }
+    {
+        self.by_name
+            .values()
+            .filter(|task| task.namespace == namespace)
+            .count()
+    }
+
+    /// Sets the umask of a task: umask(2). It does not allocate.
+    pub fn set_umask(&mut self, name: &TaskName, umask: Mode)
+        ensures { self.new ≡ changed_called name.now (λ task. record task { umask = umask }) self.old }
+    {
+        if let Some(task) = self.by_name.get_mut(name.numbers()) {
+            task.umask = umask;
+        }
+    }
+
+    /// Drops capabilities of a task for good: capset(2). It does not allocate.
+    pub fn drop_caps(&mut self, name: &TaskName, dropped: Caps)
+        ensures { self.new
+            ≡ changed_called name.now
+            (λ task. record task { credentials = with_dropped task.credentials (capability_bits dropped) }) self.old }
+    {
+        if let Some(task) = self.by_name.get_mut(name.numbers()) {
+            task.cred.drop_caps(dropped);
+        }
+    }
+
+    /// Sets the working directory of a task, and returns the old one: chdir(2). It does not allocate.
+    pub fn set_directory(&mut self, name: &TaskName, directory: Location) -> Option<Location>
+        ensures left { option_map location_of result ≡ option_map (λ task. task.directory) (called name.now self.old) }
+        ensures rest { self.new ≡ changed_called name.now (λ task. record task { directory = location_of directory }) self.old }
+    {
+        let task = self.by_name.get_mut(name.numbers())?;
+        Some(mem::replace(&mut task.directory, directory))
+    }
+
+    /// Sets the root of a task, and returns the old one: chroot(2). It does not allocate.
+    pub fn set_root(&mut self, name: &TaskName, root: Location) -> Option<Location>
+        ensures left { option_map location_of result ≡ option_map (λ task. task.root) (called name.now self.old) }
+        ensures rest { self.new ≡ changed_called name.now (λ task. record task { root = location_of root }) self.old }
+    {
+        let task = self.by_name.get_mut(name.numbers())?;
+        Some(mem::replace(&mut task.root, root))
+    }
+
+    /// Moves a task into a namespace, with this directory as its root and its working directory, and returns what it left:
+    /// setns(2). It does not allocate.
+    pub fn enter(&mut self, name: &TaskName, namespace: NamespaceId, root: Location) -> Option<Left>
+        ensures left { option_map left_of result ≡ option_map left_by (called name.now self.old) }
+        ensures rest { self.new
+            ≡ changed_called name.now (λ task. entered_at task (counted namespace.count) (location_of root)) self.old }
+    {
+        self.move_root_and_directory(name, namespace, root, root)
+    }
+
+    /// Moves a task into a namespace, with this root and this working directory, and returns what it left: unshare(2). It does
+    /// not allocate.
+    pub fn move_root_and_directory(
+        &mut self,
+        name: &TaskName,
+        namespace: NamespaceId,
+        root: Location,
+        directory: Location,
+    ) -> Option<Left>
+        ensures left { option_map left_of result ≡ option_map left_by (called name.now self.old) }
+        ensures rest { self.new
+            ≡ changed_called name.now
+            (λ task. record task { namespace = counted namespace.count; root = location_of root; directory = location_of directory })
+            self.old }
+    {
+        let task = self.by_name.get_mut(name.numbers())?;
+        let left = Left {
+            namespace: task.namespace,
+            root: task.root,
+            directory: task.directory,
+        };
+        task.namespace = namespace;
+        task.root = root;
+        task.directory = directory;
+        Some(left)
+    }
+
+    /// Moves the roots and working directories of a namespace's tasks from the root of the first mount to that of the second:
+    /// pivot_root(2). It does not allocate.
+    pub fn pivot(&mut self, namespace: NamespaceId, root: &Mount, new: &Mount)
+        ensures { self.new ≡ map (pivoted_task nat_eq (counted namespace.count) (mount_of root.now) (mount_of new.now)) self.old }
+    {
+        for index in 0..self.by_name.len() {
+            if let Some(task) = self.by_name.get_index_mut(index) {
+                task.pivot(namespace, root, new);
+            }
+        }
+    }
+
+    /// Opens a file of a task under the least free number, and returns that number: open(2).
+    ///
+    /// S2 (ESRCH): there is no such task. S3 (EMFILE): 256 of its files are open. S5 (ENOMEM): an allocation failed.
+    pub fn open(&mut self, name: &TaskName, opened: OpenFile) -> Result<u8, Deny>
+        ensures number { IfOk result (λ number. Some number ≡ option_map free_number (called name.now self.old)) }
+        ensures ok { OnOk result (self.new ≡ changed_called name.now (with_open opened) self.old) }
+        // closed again, the tasks are as they were
+        ensures undone { IfOk result (λ number. changed_called name.now (λ task. without_descriptor task number) self.new ≡ self.old) }
+        ensures refused { IfErr result (λ deny. deny ≡ open_refusal (called name.now self.old)) }
+        ensures err { OnErr result (self.new ≡ self.old) }
+    {
+        let Some(task) = self.by_name.get_mut(name.numbers()) else {
+            return Err(Rule::S2.denial());
+        };
+        if task.descriptors.len() >= MAX_DESCRIPTORS {
+            return Err(Rule::S3.denial());
+        }
+        task.descriptors.insert(opened)
+    }
+
+    /// Closes a file of a task, and returns it: close(2). It does not allocate.
+    pub fn close(&mut self, name: &TaskName, number: u8) -> Option<OpenFile>
+        ensures value { option_map (numbered number) result
+            ≡ option_and_then (λ task. descriptor_numbered task number) (called name.now self.old) }
+        ensures rest { self.new ≡ changed_called name.now (λ task. without_descriptor task number) self.old }
+    {
+        let task = self.by_name.get_mut(name.numbers())?;
+        task.descriptors.remove(number)
+    }
+
+    /// Forks a task, and returns the name of its child: fork(2).
+    ///
+    /// The child has these credentials, the parent's umask, namespace, root and working directory, and no open files. It comes
+    /// after all other tasks.
+    ///
+    /// S2 (ESRCH): there is no such task. S6 (ENOSPC): it has forked 64 times, or its name has 8 numbers. S5 (ENOMEM): memory
+    /// was refused.
+    pub fn fork(&mut self, name: &TaskName, cred: Cred) -> Result<TaskName, Deny>
+        ensures name { IfOk result (λ child. Some child ≡ option_map child_name (called name.now self.old)) }
+        ensures depth { OnOk result (length name.now < deepest_name) }
+        ensures ok { OnOk result (self.new ≡ forked name.now cred self.old) }
+        ensures refused { IfErr result (λ deny. deny ≡ fork_refusal (called name.now self.old)) }
+        ensures err { OnErr result (self.new ≡ self.old) }
+    {
+        let alloc = *self.by_name.allocator();
+        let numbers = name.numbers();
+        let Some(parent) = self.by_name.get(numbers) else {
+            return Err(Rule::S2.denial());
+        };
+        if parent.forks >= MAX_FORKS || numbers.len() >= MAX_DEPTH {
+            return Err(Rule::S6.denial());
+        }
+        let forks = parent.forks + 1;
+        let Ok(child) = parent.child(alloc, cred) else {
+            return Err(Rule::S5.denial());
+        };
+        let Ok(child_name) = child.name.clone() else {
+            return Err(Rule::S5.denial());
+        };
+        let Ok(key) = Vec::from_slice(alloc, child_name.numbers()) else {
+            return Err(Rule::S5.denial());
+        };
+        let Ok(_) = self.by_name.insert(key, child) else {
+            return Err(Rule::S5.denial());
+        };
+        if let Some(parent) = self.by_name.get_mut(numbers) {
+            parent.forks = forks;
+        }
+        Ok(child_name)
+    }
+
+    /// Removes a task, and returns it: _exit(2). It does not allocate.
+    pub fn exit(&mut self, name: &TaskName) -> Option<Task>
+        ensures value { option_map task_of result ≡ called name.now self.old }
+        ensures rest { self.new ≡ without_called name.now self.old }
+    {
+        self.by_name.shift_remove(name.numbers())
+    }
+}

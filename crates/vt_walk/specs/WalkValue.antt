@@ -1,0 +1,84 @@
+-- What the definitions see of the code's walks.
+use Rattle.std.specs.Prelude.{Err, Ok, Option, Result, [], false, nat_eq, option_map, true, ℕ, ◌≡◌}
+use Rattle.vt_spec.specs.declared.errors.Deny.{Deny}
+use Rattle.vt_spec.specs.Errors.{and_then}
+use Rattle.vt_spec.specs.Machine.Looks.{Looks, is_directory_at, topmost}
+use Rattle.vt_spec.specs.Machine.Mounts.{Location as LocationMeant}
+use Rattle.vt_spec.specs.Machine.Walking.{Here as HereMeant, LastWord as WordMeant, Place as PlaceMeant, is_special, object_named}
+use Rattle.vt_spec.specs.Machine.Walking.LastWord.{Dot as MeansDot, DotDot as MeansDotDot, Named as MeansNamed, NoWord as MeansNoWord}
+use Rattle.vt_spec.specs.Machine.World.{Task}
+use Rattle.vt_spec.specs.Tree.{Node}
+use Rattle.vt_location.specs.declared.locations.Location.{Location}
+use Rattle.vt_location.specs.Locations.{location_of}
+use Rattle.vt_looks.specs.Looking.{node_seen}
+use Rattle.vt_walk.specs.declared.here.Here.{Here}
+use Rattle.vt_walk.specs.declared.words.LastWord.{LastWord}
+use Rattle.vt_walk.specs.declared.words.LastWord.TheVariants.{Dot, DotDot, Named, NoWord}
+use Rattle.vt_walk.specs.declared.words.Place.{Place}
+use Rattle.vt_walk.specs.PlainWalks.{standing}
+
+abbrev pub last_of : LastWord → WordMeant
+last_of NoWord = MeansNoWord
+last_of Dot = MeansDot
+last_of DotDot = MeansDotDot
+last_of (Named name) = MeansNamed name.now
+
+-- Code keeps no record of the filesystems that a walk meets.
+
+abbrev pub here_of : Here → HereMeant ℕ
+here_of here = standing (location_of here.location) here.left
+
+abbrev pub here_result : Result Here Deny → Result (HereMeant ℕ) Deny
+here_result (Ok here) = Ok (here_of here)
+here_result (Err deny) = Err deny
+
+abbrev pub place_of : Place → PlaceMeant ℕ
+place_of place = record {
+  parent = location_of place.parent;
+  last = last_of place.last;
+  object = option_map location_of place.object;
+  slash = place.slash;
+  steps = [];
+}
+
+abbrev pub place_result : Result Place Deny → Result (PlaceMeant ℕ) Deny
+place_result (Ok place) = Ok (place_of place)
+place_result (Err deny) = Err deny
+
+abbrev pub location_result : Result Location Deny → Result (LocationMeant ℕ) Deny
+location_result (Ok location) = Ok (location_of location)
+location_result (Err deny) = Err deny
+
+abbrev pub named_result : Result (Option Location) Deny → Result (Option (LocationMeant ℕ)) Deny
+named_result (Ok object) = Ok (option_map location_of object)
+named_result (Err deny) = Err deny
+
+-- Callers see the location at the end of a walk to an object,
+abbrev pub location_end : Result (HereMeant ℕ) Deny → Result (LocationMeant ℕ) Deny
+location_end (Ok here) = Ok here.location
+location_end (Err deny) = Err deny
+
+-- and the place at the end of a parent walk.
+abbrev pub without_steps : PlaceMeant ℕ → PlaceMeant ℕ
+without_steps place = record place { steps = [] }
+
+abbrev pub place_end : Result (PlaceMeant ℕ) Deny → Result (PlaceMeant ℕ) Deny
+place_end (Ok place) = Ok (without_steps place)
+place_end (Err deny) = Err deny
+
+-- this is the inode at a location
+abbrev pub IsNodeAt : Looks ℕ → Location → Option (Node ℕ) → Type 0
+IsNodeAt looks location node = node_seen location.node.filesystem node ≡ looks.node (location_of location)
+
+-- What a place always is: its object is what the last word names in its parent, which is a directory where the last word is a name.
+pub record IsPlace (looks : Looks ℕ) (task : Task ℕ) (place : Place) : Type 0 where
+  pub object : Ok (option_map location_of place.object)
+      ≡ object_named nat_eq looks task (location_of place.parent) (last_of place.last)
+  pub directory : is_special (last_of place.last) ≡ false → is_directory_at looks (location_of place.parent) ≡ true
+
+-- The place of a file: its object is that, through the mounts over it.
+pub record IsFilePlace (looks : Looks ℕ) (task : Task ℕ) (place : Place) : Type 0 where
+  pub object : Ok (option_map location_of place.object)
+      ≡ and_then (object_named nat_eq looks task (location_of place.parent) (last_of place.last))
+      (λ object. Ok (option_map (topmost looks) object))
+  pub directory : is_special (last_of place.last) ≡ false → is_directory_at looks (location_of place.parent) ≡ true

@@ -1,0 +1,350 @@
+//! Words walked one after the other, and symlinks followed.
+ghost use Rattle.std.specs.Prelude.{◌≡◌, ℕ, nat_eq, option_copied, option_map, reverse, Ok, Some, OnOk, IfOk};
+ghost use Rattle.vt_spec.specs.Errors.{and_then, unless};
+ghost use Rattle.vt_spec.specs.FileTree.{symlink_text};
+ghost use Rattle.vt_spec.specs.Machine.Looks.{is_directory_at, mount_at};
+ghost use Rattle.vt_spec.specs.Machine.Walking.{follow_rules, object_named, search_rules, slash_rules, stepped};
+ghost use Rattle.vt_spec.specs.PathText.{words};
+ghost use Rattle.vt_spec.specs.Tree.{entries_in, entry_named};
+ghost use Rattle.vt_location.specs.Locations.{location_of};
+ghost use Rattle.vt_location.specs.Numbers.{counted};
+ghost use Rattle.vt_looks.specs.Looking.{node_seen};
+ghost use Rattle.vt_tasks.specs.TaskValue.{task_of};
+ghost use Rattle.vt_walk.specs.PendingTexts.{link_passed, walked_on_from};
+ghost use Rattle.vt_walk.specs.PlainWalks.{Follow, followed, last_walked, symlink_start, word_led, words_walked};
+ghost use Rattle.vt_walk.specs.WalkValue.{IsNodeAt, here_of, here_result, last_of, location_result, named_result};
+
+use crate::here::{Here, MOST_TEXTS, start_of};
+use crate::upward::step_up;
+use crate::words::LastWord;
+use arrayvec::ArrayVec;
+use vt_cred::{Rights, allows};
+use vt_location::{Location, NodeRef};
+use vt_looks::Look;
+use vt_node::{Kind, Node};
+use vt_spec::errors::{Deny, Rule};
+use vt_tasks::Task;
+use vt_text::link;
+use vt_text::path::Words;
+
+// This must be a directory that the task may search: W3, W4. W5 does not occur, since no filesystem is an overlay.
+pub(crate) fn searched<'a, L: Look>(
+    world: &L,
+    who: &Task,
+    here: Location,
+    node: Option<&'a Node>,
+) -> Result<&'a Node, Deny>
+    requires { IsNodeAt (L.looks world.now) here (option_copied node) }
+    ensures value { and_then {B = Unit {0}} result (λ directory. Ok tt)
+        ≡ unless (search_rules nat_eq (L.looks world.now) (task_of who.now) (location_of here)) (Ok tt) }
+    ensures directory { IfOk result (λ directory. IsNodeAt (L.looks world.now) here (Some directory.now)) }
+{
+    world.has_no_overlays();
+    let Some(directory) = node else {
+        return Err(Rule::W3.denial());
+    };
+    if !directory.is_directory() {
+        return Err(Rule::W3.denial());
+    }
+    if !allows(
+        &who.cred,
+        &directory.attr(),
+        directory.kind(),
+        Rights::SEARCH,
+    ) {
+        return Err(Rule::W4.denial());
+    }
+    Ok(directory)
+}
+
+// The entry that a name has in a directory, on the same mount.
+fn entry_location(here: Location, directory: &Node, name: &[u8]) -> Option<Location>
+    ensures { option_map location_of result ≡ option_map (λ object. record { mount = counted here.mount.count; node = object })
+        (entry_named name.now (entries_in (node_seen here.node.filesystem (Some directory.now)))) }
+{
+    let node = directory.entry(name)?;
+    Some(Location {
+        mount: here.mount,
+        node: NodeRef::new(here.node.filesystem, node),
+    })
+}
+
+// Where a word leads from a directory: a name through the mounts over the entry. W6: a missing name. W8: `..` of a lost directory.
+fn stepped<L: Look>(
+    world: &L,
+    who: &Task,
+    here: Location,
+    directory: &Node,
+    word: LastWord,
+) -> Result<Location, Deny>
+    requires { IsNodeAt (L.looks world.now) here (Some directory.now) }
+    ensures { location_result result
+        ≡ stepped nat_eq (L.looks world.now) (task_of who.now) (location_of here) (last_of word.entry) }
+{
+    match word {
+        LastWord::NoWord | LastWord::Dot => Ok(here),
+        LastWord::DotDot => step_up(world, who, here),
+        LastWord::Named(name) => match entry_location(here, directory, name) {
+            Some(entry) => Ok(world.topmost(entry)),
+            None => Err(Rule::W6.denial()),
+        },
+    }
+}
+
+// What a last word names in a directory, with no mount entered. W8: `..` of a lost directory.
+pub(crate) fn object_named<L: Look>(
+    world: &L,
+    who: &Task,
+    here: Location,
+    directory: &Node,
+    last: LastWord,
+) -> Result<Option<Location>, Deny>
+    requires { IsNodeAt (L.looks world.now) here (Some directory.now) }
+    ensures { named_result result
+        ≡ object_named nat_eq (L.looks world.now) (task_of who.now) (location_of here) (last_of last.entry) }
+{
+    match last {
+        LastWord::NoWord | LastWord::Dot => Ok(Some(here)),
+        LastWord::DotDot => Ok(Some(step_up(world, who, here)?)),
+        LastWord::Named(name) => Ok(entry_location(here, directory, name)),
+    }
+}
+
+// Where one word leads, with no symlink followed, from a location with this inode.
+fn word_led<L: Look>(
+    world: &L,
+    who: &Task,
+    here: Location,
+    node: Option<&Node>,
+    word: LastWord,
+) -> Result<Location, Deny>
+    requires { IsNodeAt (L.looks world.now) here (option_copied node) }
+    ensures { location_result result
+        ≡ word_led (L.looks world.now) (task_of who.now) (location_of here) (last_of word.entry) }
+{
+    let directory = searched(world, who, here, node)?;
+    stepped(world, who, here, directory, word)
+}
+
+// The last word of a path walked; a final symlink is not followed.
+pub(crate) fn last_walked<L: Look>(
+    world: &L,
+    who: &Task,
+    here: Here,
+    last: LastWord,
+) -> Result<Here, Deny>
+    ensures { here_result result
+        ≡ last_walked (L.looks world.now) (task_of who.now) (here_of here) (last_of last.entry) }
+{
+    match last {
+        LastWord::NoWord => Ok(here),
+        _ => {
+            let node = world.node(here.location);
+            let next = word_led(world, who, here.location, node, last)?;
+            Ok(here.moved(next))
+        }
+    }
+}
+
+// The text of a symlink; any other inode has none.
+pub(crate) fn symlink_text(node: Option<&Node>) -> Option<&[u8]>
+    ensures { option_copied result ≡ symlink_text (option_copied node.entry) }
+{
+    let node = node?;
+    if node.kind() == Kind::Symlink {
+        Some(node.bytes())
+    } else {
+        None
+    }
+}
+
+// Where the walk of a symlink's text begins, if it may be walked, with one symlink less to follow: W9 before W7 before W2.
+pub(crate) fn link_begun<L: Look>(
+    world: &L,
+    who: &Task,
+    directory: Location,
+    link: Here,
+    text: &[u8],
+) -> Result<Here, Deny>
+    ensures { here_result result ≡ unless (follow_rules nat_eq (L.looks world.now) (here_of link) text.now)
+        (Ok (symlink_start (L.looks world.now) (task_of who.now) (location_of directory) (here_of link) text.now)) }
+{
+    if is_nosymfollow(world, link.location) {
+        return Err(Rule::W9.denial());
+    }
+    if link.left == 0 {
+        return Err(Rule::W7.denial());
+    }
+    if link::has_long_word(text) {
+        return Err(Rule::W2.denial());
+    }
+    Ok(Here {
+        location: start_of(who, directory, text),
+        left: link.left - 1,
+    })
+}
+
+// Whether no symlink is followed on the mount of a location: `MS_NOSYMFOLLOW` of mount(2).
+fn is_nosymfollow<L: Look>(world: &L, link: Location) -> bool
+    ensures { result ≡ (mount_at (L.looks world.now) (location_of link)).flags.nosymfollow }
+{
+    match world.mount(link.mount) {
+        Some(mount) => mount.flags.is_nosymfollow(),
+        None => false,
+    }
+}
+
+// A symlink that a walk came to: its directory, its text, and the words after it.
+#[derive(Debug, Drop)]
+struct LinkMet<'a> {
+    directory: Location,
+    text: &'a [u8],
+    behind: Words<'a>,
+}
+
+// Where words lead, as far as the first symlink.
+#[derive(Debug, Drop)]
+struct Reached<'a> {
+    here: Here,
+    link: Option<LinkMet<'a>>,
+}
+
+// The words walked as far as the first that leads to a symlink.
+fn walked_to_link<'a, L: Look>(
+    world: &'a L,
+    who: &Task,
+    start: Here,
+    mut words: Words<'a>,
+) -> Result<Reached<'a>, Deny>
+    ensures value { (follow : Follow) → and_then result (walked_on_from (L.looks world.now) (task_of who.now) follow)
+        ≡ words_walked (L.looks world.now) (task_of who.now) follow (here_of start) (reverse words.entry) }
+    ensures left { IfOk result (λ reached. reached.here.left ≡ start.left) }
+{
+    let mut here = start;
+    let mut node = world.node(here.location);
+    while let Some(word) = words.next() {
+        let directory = here.location;
+        let next = word_led(world, who, directory, node, LastWord::of(word))?;
+        here = here.moved(next);
+        node = world.node(next);
+        if let Some(text) = symlink_text(node) {
+            let link = LinkMet {
+                directory,
+                text,
+                behind: words,
+            };
+            return Ok(Reached {
+                here,
+                link: Some(link),
+            });
+        }
+    }
+    Ok(Reached { here, link: None })
+}
+
+// A text whose walk is not finished, and the words that are left of it.
+#[derive(Debug, Drop)]
+struct Pending<'a> {
+    text: &'a [u8],
+    words: Words<'a>,
+}
+
+impl<'a> Pending<'a> {
+    // The whole text of a symlink.
+    fn of(text: &'a [u8]) -> Pending<'a>
+        ensures text { result.text.now ≡ text.now }
+        ensures words { result.words ≡ words text.now }
+    {
+        Pending {
+            text,
+            words: link::words(text),
+        }
+    }
+}
+
+// What fills the unused entries of a stack.
+impl<'a> Default for Pending<'a> {
+    fn default() -> Self {
+        Pending::of(&[])
+    }
+}
+
+// Whether a directory is at a location.
+pub(crate) fn is_directory_at<L: Look>(world: &L, here: Location) -> bool
+    ensures { result ≡ is_directory_at (L.looks world.now) (location_of here) }
+{
+    match world.node(here) {
+        Some(node) => node.is_directory(),
+        None => false,
+    }
+}
+
+// A trailing slash is accepted only if a directory is here, else W3.
+pub(crate) fn asked_by_slash<L: Look>(world: &L, text: &[u8], here: Location) -> Result<(), Deny>
+    ensures { result ≡ unless (slash_rules nat_eq (L.looks world.now) text.now (location_of here)) (Ok tt) }
+{
+    if link::ends_in_slash(text) && !is_directory_at(world, here) {
+        return Err(Rule::W3.denial());
+    }
+    Ok(())
+}
+
+// Where the words lead, every symlink followed, a final one too.
+pub(crate) fn words_walked<'a, L: Look>(
+    world: &'a L,
+    who: &Task,
+    start: Here,
+    words: Words<'a>,
+) -> Result<Here, Deny>
+    ensures { here_result result ≡ words_walked (L.looks world.now) (task_of who.now)
+        (followed (L.looks world.now) (task_of who.now)) (here_of start) (reverse words.entry) }
+{
+    let Reached { here, link } = walked_to_link(world, who, start, words)?;
+    match link {
+        Some(link) => symlink_walked(world, who, here, link),
+        None => Ok(here),
+    }
+}
+
+// Where a symlink and the words after it lead, every symlink followed. The words after a symlink wait on a stack while
+// its text is walked; a walk that comes to no symlink needs no stack.
+fn symlink_walked<'a, L: Look>(
+    world: &'a L,
+    who: &Task,
+    met: Here,
+    link: LinkMet<'a>,
+) -> Result<Here, Deny>
+    ensures { here_result result ≡ link_passed (L.looks world.now) (task_of who.now)
+        (followed (L.looks world.now) (task_of who.now)) (here_of met) (Some link.entry) }
+{
+    let mut here = link_begun(world, who, link.directory, met, link.text)?;
+    let mut pending = ArrayVec::<Pending, MOST_TEXTS>::new();
+    // A slash at the end of the words themselves is checked by the caller.
+    pending.push(Pending {
+        text: &[],
+        words: link.behind,
+    });
+    pending.push(Pending::of(link.text));
+    while let Some(Pending { text, words }) = pending.pop() {
+        let Reached {
+            here: reached,
+            link,
+        } = walked_to_link(world, who, here, words)?;
+        here = match link {
+            Some(link) => {
+                let begun = link_begun(world, who, link.directory, reached, link.text)?;
+                pending.push(Pending {
+                    text,
+                    words: link.behind,
+                });
+                pending.push(Pending::of(link.text));
+                begun
+            }
+            None => {
+                asked_by_slash(world, text, reached.location)?;
+                reached
+            }
+        };
+    }
+    Ok(here)
+}

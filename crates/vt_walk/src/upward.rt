@@ -1,0 +1,106 @@
+//! Where `..` leads: path_resolution(7), and mount_namespaces(7) for the roots of mounts.
+ghost use Rattle.std.specs.Prelude.{◌≡◌, nat_eq, option_map};
+ghost use Rattle.vt_spec.specs.Lists.{last_or};
+ghost use Rattle.vt_spec.specs.Machine.Mounts.{same_location};
+ghost use Rattle.vt_spec.specs.Machine.Walking.{hop, hops, is_lost, is_top, parent_location, stepped};
+ghost use Rattle.vt_spec.specs.Machine.Walking.LastWord.{DotDot};
+ghost use Rattle.vt_location.specs.Locations.{location_of, number_of};
+ghost use Rattle.vt_tasks.specs.TaskValue.{task_of};
+ghost use Rattle.vt_walk.specs.WalkValue.{location_result};
+
+use vt_location::{Location, NodeRef};
+use vt_looks::Look;
+use vt_spec::errors::{Deny, Rule};
+use vt_tasks::Task;
+
+// Whether two locations are the same.
+fn is_same_location(a: Location, b: Location) -> bool
+    ensures { result ≡ same_location nat_eq (location_of a) (location_of b) }
+{
+    a == b
+}
+
+// Whether two inodes are the same.
+fn is_same_inode(a: NodeRef, b: NodeRef) -> bool
+    ensures { result ≡ nat_eq (number_of a) (number_of b) }
+{
+    a == b
+}
+
+// Where `..` goes on from the root of a mount: its mount point. It stays at the task's root.
+fn hop<L: Look>(world: &L, who: &Task, here: Location) -> Option<Location>
+    ensures { option_map location_of result ≡ hop nat_eq (L.looks world.now) (task_of who.now) (location_of here) }
+{
+    if is_same_location(here, who.root) {
+        return None;
+    }
+    let mount = world.mount(here.mount)?;
+    if is_same_inode(here.node, mount.root) {
+        mount.mount_point
+    } else {
+        None
+    }
+}
+
+// Goes from the root of a mount to its mount point, and on while that is a root too.
+fn hopped<L: Look>(world: &L, who: &Task, start: Location) -> Location
+    ensures { location_of result ≡ last_or (location_of start)
+        (hops nat_eq (L.looks world.now) (task_of who.now) (location_of start)) }
+{
+    let mut here = start;
+    for _hop in 0..world.mount_count() {
+        let Some(point) = hop(world, who, here) else {
+            return here;
+        };
+        here = point;
+    }
+    here
+}
+
+// Whether `..` stays: at the task's root, and at the root of a mount.
+fn is_top<L: Look>(world: &L, who: &Task, here: Location) -> bool
+    ensures { result ≡ is_top nat_eq (L.looks world.now) (task_of who.now) (location_of here) }
+{
+    if is_same_location(here, who.root) {
+        return true;
+    }
+    match world.mount(here.mount) {
+        Some(mount) => is_same_inode(here.node, mount.root),
+        None => false,
+    }
+}
+
+// Whether `..` of a directory leads nowhere: the directory is removed, or no longer under the root of its mount.
+fn is_lost<L: Look>(world: &L, here: Location) -> bool
+    ensures { result ≡ is_lost nat_eq (L.looks world.now) (location_of here) }
+{
+    world.is_removed(here) || !world.is_under_root(here)
+}
+
+// The parent of a directory, on the same mount.
+fn parent_location<L: Look>(world: &L, here: Location) -> Location
+    ensures { location_of result ≡ parent_location nat_eq (L.looks world.now) (location_of here) }
+{
+    let Some(node) = world.node(here) else {
+        return here;
+    };
+    let parent = node.parent(here.node.node());
+    Location {
+        mount: here.mount,
+        node: NodeRef::new(here.node.filesystem, parent),
+    }
+}
+
+// Where `..` leads from a location: to the topmost mount over the parent. W8: the directory is lost.
+pub(crate) fn step_up<L: Look>(world: &L, who: &Task, start: Location) -> Result<Location, Deny>
+    ensures { location_result result ≡ stepped nat_eq (L.looks world.now) (task_of who.now) (location_of start) DotDot }
+{
+    let here = hopped(world, who, start);
+    if is_top(world, who, here) {
+        return Ok(here);
+    }
+    if is_lost(world, here) {
+        return Err(Rule::W8.denial());
+    }
+    Ok(world.topmost(parent_location(world, here)))
+}

@@ -1,8 +1,0 @@
-use Rattle.std.proofs.Common.{subst}
-use Rattle.vt_world.specs.contracts.world.World.{the_view}
-use Rattle.vt_world.specs.Vacancy.{NextRootIsVacant}
-use Rattle.vt_world.proofs.VacantNumbers.{root_is_vacant}
-use Rattle.vt_world.proofs.world.World.next_root_is_vacant.Goals as goal
-
-pub returns : goal.returns
-returns c = subst NextRootIsVacant c.self.view_is (root_is_vacant (the_view c.self.inside) c.self.invariant c.are_counted.ensures)
