@@ -1,21 +1,18 @@
 -- Parts of tables of rules that functions of their own ask.
-use Rattle.std.specs.Prelude.{Bool, List, Ok, Result, nat_eq, not, ◌&&◌, ◌||◌, ◌∷◌, [], ℕ}
+use Rattle.std.specs.Prelude.{Bool, nat_eq, not, ◌&&◌, ◌||◌, ◌∷◌, [], ℕ}
 use Rattle.std.specs.List.{list_any}
-use Rattle.vt_spec.specs.declared.errors.Deny.{Deny}
 use Rattle.vt_spec.specs.declared.errors.Rule.TheVariants.{C1, C3, E2, E3, E4, E5, F1, M2, M4, M5, M6, M7, P1, P2}
-use Rattle.vt_spec.specs.Errors.{Rules, and_then, unless}
+use Rattle.vt_spec.specs.Errors.{Rules}
 use Rattle.vt_spec.specs.Lists.{holds_of}
 use Rattle.vt_spec.specs.Machine.Looks.{Looks, is_directory_at, mount_at}
 use Rattle.vt_spec.specs.Machine.Mounts as meant
 use Rattle.vt_spec.specs.Machine.Mounts.{is_shared, is_unbindable}
 use Rattle.vt_spec.specs.Machine.Rules.Conditions.{is_elsewhere, is_kept, is_no_root, is_point_anywhere, is_point_in, is_read_only, may_not}
-use Rattle.vt_spec.specs.Machine.Rules.Mounting.{admin_rules, has_shared_parent}
+use Rattle.vt_spec.specs.Machine.Rules.Mounting.{has_shared_parent}
 use Rattle.vt_spec.specs.Machine.Rules.Removing.{changes_parent, is_filled, same_filesystem}
-use Rattle.vt_spec.specs.Machine.Walking.{Here, Place, directory_walk, walk_end}
+use Rattle.vt_spec.specs.Machine.Walking.{Place}
 use Rattle.vt_spec.specs.Machine.World.{Task}
 use Rattle.vt_spec.specs.Rights.{write_right}
-use Rattle.vt_location.specs.declared.locations.Location.{Location}
-use Rattle.vt_policy.specs.Ends.{EndsAt}
 
 -- the caller's rights where a name is taken away: unlink(2), EACCES and EPERM
 abbrev pub remove_rules : Looks ℕ → Task ℕ → meant.Location ℕ → meant.Location ℕ → Rules
@@ -64,16 +61,3 @@ move_table looks task source place =
     ∷ (list_any (λ mount. nat_eq mount.number place.mount) (looks.mount_tree source.mount), M6)
     ∷ (is_no_root nat_eq looks source, M7)
     ∷ []
-
--- the walk to the root of a mount that a call names: umount(2), EPERM and EINVAL
-abbrev pub root_rules : Looks ℕ → Task ℕ → meant.Location ℕ → Rules
-root_rules looks task here =
-    (is_elsewhere nat_eq looks task here, M2) ∷ (is_no_root nat_eq looks here, M7) ∷ []
-
-abbrev pub root_walk : Looks ℕ → Task ℕ → List ℕ → Result (Here ℕ) Deny
-root_walk looks task path =
-    unless (admin_rules task)
-    (and_then (walk_end (directory_walk nat_eq looks task path)) (λ here. unless (root_rules looks task here.location) (Ok here)))
-
-abbrev pub IsRootAt : Looks ℕ → Task ℕ → List ℕ → Location → Type 0
-IsRootAt looks task path at = EndsAt (root_walk looks task path) at

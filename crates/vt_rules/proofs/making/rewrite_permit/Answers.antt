@@ -5,9 +5,9 @@ use Rattle.vt_spec.specs.Language.Changes.Change.{SetBytes}
 use Rattle.vt_spec.specs.Machine.Permits.Permit.{ToChange}
 use Rattle.vt_spec.specs.Rights.{write_right}
 use Rattle.vt_location.specs.Locations.{location_of}
-use Rattle.vt_policy.proofs.PlainRows.{has_an_upper, mounter_may}
-use Rattle.vt_policy.proofs.Rows.{skipped}
-use Rattle.vt_policy.proofs.making.rewritten.Goals as goal
+use Rattle.vt_rules.proofs.PlainRows.{has_an_upper, mounter_may}
+use Rattle.vt_rules.proofs.Rows.{skipped}
+use Rattle.vt_rules.proofs.making.rewrite_permit.Goals as goal
 
 pub returns : goal.returns
 returns g c place =

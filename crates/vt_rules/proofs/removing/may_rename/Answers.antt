@@ -2,8 +2,8 @@ use Rattle.std.proofs.Common.{sym, ◌∙◌}
 use Rattle.std.proofs.lemmas.Result.{err_from_is_err_and}
 use Rattle.vt_location.specs.Locations.{location_of}
 use Rattle.vt_tasks.specs.TaskValue.{task_of}
-use Rattle.vt_policy.proofs.RenameLemmas.{kind_refused, rights_left, way_refused}
-use Rattle.vt_policy.proofs.removing.may_rename.Goals as goal
+use Rattle.vt_rules.proofs.RenameLemmas.{kind_refused, rights_left, way_refused}
+use Rattle.vt_rules.proofs.removing.may_rename.Goals as goal
 
 pub returns-in_err-may_replace : goal.returns-in_err-may_replace
 returns-in_err-may_replace g c old new from to =

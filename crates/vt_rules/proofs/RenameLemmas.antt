@@ -14,10 +14,10 @@ use Rattle.vt_spec.specs.Machine.Walking.{Place, name_of}
 use Rattle.vt_spec.specs.Machine.World.{Task}
 use Rattle.vt_spec.specs.Rights.{write_right}
 use Rattle.vt_looks.specs.Looking.{HasNoOverlays}
-use Rattle.vt_policy.specs.Tables.{kind_rules, right_rules, way_rules}
-use Rattle.vt_policy.proofs.PlainRows.{has_an_upper, mounter_may, neither, none_locked, not_both}
-use Rattle.vt_policy.proofs.Refusals.{unless-let_through, unless-stopped}
-use Rattle.vt_policy.proofs.Rows.{kept, skipped}
+use Rattle.vt_rules.specs.Tables.{kind_rules, right_rules, way_rules}
+use Rattle.vt_rules.proofs.PlainRows.{has_an_upper, mounter_may, neither, none_locked, not_both}
+use Rattle.vt_rules.proofs.Refusals.{unless-let_through, unless-stopped}
+use Rattle.vt_rules.proofs.Rows.{kept, skipped}
 
 -- the caller's rights, and then what does not fail
 rights : {A : Type 0} (may_not moved kept_by stuck mounter mounter_of_moved : Bool) (more : Rules) (answer : Result A Deny)

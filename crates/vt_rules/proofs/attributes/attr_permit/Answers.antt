@@ -4,9 +4,9 @@ use Rattle.vt_spec.specs.Errors.{unless}
 use Rattle.vt_spec.specs.Language.Changes.Change.{SetAttr}
 use Rattle.vt_spec.specs.Machine.Permits.Permit.{ToChange}
 use Rattle.vt_location.specs.Locations.{location_of}
-use Rattle.vt_policy.proofs.PlainRows.{has_an_upper}
-use Rattle.vt_policy.proofs.Rows.{skipped}
-use Rattle.vt_policy.proofs.attributes.set_attr.Goals as goal
+use Rattle.vt_rules.proofs.PlainRows.{has_an_upper}
+use Rattle.vt_rules.proofs.Rows.{skipped}
+use Rattle.vt_rules.proofs.attributes.attr_permit.Goals as goal
 
 pub returns : goal.returns
 returns g c =

@@ -3,7 +3,7 @@ use Rattle.vt_spec.specs.Tree.{new_directory}
 use Rattle.vt_location.proofs.NumberLemmas.{exchanged_slot}
 use Rattle.vt_location.specs.Numbers.{exchanged}
 use Rattle.vt_permits.specs.PermitValue.{node_in}
-use Rattle.vt_policy.proofs.making.empty_directory.Goals as goal
+use Rattle.vt_rules.proofs.making.empty_directory.Goals as goal
 
 pub returns : goal.returns
 returns c =

@@ -1,5 +1,5 @@
 //! Who may do what to an object: path_resolution(7), unlink(2), mount(2).
-ghost use Rattle.std.specs.Prelude.{◌≡◌, nat_eq, Ok, Err, IfOk, IfErr};
+ghost use Rattle.std.specs.Prelude.{◌≡◌, nat_eq, IfOk, IfErr};
 ghost use Rattle.vt_spec.specs.declared.errors.Rule.TheVariants.{S5};
 ghost use Rattle.vt_spec.specs.Errors.{denial};
 ghost use Rattle.vt_spec.specs.Machine.Looks.{is_directory_at, may, mount_at};
@@ -14,19 +14,18 @@ ghost use Rattle.vt_cred.specs.Rights.{right_bits};
 ghost use Rattle.vt_location.specs.Locations.{location_of, number_of};
 ghost use Rattle.vt_location.specs.Numbers.{counted};
 ghost use Rattle.vt_tasks.specs.TaskValue.{task_of};
-ghost use Rattle.vt_walk.specs.WalkValue.{last_of};
+ghost use Rattle.vt_looks.specs.Places.{last_of};
 
 use std::alloc::Global;
 use vt_cred::{Caps, Mode, Rights, allows, masked, may_delete_sticky};
 use vt_location::{FilesystemId, Location, MountId, NodeRef, Propagation};
-use vt_looks::Look;
+use vt_looks::{Look, Place};
 use vt_node::{Attr, Kind};
 use vt_spec::errors::{Deny, Rule};
 use vt_tasks::Task;
-use vt_walk::Place;
 
 /// Whether the caller has these rights at a location, asked as one request. Nobody has any where no inode is.
-pub(crate) fn may<L: Look>(world: &L, who: &Task, at: Location, wanted: Rights) -> bool
+pub fn may<L: Look>(world: &L, who: &Task, at: Location, wanted: Rights) -> bool
     ensures { result ≡ may (L.looks world.now) (task_of who.now) (location_of at) (right_bits wanted) }
 {
     match world.node(at) {
@@ -36,7 +35,7 @@ pub(crate) fn may<L: Look>(world: &L, who: &Task, at: Location, wanted: Rights) 
 }
 
 /// Whether a directory is there.
-pub(crate) fn is_directory<L: Look>(world: &L, at: Location) -> bool
+pub fn is_directory<L: Look>(world: &L, at: Location) -> bool
     ensures { result ≡ is_directory_at (L.looks world.now) (location_of at) }
 {
     match world.node(at) {
@@ -46,7 +45,7 @@ pub(crate) fn is_directory<L: Look>(world: &L, at: Location) -> bool
 }
 
 /// Whether a directory with entries is there.
-pub(crate) fn is_filled<L: Look>(world: &L, at: Location) -> bool
+pub fn is_filled<L: Look>(world: &L, at: Location) -> bool
     ensures { result ≡ is_filled (L.looks world.now) (location_of at) }
 {
     match world.node(at) {
@@ -56,7 +55,7 @@ pub(crate) fn is_filled<L: Look>(world: &L, at: Location) -> bool
 }
 
 /// Whether an object of a kind is there.
-pub(crate) fn is_kind<L: Look>(world: &L, at: Location, kind: Kind) -> bool
+pub fn is_kind<L: Look>(world: &L, at: Location, kind: Kind) -> bool
     ensures { result ≡ kind_at (L.looks world.now) (location_of at) kind }
 {
     match world.node(at) {
@@ -66,7 +65,7 @@ pub(crate) fn is_kind<L: Look>(world: &L, at: Location, kind: Kind) -> bool
 }
 
 /// The owner, group and mode of an object; where no inode is all are 0.
-pub(crate) fn attr_at<L: Look>(world: &L, at: Location) -> Attr
+pub fn attr_at<L: Look>(world: &L, at: Location) -> Attr
     ensures { result ≡ attr_at (L.looks world.now) (location_of at) }
 {
     match world.node(at) {
@@ -91,7 +90,7 @@ pub(crate) fn is_kept<L: Look>(world: &L, who: &Task, directory: Location, objec
 }
 
 /// Whether nothing may be changed through the mount of a location: `MS_RDONLY`.
-pub(crate) fn is_read_only<L: Look>(world: &L, at: Location) -> bool
+pub fn is_read_only<L: Look>(world: &L, at: Location) -> bool
     ensures { result ≡ is_read_only (L.looks world.now) (location_of at) }
 {
     match world.mount(at.mount) {
@@ -101,7 +100,7 @@ pub(crate) fn is_read_only<L: Look>(world: &L, at: Location) -> bool
 }
 
 /// Whether no file may be executed through the mount of a location: `MS_NOEXEC`.
-pub(crate) fn is_noexec<L: Look>(world: &L, at: Location) -> bool
+pub fn is_noexec<L: Look>(world: &L, at: Location) -> bool
     ensures { result ≡ (mount_at (L.looks world.now) (location_of at)).flags.noexec }
 {
     match world.mount(at.mount) {
@@ -111,7 +110,7 @@ pub(crate) fn is_noexec<L: Look>(world: &L, at: Location) -> bool
 }
 
 /// Whether the mount of a location is not in the caller's namespace.
-pub(crate) fn is_elsewhere<L: Look>(world: &L, who: &Task, at: Location) -> bool
+pub fn is_elsewhere<L: Look>(world: &L, who: &Task, at: Location) -> bool
     ensures { result ≡ is_elsewhere nat_eq (L.looks world.now) (task_of who.now) (location_of at) }
 {
     match world.mount(at.mount) {
@@ -139,7 +138,7 @@ pub(crate) fn is_same_filesystem<L: Look>(world: &L, one: Location, other: Locat
 }
 
 /// Whether a location is not the root of its mount.
-pub(crate) fn is_no_root<L: Look>(world: &L, at: Location) -> bool
+pub fn is_no_root<L: Look>(world: &L, at: Location) -> bool
     ensures { result ≡ is_no_root nat_eq (L.looks world.now) (location_of at) }
 {
     match world.mount(at.mount) {
@@ -173,7 +172,7 @@ pub(crate) fn is_shared<L: Look>(world: &L, id: MountId) -> bool
 }
 
 /// Whether a mount is unbindable.
-pub(crate) fn is_unbindable<L: Look>(world: &L, id: MountId) -> bool
+pub fn is_unbindable<L: Look>(world: &L, id: MountId) -> bool
     ensures { result ≡ is_unbindable ((L.looks world.now).mount (counted id.count)).propagation }
 {
     match world.mount(id) {
@@ -183,14 +182,14 @@ pub(crate) fn is_unbindable<L: Look>(world: &L, id: MountId) -> bool
 }
 
 /// Whether the caller lacks a capability.
-pub(crate) fn lacks(who: &Task, wanted: Caps) -> bool
+pub fn lacks(who: &Task, wanted: Caps) -> bool
     ensures { result ≡ lacks (task_of who.now) (capability_bits wanted) }
 {
     !who.cred.has(wanted)
 }
 
 /// The owner, group and mode of an object that the task makes with the mode asked for: umask(2).
-pub(crate) fn new_attr(task: &Task, asked: Mode) -> Attr
+pub fn new_attr(task: &Task, asked: Mode) -> Attr
     ensures { result ≡ new_attr (task_of task.now) asked }
 {
     Attr {
@@ -201,7 +200,7 @@ pub(crate) fn new_attr(task: &Task, asked: Mode) -> Attr
 }
 
 /// The owner, group and mode of a symlink that the task makes: symlink(7).
-pub(crate) fn symlink_attr(task: &Task) -> Attr
+pub fn symlink_attr(task: &Task) -> Attr
     ensures { result ≡ exact_attr (task_of task.now) 511 }
 {
     Attr {
@@ -212,7 +211,7 @@ pub(crate) fn symlink_attr(task: &Task) -> Attr
 }
 
 /// The last word of a place in memory of its own. S5 (ENOMEM): memory was refused.
-pub(crate) fn name_at(alloc: Global, place: &Place) -> Result<Vec<u8>, Deny>
+pub fn name_at(alloc: Global, place: &Place) -> Result<Vec<u8>, Deny>
     ensures ok { IfOk result (λ name. name.items ≡ name_of (last_of place.now.last)) }
     ensures memory { IfErr result (λ deny. deny ≡ denial S5) }
 {
