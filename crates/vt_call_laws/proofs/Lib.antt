@@ -1,7 +1,6 @@
 pub mod EffectsRights
 pub mod EffectsSearched
 pub mod EffectsTold
-pub mod GivenPermits
 pub mod InodesEntries
 pub mod InodesLeft
 pub mod InodesOwn

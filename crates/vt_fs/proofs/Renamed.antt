@@ -14,8 +14,8 @@ use Rattle.vt_spec.specs.OneTree.Walk.{is_directory_at}
 use Rattle.vt_spec.specs.Tree.{Node, Tree, parent_in}
 use Rattle.vt_spec.specs.TreeLaws.{entry_at}
 use Rattle.vt_one_text.specs.OneTreeNumbers.{renamed_inode, renamed_inodes}
-use Rattle.vt_one_text.specs.Renaming.{Renaming}
-use Rattle.vt_one_text.proofs.Commuting.{Named, commutes_nat, node_itself, option_itself}
+use Rattle.vt_laws.specs.Renaming.{Renaming}
+use Rattle.vt_laws.proofs.Commuting.{Named, commutes_nat, node_itself, option_itself}
 use Rattle.vt_tree.specs.Paths.{path_in}
 use Rattle.vt_tree.specs.TreeRules.{hard_link_rules, make_rules, rename_rules, unlink_rules, write_rules}
 use Rattle.vt_location.specs.Numbers.{exchanged}

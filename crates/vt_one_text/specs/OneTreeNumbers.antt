@@ -5,7 +5,7 @@ use Rattle.vt_spec.specs.Machine.Renaming.{renamed_node}
 use Rattle.vt_spec.specs.OneTree.Inodes.{Inode, Inodes}
 use Rattle.vt_spec.specs.OneTree.Policy.{policy}
 use Rattle.vt_spec.specs.OneTree.World.{Descriptor, Outcome, Task, World}
-use Rattle.vt_one_text.specs.Renaming.{Renaming}
+use Rattle.vt_laws.specs.Renaming.{Renaming}
 
 module _ {N M : Type 0} (there : N → M) (back : M → N) where
   abbrev pub renamed_inode : Inode N → Inode M

@@ -1,5 +1,5 @@
-use Rattle.vt_laws.proofs.SameTexts.{files_text_is_the_text, machine_text_is_the_text}
-use Rattle.vt_laws.proofs.same_texts.whole_machine_has_the_text_of_one_tree.Goals as goal
+use Rattle.vt_one_text.proofs.SameTexts.{files_text_is_the_text, machine_text_is_the_text}
+use Rattle.vt_one_text.proofs.same_texts.whole_machine_has_the_text_of_one_tree.Goals as goal
 
 pub returns-clause-files : goal.returns-clause-files
 returns-clause-files c = files_text_is_the_text

@@ -1,6 +1,6 @@
 -- Which call each permit is given to.
 use Rattle.std.proofs.Common.{◌≡◌, refl, subst, inl, inr, ℕ, nat_eq, nat_lt, length, Bool, true, false, ◌||◌, List, [], ◌∷◌, ◌++◌, Option, Some, None, Result, Ok, Err, ok_or, IfOk}
-use Rattle.vt_call_laws.specs.Given.{IsFor, NoneFails, PermitsAreForTheirCalls}
+use Rattle.vt_laws.specs.Given.{IsFor, NoneFails, PermitsAreForTheirCalls}
 use Rattle.vt_spec.specs.declared.errors.Deny.{Deny}
 use Rattle.vt_spec.specs.declared.errors.Rule.TheVariants.{E1, E2, E6, K1, O2, S2}
 use Rattle.vt_spec.specs.Errors.{Rules, and_then, denial, unless}

@@ -1,7 +1,7 @@
 -- Two numbers exchanged.
 use Rattle.std.proofs.Common.{◌≡◌, ◌≢◌, sym, ap, ◌∙◌, true≢false, refl, ℕ, nat_eq, eq-eqb, ne_eqb, Bool, false, cond, ⊎_elim}
 use Rattle.std.proofs.lemmas.Bool.Decides.{eqb_tells}
-use Rattle.vt_one_text.specs.Renaming.{Leaves, Renaming}
+use Rattle.vt_laws.specs.Renaming.{Leaves, Renaming}
 
 abbrev pub swapped : ℕ → ℕ → ℕ → ℕ
 swapped a b k = cond (nat_eq k a) b (cond (nat_eq k b) a k)
