@@ -16,7 +16,7 @@ ghost use Rattle.vt_spec.specs.OneTree.Rules.{is_kind_at};
 ghost use Rattle.vt_spec.specs.Tree.{bytes_in, entries_in, is_directory_node, names_in};
 ghost use Rattle.vt_spec.specs.TreeLaws.{entry_at as number_at};
 ghost use Rattle.vt_tree.specs.TreeRules.{AnswersBy, hard_link_rules, make_rules, rename_rules, ruling, unlink_rules, write_rules};
-ghost use Rattle.vt_slots.specs.Slots.{most_uses};
+ghost use Rattle.vt_tree.specs.Slots.{most_uses};
 ghost use Rattle.vt_location.specs.Locations.{number_of};
 ghost use Rattle.vt_location.specs.Numbers.{exchanged, is_inode_of};
 

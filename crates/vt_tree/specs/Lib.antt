@@ -1,3 +1,5 @@
 pub mod TreeValue
 pub mod TreeRules
 pub mod Paths
+pub mod Slots
+pub mod Lends

@@ -13,16 +13,16 @@ ghost use Rattle.vt_spec.specs.Tree.{is_directory_node, parent_in, entries_in, n
 ghost use Rattle.vt_spec.specs.TreeLaws.{entry_at};
 ghost use Rattle.vt_tree.specs.TreeRules.{AnswersBy, leads_to, hard_link_rules, make_rules, rename_rules, ruling, unlink_rules, write_rules};
 ghost use Rattle.vt_tree.specs.TreeValue.{inodes_of, tree_of, next_number};
-ghost use Rattle.vt_slots.specs.Slots.{most_uses};
+ghost use Rattle.vt_tree.specs.Slots.{most_uses};
 
 use crate::changes::{
     insert_entry, release, remove_entry, remove_object, set_attr, set_bytes, set_parent,
     write_bytes,
 };
+use crate::slots::Slots;
 use std::alloc::Global;
 use std::marker::Model;
 use vt_node::{Attr, LARGEST_FILE, Node, NodeId, copied_bytes};
-use vt_slots::Slots;
 use vt_spec::errors::{Deny, Rule};
 
 /// A tree of directories, files, symlinks and whiteouts, each with a number, and with a count of its uses: the names that

@@ -1,8 +1,8 @@
 use Rattle.std.proofs.Common.{◌≤◌, None, sym, ap, ◌∙◌, arith}
 use Rattle.vt_spec.specs.OneTree.Inodes.{uses_in}
-use Rattle.vt_slots.specs.Slots.{slot_at, put_at}
-use Rattle.vt_slots.proofs.SlotLemmas.{get-updates, used_once_less-last}
-use Rattle.vt_slots.proofs.table.Slots.release.Goals as goal
+use Rattle.vt_tree.specs.Slots.{slot_at, put_at}
+use Rattle.vt_tree.proofs.SlotLemmas.{get-updates, used_once_less-last}
+use Rattle.vt_tree.proofs.slots.Slots.release.Goals as goal
 
 -- the last use goes, and the node with it
 pub returns-then-uses-le1-clause-released : goal.returns-then-uses-le1-clause-released

@@ -1,4 +1,4 @@
-//! `Slots`, and the slot of one node.
+//! Inodes by number. A number keeps its inode until the last use of the inode goes, and only then is it given out again.
 ghost use Rattle.std.specs.Prelude.{◌≡◌, ℕ, ◌^◌, [], ◌+◌, ◌-◌, ◌<◌, ◌≤◌, None, Some, IsSome, IsOk, IfOk, IfErr, IsErrOf, OnOk, OnErr, ◌↔◌, option_copied, if◌then◌else◌};
 ghost use Rattle.std.specs.Option.{option_copied_mut};
 ghost use Rattle.std.specs.Borrow.{Lends, sem};
@@ -29,8 +29,8 @@ impl Model for Slot {
 }
 
 impl Slot {
-    ghost use Rattle.vt_slots.specs.Slots.{with_slot_node};
-    ghost use Rattle.vt_slots.specs.contracts.table.Slot.{the_row};
+    ghost use Rattle.vt_tree.specs.Slots.{with_slot_node};
+    ghost use Rattle.vt_tree.specs.contracts.slots.Slot.{the_row};
     ghost use Rattle.vt_node.specs.contracts.nodes.Node.{the_row as node_row};
 
     fn node_mut(&mut self) -> &mut Node
@@ -53,7 +53,7 @@ pub struct Slots {
 impl Model for Slots {
     ghost use Rattle.std.specs.Prelude.{◌-◌};
     ghost use Rattle.slab.specs.Slab.{slab_len};
-    ghost use Rattle.vt_slots.specs.Slots.{Slots as Table};
+    ghost use Rattle.vt_tree.specs.Slots.{Slots as Table};
 
     ghost Value = { Table };
 
@@ -65,8 +65,8 @@ impl Model for Slots {
 }
 
 impl Slots {
-    ghost use Rattle.vt_slots.specs.Slots.{Slots as Table, slots_len, slot_at, node_at, put_at, most_uses, with_uses, goes};
-    ghost use Rattle.vt_slots.specs.Lends.{lends_node, lends_present};
+    ghost use Rattle.vt_tree.specs.Slots.{Slots as Table, slots_len, slot_at, node_at, put_at, most_uses, with_uses, goes};
+    ghost use Rattle.vt_tree.specs.Lends.{lends_node, lends_present};
 
     /// No nodes. It does not allocate.
     pub fn new(alloc: Global) -> Self
@@ -225,3 +225,6 @@ impl Slots {
         }
     }
 }
+
+#[cfg(test)]
+mod tests;

@@ -3,8 +3,8 @@ use Rattle.std.specs.Prelude.{ℕ, Option}
 use Rattle.std.specs.Borrow.{Lends, LendsIf, Fml, MutBor}
 use Rattle.vt_spec.specs.Tree.{Node}
 use Rattle.vt_node.specs.contracts.nodes.Node.{the_row as node_row}
-use Rattle.vt_slots.specs.Slots.{Slots, with_node_at}
-use Rattle.vt_slots.specs.contracts.table.Slots.{the_row}
+use Rattle.vt_tree.specs.Slots.{Slots, with_node_at}
+use Rattle.vt_tree.specs.contracts.slots.Slots.{the_row}
 
 module _ (table : MutBor Slots) (id : ℕ) where
   -- once the borrow r ends, the number has the last node written through r

@@ -4,7 +4,7 @@ use Rattle.std.proofs.lemmas.Bool.Decides.{nat_tests}
 use Rattle.slab.specs.Slab.{Slab, get, Updates}
 use Rattle.vt_spec.specs.OneTree.Inodes.{Inode, inode_with_node, uses_in, used_once_less}
 use Rattle.vt_spec.specs.Tree.{Node}
-use Rattle.vt_slots.specs.Slots.{Slots, put_at, slots_len, with_node_at}
+use Rattle.vt_tree.specs.Slots.{Slots, put_at, slots_len, with_node_at}
 
 -- a slab that changes at one key is its function with another value there
 pub get-updates : (old new : Slab (Inode ℕ)) (key : ℕ) (slot : Option (Inode ℕ)) → Updates old new key slot → get new ≡ put_at (get old) key slot

@@ -1,7 +1,7 @@
 use Rattle.std.proofs.Common.{◌≤◌, None, ap, arith, length, ◌∙◌, sym}
 use Rattle.std.proofs.lemmas.List.{get_or_past}
-use Rattle.vt_slots.specs.Slots.{slot_at}
-use Rattle.vt_slots.proofs.table.Slots.numbers_fit.Goals as goal
+use Rattle.vt_tree.specs.Slots.{slot_at}
+use Rattle.vt_tree.proofs.slots.Slots.numbers_fit.Goals as goal
 
 pub returns : goal.returns
 returns c = λ id large.
