@@ -1,6 +1,6 @@
-//! What no clause says: that calls succeed with ample memory; and groups as mount_namespaces(7) tells of them.
-use super::*;
+//! Peer groups as mount_namespaces(7) tells of them.
 use std::test::Fail;
+use vt_group::Groups;
 use vt_location::{GroupId, MountId, Propagation};
 
 fn mount(count: u64) -> MountId {

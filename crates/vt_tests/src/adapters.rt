@@ -1,7 +1,9 @@
-//! Devices that are interrupted, full or failing.
-use super::*;
-use std::io;
+//! Readers and writers that are interrupted or full.
+use std::io::{self, ErrorKind, Read, Write};
 use std::test::Fail;
+use vt_io::adapters::{ReadSource, WriteSink};
+use vt_io::input::{Source, SourceFailed};
+use vt_io::output::{Sink, SinkFailed};
 
 /// A reader and writer that is interrupted so many times, and then takes and gives one byte a call.
 #[derive(Drop)]
@@ -62,20 +64,6 @@ fn tries_again_when_interrupted(rt: HostRuntime) {
         assert_eq!(rt; sink.write(b"ab"), want.1, "after {interruptions}");
         let mut sink = WriteSink::new(Device { interruptions });
         assert_eq!(rt; sink.flush(), want.2, "after {interruptions}");
-    }
-}
-
-#[test]
-fn ends_at_the_limit(rt: HostRuntime) {
-    let mut buffer = [0u8; 4];
-    for (text, want) in [("ab", Ok(0)), ("abc", Err(SourceFailed))] {
-        let mut source = ReadSource {
-            reader: text.as_bytes(),
-            limit: 2,
-            failures: 0,
-        };
-        assert_eq!(rt; source.read(&mut buffer), Ok(2), "of {text}");
-        assert_eq!(rt; source.read(&mut buffer), want, "of {text}");
     }
 }
 
