@@ -28,9 +28,9 @@ use Rattle.vt_request.specs.declared.answer.Answer.{Answer}
 use Rattle.vt_request.specs.declared.answer.Answer.TheVariants.{Done}
 use Rattle.vt_run_laws.proofs.AlikeWorlds.{sameness_is_an_equivalence}
 use Rattle.vt_run_laws.specs.Handed.{counts_from}
-use Rattle.vt_ns.specs.Events.{Becomes, Permits, left_by, supply_of}
-use Rattle.vt_ns.specs.Held.{IsHeld}
-use Rattle.vt_ns.specs.WorldValue.{WorldValue, world_of}
+use Rattle.vt_detach.specs.Events.{Becomes, Permits, left_by, supply_of}
+use Rattle.vt_detach.specs.Held.{IsHeld}
+use Rattle.vt_detach.specs.WorldValue.{WorldValue, world_of}
 use Rattle.vt_calls.proofs.Finishing.{answers, grants, leaves, refuses}
 use Rattle.vt_calls.proofs.Forms.{frees, is_free, types, ungroups}
 use Rattle.vt_calls.proofs.Supplies.{AreVacant, allotted, counts, judged_with, permits}

@@ -15,9 +15,9 @@ use Rattle.vt_request.specs.declared.request.Call.{Call}
 use Rattle.vt_request.specs.declared.request.Call.TheVariants as call
 use Rattle.vt_run_laws.specs.Handed.{counts_from}
 use Rattle.vt_tree_laws.specs.Trees.Limits.{names_few_groups}
-use Rattle.vt_ns.specs.Held.{IsHeld}
-use Rattle.vt_ns.specs.Looking.{looks_of_value, overfills_of}
-use Rattle.vt_ns.specs.WorldValue.{WorldValue, world_of}
+use Rattle.vt_detach.specs.Held.{IsHeld}
+use Rattle.vt_detach.specs.Looking.{looks_of_value, overfills_of}
+use Rattle.vt_detach.specs.WorldValue.{WorldValue, world_of}
 use Rattle.vt_calls.proofs.Endings.{refused}
 use Rattle.vt_calls.proofs.Supplies.{no_overlay}
 use Rattle.vt_calls.proofs.Tied.{judged_alike}

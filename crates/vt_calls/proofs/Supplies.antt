@@ -29,10 +29,10 @@ use Rattle.vt_run_laws.proofs.InodesAllotted.{allotted_numbers_serve}
 use Rattle.vt_run_laws.specs.Handed.{counts_from, handed_from, may_be_given}
 use Rattle.vt_run_laws.specs.Runs.{ServesInHand}
 use Rattle.vt_tree_laws.specs.Trees.Calls.{mounts_overlay}
-use Rattle.vt_ns.specs.Events.{Permits, next_inode, supply_of}
-use Rattle.vt_ns.specs.Held.{IsHeld, is_ungrouped}
+use Rattle.vt_detach.specs.Events.{Permits, next_inode, supply_of}
+use Rattle.vt_detach.specs.Held.{IsHeld, is_ungrouped}
 use Rattle.vt_ns.specs.Vacancy.{IsVacant, NextInodeIsVacant, NextRootIsVacant}
-use Rattle.vt_ns.specs.WorldValue.{WorldValue, world_of}
+use Rattle.vt_detach.specs.WorldValue.{WorldValue, world_of}
 use Rattle.vt_world_laws.proofs.CallsKept.{name_found}
 use Rattle.vt_world_laws.specs.Worlds.Kept.{IsPlain}
 use Rattle.vt_calls.specs.Permitted.{IsPermitted}

@@ -6,8 +6,8 @@ use Rattle.vt_spec.specs.Machine.Judge.{bind_permit, judge, judge_in, mount_plai
 use Rattle.vt_spec.specs.Machine.World.{Task}
 use Rattle.vt_run_laws.specs.Handed.{counts_from}
 use Rattle.vt_tree_laws.specs.Trees.Calls.{mounts_overlay}
-use Rattle.vt_ns.specs.Looking.{looks_of_value, overfills_of}
-use Rattle.vt_ns.specs.WorldValue.{WorldValue, world_of}
+use Rattle.vt_detach.specs.Looking.{looks_of_value, overfills_of}
+use Rattle.vt_detach.specs.WorldValue.{WorldValue, world_of}
 
 pub judged_alike : (value : WorldValue) (task : Task ℕ) (call : Call) → mounts_overlay call ≡ false
     → judge nat_eq (looks_of_value value) (overfills_of value) task call

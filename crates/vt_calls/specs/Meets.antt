@@ -15,7 +15,7 @@ use Rattle.vt_request.specs.declared.answer.Answer.{Answer}
 use Rattle.vt_request.specs.Answers.{answer_of, result_of}
 use Rattle.vt_permits.specs.Allocating.{TakesMemory}
 use Rattle.vt_permits.specs.Memory.{IsAfterReceivers}
-use Rattle.vt_ns.specs.WorldValue.{WorldValue, world_of}
+use Rattle.vt_detach.specs.WorldValue.{WorldValue, world_of}
 
 -- S5 stands in place of a grant, or of a rule that is checked after receivers are gathered
 abbrev pub MayBeRefusedMemory : Result spec.Answer Deny → Type 0

@@ -10,8 +10,8 @@ use Rattle.vt_tree_laws.specs.Trees.Limits.{names_few_groups}
 use Rattle.vt_request.specs.declared.answer.Answer.{Answer}
 use Rattle.vt_permits.specs.declared.permit.Permit.{Permit}
 use Rattle.vt_permits.specs.PermitValue.{permit_of}
-use Rattle.vt_ns.specs.Held.{IsHeld}
-use Rattle.vt_ns.specs.WorldValue.{WorldValue, world_of}
+use Rattle.vt_detach.specs.Held.{IsHeld}
+use Rattle.vt_detach.specs.WorldValue.{WorldValue, world_of}
 use Rattle.vt_calls.specs.Meets.{Ends}
 
 -- a call of the task of this name is given this permit

@@ -4,7 +4,7 @@ ghost use Rattle.vt_location.specs.Numbers.{counted};
 ghost use Rattle.vt_request.specs.Requests.{type_word_of};
 ghost use Rattle.vt_spec.specs.Language.Script.{is_grouped_type};
 ghost use Rattle.vt_spec.specs.Machine.Permits.Permit.{ToSetType};
-ghost use Rattle.vt_ns.specs.Events.{Becomes, Permits};
+ghost use Rattle.vt_detach.specs.Events.{Becomes, Permits};
 ghost use Rattle.vt_calls.specs.Kinds.{is_on_mount};
 ghost use Rattle.vt_calls.specs.Permitted.{EndsGiven, IsGiven};
 

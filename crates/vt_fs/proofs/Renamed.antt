@@ -19,7 +19,7 @@ use Rattle.vt_laws.proofs.Commuting.{Named, commutes_nat, node_itself, option_it
 use Rattle.vt_tree.specs.Paths.{path_in}
 use Rattle.vt_tree.specs.TreeRules.{hard_link_rules, make_rules, rename_rules, unlink_rules, write_rules}
 use Rattle.vt_location.specs.Numbers.{exchanged}
-use Rattle.vt_fs.proofs.Exchanged.{exchanged_back}
+use Rattle.vt_location.proofs.NumberLemmas.{exchanged_back}
 
 -- slots and numbers of a filesystem, exchanged
 abbrev pub exchange : ℕ → Renaming ℕ ℕ

@@ -45,24 +45,24 @@ use Rattle.vt_world_laws.proofs.PermitsNamed.{permits_keep_counting_forks, permi
 use Rattle.vt_world_laws.proofs.PermitsPlaced.{permits_keep_directories, permits_keep_locations, permits_keep_open_files}
 use Rattle.vt_world_laws.proofs.PermitsShow.{permits_keep_mounts_showing}
 use Rattle.vt_world_laws.proofs.SettledTasks.{settling_leaves_a_world}
-use Rattle.vt_ns.specs.Events.{Permits, supply_of}
-use Rattle.vt_ns.specs.Detached.{LeaveInTurn}
-use Rattle.vt_ns.specs.Held.{CountsItsMounts, CountsWhatIsInIt, HasOwnInodes, IsHeld}
-use Rattle.vt_ns.specs.Uses.{kept}
-use Rattle.vt_ns.specs.WorldValue.{WorldValue, world_of}
-use Rattle.vt_ns.proofs.ChangedFiles.{ChangesFiles, change_is_held, change_is_swept, with_filesystems}
-use Rattle.vt_ns.proofs.Bridging.{swept_is_counted, swept_is_same}
-use Rattle.vt_ns.proofs.DetachingBegins.{HasChildrenOf, detached_world, detaching_begins, filesystem_kept}
-use Rattle.vt_ns.proofs.DetachingEnds.{detached_counted, detached_swept, held_is_kept}
-use Rattle.vt_ns.proofs.Finishing.{own_exchanged}
-use Rattle.vt_ns.proofs.FilesSeen.{files_are_plain}
-use Rattle.vt_ns.proofs.Keeping.{IsKeptBut, detached_in}
-use Rattle.vt_ns.proofs.MountsGone.{pending_filesystem, pending_number}
-use Rattle.vt_ns.proofs.NumbersBeside.{found_by_number}
-use Rattle.vt_ns.proofs.OwnInodesKept.{IsOwn}
-use Rattle.vt_ns.proofs.Remaining.{remade}
-use Rattle.vt_ns.proofs.Staying.{IsDone, becomes_so, held_is_settled, world_is_plain}
-use Rattle.vt_ns.proofs.UnmountedLazily.{all_detached}
+use Rattle.vt_detach.specs.Events.{Permits, supply_of}
+use Rattle.vt_detach.specs.Detached.{LeaveInTurn}
+use Rattle.vt_detach.specs.Held.{CountsItsMounts, CountsWhatIsInIt, HasOwnInodes, IsHeld}
+use Rattle.vt_detach.specs.Uses.{kept}
+use Rattle.vt_detach.specs.WorldValue.{WorldValue, world_of}
+use Rattle.vt_detach.proofs.ChangedFiles.{ChangesFiles, change_is_held, change_is_swept, with_filesystems}
+use Rattle.vt_detach.proofs.Bridging.{swept_is_counted, swept_is_same}
+use Rattle.vt_detach.proofs.DetachingBegins.{HasChildrenOf, detached_world, detaching_begins, filesystem_kept}
+use Rattle.vt_detach.proofs.DetachingEnds.{detached_counted, detached_swept, held_is_kept}
+use Rattle.vt_detach.proofs.Finishing.{own_exchanged}
+use Rattle.vt_detach.proofs.FilesSeen.{files_are_plain}
+use Rattle.vt_detach.proofs.Keeping.{IsKeptBut, detached_in}
+use Rattle.vt_detach.proofs.MountsGone.{pending_filesystem, pending_number}
+use Rattle.vt_detach.proofs.NumbersBeside.{found_by_number}
+use Rattle.vt_detach.proofs.OwnInodesKept.{IsOwn}
+use Rattle.vt_detach.proofs.Remaining.{remade}
+use Rattle.vt_detach.proofs.Staying.{IsDone, becomes_so, held_is_settled, world_is_plain}
+use Rattle.vt_detach.proofs.UnmountedLazily.{all_detached}
 
 module _ (value : WorldValue) (held : IsHeld value) (location : Location ℕ) (change : Change ℕ) (filesystems : Filesystems)
     (made : ChangesFiles value location change filesystems) where

@@ -7,9 +7,9 @@ use Rattle.vt_spec.specs.Machine.Mounts.{Location, Mount, children, mount_in, mo
 use Rattle.vt_spec.proofs.Lists.{among-filter, among-from_filter, any_among, any_from_among}
 use Rattle.vt_mount_laws.proofs.MountsFound.{found_or_none, number_found}
 use Rattle.vt_mount_laws.proofs.MountsReplaced.{found_itself}
-use Rattle.vt_ns.proofs.LookLemmas.{turned}
-use Rattle.vt_ns.proofs.TreesLookedAt.{or_nothing}
-use Rattle.vt_ns.proofs.NumbersBeside.{one_test}
+use Rattle.vt_detach.proofs.LookLemmas.{turned}
+use Rattle.vt_detach.proofs.TreesLookedAt.{or_nothing}
+use Rattle.vt_detach.proofs.NumbersBeside.{one_test}
 
 -- going up from a mount meets another, in at most so many steps
 abbrev pub meets : List (Mount ℕ) → ℕ → ℕ → ℕ → Bool

@@ -11,11 +11,11 @@ use Rattle.vt_location.specs.Numbers.{counted}
 use Rattle.vt_mount.specs.MountsValue.{MountEntry, changed, entry_numbered, held, uses_of, writers_of}
 use Rattle.vt_spec.specs.OneTree.Inodes as Trees
 use Rattle.vt_spec.specs.OneTree.Inodes.{Inodes, pinned, used_once_more, uses_in}
-use Rattle.vt_ns.specs.declared.namespaces.Namespace.{Namespace}
-use Rattle.vt_ns.specs.Forking.{HasRoom, more_tasks, with_task_more}
-use Rattle.vt_ns.specs.Uses.{kept, pinned_in, with_location}
-use Rattle.vt_ns.specs.WorldValue.{entries_of}
-use Rattle.vt_ns.proofs.NamespaceEntries.{Entries, entries_written, is_id, none_written, same_namespace}
+use Rattle.vt_detach.specs.declared.namespaces.Namespace.{Namespace}
+use Rattle.vt_detach.specs.Forking.{HasRoom, more_tasks, with_task_more}
+use Rattle.vt_detach.specs.Uses.{kept, pinned_in, with_location}
+use Rattle.vt_detach.specs.WorldValue.{entries_of}
+use Rattle.vt_detach.proofs.NamespaceEntries.{Entries, entries_written, is_id, none_written, same_namespace}
 
 -- Uses
 

@@ -24,23 +24,23 @@ use Rattle.vt_permit_laws.proofs.SeesFit.{given_changes_fit}
 use Rattle.vt_permit_laws.proofs.SeesTasks.{given_permits_are_seen_to}
 use Rattle.vt_run_laws.specs.Handed.{is_counted_before}
 use Rattle.vt_world_laws.specs.Worlds.Permits.{NamesWhatIsThere}
-use Rattle.vt_ns.specs.Detached.{LeaveInTurn, tree_numbers}
-use Rattle.vt_ns.specs.Events.{Permits, supply_of}
-use Rattle.vt_ns.specs.Held.{IsHeld}
-use Rattle.vt_ns.specs.Uses.{kept}
-use Rattle.vt_ns.specs.WorldValue.{WorldValue, world_of}
-use Rattle.vt_ns.proofs.ChangedFiles.{ChangesFiles, with_filesystems}
+use Rattle.vt_detach.specs.Detached.{LeaveInTurn, tree_numbers}
+use Rattle.vt_detach.specs.Events.{Permits, supply_of}
+use Rattle.vt_detach.specs.Held.{IsHeld}
+use Rattle.vt_detach.specs.Uses.{kept}
+use Rattle.vt_detach.specs.WorldValue.{WorldValue, world_of}
+use Rattle.vt_detach.proofs.ChangedFiles.{ChangesFiles, with_filesystems}
 use Rattle.vt_ns.proofs.ChangedWithMounts.{changed_then_detached, nothing_goes}
-use Rattle.vt_ns.proofs.DetachingBegins.{HasChildrenOf, detached_world}
-use Rattle.vt_ns.proofs.DetachingEnds.{held_is_kept, taken_is_detached}
+use Rattle.vt_detach.proofs.DetachingBegins.{HasChildrenOf, detached_world}
+use Rattle.vt_detach.proofs.DetachingEnds.{held_is_kept, taken_is_detached}
 use Rattle.vt_ns.proofs.FileAnswers.{IsAnswered, unlink_passes}
-use Rattle.vt_ns.proofs.FileEvents.{IsSmall, permit_fits}
+use Rattle.vt_detach.proofs.FileEvents.{IsSmall, permit_fits}
 use Rattle.vt_ns.proofs.FileRemoving.{removal_is_answered}
-use Rattle.vt_ns.proofs.FilesSeen.{IsLocated, files_are_plain, inodes_named, located, located_filesystem, located_inodes}
-use Rattle.vt_ns.proofs.LazilyUnmounted.{trees_have_children, trees_numbers}
+use Rattle.vt_detach.proofs.FilesSeen.{IsLocated, files_are_plain, inodes_named, located, located_filesystem, located_inodes}
+use Rattle.vt_detach.proofs.LazilyUnmounted.{trees_have_children, trees_numbers}
 use Rattle.vt_ns.proofs.MountsOn.{none_on, one_on, tops_on, trees_collected}
-use Rattle.vt_ns.proofs.Remaining.{remade}
-use Rattle.vt_ns.proofs.Staying.{IsDone}
+use Rattle.vt_detach.proofs.Remaining.{remade}
+use Rattle.vt_detach.proofs.Staying.{IsDone}
 
 abbrev pub no_refusal : Result (Unit {0}) Deny
 no_refusal = Ok tt

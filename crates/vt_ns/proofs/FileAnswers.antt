@@ -22,12 +22,12 @@ use Rattle.vt_location.specs.declared.locations.Location.{Location}
 use Rattle.vt_location.specs.declared.locations.NodeRef.{NodeRef}
 use Rattle.vt_location.specs.Locations.{location_of, number_of}
 use Rattle.vt_tree.specs.TreeRules.{AnswersBy, hard_link_rules, leads_to, make_rules, ruling, unlink_rules, write_rules}
-use Rattle.vt_ns.specs.Events.{Becomes, Permits}
-use Rattle.vt_ns.specs.Held.{IsHeld}
-use Rattle.vt_ns.specs.WorldValue.{WorldValue, world_of}
-use Rattle.vt_ns.proofs.ChangedFiles.{IsFilesEvent, with_filesystems}
-use Rattle.vt_ns.proofs.FileEvents.{IsSmall, change_at, change_fits, change_is_done, change_sees}
-use Rattle.vt_ns.proofs.FilesSeen.{also_there, inodes_named, located_filesystem, tree_of_entry}
+use Rattle.vt_detach.specs.Events.{Becomes, Permits}
+use Rattle.vt_detach.specs.Held.{IsHeld}
+use Rattle.vt_detach.specs.WorldValue.{WorldValue, world_of}
+use Rattle.vt_detach.proofs.ChangedFiles.{IsFilesEvent, with_filesystems}
+use Rattle.vt_detach.proofs.FileEvents.{IsSmall, change_at, change_fits, change_is_done, change_sees}
+use Rattle.vt_detach.proofs.FilesSeen.{also_there, inodes_named, located_filesystem, tree_of_entry}
 
 -- what an event that is given a permit answers and leaves
 pub record IsAnswered {A : Type 0} (value : WorldValue) (name : TaskName) (permit : Permit ℕ) (new : WorldValue) (result : Result A Deny) : Type 0 where

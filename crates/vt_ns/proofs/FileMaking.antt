@@ -30,13 +30,13 @@ use Rattle.vt_permit_laws.proofs.SeesFit.{given_changes_fit}
 use Rattle.vt_permit_laws.proofs.SeesTasks.{given_permits_are_seen_to}
 use Rattle.vt_run_laws.specs.Handed.{is_counted_before}
 use Rattle.vt_tree.specs.TreeRules.{make_rules, ruling}
-use Rattle.vt_ns.specs.Events.{Permits, next_inode, supply_of}
-use Rattle.vt_ns.specs.Held.{IsHeld}
-use Rattle.vt_ns.specs.WorldValue.{WorldValue, world_of}
-use Rattle.vt_ns.proofs.ChangedFiles.{IsFilesEvent, files_are_changed, with_filesystems}
+use Rattle.vt_detach.specs.Events.{Permits, next_inode, supply_of}
+use Rattle.vt_detach.specs.Held.{IsHeld}
+use Rattle.vt_detach.specs.WorldValue.{WorldValue, world_of}
+use Rattle.vt_detach.proofs.ChangedFiles.{IsFilesEvent, files_are_changed, with_filesystems}
 use Rattle.vt_ns.proofs.FileAnswers.{make_passes}
-use Rattle.vt_ns.proofs.FileEvents.{IsSmall, permit_fits}
-use Rattle.vt_ns.proofs.FilesSeen.{IsLocated, files_are_plain, inodes_named, located, located_filesystem, located_inodes}
+use Rattle.vt_detach.proofs.FileEvents.{IsSmall, permit_fits}
+use Rattle.vt_detach.proofs.FilesSeen.{IsLocated, files_are_plain, inodes_named, located, located_filesystem, located_inodes}
 
 -- a new node, in the slots of its filesystem
 pub new_in_slot : (count slot : ℕ) → slot < 18446744073709551616 → (node : Node ℕ)

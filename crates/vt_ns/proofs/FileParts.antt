@@ -29,13 +29,13 @@ use Rattle.vt_permit_laws.proofs.SeesTasks.{given_permits_are_seen_to}
 use Rattle.vt_run_laws.proofs.AlikeWorlds.{sameness_is_an_equivalence}
 use Rattle.vt_tree.specs.TreeRules.{AnswersBy, ruling, write_rules}
 use Rattle.vt_world_laws.proofs.ReachedWalks.{found_among}
-use Rattle.vt_ns.specs.Events.{Becomes, Permits, supply_of}
-use Rattle.vt_ns.specs.Held.{IsHeld}
-use Rattle.vt_ns.specs.WorldValue.{WorldValue, world_of}
-use Rattle.vt_ns.proofs.ChangedFiles.{files_are_changed, with_filesystems}
+use Rattle.vt_detach.specs.Events.{Becomes, Permits, supply_of}
+use Rattle.vt_detach.specs.Held.{IsHeld}
+use Rattle.vt_detach.specs.WorldValue.{WorldValue, world_of}
+use Rattle.vt_detach.proofs.ChangedFiles.{files_are_changed, with_filesystems}
 use Rattle.vt_ns.proofs.FileAnswers.{IsAnswered, answered, if_ok, passed}
-use Rattle.vt_ns.proofs.FileEvents.{IsSmall}
-use Rattle.vt_ns.proofs.FilesSeen.{IsLocated, files_are_plain, located, located_filesystem, located_inodes}
+use Rattle.vt_detach.proofs.FileEvents.{IsSmall}
+use Rattle.vt_detach.proofs.FilesSeen.{IsLocated, files_are_plain, located, located_filesystem, located_inodes}
 
 -- what a task has open is there
 pub open_there : (value : WorldValue) → IsHeld value → (name : TaskName) (permit : Permit ℕ) (permits : Permits value name permit)

@@ -28,14 +28,14 @@ use Rattle.vt_permit_laws.specs.Sees.{SeesTo}
 use Rattle.vt_permit_laws.proofs.SeesFit.{given_changes_fit}
 use Rattle.vt_permit_laws.proofs.SeesTasks.{given_permits_are_seen_to}
 use Rattle.vt_tree.specs.TreeRules.{ruling, unlink_rules}
-use Rattle.vt_ns.specs.Events.{Permits, supply_of}
-use Rattle.vt_ns.specs.Held.{IsHeld, is_ungrouped}
-use Rattle.vt_ns.specs.WorldValue.{WorldValue, world_of}
-use Rattle.vt_ns.proofs.ChangedFiles.{files_are_changed, with_filesystems}
+use Rattle.vt_detach.specs.Events.{Permits, supply_of}
+use Rattle.vt_detach.specs.Held.{IsHeld, is_ungrouped}
+use Rattle.vt_detach.specs.WorldValue.{WorldValue, world_of}
+use Rattle.vt_detach.proofs.ChangedFiles.{files_are_changed, with_filesystems}
 use Rattle.vt_ns.proofs.FileAnswers.{IsAnswered, answered, by_ruling, if_ok, unlink_passes}
-use Rattle.vt_ns.proofs.FileEvents.{IsSmall, permit_fits}
-use Rattle.vt_ns.proofs.FilesSeen.{IsLocated, also_there, files_are_plain, located, located_filesystem, located_inodes, tree_of_entry}
-use Rattle.vt_ns.proofs.Ungrouped.{not_lost}
+use Rattle.vt_detach.proofs.FileEvents.{IsSmall, permit_fits}
+use Rattle.vt_detach.proofs.FilesSeen.{IsLocated, also_there, files_are_plain, located, located_filesystem, located_inodes, tree_of_entry}
+use Rattle.vt_detach.proofs.Ungrouped.{not_lost}
 
 -- Where no mount stands nothing is detached
 

@@ -29,15 +29,15 @@ use Rattle.vt_permit_laws.proofs.SeesFit.{given_changes_fit}
 use Rattle.vt_permit_laws.proofs.SeesTasks.{given_permits_are_seen_to}
 use Rattle.vt_run_laws.specs.Handed.{is_counted_before}
 use Rattle.vt_world_laws.specs.Worlds.Permits.{IsReached, NamesWhatIsThere}
-use Rattle.vt_ns.specs.Events.{Permits, supply_of}
-use Rattle.vt_ns.specs.Held.{IsHeld}
-use Rattle.vt_ns.specs.WorldValue.{WorldValue, world_of}
-use Rattle.vt_ns.proofs.ChangedFiles.{IsFilesEvent, files_are_changed, with_filesystems}
+use Rattle.vt_detach.specs.Events.{Permits, supply_of}
+use Rattle.vt_detach.specs.Held.{IsHeld}
+use Rattle.vt_detach.specs.WorldValue.{WorldValue, world_of}
+use Rattle.vt_detach.proofs.ChangedFiles.{IsFilesEvent, files_are_changed, with_filesystems}
 use Rattle.vt_ns.proofs.FileAnswers.{IsAnswered, if_ok}
-use Rattle.vt_ns.proofs.FileEvents.{IsSmall, permit_fits}
+use Rattle.vt_detach.proofs.FileEvents.{IsSmall, permit_fits}
 use Rattle.vt_ns.proofs.FileRemoving.{nothing_detached}
-use Rattle.vt_ns.proofs.Places.{located_is_named}
-use Rattle.vt_ns.proofs.FilesSeen.{IsLocated, also_there, files_are_plain, located, located_filesystem, located_inodes}
+use Rattle.vt_detach.proofs.Places.{located_is_named}
+use Rattle.vt_detach.proofs.FilesSeen.{IsLocated, also_there, files_are_plain, located, located_filesystem, located_inodes}
 
 module _ (value : WorldValue) (held : IsHeld value) (name : TaskName) (from : Location) (old : List ℕ) (to : Location) (new : List ℕ)
     (object : Location) (replaced : Option Location) (small : IsSmall from) (small_to : IsSmall to) (small_object : IsSmall object)

@@ -27,20 +27,20 @@ use Rattle.vt_tasks.specs.Counts.{locations_in}
 use Rattle.vt_tasks.specs.declared.descriptors.OpenFile.{OpenFile}
 use Rattle.vt_tasks.specs.TasksValue.{Tasks, called, changed_by, changed_called, open_refusal, replaced, with_open}
 use Rattle.vt_world_laws.proofs.RaisedInUse.{worlds_are_in_use}
-use Rattle.vt_ns.specs.Events.{Permits, supply_of}
-use Rattle.vt_ns.specs.Held.{IsHeld, writes_of_task, writes_on}
-use Rattle.vt_ns.specs.Uses.{kept, with_location, with_use}
-use Rattle.vt_ns.specs.WorldValue.{WorldValue, world_of}
+use Rattle.vt_detach.specs.Events.{Permits, supply_of}
+use Rattle.vt_detach.specs.Held.{IsHeld, writes_of_task, writes_on}
+use Rattle.vt_detach.specs.Uses.{kept, with_location, with_use}
+use Rattle.vt_detach.specs.WorldValue.{WorldValue, world_of}
 use Rattle.vt_permit_laws.proofs.SeesTasks.{given_permits_are_seen_to}
-use Rattle.vt_ns.proofs.FileEvents.{permit_fits}
-use Rattle.vt_ns.proofs.FilesSeen.{files_are_plain}
-use Rattle.vt_ns.proofs.LocationsSeen.{seen_where_located}
-use Rattle.vt_ns.proofs.Closing.{Goes, around, place, times_around, used_by}
-use Rattle.vt_ns.proofs.Moving.{Moves, only_left}
-use Rattle.vt_ns.proofs.Places.{located_is_named}
-use Rattle.vt_ns.proofs.Remaining.{remade, remains_done}
-use Rattle.vt_ns.proofs.Splits.{IsSplit, locations_around, replaced_split, times_replaced, writes_replaced}
-use Rattle.vt_ns.proofs.Staying.{IsDone, after}
+use Rattle.vt_detach.proofs.FileEvents.{permit_fits}
+use Rattle.vt_detach.proofs.FilesSeen.{files_are_plain}
+use Rattle.vt_detach.proofs.LocationsSeen.{seen_where_located}
+use Rattle.vt_detach.proofs.Closing.{Goes, around, place, times_around, used_by}
+use Rattle.vt_detach.proofs.Moving.{Moves, only_left}
+use Rattle.vt_detach.proofs.Places.{located_is_named}
+use Rattle.vt_detach.proofs.Remaining.{remade, remains_done}
+use Rattle.vt_detach.proofs.Splits.{IsSplit, locations_around, replaced_split, times_replaced, writes_replaced}
+use Rattle.vt_detach.proofs.Staying.{IsDone, after}
 
 pub inserted_goes : (new : Descriptor ℕ) (all : List (Descriptor ℕ)) → Goes new (inserted new all) all
 inserted_goes new [] = record { front = []; back = []; was = refl; is = refl }

@@ -9,12 +9,12 @@ use Rattle.vt_location.specs.declared.locations.Location.{Location}
 use Rattle.vt_location.specs.Locations.{location_of, number_of}
 use Rattle.vt_permit_laws.proofs.SeesTasks.{given_permits_are_seen_to}
 use Rattle.vt_world_laws.proofs.Roots.{directory_there}
-use Rattle.vt_ns.specs.Events.{Permits, supply_of}
-use Rattle.vt_ns.specs.Held.{IsHeld}
-use Rattle.vt_ns.specs.WorldValue.{WorldValue, world_of}
-use Rattle.vt_ns.proofs.FileEvents.{IsSmall}
+use Rattle.vt_detach.specs.Events.{Permits, supply_of}
+use Rattle.vt_detach.specs.Held.{IsHeld}
+use Rattle.vt_detach.specs.WorldValue.{WorldValue, world_of}
+use Rattle.vt_detach.proofs.FileEvents.{IsSmall}
 use Rattle.vt_ns.proofs.FileParts.{open_there}
-use Rattle.vt_ns.proofs.FilesSeen.{files_are_plain, looked_node}
+use Rattle.vt_detach.proofs.FilesSeen.{files_are_plain, looked_node}
 
 pub listed_node : (value : WorldValue) → IsHeld value → (name : TaskName) (directory : Location) → IsSmall directory
     → Permits value name (ToList (location_of directory))

@@ -13,7 +13,7 @@ use Rattle.vt_spec.specs.Machine.Settled.{without_dead_mounts}
 use Rattle.vt_spec.specs.Machine.World.{Task, all_locations, locations_of, mount_at, task_called}
 use Rattle.vt_spec.specs.Machine.Invariants.{is_located_well}
 use Rattle.vt_spec.specs.Rights.{Credentials}
-use Rattle.vt_fs.proofs.Exchanged.{counted_test}
+use Rattle.vt_location.proofs.NumberLemmas.{counted_test}
 use Rattle.vt_fs.specs.FilesystemsValue.{Filesystems}
 use Rattle.vt_letting_go.specs.Counts.{times}
 use Rattle.vt_letting_go.proofs.Lists.{Among, among-append_left, among-append_right, among-from_map, among_from_all, map_alike, map_twice, passes}
@@ -32,18 +32,18 @@ use Rattle.vt_tasks.specs.TaskValue.{task_of}
 use Rattle.vt_tasks.specs.TasksValue.{Tasks, called, fork_refusal, forked, forked_by, forked_once, replaced, with_child_behind}
 use Rattle.vt_world_laws.proofs.RaisedInUse.{worlds_are_in_use}
 use Rattle.vt_letting_go.proofs.UpperUses.{times_append}
-use Rattle.vt_ns.specs.Events.{Permits, supply_of}
-use Rattle.vt_ns.specs.Forking.{more_tasks, with_task_more}
-use Rattle.vt_ns.specs.Held.{CountsWhatIsInIt, IsHeld, writes_of, writes_of_task}
-use Rattle.vt_ns.specs.Uses.{Kept, kept, with_location, with_use}
-use Rattle.vt_ns.specs.WorldValue.{NamespaceEntry, WorldValue, namespace_of, world_of}
-use Rattle.vt_ns.proofs.FilesSeen.{files_are_plain}
-use Rattle.vt_ns.proofs.LocationsSeen.{seen_where_located}
-use Rattle.vt_ns.proofs.Moving.{Moves, only_left, swap_eq}
-use Rattle.vt_ns.proofs.Places.{standing}
+use Rattle.vt_detach.specs.Events.{Permits, supply_of}
+use Rattle.vt_detach.specs.Forking.{more_tasks, with_task_more}
+use Rattle.vt_detach.specs.Held.{CountsWhatIsInIt, IsHeld, writes_of, writes_of_task}
+use Rattle.vt_detach.specs.Uses.{Kept, kept, with_location, with_use}
+use Rattle.vt_detach.specs.WorldValue.{NamespaceEntry, WorldValue, namespace_of, world_of}
+use Rattle.vt_detach.proofs.FilesSeen.{files_are_plain}
+use Rattle.vt_detach.proofs.LocationsSeen.{seen_where_located}
+use Rattle.vt_detach.proofs.Moving.{Moves, only_left, swap_eq}
+use Rattle.vt_detach.proofs.Places.{standing}
 use Rattle.vt_ns.proofs.RemainingTasks.{CountsTasks, remade_in, remains_done_in}
-use Rattle.vt_ns.proofs.Splits.{IsSplit, locations_around, locations_stay, replaced_split, times_replaced, writes_replaced}
-use Rattle.vt_ns.proofs.Staying.{IsDone, after}
+use Rattle.vt_detach.proofs.Splits.{IsSplit, locations_around, locations_stay, replaced_split, times_replaced, writes_replaced}
+use Rattle.vt_detach.proofs.Staying.{IsDone, after}
 
 writes_append : (mount : ℕ) (xs ys : Tasks) → writes_of mount (xs ++ ys) ≡ writes_of mount xs + writes_of mount ys
 writes_append mount [] ys = omega arith

@@ -4,10 +4,10 @@ use Rattle.vt_spec.specs.Machine.Permits.{Permit}
 use Rattle.vt_spec.specs.Machine.Permits.Permit.{Allowed, ToBind, ToChange, ToClose, ToEnterNamespace, ToExit, ToFork, ToList, ToListMounts, ToMake, ToMountOverlay, ToMountPlain, ToMove, ToOpen, ToOpenNew, ToPivot, ToRead, ToReadPart, ToRemoveDirectory, ToRename, ToSetCredentials, ToSetDirectory, ToSetFlags, ToSetRoot, ToSetType, ToSetUmask, ToStat, ToUnmount, ToUnmountLazily, ToUnshare, ToWritePart}
 use Rattle.vt_spec.specs.Machine.SameWorlds.{SameWorlds}
 use Rattle.vt_run_laws.proofs.AlikeWorlds.{sameness_is_an_equivalence}
-use Rattle.vt_ns.specs.Events.{left_by}
-use Rattle.vt_ns.specs.Held.{IsHeld}
+use Rattle.vt_detach.specs.Events.{left_by}
+use Rattle.vt_detach.specs.Held.{IsHeld}
 use Rattle.vt_ns.specs.LookingAlone.{LookingChangesNothing, looks_alone}
-use Rattle.vt_ns.specs.WorldValue.{WorldValue, world_of}
+use Rattle.vt_detach.specs.WorldValue.{WorldValue, world_of}
 
 pub looking_changes_nothing : (value : WorldValue) → IsHeld value → LookingChangesNothing value
 looking_changes_nothing value held name permit looks permits task called =

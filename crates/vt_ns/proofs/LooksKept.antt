@@ -21,11 +21,11 @@ use Rattle.vt_looks.specs.Looking.{HasNoOverlays}
 use Rattle.vt_fs.specs.FilesystemsValue.{Filesystems, files_at, filesystems_seen}
 use Rattle.vt_fs.proofs.Numbers.{found_by_number}
 use Rattle.vt_mount.specs.MountsValue.{mounts_in, stands_over}
-use Rattle.vt_ns.specs.Held.{IsHeld}
-use Rattle.vt_ns.specs.Looking.{is_seen, looks_of_value}
-use Rattle.vt_ns.specs.WorldValue.{WorldValue, world_of}
-use Rattle.vt_ns.proofs.FilesystemsFound.{found_plain}
-use Rattle.vt_ns.proofs.LookLemmas.{any_point, missing_root, seen_filesystem, under_another, unseen_node, unseen_removed, unseen_root}
+use Rattle.vt_detach.specs.Held.{IsHeld}
+use Rattle.vt_detach.specs.Looking.{is_seen, looks_of_value}
+use Rattle.vt_detach.specs.WorldValue.{WorldValue, world_of}
+use Rattle.vt_detach.proofs.FilesystemsFound.{found_plain}
+use Rattle.vt_detach.proofs.LookLemmas.{any_point, missing_root, seen_filesystem, under_another, unseen_node, unseen_removed, unseen_root}
 
 -- the mount that is found, or what stands for one that is not there
 module _ (value : WorldValue) (number : ℕ) (got : Option Mount)

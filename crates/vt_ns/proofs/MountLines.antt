@@ -7,17 +7,17 @@ use Rattle.std.proofs.lemmas.List.{append-nil, map-append}
 use Rattle.std.proofs.lemmas.List.Elements.{filter-append}
 use Rattle.indexmap.specs.IndexSet.{insert_key}
 use Rattle.vt_fs.proofs.Entries.{key_eq}
-use Rattle.vt_fs.proofs.Exchanged.{counted_test}
+use Rattle.vt_location.proofs.NumberLemmas.{counted_test}
 use Rattle.vt_location.specs.declared.numbers.FilesystemId.{FilesystemId}
 use Rattle.vt_location.specs.declared.numbers.MountId.{MountId}
 use Rattle.vt_location.specs.Numbers.{counted}
 use Rattle.vt_spec.specs.Lists.{each_once, place_from}
 use Rattle.vt_spec.specs.Machine.Listing.{number_among}
 use Rattle.vt_spec.specs.Machine.Mounts.{Mount, no_mount}
-use Rattle.vt_ns.specs.Copying.{AreOf}
-use Rattle.vt_ns.specs.Held.{is_ungrouped}
-use Rattle.vt_ns.proofs.Grafting.{found_ungrouped}
-use Rattle.vt_ns.proofs.CopyLemmas.{picked_next, place_of, places_alike}
+use Rattle.vt_attach.specs.Copying.{AreOf}
+use Rattle.vt_detach.specs.Held.{is_ungrouped}
+use Rattle.vt_attach.proofs.Grafting.{found_ungrouped}
+use Rattle.vt_attach.proofs.CopyLemmas.{picked_next, place_of, places_alike}
 
 -- Each once, with one more
 

@@ -16,11 +16,11 @@ use Rattle.vt_letting_go.specs.Counts.{mount_uses, times}
 use Rattle.vt_letting_go.proofs.UsesCounted.{located_while_counted}
 use Rattle.vt_mount_laws.proofs.MountsFound.{found_or_none, number_found}
 use Rattle.vt_mount.specs.MountsValue.{MountEntry, entry_numbered, mounts_in, uses_of, writers_of}
-use Rattle.vt_ns.specs.Held.{CountsItsUses, IsHeld, is_ungrouped, writes_of, writes_on}
-use Rattle.vt_ns.specs.WorldValue.{WorldValue, world_of}
-use Rattle.vt_ns.proofs.LookLemmas.{turned}
-use Rattle.vt_ns.proofs.TreesLookedAt.{or_nothing}
-use Rattle.vt_ns.proofs.LostUses.{entry_found_at}
+use Rattle.vt_detach.specs.Held.{CountsItsUses, IsHeld, is_ungrouped, writes_of, writes_on}
+use Rattle.vt_detach.specs.WorldValue.{WorldValue, world_of}
+use Rattle.vt_detach.proofs.LookLemmas.{turned}
+use Rattle.vt_detach.proofs.TreesLookedAt.{or_nothing}
+use Rattle.vt_detach.proofs.LostUses.{entry_found_at}
 
 either_counted : (a b : ℕ) → (nat_lt 0 a || nat_lt 0 b) ≡ nat_lt 0 (a + b)
 either_counted zero b = ap (nat_lt 0) (omega arith)

@@ -18,9 +18,9 @@ use Rattle.vt_tree.specs.Paths.{NamesDirectoriesOnce}
 use Rattle.vt_fs.specs.FilesystemsValue.{files_at, filesystems_seen}
 use Rattle.vt_fs.proofs.Numbers.{found_by_number}
 use Rattle.vt_mount.specs.MountsValue.{mounts_in}
-use Rattle.vt_ns.specs.Held.{IsHeld}
-use Rattle.vt_ns.specs.WorldValue.{WorldValue, world_of}
-use Rattle.vt_ns.proofs.FilesystemsFound.{holds_at}
+use Rattle.vt_detach.specs.Held.{IsHeld}
+use Rattle.vt_detach.specs.WorldValue.{WorldValue, world_of}
+use Rattle.vt_detach.proofs.FilesystemsFound.{holds_at}
 use Rattle.vt_ns.proofs.LooksKept.{mount_found, under_root_apart, under_root_missing}
 
 -- in each tree a directory has one name

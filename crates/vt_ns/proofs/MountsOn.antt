@@ -16,14 +16,14 @@ use Rattle.vt_location.specs.declared.numbers.MountId.{MountId}
 use Rattle.vt_location.specs.Locations.{location_of, number_of}
 use Rattle.vt_location.specs.Numbers.{counted}
 use Rattle.vt_mount.specs.MountsValue.{mounts_in, stands_over}
-use Rattle.vt_ns.specs.Detached.{tree_numbers}
-use Rattle.vt_ns.specs.Held.{IsHeld}
-use Rattle.vt_ns.specs.WorldValue.{WorldValue, world_of}
-use Rattle.vt_ns.proofs.FileEvents.{IsSmall}
-use Rattle.vt_ns.proofs.LazilyUnmounted.{to_spec, trees_numbers}
-use Rattle.vt_ns.proofs.LocationsSeen.{seen_where_located}
-use Rattle.vt_ns.proofs.LookLemmas.{point_seen, points_are}
-use Rattle.vt_ns.proofs.TreesLookedAt.{or_nothing}
+use Rattle.vt_detach.specs.Detached.{tree_numbers}
+use Rattle.vt_detach.specs.Held.{IsHeld}
+use Rattle.vt_detach.specs.WorldValue.{WorldValue, world_of}
+use Rattle.vt_detach.proofs.FileEvents.{IsSmall}
+use Rattle.vt_detach.proofs.LazilyUnmounted.{to_spec, trees_numbers}
+use Rattle.vt_detach.proofs.LocationsSeen.{seen_where_located}
+use Rattle.vt_detach.proofs.LookLemmas.{point_seen, points_are}
+use Rattle.vt_detach.proofs.TreesLookedAt.{or_nothing}
 
 -- Trees by the numbers of their mounts
 

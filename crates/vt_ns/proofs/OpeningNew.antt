@@ -57,25 +57,25 @@ use Rattle.vt_world_laws.proofs.PermitsNamed.{permits_keep_counting_forks, permi
 use Rattle.vt_world_laws.proofs.PermitsPlaced.{permits_keep_directories, permits_keep_locations, permits_keep_open_files}
 use Rattle.vt_world_laws.proofs.PermitsShow.{permits_keep_mounts_showing}
 use Rattle.vt_world_laws.proofs.SettledTasks.{settling_leaves_a_world}
-use Rattle.vt_ns.specs.Events.{Permits, next_inode, supply_of}
-use Rattle.vt_ns.specs.Held.{IsHeld}
-use Rattle.vt_ns.specs.Uses.{kept, with_location, with_use}
-use Rattle.vt_ns.specs.WorldValue.{WorldValue, world_of}
-use Rattle.vt_ns.proofs.Bridging.{IsSwept, swept_is_same}
-use Rattle.vt_ns.proofs.ChangedFiles.{ChangesFiles, change_is_held, change_is_swept, inodes_after, is_change, partner, with_filesystems}
+use Rattle.vt_detach.specs.Events.{Permits, next_inode, supply_of}
+use Rattle.vt_detach.specs.Held.{IsHeld}
+use Rattle.vt_detach.specs.Uses.{kept, with_location, with_use}
+use Rattle.vt_detach.specs.WorldValue.{WorldValue, world_of}
+use Rattle.vt_detach.proofs.Bridging.{IsSwept, swept_is_same}
+use Rattle.vt_detach.proofs.ChangedFiles.{ChangesFiles, change_is_held, change_is_swept, inodes_after, is_change, partner, with_filesystems}
 use Rattle.vt_ns.proofs.FileAnswers.{make_passes}
-use Rattle.vt_ns.proofs.FileEvents.{IsSmall, permit_fits}
+use Rattle.vt_detach.proofs.FileEvents.{IsSmall, permit_fits}
 use Rattle.vt_ns.proofs.FileMaking.{new_in_slot, new_is_named}
 use Rattle.vt_ns.proofs.FilesOpened.{inserted_goes, opened_moves, opened_stays, opened_tasks}
-use Rattle.vt_ns.proofs.FilesSeen.{IsLocated, files_are_plain, inodes_named, located, located_filesystem, located_inodes, one_entry}
-use Rattle.vt_ns.proofs.Finishing.{swept_held}
-use Rattle.vt_ns.proofs.LocationsSeen.{seen_where_located}
-use Rattle.vt_ns.proofs.Closing.{used_by}
-use Rattle.vt_ns.proofs.Moving.{Moves}
-use Rattle.vt_ns.proofs.Remaining.{remade, remains_counted, remains_swept}
-use Rattle.vt_ns.proofs.Shown.{is_some_mapped}
-use Rattle.vt_ns.proofs.Splits.{replaced_split}
-use Rattle.vt_ns.proofs.Staying.{IsDone, after, becomes_so}
+use Rattle.vt_detach.proofs.FilesSeen.{IsLocated, files_are_plain, inodes_named, located, located_filesystem, located_inodes, one_entry}
+use Rattle.vt_detach.proofs.Finishing.{swept_held}
+use Rattle.vt_detach.proofs.LocationsSeen.{seen_where_located}
+use Rattle.vt_detach.proofs.Closing.{used_by}
+use Rattle.vt_detach.proofs.Moving.{Moves}
+use Rattle.vt_detach.proofs.Remaining.{remade, remains_counted, remains_swept}
+use Rattle.vt_detach.proofs.Shown.{is_some_mapped}
+use Rattle.vt_detach.proofs.Splits.{replaced_split}
+use Rattle.vt_detach.proofs.Staying.{IsDone, after, becomes_so}
 
 -- a new inode has one use
 used_when_made : (inodes : Inodes ℕ) (directory : ℕ) (name : List ℕ) (number : ℕ) (node : Node ℕ)

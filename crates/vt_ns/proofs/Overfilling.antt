@@ -21,10 +21,10 @@ use Rattle.vt_mount_laws.proofs.MountsFound.{found_or_none}
 use Rattle.vt_permit_laws.proofs.TakenAttached.{at_destination, copy_by, twigs}
 use Rattle.vt_run_laws.specs.Handed.{counts_from}
 use Rattle.vt_world_laws.proofs.FewMounts.{count, is_in, none_counted, shrinks_few}
-use Rattle.vt_ns.specs.Held.{IsHeld, is_ungrouped}
-use Rattle.vt_ns.specs.Looking.{has_too_many_with, overfills_of}
-use Rattle.vt_ns.specs.WorldValue.{WorldValue, world_of}
-use Rattle.vt_ns.proofs.Ungrouped.{no_group}
+use Rattle.vt_detach.specs.Held.{IsHeld, is_ungrouped}
+use Rattle.vt_detach.specs.Looking.{has_too_many_with, overfills_of}
+use Rattle.vt_detach.specs.WorldValue.{WorldValue, world_of}
+use Rattle.vt_detach.proofs.Ungrouped.{no_group}
 
 pub map_itself : (list : List (Mount ℕ)) → map (λ (mount : Mount ℕ). mount) list ≡ list
 map_itself [] = refl

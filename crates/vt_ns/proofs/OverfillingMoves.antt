@@ -16,11 +16,11 @@ use Rattle.vt_mount_laws.proofs.Standing.{trees_have_each_once}
 use Rattle.vt_permit_laws.proofs.TakenAttached.{at_destination, copy_by, twigs}
 use Rattle.vt_run_laws.specs.Handed.{counts_from}
 use Rattle.vt_world_laws.proofs.FewMounts.{count, shrinks_few}
-use Rattle.vt_ns.specs.Held.{IsHeld}
-use Rattle.vt_ns.specs.Looking.{has_too_many_with, overfills_of}
-use Rattle.vt_ns.specs.WorldValue.{WorldValue, world_of}
+use Rattle.vt_detach.specs.Held.{IsHeld}
+use Rattle.vt_detach.specs.Looking.{has_too_many_with, overfills_of}
+use Rattle.vt_detach.specs.WorldValue.{WorldValue, world_of}
 use Rattle.vt_ns.proofs.Overfilling.{alike_counts, count_append, free_found, map_itself, rises}
-use Rattle.vt_ns.proofs.UnbindableBelow.{alone_in_tree, in_tree}
+use Rattle.vt_detach.proofs.UnbindableBelow.{alone_in_tree, in_tree}
 
 abbrev Own : List (Mount ℕ) → Type 0
 Own mounts = any_pair (λ (a b : Mount ℕ). nat_eq a.number b.number) mounts ≡ false

@@ -27,23 +27,23 @@ use Rattle.vt_permit_laws.specs.Named.{permit_named}
 use Rattle.vt_permit_laws.specs.Sees.{MayBeRenamed}
 use Rattle.vt_run_laws.specs.Handed.{is_counted_before}
 use Rattle.vt_world_laws.specs.Worlds.Permits.{IsReached, NamesWhatIsThere}
-use Rattle.vt_ns.specs.Detached.{LeaveInTurn, trees_of_replaced}
-use Rattle.vt_ns.specs.Events.{Permits}
-use Rattle.vt_ns.specs.Held.{IsHeld}
-use Rattle.vt_ns.specs.Uses.{kept}
-use Rattle.vt_ns.specs.WorldValue.{WorldValue, world_of}
-use Rattle.vt_ns.proofs.ChangedFiles.{ChangesFiles}
+use Rattle.vt_detach.specs.Detached.{LeaveInTurn, trees_of_replaced}
+use Rattle.vt_detach.specs.Events.{Permits}
+use Rattle.vt_detach.specs.Held.{IsHeld}
+use Rattle.vt_detach.specs.Uses.{kept}
+use Rattle.vt_detach.specs.WorldValue.{WorldValue, world_of}
+use Rattle.vt_detach.proofs.ChangedFiles.{ChangesFiles}
 use Rattle.vt_ns.proofs.ChangedWithMounts.{changed_then_detached, nothing_goes}
-use Rattle.vt_ns.proofs.DetachingBegins.{HasChildrenOf, detached_world}
-use Rattle.vt_ns.proofs.DetachingEnds.{held_is_kept, taken_is_detached}
-use Rattle.vt_ns.proofs.FileEvents.{IsSmall}
+use Rattle.vt_detach.proofs.DetachingBegins.{HasChildrenOf, detached_world}
+use Rattle.vt_detach.proofs.DetachingEnds.{held_is_kept, taken_is_detached}
+use Rattle.vt_detach.proofs.FileEvents.{IsSmall}
 use Rattle.vt_ns.proofs.FileRenaming as Renaming
-use Rattle.vt_ns.proofs.FilesSeen.{inodes_named}
-use Rattle.vt_ns.proofs.LazilyUnmounted.{trees_have_children, trees_numbers}
+use Rattle.vt_detach.proofs.FilesSeen.{inodes_named}
+use Rattle.vt_detach.proofs.LazilyUnmounted.{trees_have_children, trees_numbers}
 use Rattle.vt_ns.proofs.MountsOn.{none_on, one_on, tops_on, trees_collected}
-use Rattle.vt_ns.proofs.Moving.{map_itself}
-use Rattle.vt_ns.proofs.Remaining.{remade}
-use Rattle.vt_ns.proofs.Staying.{IsDone}
+use Rattle.vt_detach.proofs.Moving.{map_itself}
+use Rattle.vt_detach.proofs.Remaining.{remade}
+use Rattle.vt_detach.proofs.Staying.{IsDone}
 
 abbrev pub tops_on_replaced : WorldValue → Option Location → List (Mount ℕ)
 tops_on_replaced value None = []

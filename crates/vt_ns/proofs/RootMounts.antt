@@ -12,8 +12,8 @@ use Rattle.vt_location.specs.MountValue.{mount_of}
 use Rattle.vt_location.specs.Numbers.{counted}
 use Rattle.vt_mount.specs.MountsValue.{MountEntry, are_ascending, mounts_in}
 use Rattle.vt_ns.specs.Entering.{root_mount_in}
-use Rattle.vt_ns.proofs.EndingLemmas.{entry_ascending, last_is_among}
-use Rattle.vt_ns.proofs.Shown.{found_entry, is_some_mapped}
+use Rattle.vt_detach.proofs.EndingLemmas.{entry_ascending, last_is_among}
+use Rattle.vt_detach.proofs.Shown.{found_entry, is_some_mapped}
 
 at_mapped : {A B : Type 0} (f : A → B) (xs : List A) (n : ℕ) → slice_get (map f xs) n ≡ option_map f (slice_get xs n)
 at_mapped f [] n = refl

@@ -15,14 +15,14 @@ use Rattle.vt_letting_go.proofs.Lists.{Among, among_from_all}
 use Rattle.vt_location.specs.Numbers.{counted, inode_number, is_inode_of}
 use Rattle.vt_mount.specs.MountsValue.{MountEntry, mounts_in}
 use Rattle.vt_permit_laws.specs.InUse.{is_in_use}
-use Rattle.vt_ns.specs.Events.{filesystem_count, next_inode}
-use Rattle.vt_ns.specs.Held.{HasOwnInodes, IsHeld, is_ungrouped}
+use Rattle.vt_detach.specs.Events.{filesystem_count, next_inode}
+use Rattle.vt_detach.specs.Held.{HasOwnInodes, IsHeld, is_ungrouped}
 use Rattle.vt_ns.specs.Vacancy.{IsVacant}
-use Rattle.vt_ns.specs.WorldValue.{NamespaceEntry, WorldValue, namespace_of, world_of}
-use Rattle.vt_ns.proofs.FilesSeen.{one_entry}
-use Rattle.vt_ns.proofs.FilesystemsFound.{inode_of_one}
-use Rattle.vt_ns.proofs.NewFilesystems.{next_is_free}
-use Rattle.vt_ns.proofs.NumbersBeside.{numbers_listed}
+use Rattle.vt_detach.specs.WorldValue.{NamespaceEntry, WorldValue, namespace_of, world_of}
+use Rattle.vt_detach.proofs.FilesSeen.{one_entry}
+use Rattle.vt_detach.proofs.FilesystemsFound.{inode_of_one}
+use Rattle.vt_attach.proofs.NewFilesystems.{next_is_free}
+use Rattle.vt_detach.proofs.NumbersBeside.{numbers_listed}
 
 module _ (count slot : ℕ) (small : slot < 18446744073709551616) where
   abbrev number : ℕ

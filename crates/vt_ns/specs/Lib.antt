@@ -1,15 +1,3 @@
-pub mod WorldValue
-pub mod Held
-pub mod Events
-pub mod Looking
-pub mod Opening
-pub mod Uses
-pub mod Detached
-pub mod Forking
-pub mod BoundCopies
-pub mod Copying
-pub mod NamespacesLeft
-pub mod Room
 pub mod Trees
 pub mod LookingAlone
 pub mod Entering

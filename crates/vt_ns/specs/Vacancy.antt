@@ -3,8 +3,8 @@ use Rattle.std.specs.Prelude.{false, ℕ, ◌%◌, ◌≡◌}
 use Rattle.vt_location.specs.Numbers.{inode_number}
 use Rattle.vt_permit_laws.specs.InUse.{is_in_use}
 use Rattle.vt_spec.specs.Machine.Mounts.{Location}
-use Rattle.vt_ns.specs.Events.{next_inode}
-use Rattle.vt_ns.specs.WorldValue.{WorldValue, world_of}
+use Rattle.vt_detach.specs.Events.{next_inode}
+use Rattle.vt_detach.specs.WorldValue.{WorldValue, world_of}
 
 -- an even number that is not in use
 pub record IsVacant (value : WorldValue) (number : ℕ) : Type 0 where

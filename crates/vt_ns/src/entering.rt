@@ -8,12 +8,12 @@ ghost use Rattle.vt_spec.specs.declared.errors.Rule.TheVariants.{S5};
 ghost use Rattle.vt_spec.specs.Machine.Mounts.{root_of, topmost};
 ghost use Rattle.vt_spec.specs.Machine.Permits.Permit.{ToEnterNamespace};
 ghost use Rattle.vt_ns.specs.Entering.{root_mount_in};
-ghost use Rattle.vt_ns.specs.Events.{Becomes, Permits};
+ghost use Rattle.vt_detach.specs.Events.{Becomes, Permits};
 
-use crate::ending::leave_namespace;
 use crate::forking::{count_task, has_room_for_task, has_room_for_two, hold_once_more};
-use crate::uses::leave;
 use crate::world::World;
+use vt_detach::ending::leave_namespace;
+use vt_detach::uses::leave;
 use vt_location::{Location, NamespaceId};
 use vt_mount::Mounts;
 use vt_request::TaskName;

@@ -2,13 +2,13 @@
 ghost use Rattle.std.specs.Prelude.{◌≡◌, fold, nat_lt, true};
 ghost use Rattle.std.specs.List.{list_all};
 ghost use Rattle.vt_spec.specs.Machine.Permits.Permit.{ToExit};
-ghost use Rattle.vt_ns.specs.Events.{Becomes, Permits};
-ghost use Rattle.vt_ns.specs.NamespacesLeft.{has_slot, without_file};
-ghost use Rattle.vt_ns.specs.Uses.{kept};
+ghost use Rattle.vt_detach.specs.Events.{Becomes, Permits};
+ghost use Rattle.vt_detach.specs.NamespacesLeft.{has_slot, without_file};
+ghost use Rattle.vt_detach.specs.Uses.{kept};
 
-use crate::ending::leave_namespace;
-use crate::uses::leave;
 use crate::world::World;
+use vt_detach::ending::leave_namespace;
+use vt_detach::uses::leave;
 use vt_fs::Filesystems;
 use vt_mount::Mounts;
 use vt_request::TaskName;

@@ -6,7 +6,7 @@ ghost use Rattle.vt_spec.specs.Errors.{denial};
 ghost use Rattle.vt_spec.specs.declared.errors.Rule.TheVariants.{S5};
 ghost use Rattle.vt_spec.specs.Language.Changes.Change.{AddName, Remove, SetAttr, SetBytes};
 ghost use Rattle.vt_spec.specs.Machine.Permits.Permit.{ToChange, ToMake, ToWritePart};
-ghost use Rattle.vt_ns.specs.Events.{Becomes, Permits};
+ghost use Rattle.vt_detach.specs.Events.{Becomes, Permits};
 
 use crate::world::World;
 use vt_location::{Location, NodeRef};

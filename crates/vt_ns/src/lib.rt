@@ -1,10 +1,6 @@
 //! `World`: filesystems, mounts, namespaces and tasks, and the events that change them.
 #![tactic(auto)]
 
-mod attaching;
-mod copying;
-mod detaching;
-mod ending;
 mod entering;
 mod exits;
 mod files;
@@ -16,7 +12,6 @@ mod mount_lines;
 mod mount_looks;
 mod mount_moves;
 mod mounting;
-mod namespaces;
 mod opening;
 mod opening_files;
 mod reading;
@@ -27,7 +22,6 @@ mod tasks;
 mod trees;
 mod unmounting;
 mod unsharing;
-mod uses;
 mod vacancy;
 mod world;
 

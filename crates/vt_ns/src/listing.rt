@@ -6,7 +6,7 @@ ghost use Rattle.vt_request.specs.Answers.{spot_of};
 ghost use Rattle.vt_spec.specs.declared.errors.Rule.TheVariants.{S5};
 ghost use Rattle.vt_spec.specs.Errors.{denial};
 ghost use Rattle.vt_spec.specs.Machine.Listing as listed;
-ghost use Rattle.vt_ns.specs.WorldValue.{world_of};
+ghost use Rattle.vt_detach.specs.WorldValue.{world_of};
 
 use crate::world::World;
 use vt_location::{Location, Mount};

@@ -3,8 +3,8 @@ ghost use Rattle.std.specs.Prelude.{◌≡◌, nat_eq};
 ghost use Rattle.vt_spec.specs.Machine.World.{mount_numbered};
 ghost use Rattle.vt_location.specs.Locations.{location_of, number_of};
 ghost use Rattle.vt_location.specs.Numbers.{counted};
-ghost use Rattle.vt_ns.specs.Looking.{is_seen, looks_of_value};
-ghost use Rattle.vt_ns.specs.WorldValue.{world_of};
+ghost use Rattle.vt_detach.specs.Looking.{is_seen, looks_of_value};
+ghost use Rattle.vt_detach.specs.WorldValue.{world_of};
 
 use crate::world::World;
 use vt_location::{FilesystemId, Location, Mount, MountId, NamespaceId, NodeRef};

@@ -11,10 +11,10 @@ ghost use Rattle.vt_spec.specs.Machine.Listing as listing;
 ghost use Rattle.vt_spec.specs.Machine.Mounts as meant;
 ghost use Rattle.vt_spec.specs.Machine.Permits.Permit.{ToListMounts};
 ghost use Rattle.vt_spec.specs.Machine.World.{Task, World as Meant, task_called};
-ghost use Rattle.vt_ns.specs.Copying.{AreOf, are_rising, attached_in};
-ghost use Rattle.vt_ns.specs.Events.{Permits};
-ghost use Rattle.vt_ns.specs.Held.{is_ungrouped};
-ghost use Rattle.vt_ns.specs.WorldValue.{world_of};
+ghost use Rattle.vt_attach.specs.Copying.{AreOf, are_rising, attached_in};
+ghost use Rattle.vt_detach.specs.Events.{Permits};
+ghost use Rattle.vt_detach.specs.Held.{is_ungrouped};
+ghost use Rattle.vt_detach.specs.WorldValue.{world_of};
 
 use crate::world::World;
 use indexmap::IndexSet;

@@ -6,8 +6,8 @@ ghost use Rattle.vt_spec.specs.declared.errors.Rule.TheVariants.{S5};
 ghost use Rattle.vt_spec.specs.Errors.{denial};
 ghost use Rattle.vt_spec.specs.Machine.Permits.Permit.{ToMove};
 ghost use Rattle.vt_spec.specs.Machine.World.{mount_numbered};
-ghost use Rattle.vt_ns.specs.Looking.{has_too_many_with, looks_of_value, overfills_of};
-ghost use Rattle.vt_ns.specs.WorldValue.{world_of};
+ghost use Rattle.vt_detach.specs.Looking.{has_too_many_with, looks_of_value, overfills_of};
+ghost use Rattle.vt_detach.specs.WorldValue.{world_of};
 
 use crate::world::{MOST_MOUNTS, World};
 use vt_location::{Location, MountId, NamespaceId};

@@ -10,12 +10,12 @@ ghost use Rattle.vt_spec.specs.declared.errors.Rule.TheVariants.{S5};
 ghost use Rattle.vt_spec.specs.Errors.{denial};
 ghost use Rattle.vt_spec.specs.Machine.Permits.Permit.{ToMountPlain};
 ghost use Rattle.vt_spec.specs.Machine.World as meant;
-ghost use Rattle.vt_ns.specs.Events.{Becomes, Permits};
-ghost use Rattle.vt_ns.specs.Room.{has_small_slots};
-ghost use Rattle.vt_ns.specs.Uses.{kept, with_attached};
+ghost use Rattle.vt_detach.specs.Events.{Becomes, Permits};
+ghost use Rattle.vt_attach.specs.Room.{has_small_slots};
+ghost use Rattle.vt_detach.specs.Uses.{kept, with_attached};
 
-use crate::attaching::attach_all;
 use crate::world::World;
+use vt_attach::attaching::attach_all;
 use vt_fs::Filesystems;
 use vt_location::{FilesystemId, Location, Mount, MountFlags, MountId, NodeRef, Propagation};
 use vt_mount::Mounts;

@@ -5,14 +5,14 @@ ghost use Rattle.vt_spec.specs.Errors.{denial};
 ghost use Rattle.vt_spec.specs.Machine.World.{opening};
 ghost use Rattle.vt_fs.specs.FilesystemsValue.{shown};
 ghost use Rattle.vt_location.specs.MountValue.{mount_of};
-ghost use Rattle.vt_ns.specs.Opening.{first_shown, opening_numbers};
-ghost use Rattle.vt_ns.specs.WorldValue.{entries_of, world_of};
+ghost use Rattle.vt_attach.specs.Opening.{first_shown, opening_numbers};
+ghost use Rattle.vt_detach.specs.WorldValue.{entries_of, world_of};
 
 use crate::mounting::root_attr;
-use crate::namespaces::Namespace;
 use crate::world::World;
 use indexmap::IndexMap;
 use std::alloc::Global;
+use vt_detach::namespaces::Namespace;
 use vt_fs::Filesystems;
 use vt_location::{
     FilesystemId, Location, Mount, MountFlags, MountId, NamespaceId, NodeRef, Propagation,

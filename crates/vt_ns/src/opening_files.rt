@@ -8,8 +8,8 @@ ghost use Rattle.vt_spec.specs.Errors.{denial};
 ghost use Rattle.vt_spec.specs.Machine.Outcome.Descriptors.{free_number};
 ghost use Rattle.vt_spec.specs.Machine.Permits.Permit.{ToOpenNew};
 ghost use Rattle.vt_spec.specs.Machine.World.{task_called};
-ghost use Rattle.vt_ns.specs.Events.{Becomes, Permits};
-ghost use Rattle.vt_ns.specs.WorldValue.{world_of};
+ghost use Rattle.vt_detach.specs.Events.{Becomes, Permits};
+ghost use Rattle.vt_detach.specs.WorldValue.{world_of};
 
 use crate::world::World;
 use vt_location::Location;

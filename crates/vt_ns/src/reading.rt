@@ -9,9 +9,9 @@ ghost use Rattle.vt_spec.specs.Machine.Permits.Permit.{ToList, ToRead, ToReadPar
 ghost use Rattle.vt_spec.specs.Machine.World.{node_at, task_called};
 ghost use Rattle.vt_spec.specs.Tree.{bytes_in, names_in};
 ghost use Rattle.vt_tasks.specs.TaskValue.{task_of};
-ghost use Rattle.vt_ns.specs.Events.{Permits};
+ghost use Rattle.vt_detach.specs.Events.{Permits};
 ghost use Rattle.vt_ns.specs.LookingAlone.{LookingChangesNothing};
-ghost use Rattle.vt_ns.specs.WorldValue.{world_of};
+ghost use Rattle.vt_detach.specs.WorldValue.{world_of};
 
 use crate::world::World;
 use vt_location::Location;

@@ -6,12 +6,12 @@ ghost use Rattle.vt_mount.specs.MountsValue.{mounts_in, stands_over};
 ghost use Rattle.vt_spec.specs.Errors.{denial};
 ghost use Rattle.vt_spec.specs.declared.errors.Rule.TheVariants.{S5};
 ghost use Rattle.vt_spec.specs.Machine.Permits.Permit.{ToRemoveDirectory};
-ghost use Rattle.vt_ns.specs.Detached.{tree_numbers};
-ghost use Rattle.vt_ns.specs.Events.{Becomes, Permits};
+ghost use Rattle.vt_detach.specs.Detached.{tree_numbers};
+ghost use Rattle.vt_detach.specs.Events.{Becomes, Permits};
 
-use crate::detaching::detach_each;
 use crate::world::World;
 use std::alloc::Global;
+use vt_detach::detaching::detach_each;
 use vt_location::{Location, MountId, NodeRef};
 use vt_mount::Mounts;
 use vt_request::TaskName;

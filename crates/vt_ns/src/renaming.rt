@@ -6,13 +6,13 @@ ghost use Rattle.vt_mount.specs.MountsValue.{mounts_in};
 ghost use Rattle.vt_spec.specs.Errors.{denial};
 ghost use Rattle.vt_spec.specs.declared.errors.Rule.TheVariants.{S5};
 ghost use Rattle.vt_spec.specs.Machine.Permits.Permit.{ToRename};
-ghost use Rattle.vt_ns.specs.Detached.{trees_of_replaced};
-ghost use Rattle.vt_ns.specs.Events.{Becomes, Permits};
+ghost use Rattle.vt_detach.specs.Detached.{trees_of_replaced};
+ghost use Rattle.vt_detach.specs.Events.{Becomes, Permits};
 
-use crate::detaching::detach_each;
 use crate::removing::trees_on;
 use crate::world::World;
 use std::alloc::Global;
+use vt_detach::detaching::detach_each;
 use vt_location::{Location, MountId};
 use vt_mount::Mounts;
 use vt_request::TaskName;

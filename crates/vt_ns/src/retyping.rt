@@ -4,7 +4,7 @@ ghost use Rattle.vt_location.specs.Flags.{flags_of};
 ghost use Rattle.vt_location.specs.Numbers.{counted};
 ghost use Rattle.vt_spec.specs.Language.Calls.TypeWord.{ToPrivate, ToUnbindable};
 ghost use Rattle.vt_spec.specs.Machine.Permits.Permit.{ToSetFlags, ToSetType};
-ghost use Rattle.vt_ns.specs.Events.{Becomes, Permits};
+ghost use Rattle.vt_detach.specs.Events.{Becomes, Permits};
 
 use crate::world::World;
 use vt_location::{MountFlags, MountId, Propagation};

@@ -3,18 +3,18 @@ ghost use Rattle.std.specs.Prelude.{◌≡◌, IfErr, IfOk, OnErr, OnOk, Some, o
 ghost use Rattle.vt_request.specs.Requests.{access_of};
 ghost use Rattle.vt_spec.specs.Machine.Outcome.Descriptors.{free_number};
 ghost use Rattle.vt_spec.specs.Machine.World.{task_called};
-ghost use Rattle.vt_ns.specs.WorldValue.{world_of};
+ghost use Rattle.vt_detach.specs.WorldValue.{world_of};
 ghost use Rattle.vt_location.specs.Locations.{location_of};
 ghost use Rattle.vt_spec.specs.declared.errors.Rule.TheVariants.{S5};
 ghost use Rattle.vt_spec.specs.Errors.{denial};
 ghost use Rattle.vt_cred.specs.Caps.{capability_bits};
 ghost use Rattle.vt_spec.specs.Machine.Outcome.Tasks.{with_dropped};
 ghost use Rattle.vt_spec.specs.Machine.Permits.Permit.{ToClose, ToOpen, ToSetCredentials, ToSetDirectory, ToSetRoot, ToSetUmask};
-ghost use Rattle.vt_ns.specs.Events.{Becomes, Permits, credentials_called};
+ghost use Rattle.vt_detach.specs.Events.{Becomes, Permits, credentials_called};
 
-use crate::uses::{hold, leave};
 use crate::world::World;
 use vt_cred::{Caps, Mode};
+use vt_detach::uses::{hold, leave};
 use vt_location::Location;
 use vt_request::{Access, TaskName};
 use vt_spec::errors::Deny;

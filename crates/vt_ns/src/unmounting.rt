@@ -4,10 +4,10 @@ ghost use Rattle.vt_location.specs.Numbers.{counted};
 ghost use Rattle.vt_spec.specs.declared.errors.Rule.TheVariants.{S5};
 ghost use Rattle.vt_spec.specs.Errors.{denial};
 ghost use Rattle.vt_spec.specs.Machine.Permits.Permit.{ToUnmount, ToUnmountLazily};
-ghost use Rattle.vt_ns.specs.Events.{Becomes, Permits};
+ghost use Rattle.vt_detach.specs.Events.{Becomes, Permits};
 
-use crate::detaching::{detach, detach_each};
 use crate::world::World;
+use vt_detach::detaching::{detach, detach_each};
 use vt_location::MountId;
 use vt_request::TaskName;
 use vt_spec::errors::Deny;

@@ -1,27 +1,16 @@
 //! Tasks get namespaces of their own: unshare(2) with `CLONE_NEWNS`.
-ghost use Rattle.std.specs.Prelude.{◌≡◌, ◌++◌, ◌∷◌, ◌+◌, ◌*◌, ◌<◌, [], IfErr, List, OnErr, OnOk, length, map, nat_lt, true};
-ghost use Rattle.std.specs.List.{list_all};
-ghost use Rattle.vt_location.specs.declared.mounts.Mount.{Mount};
-ghost use Rattle.vt_location.specs.MountValue.{mount_of};
-ghost use Rattle.vt_location.specs.Numbers.{counted};
-ghost use Rattle.vt_mount.specs.MountsValue.{mounts_in};
+ghost use Rattle.std.specs.Prelude.{◌≡◌, IfErr, OnErr, OnOk};
 ghost use Rattle.vt_spec.specs.declared.errors.Rule.TheVariants.{S5};
 ghost use Rattle.vt_spec.specs.Errors.{denial};
 ghost use Rattle.vt_spec.specs.Machine.Permits.Permit.{ToUnshare};
-ghost use Rattle.vt_ns.specs.Copying.{attached_in, copies_of};
-ghost use Rattle.vt_ns.specs.Events.{Becomes, Permits};
-ghost use Rattle.vt_ns.specs.Room.{has_small_slots};
-ghost use Rattle.vt_ns.specs.Uses.{kept, with_attached};
+ghost use Rattle.vt_detach.specs.Events.{Becomes, Permits};
 
-use crate::attaching::attach_all;
-use crate::copying::{copies, move_use, moved};
-use crate::ending::leave_namespace;
-use crate::namespaces::Namespace;
 use crate::world::World;
-use std::alloc::Global;
-use vt_fs::Filesystems;
+use vt_attach::attaching::attach_copies;
+use vt_attach::copying::{move_use, moved};
+use vt_detach::ending::leave_namespace;
+use vt_detach::namespaces::Namespace;
 use vt_location::NamespaceId;
-use vt_mount::Mounts;
 use vt_request::TaskName;
 use vt_spec::errors::{Deny, Rule};
 
@@ -60,29 +49,4 @@ impl World {
         self.next += taken;
         Ok(())
     }
-}
-
-// Attaches copies of the mounts of a namespace in the one that is counted `next`, after all others; or nothing.
-fn attach_copies(
-    alloc: Global,
-    mounts: &mut Mounts,
-    filesystems: &mut Filesystems,
-    namespace: NamespaceId,
-    next: u64,
-) -> Result<(), Deny>
-    requires room { next + 2 * length (attached_in (counted namespace.count) mounts.old) + 1 < u64.MAX }
-    requires before { list_all (λ mount. nat_lt mount.number (counted next)) (mounts_in mounts.old) ≡ true }
-    ensures ok { OnOk result ((added : List Mount)
-        × (map mount_of added ≡ copies_of next (attached_in (counted namespace.count) mounts.old))
-        × (list_all has_small_slots added ≡ true)
-        × (kept mounts.new filesystems.new ≡ with_attached added (kept mounts.old filesystems.old))) }
-    ensures memory { IfErr result (λ deny. deny ≡ denial S5) }
-    ensures err_mounts { OnErr result (mounts.new ≡ mounts.old) }
-    ensures err_filesystems { OnErr result (filesystems.new ≡ filesystems.old) }
-{
-    mounts.are_ascending();
-    let Ok(added) = copies(alloc, mounts, namespace, next) else {
-        return Err(Rule::S5.denial());
-    };
-    attach_all(mounts, filesystems, &added)
 }

@@ -1,9 +1,9 @@
 //! The world that calls are made in.
 
-use crate::namespaces::Namespace;
 use indexmap::IndexMap;
 use std::alloc::Global;
 use std::marker::Model;
+use vt_detach::namespaces::Namespace;
 use vt_fs::Filesystems;
 use vt_location::NamespaceId;
 use vt_mount::Mounts;
@@ -25,8 +25,8 @@ pub struct World {
 }
 
 impl Model for World {
-    ghost use Rattle.vt_ns.specs.WorldValue.{WorldValue, entries_of};
-    ghost use Rattle.vt_ns.specs.Held.{IsHeld};
+    ghost use Rattle.vt_detach.specs.WorldValue.{WorldValue, entries_of};
+    ghost use Rattle.vt_detach.specs.Held.{IsHeld};
 
     ghost Value = { WorldValue };
 
@@ -48,7 +48,7 @@ impl Model for World {
 }
 
 impl World {
-    ghost use Rattle.vt_ns.specs.Held.{IsHeld};
+    ghost use Rattle.vt_detach.specs.Held.{IsHeld};
 
     /// It has the invariants of a world, and what is counted is exact.
     pub fn is_held(&self)

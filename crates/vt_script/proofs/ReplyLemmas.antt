@@ -30,8 +30,8 @@ use Rattle.vt_io.proofs.Printing.{Wrote-nothing}
 use Rattle.vt_request.specs.declared.answer.Answer.{Answer}
 use Rattle.vt_request.specs.Answers.{result_of}
 use Rattle.vt_line.specs.Lines.{IsSilent, IsSpoken}
-use Rattle.vt_ns.specs.Held.{IsHeld}
-use Rattle.vt_ns.specs.WorldValue.{WorldValue, world_of}
+use Rattle.vt_detach.specs.Held.{IsHeld}
+use Rattle.vt_detach.specs.WorldValue.{WorldValue, world_of}
 use Rattle.vt_calls.specs.Meets.{Ends, Meets}
 use Rattle.vt_script.specs.Session.{IsHanded, Replied, Replies, step_of}
 

@@ -12,7 +12,7 @@ use Rattle.vt_run_laws.proofs.Counts.{programs_have_one_text}
 use Rattle.vt_run_laws.proofs.GrammarsPlain.{grammars_keep_overlays_out}
 use Rattle.vt_run_laws.proofs.InodesAllotted.{allotted_numbers_open}
 use Rattle.vt_location.specs.Numbers.{inode_number}
-use Rattle.vt_ns.specs.Opening.{opening_numbers}
+use Rattle.vt_attach.specs.Opening.{opening_numbers}
 use Rattle.vt_script.proofs.GrammarLemmas.{no_overlays}
 use Rattle.std.specs.Prelude.{OnOk, IsErrOf}
 use Rattle.vt_io.specs.declared.output.Sink.{Ghosts}

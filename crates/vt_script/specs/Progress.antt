@@ -4,7 +4,7 @@ use Rattle.vt_spec.specs.Language.Script.{lines_of, namespaces}
 use Rattle.vt_spec.specs.Machine.World.{World, opening}
 use Rattle.vt_run_laws.specs.Handed.{may_be_given}
 use Rattle.vt_run_laws.specs.Runs.{TellsAlike}
-use Rattle.vt_ns.specs.Opening.{opening_numbers}
+use Rattle.vt_attach.specs.Opening.{opening_numbers}
 
 -- a text up to its last newline
 abbrev pub whole_with : Bool → ℕ → List ℕ → List ℕ

@@ -1,7 +1,7 @@
 -- What the definitions see of the code's session.
 use Rattle.std.specs.Prelude.{ℕ}
 use Rattle.vt_spec.specs.Machine.World.{World}
-use Rattle.vt_ns.specs.WorldValue.{WorldValue, world_of}
+use Rattle.vt_detach.specs.WorldValue.{WorldValue, world_of}
 use Rattle.vt_script.specs.Session.{State}
 use Rattle.vt_script.specs.declared.session.Session.{Session}
 

@@ -225,6 +225,3 @@ impl Slots {
         }
     }
 }
-
-#[cfg(test)]
-mod tests;

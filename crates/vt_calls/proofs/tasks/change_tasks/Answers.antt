@@ -6,7 +6,7 @@ use Rattle.vt_location.specs.Numbers.{counted}
 use Rattle.vt_spec.specs.Machine.Outcome.Tasks.{with_dropped}
 use Rattle.vt_spec.specs.Machine.Permits.Permit.{ToEnterNamespace, ToExit, ToFork, ToSetCredentials, ToSetDirectory, ToSetRoot, ToSetUmask, ToUnshare}
 use Rattle.vt_spec.specs.Machine.World.{first_credentials}
-use Rattle.vt_ns.specs.Events.{credentials_called}
+use Rattle.vt_detach.specs.Events.{credentials_called}
 use Rattle.vt_calls.proofs.Endings.{changed, made, permitted, short}
 use Rattle.vt_calls.proofs.Told.{name_told}
 use Rattle.vt_calls.proofs.tasks.change_tasks.Goals as goal

@@ -1,8 +1,8 @@
 use Rattle.std.proofs.Common.{◌≡◌, true, take}
 use Rattle.std.specs.Prelude.{fold}
 use Rattle.std.specs.List.{list_all}
-use Rattle.vt_ns.specs.NamespacesLeft.{has_slot, without_file}
-use Rattle.vt_ns.specs.Uses.{kept}
+use Rattle.vt_detach.specs.NamespacesLeft.{has_slot, without_file}
+use Rattle.vt_detach.specs.Uses.{kept}
 use Rattle.vt_ns.proofs.exits.leave_files.Given as goal
 
 -- those before the next are left

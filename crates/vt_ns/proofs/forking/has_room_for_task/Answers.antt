@@ -1,8 +1,8 @@
 use Rattle.std.proofs.Common.{None, Some, ap, subst, sym, ◌∙◌, ◌<◌, IfSome}
 use Rattle.std.specs.Prelude.{option_copied}
 use Rattle.std.proofs.lemmas.Bool.{ltb-true}
-use Rattle.vt_ns.specs.WorldValue.{NamespaceEntry}
-use Rattle.vt_ns.proofs.NamespaceEntries.{entry_found}
+use Rattle.vt_detach.specs.WorldValue.{NamespaceEntry}
+use Rattle.vt_detach.proofs.NamespaceEntries.{entry_found}
 use Rattle.vt_ns.proofs.forking.has_room_for_task.Goals as goal
 
 pub returns-in-Some : goal.returns-in-Some

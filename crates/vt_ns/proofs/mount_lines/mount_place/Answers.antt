@@ -1,6 +1,6 @@
 use Rattle.std.proofs.Common.{Err, None, Ok, Result, Some, ap, arith, rules, sym, unwrap_or, ℕ, ◌∙◌, ◌+◌, ◌≡◌}
 use Rattle.std.proofs.lemmas.List.Sorted.{answers_always}
-use Rattle.vt_ns.proofs.CopyLemmas.{found_from}
+use Rattle.vt_attach.proofs.CopyLemmas.{found_from}
 use Rattle.vt_ns.proofs.MountLines.{numbered_mount}
 use Rattle.vt_ns.proofs.mount_lines.mount_place.Goals as goal
 

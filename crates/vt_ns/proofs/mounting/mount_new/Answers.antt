@@ -1,6 +1,6 @@
 use Rattle.std.proofs.Common.{ap, ◌∙◌}
 use Rattle.vt_fs.specs.FilesystemsValue.{without}
-use Rattle.vt_ns.proofs.NewFilesystems.{removed_again}
+use Rattle.vt_attach.proofs.NewFilesystems.{removed_again}
 use Rattle.vt_ns.proofs.mounting.mount_new.Goals as goal
 
 pub returns-in-Err-clause-err_filesystems : goal.returns-in-Err-clause-err_filesystems

@@ -1,4 +1,4 @@
-use Rattle.vt_ns.proofs.OpeningLemmas.{first_made}
+use Rattle.vt_attach.proofs.OpeningLemmas.{first_made}
 use Rattle.vt_ns.proofs.opening.first_filesystems.Goals as goal
 
 pub returns-clause-ok : goal.returns-clause-ok

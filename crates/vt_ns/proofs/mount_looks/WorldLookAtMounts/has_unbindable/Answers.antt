@@ -8,8 +8,8 @@ use Rattle.vt_mount.specs.MountsValue.{mounts_in}
 use Rattle.vt_spec.specs.Lists.{holds_of}
 use Rattle.vt_spec.specs.Machine.Mounts.{Mount, is_unbindable, mount_tree}
 use Rattle.vt_spec.specs.Machine.World.{mount_numbered}
-use Rattle.vt_ns.specs.WorldValue.{WorldValue, world_of}
-use Rattle.vt_ns.proofs.UnbindableBelow.{none_unbindable, unbindable_met}
+use Rattle.vt_detach.specs.WorldValue.{WorldValue, world_of}
+use Rattle.vt_detach.proofs.UnbindableBelow.{none_unbindable, unbindable_met}
 use Rattle.vt_ns.proofs.mount_looks.WorldLookAtMounts.has_unbindable.Goals as goal
 
 any_counts : (test : ℕ → Bool) (ids : List MountId) → list_any (λ id. test (counted id.count)) ids ≡ list_any test (map (λ id. counted id.count) ids)

@@ -7,8 +7,8 @@ use Rattle.vt_location.specs.Numbers.{counted}
 use Rattle.vt_looks.specs.Looking.{permit_of}
 use Rattle.vt_spec.specs.Machine.Attach.{bind_tree}
 use Rattle.vt_spec.specs.Machine.Mounts.{Mount}
-use Rattle.vt_ns.specs.Looking.{has_too_many_with, overfills_of}
-use Rattle.vt_ns.specs.WorldValue.{world_of}
+use Rattle.vt_detach.specs.Looking.{has_too_many_with, overfills_of}
+use Rattle.vt_detach.specs.WorldValue.{world_of}
 use Rattle.vt_ns.proofs.Overfilling.{bind_overfills, plain_overfills}
 use Rattle.vt_ns.proofs.mount_looks.WorldLookAtMounts.overfills.Goals as goal
 

@@ -6,13 +6,13 @@ use Rattle.vt_location.specs.Numbers.{counted}
 use Rattle.vt_mount.specs.MountsValue.{mounts_in}
 use Rattle.vt_spec.specs.Machine.Attach.{bind_tree}
 use Rattle.vt_spec.specs.Machine.Permits.Permit.{ToBind}
-use Rattle.vt_ns.specs.BoundCopies.{bound_copies}
+use Rattle.vt_attach.specs.BoundCopies.{bound_copies}
 use Rattle.vt_ns.specs.contracts.world.World.{the_view}
-use Rattle.vt_ns.specs.Copying.{AreOf}
-use Rattle.vt_ns.specs.Events.{Becomes, Permits}
-use Rattle.vt_ns.specs.WorldValue.{world_of}
-use Rattle.vt_ns.proofs.AttachedCounts.{attached_value}
-use Rattle.vt_ns.proofs.TreeBinding.{copies_ascend, tree_is_bound}
+use Rattle.vt_attach.specs.Copying.{AreOf}
+use Rattle.vt_detach.specs.Events.{Becomes, Permits}
+use Rattle.vt_detach.specs.WorldValue.{world_of}
+use Rattle.vt_attach.proofs.AttachedCounts.{attached_value}
+use Rattle.vt_attach.proofs.TreeBinding.{copies_ascend, tree_is_bound}
 use Rattle.vt_ns.proofs.world.World.bind.Goals as goal
 
 pub attach_all-requires : goal.attach_all-requires

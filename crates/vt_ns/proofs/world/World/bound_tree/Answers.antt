@@ -7,7 +7,7 @@ use Rattle.vt_mount.specs.MountsValue.{mounts_in}
 use Rattle.vt_mount_laws.proofs.MountsFound.{number_found}
 use Rattle.vt_spec.specs.Machine.Attach.{bind_tree, bindable_children, bindable_tree, stands_under}
 use Rattle.vt_ns.specs.Trees.{bindable_to_come}
-use Rattle.vt_ns.specs.WorldValue.{world_of}
+use Rattle.vt_detach.specs.WorldValue.{world_of}
 use Rattle.vt_ns.proofs.world.World.bound_tree.Goals as goal
 
 none : {X : Type 0} (xs : List X) → length xs ≡ 0 → xs ≡ []

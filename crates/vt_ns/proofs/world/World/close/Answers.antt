@@ -4,11 +4,11 @@ use Rattle.vt_spec.specs.Machine.Permits.Permit.{ToClose}
 use Rattle.vt_tasks.specs.Open.{numbered}
 use Rattle.vt_tasks.specs.TasksValue.{has_files_in_order}
 use Rattle.vt_ns.specs.contracts.world.World.{the_view}
-use Rattle.vt_ns.specs.Events.{Becomes, Permits}
-use Rattle.vt_ns.specs.Uses.{kept, without_location}
-use Rattle.vt_ns.proofs.Closing.{file_is_closed, nothing_is_closed}
-use Rattle.vt_ns.proofs.Remaining.{remade}
-use Rattle.vt_ns.proofs.Staying.{after}
+use Rattle.vt_detach.specs.Events.{Becomes, Permits}
+use Rattle.vt_detach.specs.Uses.{kept, without_location}
+use Rattle.vt_detach.proofs.Closing.{file_is_closed, nothing_is_closed}
+use Rattle.vt_detach.proofs.Remaining.{remade}
+use Rattle.vt_detach.proofs.Staying.{after}
 use Rattle.vt_ns.proofs.world.World.close.Goals as goal
 
 pub invariant_of-self : goal.invariant_of-self

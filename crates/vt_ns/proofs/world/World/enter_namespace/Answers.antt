@@ -4,12 +4,12 @@ use Rattle.vt_location.specs.Numbers.{counted}
 use Rattle.vt_spec.specs.Machine.Permits.Permit.{ToEnterNamespace}
 use Rattle.vt_tasks.specs.TasksValue.{left_of}
 use Rattle.vt_ns.specs.contracts.world.World.{the_view}
-use Rattle.vt_ns.specs.Events.{Becomes, Permits}
-use Rattle.vt_ns.specs.NamespacesLeft.{MountsAreLeft, namespace_entry, with_one_task_less}
-use Rattle.vt_ns.specs.Uses.{kept, with_location, without_location}
-use Rattle.vt_ns.specs.WorldValue.{WorldValue, entries_of}
+use Rattle.vt_detach.specs.Events.{Becomes, Permits}
+use Rattle.vt_detach.specs.NamespacesLeft.{MountsAreLeft, namespace_entry, with_one_task_less}
+use Rattle.vt_detach.specs.Uses.{kept, with_location, without_location}
+use Rattle.vt_detach.specs.WorldValue.{WorldValue, entries_of}
 use Rattle.vt_ns.proofs.CountingLemmas.{room_left}
-use Rattle.vt_ns.proofs.Entered.{namespace_has_a_root, task_enters}
+use Rattle.vt_detach.proofs.Entered.{namespace_has_a_root, task_enters}
 use Rattle.vt_ns.proofs.world.World.enter_namespace.Goals as goal
 
 pub unwrap-root-requires : goal.unwrap-root-requires

@@ -2,11 +2,11 @@ use Rattle.std.proofs.Common.{ap, false, fold, option_map, subst, sym, ◌∙◌
 use Rattle.vt_spec.specs.Machine.Permits.Permit.{ToExit}
 use Rattle.vt_tasks.specs.TaskValue.{task_of}
 use Rattle.vt_ns.specs.contracts.world.World.{the_view}
-use Rattle.vt_ns.specs.Events.{Becomes, Permits}
-use Rattle.vt_ns.specs.NamespacesLeft.{without_file}
-use Rattle.vt_ns.specs.Uses.{kept, without_location}
-use Rattle.vt_ns.specs.WorldValue.{WorldValue, entries_of}
-use Rattle.vt_ns.proofs.Exiting.{task_exits}
+use Rattle.vt_detach.specs.Events.{Becomes, Permits}
+use Rattle.vt_detach.specs.NamespacesLeft.{without_file}
+use Rattle.vt_detach.specs.Uses.{kept, without_location}
+use Rattle.vt_detach.specs.WorldValue.{WorldValue, entries_of}
+use Rattle.vt_detach.proofs.Exiting.{task_exits}
 use Rattle.vt_ns.proofs.world.World.exit.Goals as goal
 
 pub invariant_of-self-2 : goal.invariant_of-self-2

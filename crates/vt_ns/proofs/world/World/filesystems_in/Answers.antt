@@ -7,9 +7,9 @@ use Rattle.vt_mount.specs.MountsValue.{mounts_in}
 use Rattle.vt_spec.specs.Lists.{each_once, holds_of}
 use Rattle.vt_spec.specs.Machine.Listing.{filesystems_seen}
 use Rattle.vt_spec.specs.Machine.Mounts.{Mount}
-use Rattle.vt_ns.specs.Copying.{attached_in}
-use Rattle.vt_ns.specs.WorldValue.{WorldValue}
-use Rattle.vt_ns.proofs.CopyLemmas.{all_taken, ascending_found, picked}
+use Rattle.vt_attach.specs.Copying.{attached_in}
+use Rattle.vt_detach.specs.WorldValue.{WorldValue}
+use Rattle.vt_attach.proofs.CopyLemmas.{all_taken, ascending_found, picked}
 use Rattle.vt_ns.proofs.MountLines.{next_seen, none_seen, numbers_of}
 use Rattle.vt_ns.proofs.world.World.filesystems_in.Goals as goal
 use Rattle.vt_ns.proofs.world.World.filesystems_in.Goals.{in-Some+in-Ok, in_default}

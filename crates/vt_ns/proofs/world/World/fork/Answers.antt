@@ -2,9 +2,9 @@ use Rattle.std.proofs.Common.{ap, false, option_map, option_copied, rules, subst
 use Rattle.vt_spec.specs.Machine.Permits.Permit.{ToFork}
 use Rattle.vt_tasks.specs.TaskValue.{task_of}
 use Rattle.vt_ns.specs.contracts.world.World.{the_view}
-use Rattle.vt_ns.specs.Events.{Becomes, Permits}
-use Rattle.vt_ns.specs.Uses.{with_location}
-use Rattle.vt_ns.specs.WorldValue.{entries_of}
+use Rattle.vt_detach.specs.Events.{Becomes, Permits}
+use Rattle.vt_detach.specs.Uses.{with_location}
+use Rattle.vt_detach.specs.WorldValue.{entries_of}
 use Rattle.vt_ns.proofs.CountingLemmas.{room_left}
 use Rattle.vt_ns.proofs.ForkedTasks.{fork_refused_for_memory, task_is_forked}
 use Rattle.vt_ns.proofs.RemainingTasks.{remade_in}

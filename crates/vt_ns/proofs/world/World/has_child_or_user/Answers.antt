@@ -2,7 +2,7 @@ use Rattle.std.proofs.Common.{ap, nat_eq, nat_lt, sym, ◌∙◌, ◌||◌}
 use Rattle.vt_spec.specs.Machine.Detach.{is_busy}
 use Rattle.vt_location.specs.Numbers.{counted}
 use Rattle.vt_mount.specs.MountsValue.{uses_of}
-use Rattle.vt_ns.specs.WorldValue.{WorldValue, world_of}
+use Rattle.vt_detach.specs.WorldValue.{WorldValue, world_of}
 use Rattle.vt_ns.specs.contracts.world.World.{the_view}
 use Rattle.vt_ns.proofs.MountLooks.{busy_is}
 use Rattle.vt_ns.proofs.world.World.has_child_or_user.Goals as goal

@@ -11,11 +11,11 @@ use Rattle.vt_mount.specs.MountsValue.{mounts_in}
 use Rattle.vt_mount_laws.proofs.MountsFound.{found_in}
 use Rattle.vt_spec.specs.Machine.Mounts.{Mount, mount_in, mount_tree, no_mount}
 use Rattle.vt_spec.proofs.Lists.{Among}
-use Rattle.vt_ns.specs.Held.{IsHeld}
-use Rattle.vt_ns.specs.Looking.{has_too_many_with}
-use Rattle.vt_ns.specs.WorldValue.{WorldValue}
+use Rattle.vt_detach.specs.Held.{IsHeld}
+use Rattle.vt_detach.specs.Looking.{has_too_many_with}
+use Rattle.vt_detach.specs.WorldValue.{WorldValue}
 use Rattle.vt_ns.proofs.OverfillingMoves.{between_overfills, missing_overfills, within_overfills}
-use Rattle.vt_ns.proofs.Shown.{counted_eq}
+use Rattle.vt_detach.proofs.Shown.{counted_eq}
 use Rattle.vt_ns.proofs.world.World.has_too_many_moved.Goals as goal
 
 abbrev numbered : Option NamespaceId → Option ℕ

@@ -3,8 +3,8 @@ use Rattle.vt_location.specs.Locations.{location_of, number_of}
 use Rattle.vt_spec.specs.Language.Changes.Change.{AddName}
 use Rattle.vt_spec.specs.Machine.Permits.Permit.{ToChange}
 use Rattle.vt_ns.specs.contracts.world.World.{the_view}
-use Rattle.vt_ns.specs.Events.{Becomes, Permits}
-use Rattle.vt_ns.proofs.ChangedFiles.{with_filesystems}
+use Rattle.vt_detach.specs.Events.{Becomes, Permits}
+use Rattle.vt_detach.proofs.ChangedFiles.{with_filesystems}
 use Rattle.vt_ns.proofs.FileAnswers.{linked_in, link_is_answered}
 use Rattle.vt_ns.proofs.world.World.link.Goals as goal
 

@@ -7,8 +7,8 @@ use Rattle.vt_fs.specs.FilesystemsValue.{inodes_at, node_seen}
 use Rattle.vt_location.specs.Locations.{location_of, number_of}
 use Rattle.vt_spec.specs.Machine.Permits.Permit.{ToMake}
 use Rattle.vt_ns.specs.contracts.world.World.{the_view}
-use Rattle.vt_ns.specs.Events.{Becomes, Permits}
-use Rattle.vt_ns.proofs.ChangedFiles.{with_filesystems}
+use Rattle.vt_detach.specs.Events.{Becomes, Permits}
+use Rattle.vt_detach.proofs.ChangedFiles.{with_filesystems}
 use Rattle.vt_ns.proofs.FileMaking.{make_clear, make_is_done, new_in_directory, only_memory}
 use Rattle.vt_ns.proofs.world.World.make.Goals as goal
 

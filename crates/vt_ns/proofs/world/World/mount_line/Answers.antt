@@ -2,8 +2,8 @@ use Rattle.std.proofs.Common.{ap, is_some, nat_eq, sym, ◌∙◌}
 use Rattle.vt_location.specs.Flags.{flags_of}
 use Rattle.vt_location.specs.Numbers.{counted}
 use Rattle.vt_spec.specs.Machine.Listing.{groups_seen, number_among}
-use Rattle.vt_ns.specs.WorldValue.{world_of}
-use Rattle.vt_ns.proofs.FilesystemsFound.{found_plain}
+use Rattle.vt_detach.specs.WorldValue.{world_of}
+use Rattle.vt_detach.proofs.FilesystemsFound.{found_plain}
 use Rattle.vt_ns.proofs.world.World.mount_line.Goals as goal
 
 pub returns-clause-ok : goal.returns-clause-ok

@@ -9,10 +9,10 @@ use Rattle.vt_spec.specs.Language.Answers as answers
 use Rattle.vt_spec.specs.Lists.{holds_of}
 use Rattle.vt_spec.specs.Machine.Listing.{filesystems_seen, mount_line}
 use Rattle.vt_spec.specs.Machine.Mounts.{Mount}
-use Rattle.vt_ns.specs.Copying.{attached_in}
-use Rattle.vt_ns.specs.WorldValue.{WorldValue, world_of}
-use Rattle.vt_ns.proofs.CopyLemmas.{all_taken, ascending_filter, ascending_found, next_made, none_made, picked, rising_ids}
-use Rattle.vt_ns.proofs.Grafting.{all_ungrouped}
+use Rattle.vt_attach.specs.Copying.{attached_in}
+use Rattle.vt_detach.specs.WorldValue.{WorldValue, world_of}
+use Rattle.vt_attach.proofs.CopyLemmas.{all_taken, ascending_filter, ascending_found, next_made, none_made, picked, rising_ids}
+use Rattle.vt_attach.proofs.Grafting.{all_ungrouped}
 use Rattle.vt_ns.proofs.MountLines.{one_ungrouped}
 use Rattle.vt_ns.proofs.world.World.mount_lines.Goals as goal
 use Rattle.vt_ns.proofs.world.World.mount_lines.Goals.{in-Some+in_ok-line+in-Ok, in_default}

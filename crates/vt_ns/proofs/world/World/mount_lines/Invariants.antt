@@ -4,8 +4,8 @@ use Rattle.vt_location.specs.Numbers.{counted}
 use Rattle.vt_mount.specs.MountsValue.{mounts_in}
 use Rattle.vt_request.specs.Answers.{mount_line_of}
 use Rattle.vt_spec.specs.Machine.Listing.{mount_line}
-use Rattle.vt_ns.specs.Copying.{attached_in}
-use Rattle.vt_ns.specs.WorldValue.{world_of}
+use Rattle.vt_attach.specs.Copying.{attached_in}
+use Rattle.vt_detach.specs.WorldValue.{world_of}
 use Rattle.vt_ns.proofs.world.World.mount_lines.Given as goal
 
 abbrev pub invariant-loop-id : goal.invariant-loop-id

@@ -3,11 +3,11 @@ use Rattle.vt_location.specs.Flags.{flags_of}
 use Rattle.vt_location.specs.Locations.{location_of}
 use Rattle.vt_spec.specs.Machine.Permits.Permit.{ToMountPlain}
 use Rattle.vt_ns.specs.contracts.world.World.{the_view}
-use Rattle.vt_ns.specs.Events.{Becomes, Permits}
-use Rattle.vt_ns.proofs.AttachedCounts.{attached_value}
-use Rattle.vt_ns.proofs.Binding.{mount_got_is, mount_is_got}
-use Rattle.vt_ns.proofs.NewMounts.{destination_there, mount_is_done, new_ascends}
-use Rattle.vt_ns.proofs.NewFilesystems.{next_is_free}
+use Rattle.vt_detach.specs.Events.{Becomes, Permits}
+use Rattle.vt_attach.proofs.AttachedCounts.{attached_value}
+use Rattle.vt_attach.proofs.Binding.{mount_got_is, mount_is_got}
+use Rattle.vt_attach.proofs.NewMounts.{destination_there, mount_is_done, new_ascends}
+use Rattle.vt_attach.proofs.NewFilesystems.{next_is_free}
 use Rattle.vt_ns.proofs.world.World.mount_plain.Goals as goal
 
 pub unwrap-parent-requires : goal.unwrap-parent-requires

@@ -4,9 +4,9 @@ use Rattle.std.proofs.lemmas.Result.{err_from_is_err_and}
 use Rattle.vt_spec.specs.Errors.{denial}
 use Rattle.vt_spec.specs.declared.errors.Rule.TheVariants.{S5}
 use Rattle.vt_location.specs.declared.numbers.FilesystemId.{FilesystemId}
-use Rattle.vt_ns.specs.Opening.{first_shown}
-use Rattle.vt_ns.specs.WorldValue.{entries_of}
-use Rattle.vt_ns.proofs.OpeningLemmas.{mounts_made, namespaces_made, opening_held, opening_seen, tasks_made}
+use Rattle.vt_attach.specs.Opening.{first_shown}
+use Rattle.vt_detach.specs.WorldValue.{entries_of}
+use Rattle.vt_attach.proofs.OpeningLemmas.{mounts_made, namespaces_made, opening_held, opening_seen, tasks_made}
 use Rattle.vt_ns.proofs.world.World.new.Goals as goal
 
 pub returns-in_err-first_filesystems-clause-memory : goal.returns-in_err-first_filesystems-clause-memory

@@ -3,10 +3,10 @@ use Rattle.vt_location.specs.Locations.{location_of}
 use Rattle.vt_request.specs.Requests.{access_of}
 use Rattle.vt_spec.specs.Machine.Permits.Permit.{ToOpen}
 use Rattle.vt_ns.specs.contracts.world.World.{the_view}
-use Rattle.vt_ns.specs.Events.{Becomes, Permits}
-use Rattle.vt_ns.specs.Uses.{kept, with_location}
+use Rattle.vt_detach.specs.Events.{Becomes, Permits}
+use Rattle.vt_detach.specs.Uses.{kept, with_location}
 use Rattle.vt_ns.proofs.FilesOpened.{file_is_opened, nothing_copied, refused_for_memory}
-use Rattle.vt_ns.proofs.Remaining.{remade}
+use Rattle.vt_detach.proofs.Remaining.{remade}
 use Rattle.vt_ns.proofs.world.World.open.Goals as goal
 
 pub returns-in_err-number-clause-memory : goal.returns-in_err-number-clause-memory

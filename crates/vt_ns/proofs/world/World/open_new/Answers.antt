@@ -11,12 +11,12 @@ use Rattle.vt_mount.specs.MountsValue.{changed as changed_mounts, held}
 use Rattle.vt_request.specs.Requests.{access_of}
 use Rattle.vt_tree.specs.TreeRules.{make_rules}
 use Rattle.vt_ns.specs.contracts.world.World.{the_view}
-use Rattle.vt_ns.specs.Events.{Becomes, Permits}
-use Rattle.vt_ns.proofs.ChangedFiles.{with_filesystems}
+use Rattle.vt_detach.specs.Events.{Becomes, Permits}
+use Rattle.vt_detach.proofs.ChangedFiles.{with_filesystems}
 use Rattle.vt_ns.proofs.FileMaking.{only_memory}
 use Rattle.vt_ns.proofs.OpeningNew.{has_next, make_is_clear, new_in_directory, new_opens, next_is_numbered, room_for_one, used_once}
-use Rattle.vt_ns.proofs.Remaining.{remade}
-use Rattle.vt_ns.proofs.Shown.{pins}
+use Rattle.vt_detach.proofs.Remaining.{remade}
+use Rattle.vt_detach.proofs.Shown.{pins}
 use Rattle.vt_ns.proofs.world.World.open_new.Goals as goal
 
 pub unwrap-file-requires : goal.unwrap-file-requires

@@ -4,8 +4,8 @@ use Rattle.vt_spec.specs.Machine.Permits.Permit.{ToReadPart}
 use Rattle.vt_spec.specs.Machine.World.{node_at}
 use Rattle.vt_spec.specs.Tree.{bytes_in}
 use Rattle.vt_ns.specs.contracts.world.World.{the_view}
-use Rattle.vt_ns.specs.Events.{Permits}
-use Rattle.vt_ns.specs.WorldValue.{world_of}
+use Rattle.vt_detach.specs.Events.{Permits}
+use Rattle.vt_detach.specs.WorldValue.{world_of}
 use Rattle.vt_ns.proofs.FilesRead.{read_node}
 use Rattle.vt_ns.proofs.world.World.read_part.Goals as goal
 

@@ -4,14 +4,14 @@ use Rattle.vt_location.specs.Locations.{location_of}
 use Rattle.vt_location.specs.Numbers.{counted}
 use Rattle.vt_spec.specs.Machine.Permits.Permit.{ToRemoveDirectory}
 use Rattle.vt_ns.specs.contracts.world.World.{the_view}
-use Rattle.vt_ns.specs.Detached.{LeaveInTurn}
-use Rattle.vt_ns.specs.Events.{Becomes, Permits}
-use Rattle.vt_ns.specs.Uses.{kept}
-use Rattle.vt_ns.proofs.ChangedFiles.{with_filesystems}
+use Rattle.vt_detach.specs.Detached.{LeaveInTurn}
+use Rattle.vt_detach.specs.Events.{Becomes, Permits}
+use Rattle.vt_detach.specs.Uses.{kept}
+use Rattle.vt_detach.proofs.ChangedFiles.{with_filesystems}
 use Rattle.vt_ns.proofs.DirectoryRemoved.{alone_is_removed, collected_are, directory_is_removed, unlink_fits}
 use Rattle.vt_ns.proofs.MountsOn.{none_counted, some_counted}
 use Rattle.vt_ns.proofs.FileRemoving.{removed_in}
-use Rattle.vt_ns.proofs.Remaining.{remade}
+use Rattle.vt_detach.proofs.Remaining.{remade}
 use Rattle.vt_ns.proofs.world.World.remove_directory.Goals as goal
 use Rattle.vt_ns.proofs.world.World.remove_directory.Goals.{then-not-is_empty, else-not-is_empty}
 

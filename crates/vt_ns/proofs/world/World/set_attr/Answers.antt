@@ -3,9 +3,9 @@ use Rattle.vt_location.specs.Locations.{location_of, number_of}
 use Rattle.vt_spec.specs.Language.Changes.Change.{SetAttr}
 use Rattle.vt_spec.specs.Machine.Permits.Permit.{ToChange}
 use Rattle.vt_ns.specs.contracts.world.World.{the_view}
-use Rattle.vt_ns.specs.Events.{Becomes, Permits}
-use Rattle.vt_ns.proofs.ChangedFiles.{with_filesystems}
-use Rattle.vt_ns.proofs.FileEvents.{attr_is_set}
+use Rattle.vt_detach.specs.Events.{Becomes, Permits}
+use Rattle.vt_detach.proofs.ChangedFiles.{with_filesystems}
+use Rattle.vt_detach.proofs.FileEvents.{attr_is_set}
 use Rattle.vt_ns.proofs.world.World.set_attr.Goals as goal
 
 pub invariant_of-self : goal.invariant_of-self

@@ -2,10 +2,10 @@ use Rattle.std.proofs.Common.{sym, subst, ap, ◌∙◌, option_map, false}
 use Rattle.vt_location.specs.Locations.{location_of}
 use Rattle.vt_spec.specs.Machine.Permits.Permit.{ToSetDirectory}
 use Rattle.vt_ns.specs.contracts.world.World.{the_view}
-use Rattle.vt_ns.specs.Events.{Becomes, Permits}
-use Rattle.vt_ns.specs.Uses.{without_location}
-use Rattle.vt_ns.proofs.Places.{directory_is_set}
-use Rattle.vt_ns.proofs.Remaining.{remade}
+use Rattle.vt_detach.specs.Events.{Becomes, Permits}
+use Rattle.vt_detach.specs.Uses.{without_location}
+use Rattle.vt_detach.proofs.Places.{directory_is_set}
+use Rattle.vt_detach.proofs.Remaining.{remade}
 use Rattle.vt_ns.proofs.world.World.set_directory.Goals as goal
 
 pub invariant_of-self-in-Some : goal.invariant_of-self-in-Some

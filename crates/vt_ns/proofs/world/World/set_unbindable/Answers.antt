@@ -4,10 +4,10 @@ use Rattle.vt_spec.specs.Language.Calls.TypeWord.{ToUnbindable}
 use Rattle.vt_spec.specs.Machine.Mounts.Propagation.{Unbindable}
 use Rattle.vt_spec.specs.Machine.Permits.Permit.{ToSetType}
 use Rattle.vt_ns.specs.contracts.world.World.{the_view}
-use Rattle.vt_ns.specs.Events.{Becomes, Permits}
-use Rattle.vt_ns.proofs.Remaining.{remade}
-use Rattle.vt_ns.proofs.TypesSet.{type_is_set}
-use Rattle.vt_ns.proofs.Staying.{IsDone}
+use Rattle.vt_detach.specs.Events.{Becomes, Permits}
+use Rattle.vt_detach.proofs.Remaining.{remade}
+use Rattle.vt_detach.proofs.TypesSet.{type_is_set}
+use Rattle.vt_detach.proofs.Staying.{IsDone}
 use Rattle.vt_ns.proofs.world.World.set_unbindable.Goals as goal
 
 pub invariant_of-self : goal.invariant_of-self

@@ -2,11 +2,11 @@ use Rattle.std.proofs.Common.{sym, subst, map}
 use Rattle.vt_location.specs.Numbers.{counted}
 use Rattle.vt_spec.specs.Machine.Permits.Permit.{ToUnmountLazily}
 use Rattle.vt_ns.specs.contracts.world.World.{the_view}
-use Rattle.vt_ns.specs.Detached.{LeaveInTurn}
-use Rattle.vt_ns.specs.Events.{Becomes, Permits}
-use Rattle.vt_ns.specs.Uses.{kept}
-use Rattle.vt_ns.proofs.Remaining.{remade}
-use Rattle.vt_ns.proofs.UnmountedLazily.{lazy_unmount_is_done}
+use Rattle.vt_detach.specs.Detached.{LeaveInTurn}
+use Rattle.vt_detach.specs.Events.{Becomes, Permits}
+use Rattle.vt_detach.specs.Uses.{kept}
+use Rattle.vt_detach.proofs.Remaining.{remade}
+use Rattle.vt_detach.proofs.UnmountedLazily.{lazy_unmount_is_done}
 use Rattle.vt_ns.proofs.world.World.unmount_lazily.Goals as goal
 
 pub invariant_of-self : goal.invariant_of-self

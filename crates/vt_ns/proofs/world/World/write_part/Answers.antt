@@ -2,8 +2,8 @@ use Rattle.std.proofs.Common.{sym, subst, arith, OnOk}
 use Rattle.vt_location.specs.Locations.{location_of}
 use Rattle.vt_spec.specs.Machine.Permits.Permit.{ToWritePart}
 use Rattle.vt_ns.specs.contracts.world.World.{the_view}
-use Rattle.vt_ns.specs.Events.{Becomes, Permits}
-use Rattle.vt_ns.proofs.ChangedFiles.{with_filesystems}
+use Rattle.vt_detach.specs.Events.{Becomes, Permits}
+use Rattle.vt_detach.proofs.ChangedFiles.{with_filesystems}
 use Rattle.vt_ns.proofs.FileParts.{no_bytes, nothing_is_written, some_bytes, write_part_is_answered}
 use Rattle.vt_ns.proofs.world.World.write_part.Goals as goal
 

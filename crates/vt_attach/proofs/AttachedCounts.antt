@@ -1,0 +1,137 @@
+-- Mounts, filesystems and namespaces count what is in a world in which mounts were attached, and tasks stay where they are.
+use Rattle.std.proofs.Common.{◌≡◌, ◌⊎◌, refl, sym, ap, subst, ◌∙◌, inl, inr, ⊎_elim, ℕ, ◌+◌, ◌<◌, ◌%◌, ◌/◌, ◌==◌, nat_eq, eqb-true, nat_lt, Bool, true, false, true≢false, ◌&&◌, ◌||◌, List, [], ◌∷◌, ◌++◌, map, flat_map, if◌then◌else◌, arith}
+use Rattle.std.specs.List.{list_all}
+use Rattle.std.proofs.lemmas.Bool.{ltb-true, ne_eqb}
+use Rattle.vt_spec.specs.Lists.{is_among}
+use Rattle.vt_spec.specs.Machine.Mounts as meant
+use Rattle.vt_spec.specs.Machine.World.{Descriptor, Task, all_locations, locations_of}
+use Rattle.vt_count_laws.proofs.MountRoots as Roots
+use Rattle.vt_fs.specs.FilesystemsValue.{FilesystemEntry, Filesystems, Shown}
+use Rattle.vt_letting_go.specs.Counts.{mounts_showing, times}
+use Rattle.vt_letting_go.proofs.Lists.{Among, all_from_among, all_pass, among-append, among-append_left, among-append_right, among-from_map, among-map, among_from_all, among_numbers, is_among_numbers, passes}
+use Rattle.vt_location.specs.declared.mounts.Mount.{Mount}
+use Rattle.vt_location.specs.MountValue.{mount_of}
+use Rattle.vt_location.specs.Numbers.{counted}
+use Rattle.vt_mount.specs.MountsValue.{MountEntry, are_ascending, mounts_in}
+use Rattle.vt_run_laws.specs.Handed.{is_counted_before}
+use Rattle.vt_letting_go.proofs.UpperUses.{times_append}
+use Rattle.vt_detach.specs.Held.{CountsItsUses, CountsWhatIsInIt, IsHeld, is_ungrouped, writes_of, writes_on}
+use Rattle.vt_detach.specs.Uses.{kept, unused_entry, with_attached}
+use Rattle.vt_detach.specs.WorldValue.{WorldValue, world_of}
+use Rattle.vt_attach.proofs.AddedUses.{showing}
+use Rattle.vt_attach.proofs.AttachedWorlds.{shown_was}
+use Rattle.vt_attach.proofs.EnteringLemmas.{apart, mounts_entered}
+use Rattle.vt_detach.proofs.FilesSeen.{mount_named}
+use Rattle.vt_detach.proofs.Finishing.{CountsBeside}
+
+-- what nothing passes is none
+pub times_none : {A : Type 0} (test : A → Bool) (xs : List A) → ((x : A) → Among x xs → test x ≡ false) → times test xs ≡ 0
+times_none test [] none = refl
+times_none test (x ∷ xs) none =
+    let rest = times_none test xs (λ y m. none y (inr m)) in
+    let first : ◌≡◌ {A = ℕ} (if test x then 1 else 0) 0 = ap (λ b. if b then 1 else 0) (none x (inl refl)) in
+    λ i. first i + rest i
+
+writes_none : (number : ℕ) (tasks : List (Task ℕ))
+    → ((location : meant.Location ℕ) → Among location (flat_map locations_of tasks) → nat_eq number location.mount ≡ false)
+    → writes_of number tasks ≡ 0
+writes_none number [] none = refl
+writes_none number (task ∷ tasks) none =
+    let own = times_none (writes_on number) task.descriptors (λ descriptor m.
+    not_written descriptor (none descriptor.location
+    (among-append_left (locations_of task) (flat_map locations_of tasks) descriptor.location
+    (inr (inr (among-map (λ (d : Descriptor ℕ). d.location) task.descriptors descriptor m)))))) in
+    let rest = writes_none number tasks (λ location m. none location (among-append_right (locations_of task) (flat_map locations_of tasks) location m)) in
+    (λ i. own i + rest i)
+  where
+    not_written : (descriptor : Descriptor ℕ) → nat_eq number descriptor.location.mount ≡ false → writes_on number descriptor ≡ false
+    not_written descriptor other = ap (λ b. descriptor.writes && b) other ∙ by descriptor.writes
+      where
+        by : (b : Bool) → (b && false) ≡ false
+        by true = refl
+        by false = refl
+
+-- The code's world with mounts that were attached, and other filesystems
+abbrev pub attached_value : WorldValue → List MountEntry → Filesystems → ℕ → WorldValue
+attached_value value mounts filesystems next = record value { mounts = mounts; filesystems = filesystems; next = next }
+
+module _ (value : WorldValue) (whole : IsHeld value) (base filesystems : Filesystems) (new : List Mount) (mounts : List MountEntry) (next : ℕ)
+    (is_kept : kept mounts filesystems ≡ with_attached new (kept value.mounts base))
+    (ascending : are_ascending (mounts_in value.mounts ++ map mount_of new) ≡ true) where
+  pub mounts_are : mounts_in mounts ≡ mounts_in value.mounts ++ map mount_of new
+  mounts_are = ap (λ k. mounts_in k.mounts) is_kept ∙ mounts_entered value.mounts new
+
+  -- no location is on one of them
+  pub not_on_new : (mount : Mount) → Among mount new → (location : meant.Location ℕ) → Among location (all_locations (world_of value))
+      → nat_eq (counted mount.number.count) location.mount ≡ false
+  not_on_new mount m location n =
+      let on = among_numbers location.mount (map (λ (x : meant.Mount ℕ). x.number) (mounts_in value.mounts))
+      (passes (λ location. is_among nat_eq location.mount (map (λ (x : meant.Mount ℕ). x.number) (mounts_in value.mounts))) (all_locations (world_of value))
+      (Roots.locations_of_worlds_stand (world_of value) whole.in_world) location n) in
+      let from = among-from_map (λ (x : meant.Mount ℕ). x.number) (mounts_in value.mounts) location.mount on in
+      let less = apart (mounts_in value.mounts) (map mount_of new) ascending from.0 (mount_of mount) from.1 (among-map mount_of new mount m) in
+      let same_number : location.mount ≡ from.0.number = from.2 in
+      ne_eqb (counted mount.number.count) location.mount (λ same. absurd (omega (arith, less, same_number, same)))
+
+  new_counts : (mount : Mount) → Among mount new → CountsItsUses (world_of (attached_value value mounts filesystems next)) (unused_entry mount)
+  new_counts mount m = record {
+    uses = sym (times_none (λ (location : meant.Location ℕ). nat_eq (counted mount.number.count) location.mount) (all_locations (world_of value)) (not_on_new mount m));
+    writers = sym (writes_none (counted mount.number.count) value.tasks (not_on_new mount m));
+  }
+
+  pub attached_counts : list_all (λ mount. is_ungrouped mount.propagation) (map mount_of new) ≡ true
+      → ((entry : FilesystemEntry) → Among entry base → entry.mounts ≡ mounts_showing (world_of value) (counted entry.count))
+      → CountsBeside (attached_value value mounts filesystems next)
+  attached_counts ungrouped shows = record {
+    ungrouped = all_pass (λ entry. is_ungrouped entry.mount.propagation) mounts (λ entry m.
+        ⊎_elim
+        (λ old. passes (λ one. is_ungrouped one.mount.propagation) value.mounts whole.ungrouped entry old)
+        (λ added. let from = among-from_map unused_entry new entry added in
+        ap (λ (one : MountEntry). is_ungrouped one.mount.propagation) from.2
+        ∙ passes (λ mount. is_ungrouped mount.propagation) (map mount_of new) ungrouped (mount_of from.0) (among-map mount_of new from.0 from.1))
+        (entry_from entry m));
+    uses = all_from_among (CountsItsUses (world_of (attached_value value mounts filesystems next))) mounts (λ entry m.
+        ⊎_elim
+        (λ old. let was = among_from_all (CountsItsUses (world_of value)) value.mounts whole.mounts entry old in
+        record { uses = was.uses; writers = was.writers })
+        (λ added. let from = among-from_map unused_entry new entry added in
+        subst (CountsItsUses (world_of (attached_value value mounts filesystems next))) (sym from.2) (new_counts from.0 from.1))
+        (entry_from entry m));
+    mounts = λ entry m. let from = shown_was value.mounts mounts base filesystems new is_kept entry m in
+        ap (λ (one : Shown). one.mounts) from.2
+        ∙ ap (λ n. n + showing from.0.count new) (shows from.0 from.1)
+        ∙ sym (times_append (λ (mount : meant.Mount ℕ). nat_eq (counted from.0.count) mount.filesystem) (mounts_in value.mounts) (map mount_of new))
+        ∙ (λ i. times (λ (mount : meant.Mount ℕ). nat_eq (counted (sym (ap (λ (one : Shown). one.count) from.2) i)) mount.filesystem) (sym mounts_are i));
+    namespaces = all_from_among (CountsWhatIsInIt (world_of (attached_value value mounts filesystems next))) value.namespaces (λ entry m.
+        let was = among_from_all (CountsWhatIsInIt (world_of value)) value.namespaces whole.namespaces entry m in
+        record { tasks = was.tasks });
+  }
+    where
+      entry_from : (entry : MountEntry) → Among entry mounts → Among entry value.mounts ⊎ Among entry (map unused_entry new)
+      entry_from entry m =
+          among-append value.mounts (map unused_entry new) entry (subst (λ all. Among entry all) (ap (λ k. k.mounts) is_kept) m)
+
+-- Mounts of a world have lower numbers than what is counted next.
+pub lower_numbers : (value : WorldValue) → IsHeld value → list_all (λ mount. mount.number % 4 == 1) (mounts_in value.mounts) ≡ true
+    → (mount : meant.Mount ℕ) → Among mount (mounts_in value.mounts) → mount.number < counted value.next
+lower_numbers value whole counts mount m =
+    by (mount.number % 2 == 0) refl (nat_lt (mount.number / 4) value.next) refl named
+  where
+    is_odd : mount.number % 4 ≡ 1
+    is_odd = eqb-true (mount.number % 4) 1 (passes (λ x. x.number % 4 == 1) (mounts_in value.mounts) counts mount m)
+
+    named : is_counted_before value.next mount.number ≡ true
+    named = mount_named value whole mount.number (any_number (mounts_in value.mounts) m)
+      where
+        any_number : (some : List (meant.Mount ℕ)) → Among mount some → is_among nat_eq mount.number (map (λ (x : meant.Mount ℕ). x.number) some) ≡ true
+        any_number some n = is_among_numbers mount.number (map (λ (x : meant.Mount ℕ). x.number) some) (among-map (λ (x : meant.Mount ℕ). x.number) some mount n)
+
+    by : (even : Bool) → (mount.number % 2 == 0) ≡ even → (less : Bool) → nat_lt (mount.number / 4) value.next ≡ less
+        → (even || ((mount.number % 4 == 1) && less)) ≡ true → mount.number < counted value.next
+    by true e less f g = let zero = eqb-true (mount.number % 2) 0 e in absurd (omega (arith, zero, is_odd))
+    by false e true f g = let below = ltb-true (mount.number / 4) value.next f in omega (arith, below, is_odd)
+    by false e false f g = absurd (true≢false (sym g ∙ none (mount.number % 4 == 1)))
+      where
+        none : (b : Bool) → (b && false) ≡ false
+        none true = refl
+        none false = refl

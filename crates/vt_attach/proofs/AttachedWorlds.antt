@@ -1,0 +1,159 @@
+-- A world in which mounts were attached: what they use is counted, and nothing else changed.
+use Rattle.std.proofs.Common.{◌≡◌, refl, sym, ap, subst, ◌∙◌, inl, inr, ℕ, ◌<◌, nat_eq, eqb-true, Bool, true, false, not, ◌&&◌, ◌||◌, List, [], ◌∷◌, ◌++◌, map, find, Option, Some, None, option_map, is_some}
+use Rattle.std.specs.Prelude.{All, nat_lt, option_to_list, unwrap_or}
+use Rattle.std.specs.List.{list_all}
+use Rattle.std.proofs.lemmas.Bool.{and_parts, ltb-true}
+use Rattle.vt_spec.specs.Machine.Mounts as meant
+use Rattle.vt_spec.specs.Machine.Mounts.{mount_in, root_of}
+use Rattle.vt_spec.specs.Machine.World.{Filesystem, World, filesystem_numbered, is_directory_at, mount_at, no_filesystem, node_at}
+use Rattle.vt_spec.specs.Machine.Invariants.{IsWorld, has_its_root}
+use Rattle.vt_spec.specs.OneTree.Inodes.{Inode as Counted, node_in}
+use Rattle.vt_spec.specs.Tree.{is_directory_node}
+use Rattle.vt_count_laws.specs.Counted.{IsCounted, IsPlain}
+use Rattle.vt_count_laws.specs.Using.{AreThere, Exchanges}
+use Rattle.vt_count_laws.proofs.Exchanged.{uses_are_exchanged}
+use Rattle.vt_fs.specs.FilesystemsValue.{FilesystemEntry, Filesystems, Shown, filesystem_seen, filesystems_seen, inodes_seen, shown, shown_entry}
+use Rattle.vt_letting_go.specs.OneByOne.{Inode}
+use Rattle.vt_letting_go.proofs.Lists.{Among, among-append_right, among-from_map, among-map, among_from_all, map_twice, passes}
+use Rattle.vt_letting_go.proofs.OfWorlds.{worlds_have_trees}
+use Rattle.vt_letting_go.proofs.PlacesLeft.{found_itself}
+use Rattle.vt_location.specs.declared.locations.Location.{Location}
+use Rattle.vt_location.specs.declared.locations.NodeRef.{NodeRef}
+use Rattle.vt_location.specs.declared.mounts.Mount.{Mount}
+use Rattle.vt_location.specs.Locations.{location_of, number_of}
+use Rattle.vt_location.specs.MountValue.{mount_of}
+use Rattle.vt_location.specs.Numbers.{counted}
+use Rattle.vt_location.proofs.NumberLemmas.{inode_same, slot_of}
+use Rattle.vt_mount.specs.MountsValue.{MountEntry}
+use Rattle.vt_world_laws.proofs.RaisedInUse.{worlds_are_in_use}
+use Rattle.vt_world_laws.proofs.Roots.{directory_there}
+use Rattle.vt_detach.specs.Held.{CountsItsMounts, HasOwnInodes, IsHeld}
+use Rattle.vt_attach.specs.Room.{has_small_slots, point_is_small}
+use Rattle.vt_detach.specs.Uses.{kept, with_attached}
+use Rattle.vt_detach.specs.WorldValue.{WorldValue, world_of}
+use Rattle.vt_attach.proofs.AddedUses.{IsFoundIn, gained_by, point_inodes, shown_by_all, with_mounts_on}
+use Rattle.vt_detach.proofs.FilesSeen.{seen_in}
+use Rattle.vt_detach.proofs.Showing.{found_filesystem}
+
+-- an inode of which there is a node is there
+inode_is_there : (o : Option (Counted ℕ)) → is_some (node_in o) ≡ true → is_some o ≡ true
+inode_is_there None e = e
+inode_is_there (Some inode) e = refl
+
+-- Mounts that were attached in a world, with these filesystems
+module _ (after : World ℕ) (is_world : IsWorld nat_eq after) (front : List (meant.Mount ℕ)) (new : List Mount)
+    (after_mounts : after.mounts ≡ front ++ map mount_of new) (slots : list_all has_small_slots new ≡ true)
+    (base : Filesystems) (after_files : after.filesystems ≡ filesystems_seen base) (own : All HasOwnInodes base) where
+  new_there : (mount : Mount) → Among mount new → Among (mount_of mount) after.mounts
+  new_there mount m =
+      subst (Among (mount_of mount)) (sym after_mounts) (among-append_right front (map mount_of new) (mount_of mount) (among-map mount_of new mount m))
+
+  roots : (mount : Mount) → Among mount new → (is_directory_node ((filesystem_numbered nat_eq after (counted mount.root.filesystem.count)).files.tree.node (number_of mount.root)) ≡ true)
+      × (list_all (is_directory_at nat_eq after) (option_to_list (option_map location_of mount.mount_point)) ≡ true)
+  roots mount m =
+      and_parts _ _ (passes (has_its_root nat_eq after) after.mounts is_world.roots (mount_of mount) (new_there mount m))
+
+  -- a mount point is in the filesystem that its mount shows
+  point_shown : (mount : Mount) → Among mount new → (point : Location) → mount.mount_point ≡ Some point
+      → (mount_at nat_eq after (location_of point)).filesystem ≡ counted point.node.filesystem.count
+  point_shown mount m point is =
+      let directory : is_directory_at nat_eq after (location_of point) ≡ true =
+      (and_parts _ _ (subst (λ o. list_all (is_directory_at nat_eq after) (option_to_list (option_map location_of o)) ≡ true) is (roots mount m).1)).0 in
+      let seen = seen_in base own (mount_at nat_eq after (location_of point)).filesystem (number_of point.node)
+      (subst (λ files. is_some ((unwrap_or (find (λ (f : Filesystem ℕ). nat_eq (mount_at nat_eq after (location_of point)).filesystem f.number) files) (no_filesystem (mount_at nat_eq after (location_of point)).filesystem)).files.tree.node (number_of point.node)) ≡ true)
+      after_files (directory_there (node_at nat_eq after (location_of point)) directory)) in
+      let slot = slot_of seen.entry.count (number_of point.node) seen.own in
+      let small : point.node.slot < 18446744073709551616 =
+      ltb-true point.node.slot 18446744073709551616
+      (subst (λ o. point_is_small o ≡ true) is (and_parts (nat_lt mount.root.slot 18446744073709551616) _ (passes has_small_slots new slots mount m)).1) in
+      seen.number_is ∙ ap counted (sym (inode_same point.node.filesystem.count seen.entry.count point.node.slot slot.0 small slot.1 slot.2).0)
+
+  pub new_found : (mount : Mount) → Among mount new → IsFoundIn after mount
+  new_found mount m = record {
+    root = ap (λ (found : meant.Mount ℕ). (found.filesystem, number_of mount.root))
+        (found_itself after.mounts is_world.mounts.one_number (mount_of mount) (new_there mount m));
+    point = λ point is. ap (λ filesystem. (filesystem, number_of point.node)) (point_shown mount m point is);
+  }
+
+  there_in : (entry : FilesystemEntry) → Among entry base → (node : NodeRef)
+      → is_directory_node ((filesystem_numbered nat_eq after (counted node.filesystem.count)).files.tree.node (number_of node)) ≡ true
+      → (not (nat_eq (counted entry.count) (counted node.filesystem.count)) || is_some ((inodes_seen entry).inode (number_of node))) ≡ true
+  there_in entry m node directory = by (nat_eq (counted entry.count) (counted node.filesystem.count)) refl
+    where
+      found : filesystem_numbered nat_eq after (counted entry.count) ≡ filesystem_seen entry
+      found = found_filesystem after.filesystems is_world.files.one_filesystem (filesystem_seen entry)
+          (subst (Among (filesystem_seen entry)) (sym after_files) (among-map filesystem_seen base entry m))
+
+      by : (b : Bool) → nat_eq (counted entry.count) (counted node.filesystem.count) ≡ b
+          → (not b || is_some ((inodes_seen entry).inode (number_of node))) ≡ true
+      by false e = refl
+      by true e =
+          inode_is_there ((inodes_seen entry).inode (number_of node))
+          (directory_there (node_in ((inodes_seen entry).inode (number_of node)))
+          (ap (λ (f : Filesystem ℕ). is_directory_node (f.files.tree.node (number_of node)))
+          (sym found ∙ ap (filesystem_numbered nat_eq after) (eqb-true _ _ e)) ∙ directory))
+
+  pub new_uses_there : (entry : FilesystemEntry) → Among entry base → AreThere (counted entry.count) (inodes_seen entry) (gained_by new)
+  new_uses_there entry m = each new (λ mount n. n)
+    where
+      point_there : (mount : Mount) → Among mount new → (o : Option Location) → mount.mount_point ≡ o
+          → list_all (λ (inode : Inode). not (nat_eq (counted entry.count) inode.0) || is_some ((inodes_seen entry).inode inode.1)) (point_inodes o) ≡ true
+      point_there mount n None is = refl
+      point_there mount n (Some point) is =
+          let directory : is_directory_at nat_eq after (location_of point) ≡ true =
+          (and_parts _ _ (subst (λ o. list_all (is_directory_at nat_eq after) (option_to_list (option_map location_of o)) ≡ true) is (roots mount n).1)).0 in
+          λ i. there_in entry m point.node
+          (ap (λ number. is_directory_node ((filesystem_numbered nat_eq after number).files.tree.node (number_of point.node))) (sym (point_shown mount n point is)) ∙ directory) i && true
+
+      both : (test : Inode → Bool) (xs ys : List Inode) → list_all test xs ≡ true → list_all test ys ≡ true → list_all test (xs ++ ys) ≡ true
+      both test [] ys a b = b
+      both test (x ∷ xs) ys a b = let parts = and_parts (test x) (list_all test xs) a in λ i. parts.0 i && both test xs ys parts.1 b i
+
+      each : (some : List Mount) → ((mount : Mount) → Among mount some → Among mount new)
+          → AreThere (counted entry.count) (inodes_seen entry) (gained_by some)
+      each [] within = refl
+      each (mount ∷ rest) within = λ i.
+          there_in entry m mount.root (roots mount (within mount (inl refl))).0 i
+          && both (λ (inode : Inode). not (nat_eq (counted entry.count) inode.0) || is_some ((inodes_seen entry).inode inode.1))
+          (point_inodes mount.mount_point) (gained_by rest)
+          (point_there mount (within mount (inl refl)) mount.mount_point refl) (each rest (λ other n. within other (inr n))) i
+
+-- The filesystems after that
+module _ (old mounts : List MountEntry) (base filesystems : Filesystems) (new : List Mount)
+    (is_kept : kept mounts filesystems ≡ with_attached new (kept old base)) where
+  pub shown_are : shown filesystems ≡ map (with_mounts_on new) (shown base)
+  shown_are = ap (λ k. k.filesystems) is_kept ∙ shown_by_all new (shown base)
+
+  pub shown_was : (entry : FilesystemEntry) → Among entry filesystems
+      → (was : FilesystemEntry) × Among was base × (shown_entry entry ≡ with_mounts_on new (shown_entry was))
+  shown_was entry m =
+      let from = among-from_map (with_mounts_on new) (shown base) (shown_entry entry)
+      (subst (λ all. Among (shown_entry entry) all) shown_are (among-map shown_entry filesystems entry m)) in
+      let first = among-from_map shown_entry base from.0 from.1 in
+      (first.0, first.1, from.2 ∙ ap (with_mounts_on new) first.2)
+
+  pub same_numbers : map (λ (f : Filesystem ℕ). f.number) (filesystems_seen base) ≡ map (λ (entry : FilesystemEntry). counted entry.count) filesystems
+  same_numbers =
+      map_twice (λ (f : Filesystem ℕ). f.number) filesystem_seen base
+      ∙ sym (map_twice (λ (one : Shown). counted one.count) shown_entry base)
+      ∙ sym (map_twice (λ (one : Shown). counted one.count) (with_mounts_on new) (shown base))
+      ∙ sym (ap (map (λ (one : Shown). counted one.count)) shown_are)
+      ∙ map_twice (λ (one : Shown). counted one.count) shown_entry filesystems
+
+-- An inode of a filesystem that was there counts the mounts that came.
+pub old_is_counted : (value : WorldValue) → IsHeld value → (after : World ℕ) (new : List Mount) (was entry : FilesystemEntry)
+    → IsPlain after → Among was value.filesystems
+    → Exchanges (gained_by new) [] (counted was.count) (world_of value) after
+    → AreThere (counted was.count) (inodes_seen was) (gained_by new)
+    → shown_entry entry ≡ with_mounts_on new (shown_entry was)
+    → IsCounted after (filesystem_numbered nat_eq after (counted entry.count)) (inodes_seen entry)
+old_is_counted value whole after new was entry plain m exchanges there is =
+    subst (λ count. IsCounted after (filesystem_numbered nat_eq after (counted count)) (inodes_seen entry)) (sym (ap (λ (one : Shown). one.count) is))
+    (subst (IsCounted after (filesystem_numbered nat_eq after (counted was.count))) (sym (ap (λ (one : Shown). one.inodes) is))
+    (uses_are_exchanged (world_of value) after (gained_by new) [] (counted was.count) (inodes_seen was)
+    (worlds_have_trees (world_of value) whole.in_world) (worlds_are_in_use (world_of value) whole.in_world).inodes plain exchanges
+    (subst (λ f. IsCounted (world_of value) f (inodes_seen was))
+    (sym (found_filesystem (world_of value).filesystems whole.in_world.files.one_filesystem (filesystem_seen was)
+    (among-map filesystem_seen value.filesystems was m)))
+    (among_from_all (CountsItsMounts (world_of value)) value.filesystems whole.filesystems was m).inodes)
+    there))

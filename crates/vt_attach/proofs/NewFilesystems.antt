@@ -1,0 +1,93 @@
+-- A filesystem that is new: one empty directory, with a number that no other has.
+use Rattle.std.proofs.Common.{◌≡◌, refl, sym, ap, subst, ◌∙◌, inl, inr, ⊎_elim, ℕ, ◌<◌, ◌%◌, ◌/◌, ◌==◌, nat_eq, eq-eqb, eqb-true, nat_lt, Bool, true, false, true≢false, cond, not, ◌&&◌, ◌||◌, List, [], ◌∷◌, ◌++◌, map, flat_map, Some, None, arith}
+use Rattle.std.specs.Prelude.{All}
+use Rattle.std.proofs.lemmas.Bool.{ltb-true, ne_eqb}
+use Rattle.vt_spec.specs.Machine.Run.{used_by_filesystem, used_by_mount}
+use Rattle.vt_spec.specs.Machine.World.{Namespace, root_attr}
+use Rattle.vt_spec.specs.OneTree.Inodes.{Inodes}
+use Rattle.vt_count_laws.specs.Using.{root_counted}
+use Rattle.vt_fs.specs.FilesystemsValue.{FilesystemEntry, Filesystems, IsNew, entry_of, filesystem_seen, inodes_seen, without}
+use Rattle.vt_laws.proofs.Supports.{used_numbers_are_named}
+use Rattle.vt_letting_go.proofs.Lists.{Among, all_from_among, among-append, among-append_left, among-append_right, among-flat_map, among-map, among_from_all, filter_here, filter_skip, is_among_numbers}
+use Rattle.vt_location.specs.Numbers.{counted, inode_number, is_inode_of}
+use Rattle.vt_location.proofs.NumberLemmas.{is_inode}
+use Rattle.vt_run_laws.specs.Handed.{is_counted_before}
+use Rattle.vt_detach.specs.Held.{HasOwnInodes, IsHeld}
+use Rattle.vt_detach.specs.WorldValue.{WorldValue, world_of}
+use Rattle.vt_detach.proofs.FilesSeen.{two_left_out}
+use Rattle.vt_detach.proofs.OwnInodesKept.{IsOwn}
+
+-- what is counted before
+pub counted_before : (next count : ℕ) → is_counted_before next (counted count) ≡ true → count < next
+counted_before next count is = by (counted count % 2 == 0) refl (counted count % 4 == 1) (nat_lt (counted count / 4) next) refl is
+  where
+    by : (even : Bool) → (counted count % 2 == 0) ≡ even → (odd less : Bool) → nat_lt (counted count / 4) next ≡ less → (even || (odd && less)) ≡ true → count < next
+    by true e odd less f g = let zero = eqb-true (counted count % 2) 0 e in absurd (omega (arith, zero))
+    by false e true true f g = let low = ltb-true (counted count / 4) next f in omega (arith, low)
+    by false e true false f g = absurd (true≢false (sym g))
+    by false e false less f g = absurd (true≢false (sym g))
+
+pub filesystem_counted : (value : WorldValue) → IsHeld value → (entry : FilesystemEntry) → Among entry value.filesystems → entry.count < value.next
+filesystem_counted value whole entry m =
+    counted_before value.next entry.count
+    (used_numbers_are_named (is_counted_before value.next) (world_of value) whole.given (two_left_out value.next) (counted entry.count)
+    (is_among_numbers (counted entry.count) (mounts_used ++ files_used ++ namespaces_used)
+    (among-append_left (mounts_used ++ files_used) namespaces_used (counted entry.count)
+    (among-append_right mounts_used files_used (counted entry.count)
+    (among-flat_map used_by_filesystem (world_of value).filesystems (filesystem_seen entry) (counted entry.count)
+    (among-map filesystem_seen value.filesystems entry m) (inl refl))))))
+  where
+    mounts_used : List ℕ
+    mounts_used = flat_map used_by_mount (world_of value).mounts
+
+    files_used : List ℕ
+    files_used = flat_map used_by_filesystem (world_of value).filesystems
+
+    namespaces_used : List ℕ
+    namespaces_used = map (λ (namespace : Namespace ℕ). namespace.number) (world_of value).namespaces
+
+none_of : (filesystems : Filesystems) (count : ℕ) → ((entry : FilesystemEntry) → Among entry filesystems → entry.count < count)
+    → entry_of filesystems count ≡ None
+none_of [] count less = refl
+none_of (entry ∷ rest) count less =
+    ap (λ b. cond b (Some entry) (entry_of rest count))
+    (let low = less entry (inl refl) in ne_eqb count entry.count (λ same. absurd (omega (arith, low, same))))
+    ∙ none_of rest count (λ other m. less other (inr m))
+
+-- no filesystem has the next number
+pub next_is_free : (value : WorldValue) → IsHeld value → entry_of value.filesystems value.next ≡ None
+next_is_free value whole = none_of value.filesystems value.next (filesystem_counted value whole)
+
+-- what is added is taken out again
+pub removed_again : (filesystems : Filesystems) (entry : FilesystemEntry) (count : ℕ) → entry.count ≡ count → entry_of filesystems count ≡ None
+    → without count (filesystems ++ entry ∷ []) ≡ filesystems
+removed_again [] entry count is none = filter_skip (λ (other : FilesystemEntry). not (nat_eq count other.count)) entry [] (ap not (eq-eqb count entry.count (sym is)))
+removed_again (first ∷ rest) entry count is none = by (nat_eq count first.count) refl none (removed_again rest entry count is)
+  where
+    by : (b : Bool) → nat_eq count first.count ≡ b → cond b (Some first) (entry_of rest count) ≡ None
+        → (entry_of rest count ≡ None → without count (rest ++ entry ∷ []) ≡ rest)
+        → without count (first ∷ rest ++ entry ∷ []) ≡ first ∷ rest
+    by true e f later = absurd cc
+    by false e f later =
+        filter_here (λ (other : FilesystemEntry). not (nat_eq count other.count)) first (rest ++ entry ∷ []) (ap not e)
+        ∙ ap (λ others. first ∷ others) (later f)
+
+-- its inodes have numbers of its own
+pub new_is_own : (count : ℕ) (entry : FilesystemEntry) → IsNew count root_attr entry → IsOwn entry.count (inodes_seen entry)
+new_is_own count entry is number other = ap (λ (all : Inodes ℕ). all.inode number) is.inodes ∙ by (nat_eq number (inode_number count 0)) refl
+  where
+    by : (b : Bool) → nat_eq number (inode_number count 0) ≡ b
+        → cond b (Some (root_counted (inode_number count 0) 1)) None ≡ None
+    by true e =
+        absurd (true≢false (sym (is_inode count 0 (omega arith)) ∙ ap (is_inode_of count) (sym (eqb-true number (inode_number count 0) e))
+        ∙ ap (λ c. is_inode_of c number) (sym is.counts) ∙ other))
+    by false e = refl
+
+pub all_own : (value : WorldValue) → IsHeld value → (entry : FilesystemEntry) → IsNew value.next root_attr entry
+    → All HasOwnInodes (value.filesystems ++ entry ∷ [])
+all_own value whole entry is =
+    all_from_among HasOwnInodes (value.filesystems ++ entry ∷ []) (λ one m.
+    ⊎_elim
+    (λ old. among_from_all HasOwnInodes value.filesystems whole.own_inodes one old)
+    (λ last. ⊎_elim (λ same. subst HasOwnInodes (sym same) (new_is_own value.next entry is)) (λ none. absurd none) last)
+    (among-append value.filesystems (entry ∷ []) one m))

@@ -1,0 +1,4 @@
+pub mod Opening
+pub mod BoundCopies
+pub mod Copying
+pub mod Room

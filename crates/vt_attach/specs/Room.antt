@@ -1,0 +1,41 @@
+-- Room for the uses that new mounts make, and mounts that are taken out again.
+use Rattle.std.specs.Prelude.{Bool, List, None, Option, Some, find, nat_eq, nat_le, nat_lt, option_map, true, unwrap_or, ℕ, ◌&&◌}
+use Rattle.vt_fs.specs.FilesystemsValue.{Shown}
+use Rattle.vt_letting_go.specs.OneByOne.{Inode}
+use Rattle.vt_location.specs.declared.locations.Location.{Location}
+use Rattle.vt_location.specs.declared.mounts.Mount.{Mount}
+use Rattle.vt_location.specs.Numbers.{counted}
+use Rattle.vt_mount.specs.MountsValue.{MountEntry, without}
+use Rattle.vt_spec.specs.OneTree.Inodes.{uses_in}
+use Rattle.vt_detach.specs.Uses.{inode_of, mounts_shown}
+
+-- the most that is counted
+abbrev pub most_counted : ℕ
+most_counted = 18446744073709551615
+
+-- how often an inode is in use
+abbrev pub uses_shown : Inode → List Shown → ℕ
+uses_shown inode all =
+    unwrap_or (option_map (λ one. uses_in (one.inodes.inode inode.1)) (find (λ one. nat_eq inode.0 (counted one.count)) all)) 0
+
+abbrev pub point_has_room : ℕ → List Shown → Option Location → Bool
+point_has_room most all None = true
+point_has_room most all (Some point) = nat_le (uses_shown (inode_of point.node) all) most
+
+-- the root, the mount point and the filesystem of a mount have no more uses than so many
+abbrev pub has_room : ℕ → List Shown → Mount → Bool
+has_room most all mount =
+    nat_le (uses_shown (inode_of mount.root) all) most && point_has_room most all mount.mount_point
+    && nat_le (mounts_shown (counted mount.root.filesystem.count) all) most
+
+abbrev pub point_is_small : Option Location → Bool
+point_is_small None = true
+point_is_small (Some point) = nat_lt point.node.slot 18446744073709551616
+
+-- the inodes of its root and of its mount point are in slots
+abbrev pub has_small_slots : Mount → Bool
+has_small_slots mount = nat_lt mount.root.slot 18446744073709551616 && point_is_small mount.mount_point
+
+-- without the mount of this number
+abbrev pub without_one : List MountEntry → Mount → List MountEntry
+without_one entries mount = without (counted mount.number.count) entries

@@ -1,0 +1,123 @@
+//! Copies of a namespace's mounts: unshare(2) with `CLONE_NEWNS`.
+ghost use Rattle.std.specs.Prelude.{List, ℕ, ◌+◌, ◌*◌, ◌<◌, ◌≡◌, IfOk, false, find, length, map, nat_eq, option_map, true};
+ghost use Rattle.vt_location.specs.Locations.{location_of};
+ghost use Rattle.vt_location.specs.MountValue.{mount_of};
+ghost use Rattle.vt_location.specs.Numbers.{counted};
+ghost use Rattle.vt_mount.specs.MountsValue.{mounts_in, uses_of, writers_of};
+ghost use Rattle.vt_spec.specs.Lists.{holds_of};
+ghost use Rattle.vt_spec.specs.Machine.Mounts as meant;
+ghost use Rattle.vt_spec.specs.Machine.Namespaces.{location_on_copy};
+ghost use Rattle.vt_attach.specs.Copying.{AreOf, are_rising, attached_in, copied_by, copies_of, copy_numbers, moved_in, with_use_moved};
+
+use std::alloc::{AllocError, Global};
+use vt_location::{Location, Mount, MountId, NamespaceId};
+use vt_mount::Mounts;
+
+/// Copies of the mounts of a namespace in the one that is counted `next`, in their order: the copy of the i-th, from 0, is
+/// counted `next + 2·i + 1`, and its mount point is on the copy of its parent.
+pub(crate) fn copies(
+    alloc: Global,
+    mounts: &Mounts,
+    namespace: NamespaceId,
+    next: u64,
+) -> Result<Vec<Mount>, AllocError>
+    requires { next + 2 * length (attached_in (counted namespace.count) mounts.now) + 1 < u64.MAX }
+    ensures { IfOk result (λ copies. map mount_of copies.items ≡ copies_of next (attached_in (counted namespace.count) mounts.now)) }
+{
+    mounts.are_ascending();
+    let originals = mounts.attached_in(namespace);
+    let mut copies = Vec::with_capacity(alloc, originals.len())?;
+    for id in originals {
+        if let Some(mount) = mounts.get(*id) {
+            copies.push(copied(mount, originals, next))?;
+        }
+    }
+    Ok(copies)
+}
+
+/// Where a root or a working directory is once its namespace is copied: on the copy of its mount, if that was copied.
+pub fn moved(mounts: &Mounts, namespace: NamespaceId, at: Location, next: u64) -> Location
+    requires { next + 2 * length (attached_in (counted namespace.count) mounts.now) + 1 < u64.MAX }
+    ensures { location_of result ≡ moved_in next (attached_in (counted namespace.count) mounts.now) (location_of at) }
+{
+    mounts.are_ascending();
+    if is_in(mounts, at.mount, namespace) {
+        on_copy(at, mounts.attached_in(namespace), next)
+    } else {
+        at
+    }
+}
+
+// Whether a mount is attached in this namespace.
+fn is_in(mounts: &Mounts, id: MountId, namespace: NamespaceId) -> bool
+    ensures { result ≡ holds_of (λ mount. holds_of (nat_eq (counted namespace.count)) mount.namespace)
+        (find (λ mount. nat_eq (counted id.count) mount.number) (mounts_in mounts.now)) }
+{
+    match mounts.get(id) {
+        Some(mount) => mount.namespace == Some(namespace),
+        None => false,
+    }
+}
+
+// The copy of a mount.
+fn copied(mount: Mount, originals: &[MountId], next: u64) -> Mount
+    requires order { are_rising originals.now ≡ true }
+    requires room { next + 2 * length originals.now + 1 < u64.MAX }
+    ensures { (all : List (meant.Mount ℕ)) → AreOf originals.now all → mount_of result ≡ copied_by next all (mount_of mount) }
+{
+    Mount {
+        number: copy_number(mount.number, originals, next),
+        namespace: Some(NamespaceId::new(next)),
+        mount_point: point_on_copy(mount.mount_point, originals, next),
+        ..mount
+    }
+}
+
+// The mount point of the copy of a mount.
+fn point_on_copy(point: Option<Location>, originals: &[MountId], next: u64) -> Option<Location>
+    requires order { are_rising originals.now ≡ true }
+    requires room { next + 2 * length originals.now + 1 < u64.MAX }
+    ensures { (all : List (meant.Mount ℕ)) → AreOf originals.now all
+        → option_map location_of result ≡ option_map (location_on_copy (copy_numbers next all)) (option_map location_of point) }
+{
+    Some(on_copy(point?, originals, next))
+}
+
+// A location on the copy of its mount.
+fn on_copy(at: Location, originals: &[MountId], next: u64) -> Location
+    requires order { are_rising originals.now ≡ true }
+    requires room { next + 2 * length originals.now + 1 < u64.MAX }
+    ensures { (all : List (meant.Mount ℕ)) → AreOf originals.now all
+        → location_of result ≡ location_on_copy (copy_numbers next all) (location_of at) }
+{
+    Location {
+        mount: copy_number(at.mount, originals, next),
+        node: at.node,
+    }
+}
+
+// The number of the copy of a mount.
+fn copy_number(id: MountId, originals: &[MountId], next: u64) -> MountId
+    requires order { are_rising originals.now ≡ true }
+    requires room { next + 2 * length originals.now + 1 < u64.MAX }
+    ensures { (all : List (meant.Mount ℕ)) → AreOf originals.now all → counted result.count ≡ copy_numbers next all (counted id.count) }
+{
+    let place = originals
+        .binary_search_by_key(&id.count, |other| other.count)
+        .unwrap_or(0);
+    MountId::new(next + 2 * place as u64 + 1)
+}
+
+/// A use of a mount goes to another one, which has room for it. It takes no memory.
+pub fn move_use(mounts: &mut Mounts, from: MountId, to: MountId)
+    requires uses { nat_eq from.count to.count ≡ false → uses_of mounts.old (counted to.count) < u64.MAX }
+    requires writers { nat_eq from.count to.count ≡ false → writers_of mounts.old (counted to.count) < u64.MAX }
+    ensures { mounts.new ≡ with_use_moved (counted from.count) (counted to.count) mounts.old }
+{
+    if from == to {
+        return;
+    }
+    // It cannot fail: there is room.
+    let _ = mounts.hold(to, false);
+    mounts.release(from, false);
+}

@@ -1,0 +1,7 @@
+//! Mounts that are attached, and the copies that a bind and a new namespace attach, over mounts and filesystems whose uses are
+//! counted.
+#![tactic(auto)]
+
+pub mod attaching;
+pub mod bind_copies;
+pub mod copying;

@@ -1,0 +1,97 @@
+-- From what code counts to what the sweep leaves: where inodes got uses and lost uses, and mounts and filesystems went as the
+-- sweep says, the code's world is the one that the sweep leaves, and counts what is in it.
+use Rattle.std.proofs.Common.{◌≡◌, refl, sym, subst, ◌∙◌, ℕ, nat_eq, Bool, true, false, cond, not, List, map, None}
+use Rattle.vt_spec.specs.Machine.Receives.{has_members}
+use Rattle.vt_spec.specs.Machine.SameWorlds.{SameWorlds, without_changes}
+use Rattle.vt_spec.specs.Machine.Settled.{only_used, settled, without_dead_in}
+use Rattle.vt_spec.specs.Machine.World.{World, filesystem_numbered, is_overlay}
+use Rattle.vt_spec.specs.Machine.Invariants.{IsWorld}
+use Rattle.vt_count_laws.specs.Counted.{IsCounted, IsPlain}
+use Rattle.vt_count_laws.specs.Sweeping.{living}
+use Rattle.vt_count_laws.specs.Using.{AreThere, Exchanges, exchanged}
+use Rattle.vt_count_laws.proofs.Exchanged.{numbers_mapped}
+use Rattle.vt_count_laws.proofs.Sweeps.{uses_are_swept}
+use Rattle.vt_fs.specs.FilesystemsValue.{FilesystemEntry, filesystem_seen, inodes_seen}
+use Rattle.vt_letting_go.specs.OneByOne.{Inode}
+use Rattle.vt_letting_go.proofs.Lists.{Among, among-map, among_from_all}
+use Rattle.vt_letting_go.proofs.OfWorlds.{worlds_have_trees}
+use Rattle.vt_location.specs.Numbers.{counted}
+use Rattle.vt_mount.specs.MountsValue.{mounts_in}
+use Rattle.vt_world_laws.proofs.SettledSeen.{used_number}
+use Rattle.vt_world_laws.proofs.RaisedInUse.{worlds_are_in_use}
+use Rattle.vt_detach.specs.Held.{CountsItsMounts, IsHeld}
+use Rattle.vt_detach.specs.WorldValue.{WorldValue, world_of}
+pub use Rattle.vt_detach.proofs.Showing.{found_filesystem}
+use Rattle.vt_detach.proofs.Showing.{ShowsAs, shown_is_counted, shown_is_same}
+
+-- An entry comes from one of the same filesystem, in which inodes got these uses and lost those.
+pub record ComesFrom (old : WorldValue) (after : World ℕ) (gained lost : List Inode) (entry : FilesystemEntry) : Type 0 where
+  pub was : FilesystemEntry
+  pub among : Among was old.filesystems
+  pub count : entry.count ≡ was.count
+  pub there : AreThere (counted was.count) (inodes_seen was) gained
+  pub inodes : inodes_seen entry ≡ exchanged (counted was.count) gained lost (inodes_seen was)
+  pub exchanges : Exchanges gained lost (counted was.count) (world_of old) (living after)
+
+-- Mounts and filesystems are those that the sweep leaves, in their order.
+pub record IsSwept (old : WorldValue) (after : World ℕ) (gained lost : List Inode) (new : WorldValue) : Type 0 where
+  pub plain : IsPlain after
+  pub mounts : (living after).mounts ≡ mounts_in new.mounts
+  pub ungrouped : (group : ℕ) → after.master group ≡ None
+  pub plain_left : IsPlain (settled nat_eq after)
+  pub numbers : map (λ f. f.number) (living after).filesystems ≡ map (λ entry. counted entry.count) new.filesystems
+  pub entries : (entry : FilesystemEntry) → Among entry new.filesystems → ComesFrom old after gained lost entry
+  pub namespaces : (without_changes after).namespaces ≡ (without_changes (world_of new)).namespaces
+  pub tasks : (without_changes after).tasks ≡ (without_changes (world_of new)).tasks
+
+module _ (old : WorldValue) (held : IsHeld old) (after : World ℕ) (gained lost : List Inode) (new : WorldValue)
+    (swept : IsSwept old after gained lost new) (is_world : IsWorld nat_eq (settled nat_eq after)) where
+  abbrev left : World ℕ
+  left = settled nat_eq after
+
+  counted_left : (entry : FilesystemEntry) → Among entry new.filesystems
+      → IsCounted left (filesystem_numbered nat_eq left (counted entry.count)) (inodes_seen entry)
+  counted_left entry m =
+      let from = swept.entries entry m in
+      let was_counted = (among_from_all (CountsItsMounts (world_of old)) old.filesystems held.filesystems from.was from.among).inodes in
+      subst (λ count. IsCounted left (filesystem_numbered nat_eq left (counted count)) (inodes_seen entry)) (sym from.count)
+      (subst (IsCounted left (filesystem_numbered nat_eq left (counted from.was.count))) (sym from.inodes)
+      (uses_are_swept (world_of old) after gained lost (counted from.was.count) (inodes_seen from.was)
+      (worlds_have_trees (world_of old) held.in_world) (worlds_are_in_use (world_of old) held.in_world).inodes swept.plain from.exchanges
+      (subst (λ f. IsCounted (world_of old) f (inodes_seen from.was))
+      (sym (found_filesystem (world_of old).filesystems held.in_world.files.one_filesystem (filesystem_seen from.was)
+      (among-map filesystem_seen old.filesystems from.was from.among)))
+      was_counted)
+      from.there))
+
+  numbers_left : map (λ f. f.number) left.filesystems ≡ map (λ f. f.number) (living after).filesystems
+  numbers_left =
+      numbers_mapped (λ f. only_used nat_eq first_round (not (is_overlay f)) f) (λ f. used_number first_round (not (is_overlay f)) f) first_round.filesystems
+      ∙ numbers_mapped (λ f. only_used nat_eq (living after) (is_overlay f) f) (λ f. used_number (living after) (is_overlay f) f) (living after).filesystems
+    where
+      first_round : World ℕ
+      first_round = without_dead_in nat_eq is_overlay (living after)
+
+  no_master : (group : ℕ) (b : Bool) → cond b (after.master group) None ≡ None
+  no_master group true = swept.ungrouped group
+  no_master group false = refl
+
+  shows : ShowsAs left new
+  shows = record {
+    plain = swept.plain_left;
+    mounts = swept.mounts;
+    ungrouped = λ group. no_master group (has_members nat_eq left.mounts group);
+    numbers = numbers_left ∙ swept.numbers;
+    inodes = counted_left;
+    namespaces = swept.namespaces;
+    tasks = swept.tasks;
+  }
+
+  -- the code's world is the one that the sweep leaves
+  pub swept_is_same : SameWorlds left (world_of new)
+  swept_is_same = shown_is_same left new shows is_world
+
+  -- and its inodes count what is in it
+  pub swept_is_counted : (entry : FilesystemEntry) → Among entry new.filesystems → IsWorld nat_eq (world_of new)
+      → IsCounted (world_of new) (filesystem_seen entry) (inodes_seen entry)
+  swept_is_counted = shown_is_counted left new shows is_world

@@ -1,0 +1,209 @@
+-- The begin in a world with its invariants, and the end: where all mounts of a list are detached, the sweep's world is left.
+use Rattle.std.proofs.Common.{◌≡◌, refl, sym, ap, subst, ◌∙◌, inl, ℕ, nat_eq, Bool, true, false, true≢false, cond, ◌&&◌, List, [], map, Option, Some, None, option_map, is_some}
+use Rattle.std.specs.Prelude.{All, option_to_list}
+use Rattle.std.specs.List.{list_all}
+use Rattle.std.proofs.lemmas.Bool.{and_parts}
+use Rattle.vt_spec.specs.Language.Calls.{TaskName}
+use Rattle.vt_spec.specs.Lists.{is_among}
+use Rattle.vt_spec.specs.Machine.Detach.{after_going, mount_point_left, taken_away}
+use Rattle.vt_spec.specs.Machine.Mounts.{Location as Place, Mount, detached, mount_in}
+use Rattle.vt_spec.specs.Machine.Permits.{Permit}
+use Rattle.vt_spec.specs.Machine.Receives.{regrouped}
+use Rattle.vt_spec.specs.Machine.SameWorlds.{without_changes}
+use Rattle.vt_spec.specs.Machine.Settled.{settled}
+use Rattle.vt_spec.specs.Machine.World.{Filesystem, Task, World, filesystem_numbered, is_directory_at, mount_at, node_at, with_mounts}
+use Rattle.vt_spec.specs.Machine.Invariants.{has_its_root, is_located_well, is_there}
+use Rattle.vt_spec.specs.Tree.{is_directory_node}
+use Rattle.vt_count_laws.specs.Counted.{IsPlain}
+use Rattle.vt_count_laws.specs.Sweeping.{living}
+use Rattle.vt_count_laws.specs.Using.{Exchanges}
+use Rattle.vt_count_laws.proofs.MountRoots as Roots
+use Rattle.vt_fs.specs.FilesystemsValue.{Filesystems, Shown, filesystem_seen, shown_entry}
+use Rattle.vt_letting_go.specs.Counts.{mount_uses, mounts_showing, times}
+use Rattle.vt_letting_go.specs.Leaving.{stands_on_attached}
+use Rattle.vt_letting_go.specs.OneByOne.{Inode}
+use Rattle.vt_letting_go.proofs.Lists.{Among, all_from_among, all_pass, among-from_map, among-map, among_from_all, is_among_numbers, map_alike, map_twice, passes}
+use Rattle.vt_letting_go.proofs.MountingTaken as Taken
+use Rattle.vt_letting_go.proofs.OfWorlds.{mounts_of_worlds_stand}
+use Rattle.vt_letting_go.proofs.PlacesLeft.{found_is_there, number_found}
+use Rattle.vt_location.specs.Locations.{location_of}
+use Rattle.vt_location.specs.Numbers.{counted}
+use Rattle.vt_mount.specs.MountsValue.{MountEntry, mounts_in}
+use Rattle.vt_world_laws.proofs.RaisedInUse.{worlds_are_in_use}
+use Rattle.vt_world_laws.proofs.Roots.{directory_there}
+use Rattle.vt_detach.specs.Held.{CountsItsMounts, CountsItsUses, CountsWhatIsInIt, IsHeld, is_ungrouped, writes_of}
+use Rattle.vt_detach.specs.Uses.{kept}
+use Rattle.vt_detach.specs.WorldValue.{WorldValue, world_of}
+use Rattle.vt_detach.proofs.Bridging.{IsSwept}
+use Rattle.vt_detach.proofs.Detached.{IsDetaching}
+use Rattle.vt_detach.proofs.DetachingBegins.{HasChildrenOf, detached_world}
+use Rattle.vt_detach.proofs.Finishing.{CountsBeside, IsApplied, finished, is_left}
+use Rattle.vt_detach.proofs.Keeping.{IsKeptBut, detached_in, no_more}
+use Rattle.vt_detach.proofs.LocationsSeen.{seen_where_located}
+use Rattle.vt_detach.proofs.Moving.{map_itself}
+use Rattle.vt_detach.proofs.Remaining.{remade}
+use Rattle.vt_detach.proofs.Staying.{IsDone, world_is_plain}
+use Rattle.vt_detach.proofs.Ungrouped.{nothing_regrouped}
+
+-- What is kept of a world with its invariants
+
+module _ (value : WorldValue) (whole : IsHeld value) where
+  abbrev world : World ℕ
+  world = world_of value
+
+  -- mount points are there
+  pub point_located : (mount : Mount ℕ) → Among mount world.mounts → (place : Place ℕ) → mount.mount_point ≡ Some place → is_located_well nat_eq world place ≡ true
+  point_located mount m place p =
+      λ i. among i && there i
+    where
+      at_point : Among place (option_to_list mount.mount_point)
+      at_point = subst (λ o. Among place (option_to_list o)) (sym p) (inl refl)
+
+      attached : is_some (mount_at nat_eq world place).namespace ≡ true
+      attached =
+          passes (λ (one : Place ℕ). is_some (mount_at nat_eq world one).namespace) (option_to_list mount.mount_point)
+          (passes (stands_on_attached world) world.mounts (mounts_of_worlds_stand world whole.in_world).on_attached mount m) place at_point
+
+      among : is_among nat_eq place.mount (map (λ (x : Mount ℕ). x.number) world.mounts) ≡ true
+      among =
+          is_among_numbers place.mount (map (λ (x : Mount ℕ). x.number) world.mounts)
+          (subst (λ n. Among n (map (λ (x : Mount ℕ). x.number) world.mounts)) (number_found world.mounts place.mount)
+          (among-map (λ (x : Mount ℕ). x.number) world.mounts (mount_in nat_eq world.mounts place.mount) (found_is_there world.mounts place.mount attached)))
+
+      there : is_there nat_eq world (mount_at nat_eq world place).filesystem place.node ≡ true
+      there =
+          directory_there (node_at nat_eq world place)
+          (passes (is_directory_at nat_eq world) (option_to_list mount.mount_point)
+          (and_parts (is_directory_node ((filesystem_numbered nat_eq world mount.filesystem).files.tree.node mount.root))
+          (list_all (is_directory_at nat_eq world) (option_to_list mount.mount_point))
+          (passes (has_its_root nat_eq world) world.mounts whole.in_world.roots mount m)).1 place at_point)
+
+  pub held_is_kept : IsKeptBut value [] [] [] [] world (kept value.mounts value.filesystems)
+  held_is_kept = record {
+    mounts = map_itself (mounts_in value.mounts);
+    uses = whole.mounts;
+    numbers = map_twice (λ (f : Filesystem ℕ). f.number) filesystem_seen value.filesystems
+        ∙ sym (map_twice (λ (one : Shown). counted one.count) shown_entry value.filesystems);
+    filesystems = λ one m. let from = among-from_map shown_entry value.filesystems one m in record {
+      was = from.0;
+      among = from.1;
+      count = ap (λ (x : Shown). x.count) from.2;
+      there = refl;
+      inodes = ap (λ (x : Shown). x.inodes) from.2;
+      exchanges = record { same = refl; uses = λ n. refl };
+      mounts = ap (λ (x : Shown). x.mounts) from.2
+          ∙ (among_from_all (CountsItsMounts world) value.filesystems whole.filesystems from.0 from.1).mounts
+          ∙ ap (λ n. mounts_showing world (counted n)) (sym (ap (λ (x : Shown). x.count) from.2));
+    };
+    ungrouped = all_pass (λ (mount : Mount ℕ). is_ungrouped mount.propagation) world.mounts (λ mount m.
+        let from = among-from_map (λ (entry : MountEntry). entry.mount) value.mounts mount m in
+        ap (λ (x : Mount ℕ). is_ungrouped x.propagation) from.2
+        ∙ passes (λ (entry : MountEntry). is_ungrouped entry.mount.propagation) value.mounts whole.ungrouped from.0 from.1);
+    stand = mounts_of_worlds_stand world whole.in_world;
+    located = Roots.locations_of_worlds_stand world whole.in_world;
+    in_use = (worlds_are_in_use world whole.in_world).mounts;
+    mounted = (worlds_are_in_use world whole.in_world).filesystems;
+    plain = world_is_plain value;
+    points = λ mount m point p few. seen_where_located value whole point few (point_located mount m (location_of point) p);
+    places = λ mount m place p. refl;
+  }
+
+-- The end
+
+module _ (old : WorldValue) (after : World ℕ) (gained lost : List Inode) (new : WorldValue)
+    (is : IsKeptBut old [] [] gained lost (living after) (kept new.mounts new.filesystems)) (same_tasks : after.tasks ≡ new.tasks) where
+  mounts_are : (living after).mounts ≡ mounts_in new.mounts
+  mounts_are = is.mounts ∙ sym (map_itself (mounts_in new.mounts))
+
+  pub detached_swept : IsPlain after → ((group : ℕ) → after.master group ≡ None) → IsPlain (settled nat_eq after)
+      → (without_changes after).namespaces ≡ (without_changes (world_of new)).namespaces
+      → (without_changes after).tasks ≡ (without_changes (world_of new)).tasks → IsSwept old after gained lost new
+  detached_swept plain ungrouped plain_left namespaces tasks = record {
+    plain = plain;
+    mounts = mounts_are;
+    ungrouped = ungrouped;
+    plain_left = plain_left;
+    numbers = is.numbers ∙ map_twice (λ (one : Shown). counted one.count) shown_entry new.filesystems;
+    entries = λ entry m. let from = is.filesystems (shown_entry entry) (among-map shown_entry new.filesystems entry m) in record {
+      was = from.was;
+      among = from.among;
+      count = from.count;
+      there = from.there;
+      inodes = from.inodes;
+      exchanges = subst (λ all. Exchanges gained all (counted from.was.count) (world_of old) (living after)) (no_more lost) from.exchanges;
+    };
+    namespaces = namespaces;
+    tasks = tasks;
+  }
+
+  pub detached_counted : All (CountsWhatIsInIt (world_of new)) new.namespaces → CountsBeside new
+  detached_counted inside = record {
+    ungrouped = all_pass (λ (entry : MountEntry). is_ungrouped entry.mount.propagation) new.mounts (λ entry m.
+        passes (λ (mount : Mount ℕ). is_ungrouped mount.propagation) (living after).mounts is.ungrouped entry.mount
+        (subst (λ all. Among entry.mount all) (sym mounts_are) (among-map (λ (one : MountEntry). one.mount) new.mounts entry m)));
+    uses = all_from_among (CountsItsUses (world_of new)) new.mounts (λ entry m.
+        let counts = among_from_all (CountsItsUses (living after)) new.mounts is.uses entry m in
+        record {
+          uses = counts.uses ∙ (λ i. mount_uses (record after { tasks = same_tasks i }) entry.mount.number);
+          writers = counts.writers ∙ (λ i. writes_of entry.mount.number (same_tasks i));
+        });
+    mounts = λ entry m.
+        (is.filesystems (shown_entry entry) (among-map shown_entry new.filesystems entry m)).mounts
+        ∙ (λ i. times (λ (mount : Mount ℕ). nat_eq (counted entry.count) mount.filesystem) (mounts_are i));
+    namespaces = inside;
+  }
+
+-- Mounts that are taken away with all on them are detached.
+
+pub still_ungrouped : (gone : List ℕ) (mounts : List (Mount ℕ)) → list_all (λ (mount : Mount ℕ). is_ungrouped mount.propagation) mounts ≡ true
+    → list_all (λ (mount : Mount ℕ). is_ungrouped mount.propagation) (map (detached_in gone) mounts) ≡ true
+still_ungrouped gone mounts ungrouped =
+    all_pass (λ (mount : Mount ℕ). is_ungrouped mount.propagation) (map (detached_in gone) mounts) (λ mount m.
+    let from = among-from_map (detached_in gone) mounts mount m in
+    ap (λ (x : Mount ℕ). is_ungrouped x.propagation) from.2
+    ∙ by from.0 (is_among nat_eq from.0.number gone) (passes (λ (x : Mount ℕ). is_ungrouped x.propagation) mounts ungrouped from.0 from.1))
+  where
+    by : (mount : Mount ℕ) (b : Bool) → is_ungrouped mount.propagation ≡ true → is_ungrouped (cond b (detached mount) mount).propagation ≡ true
+    by mount true h = refl
+    by mount false h = h
+
+pub taken_is_detached : (world : World ℕ) (gone : List ℕ) → list_all (λ (mount : Mount ℕ). is_ungrouped mount.propagation) world.mounts ≡ true
+    → HasChildrenOf gone world.mounts → taken_away nat_eq world gone ≡ detached_world gone world
+taken_is_detached world gone ungrouped closed =
+    ap (λ mounts. regrouped nat_eq (with_mounts world mounts))
+    (map_alike (after_going nat_eq world gone) (detached_in gone) world.mounts (λ mount m. same mount m (is_among nat_eq mount.number gone) refl))
+    ∙ nothing_regrouped (detached_world gone world) (still_ungrouped gone world.mounts ungrouped)
+  where
+    stays_placed : (mount : Mount ℕ) → Among mount world.mounts → is_among nat_eq mount.number gone ≡ false → (o : Option (Place ℕ)) → mount.mount_point ≡ o
+        → option_map (mount_point_left nat_eq world gone) o ≡ o
+    stays_placed mount m e None p = refl
+    stays_placed mount m e (Some place) p =
+        ap (option_map (mount_point_left nat_eq world gone)) (sym p)
+        ∙ ap (λ (x : Mount ℕ). x.mount_point) (sym (Taken.stays world gone world.namespaces mount e))
+        ∙ Taken.same_place world gone world.namespaces false mount place p e (other (is_among nat_eq place.mount gone) refl)
+      where
+        other : (b : Bool) → is_among nat_eq place.mount gone ≡ b → b ≡ false
+        other true h = absurd (true≢false (sym (closed mount m place p h) ∙ e))
+        other false h = refl
+
+    same : (mount : Mount ℕ) → Among mount world.mounts → (b : Bool) → is_among nat_eq mount.number gone ≡ b
+        → cond b (detached mount) (record mount { mount_point = option_map (mount_point_left nat_eq world gone) mount.mount_point }) ≡ cond b (detached mount) mount
+    same mount m true e = refl
+    same mount m false e = ap (λ place. record mount { mount_point = place }) (stays_placed mount m e mount.mount_point refl)
+
+-- An event in which mounts of a list are detached, and nothing else happens
+pub detached_done : (value : WorldValue) (name : TaskName) (permit : Permit ℕ) (task : Task ℕ) (gone : List ℕ) (mounts : List MountEntry) (filesystems : Filesystems)
+    → IsHeld value → IsApplied value name permit task (detached_world gone (world_of value))
+    → IsDetaching value [] (living (detached_world gone (world_of value))) [] (kept mounts filesystems)
+    → IsDone value name permit (remade value mounts filesystems value.tasks)
+detached_done value name permit task gone mounts filesystems whole is detaching =
+    let after = detached_world gone (world_of value) in
+    let new = remade value mounts filesystems value.tasks in
+    let kept_last = subst (λ one. IsKeptBut value [] [] [] detaching.lost one (kept mounts filesystems)) detaching.ends detaching.is in
+    finished value whole name permit task after is [] detaching.lost new
+    (detached_swept value after [] detaching.lost new kept_last refl (world_is_plain value) (λ group. refl)
+    (is_left value whole name permit task after is).1 refl refl)
+    (detached_counted value after [] detaching.lost new kept_last refl
+    (all_from_among (CountsWhatIsInIt (world_of new)) value.namespaces (λ entry m.
+    let was = among_from_all (CountsWhatIsInIt (world_of value)) value.namespaces whole.namespaces entry m in record { tasks = was.tasks })))
+    refl

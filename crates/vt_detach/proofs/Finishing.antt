@@ -1,0 +1,126 @@
+-- The end of an event: the world that the sweep leaves has its invariants, and counts what is in it.
+use Rattle.std.proofs.Common.{◌≡◌, refl, sym, subst, ℕ, nat_eq, Bool, true, false, cond, List, [], ◌∷◌, Some}
+use Rattle.std.specs.Prelude.{All}
+use Rattle.std.specs.List.{list_all}
+use Rattle.vt_spec.specs.Language.Calls.{TaskName}
+use Rattle.vt_spec.specs.Lists.{Fresh, folded}
+use Rattle.vt_spec.specs.Machine.Apply.{apply}
+use Rattle.vt_spec.specs.Machine.Permits.{Permit}
+use Rattle.vt_spec.specs.Machine.SameWorlds.{SameWorlds}
+use Rattle.vt_spec.specs.Machine.Settled.{settled}
+use Rattle.vt_spec.specs.Machine.World.{Task, World, task_called}
+use Rattle.vt_spec.specs.Machine.Invariants.{IsWorld}
+use Rattle.vt_spec.specs.OneTree.Inodes.{Inodes, pinned, unpinned}
+use Rattle.vt_count_laws.specs.Counted.{IsPlain}
+use Rattle.vt_count_laws.specs.Using.{exchanged, pinned_if, unpinned_if}
+use Rattle.vt_fs.specs.FilesystemsValue.{FilesystemEntry, inodes_seen}
+use Rattle.vt_laws.specs.Numbers.{KeepsTo}
+use Rattle.vt_letting_go.specs.Counts.{mounts_showing}
+use Rattle.vt_letting_go.specs.OneByOne.{Inode}
+use Rattle.vt_letting_go.proofs.Lists.{Among, all_from_among, among_from_all}
+use Rattle.vt_location.specs.Numbers.{counted}
+use Rattle.vt_permit_laws.specs.Left.{IsGiven}
+use Rattle.vt_permit_laws.specs.Named.{permit_named}
+use Rattle.vt_permit_laws.proofs.PermitsKeepTo.{permits_keep_to_numbers}
+use Rattle.vt_permit_laws.proofs.PermitsLeave.{given_permits_leave_worlds}
+use Rattle.vt_permit_laws.proofs.SameInUse.{same_worlds_are_worlds}
+use Rattle.vt_permit_laws.proofs.SameNumbers.{same_worlds_keep_to_numbers}
+use Rattle.vt_run_laws.specs.Handed.{is_counted_before}
+use Rattle.vt_detach.specs.Events.{supply_of}
+use Rattle.vt_detach.specs.Held.{CountsItsMounts, CountsItsUses, CountsWhatIsInIt, HasOwnInodes, IsHeld, is_ungrouped}
+use Rattle.vt_detach.specs.WorldValue.{WorldValue, world_of}
+use Rattle.vt_detach.proofs.OwnInodesKept.{IsOwn, own_pinned, own_unpinned}
+use Rattle.vt_detach.proofs.Bridging.{IsSwept, swept_is_counted, swept_is_same}
+use Rattle.vt_detach.proofs.Staying.{IsDone, becomes_so, world_is_plain}
+
+-- inodes that get uses and lose uses keep numbers of their own
+
+pinned_own : (count : ℕ) (gained : List Inode) (inodes : Inodes ℕ) → IsOwn count inodes
+    → IsOwn count (folded (pinned_if (counted count)) inodes gained)
+pinned_own count [] inodes own = own
+pinned_own count (inode ∷ rest) inodes own =
+    pinned_own count rest (pinned_if (counted count) inodes inode) (by (nat_eq (counted count) inode.0))
+  where
+    by : (b : Bool) → IsOwn count (cond b (pinned nat_eq inodes inode.1) inodes)
+    by true = own_pinned count inodes inode.1 own
+    by false = own
+
+unpinned_own : (count : ℕ) (lost : List Inode) (inodes : Inodes ℕ) → IsOwn count inodes
+    → IsOwn count (folded (unpinned_if (counted count)) inodes lost)
+unpinned_own count [] inodes own = own
+unpinned_own count (inode ∷ rest) inodes own =
+    unpinned_own count rest (unpinned_if (counted count) inodes inode) (by (nat_eq (counted count) inode.0))
+  where
+    by : (b : Bool) → IsOwn count (cond b (unpinned nat_eq inodes inode.1) inodes)
+    by true = own_unpinned count inodes inode.1 own
+    by false = own
+
+pub own_exchanged : (count : ℕ) (gained lost : List Inode) (inodes : Inodes ℕ) → IsOwn count inodes
+    → IsOwn count (exchanged (counted count) gained lost inodes)
+own_exchanged count gained lost inodes own =
+    unpinned_own count lost (folded (pinned_if (counted count)) inodes gained) (pinned_own count gained inodes own)
+
+-- a permit of a task, and the world that its event leaves before what nothing uses is gone, whatever numbers are handed in
+pub record IsApplied (value : WorldValue) (name : TaskName) (permit : Permit ℕ) (task : Task ℕ) (next : World ℕ) : Type 0 where
+  pub called : task_called (world_of value) name ≡ Some task
+  pub given : IsGiven (supply_of value permit) (world_of value) task permit
+  pub named : permit_named (is_counted_before value.next) permit ≡ true
+  pub applied : (fresh : Fresh ℕ) → (apply nat_eq fresh (world_of value) task permit).world ≡ next
+
+-- what is counted beside inodes
+pub record CountsBeside (new : WorldValue) : Type 0 where
+  pub ungrouped : list_all (λ entry. is_ungrouped entry.mount.propagation) new.mounts ≡ true
+  pub uses : All (CountsItsUses (world_of new)) new.mounts
+  pub mounts : (entry : FilesystemEntry) → Among entry new.filesystems → entry.mounts ≡ mounts_showing (world_of new) (counted entry.count)
+  pub namespaces : All (CountsWhatIsInIt (world_of new)) new.namespaces
+
+-- what is left is a world, so the code's world has its invariants
+module _ (value : WorldValue) (whole : IsHeld value) (next : World ℕ)
+    (left : IsWorld nat_eq (settled nat_eq next) × IsPlain (settled nat_eq next)) where
+  pub swept_held : (gained lost : List Inode) (new : WorldValue) → IsSwept value next gained lost new → CountsBeside new
+      → KeepsTo (is_counted_before new.next) (world_of new) → IsHeld new
+  swept_held gained lost new swept counts keeps =
+      let same = swept_is_same value whole next gained lost new swept left.0 in
+      let world = same_worlds_are_worlds (settled nat_eq next) (world_of new) same left.1 left.0 in
+      record {
+        in_world = world.0;
+        ungrouped = counts.ungrouped;
+        given = keeps;
+        mounts = counts.uses;
+        filesystems = all_from_among (CountsItsMounts (world_of new)) new.filesystems (λ entry m. record {
+          mounts = counts.mounts entry m;
+          inodes = swept_is_counted value whole next gained lost new swept left.0 entry m world.0;
+        });
+        own_inodes = all_from_among HasOwnInodes new.filesystems (λ entry m. let from = swept.entries entry m in
+            subst (λ count. IsOwn count (inodes_seen entry)) (sym from.count)
+            (subst (IsOwn from.was.count) (sym from.inodes)
+            (own_exchanged from.was.count gained lost (inodes_seen from.was)
+            (among_from_all HasOwnInodes value.filesystems whole.own_inodes from.was from.among))));
+        namespaces = counts.namespaces;
+      }
+
+module _ (value : WorldValue) (whole : IsHeld value) (name : TaskName) (permit : Permit ℕ) (task : Task ℕ) (next : World ℕ)
+    (is : IsApplied value name permit task next) where
+  -- what is left is a world
+  pub is_left : IsWorld nat_eq (settled nat_eq next) × IsPlain (settled nat_eq next)
+  is_left =
+      subst (λ world. IsWorld nat_eq (settled nat_eq world) × IsPlain (settled nat_eq world)) (is.applied (supply_of value permit))
+      (given_permits_leave_worlds (world_of value) (supply_of value permit) task permit whole.in_world (world_is_plain value) is.given)
+
+  pub keeps_left : KeepsTo (is_counted_before value.next) (settled nat_eq next)
+  keeps_left =
+      subst (λ world. KeepsTo (is_counted_before value.next) (settled nat_eq world)) (is.applied (λ k. 0))
+      (permits_keep_to_numbers (is_counted_before value.next) (λ k. 0) (world_of value) task permit is.given.called whole.given (λ k. refl) is.named)
+
+  pub finished : (gained lost : List Inode) (new : WorldValue) → IsSwept value next gained lost new → CountsBeside new → new.next ≡ value.next
+      → IsDone value name permit new
+  finished gained lost new swept counts same_next =
+      let left = is_left in
+      let same = swept_is_same value whole next gained lost new swept left.0 in
+      record {
+        held = swept_held value whole next left gained lost new swept counts
+            (subst (λ count. KeepsTo (is_counted_before count) (world_of new)) (sym same_next)
+            (same_worlds_keep_to_numbers (is_counted_before value.next) (settled nat_eq next) (world_of new) same left.1 keeps_left));
+        becomes = becomes_so value name permit new task is.called
+            (subst (λ one. SameWorlds (settled nat_eq one) (world_of new)) (sym (is.applied (supply_of value permit))) same);
+      }

@@ -1,0 +1,388 @@
+-- A lazy unmount, in a world in which no mount is in a group: each of its events detaches one mount of the tree, and in the
+-- end all of them are detached.
+use Rattle.std.proofs.Common.{◌≡◌, refl, sym, ap, subst, ◌∙◌, inl, inr, ⊎_elim, ◌⊎◌, ℕ, zero, suc, nat_eq, eqb-true, eq-eqb, Bool, true, false, true≢false, cond, not, ◌&&◌, ◌||◌, List, [], ◌∷◌, ◌++◌, map, find, flat_map, length, Option, Some, None, option_map, is_some, unwrap_or}
+use Rattle.std.specs.Prelude.{nat_lt}
+use Rattle.std.specs.List.{list_all}
+use Rattle.vt_spec.specs.Lists.{any_pair, folded, holds_of, is_among}
+use Rattle.vt_spec.specs.Machine.Detach.{after_going, deepest_first, depth_of, insert_deepest, is_going, lazily_unmounted, mount_point_left, taken_away, unmounted, unmounted_if_there}
+use Rattle.vt_spec.specs.Machine.Mounts.{Location as Place, Mount, children, detached, mount_in, mount_tree, no_mount, stands_on, tree_from}
+use Rattle.vt_spec.specs.Machine.Receives.{regrouped}
+use Rattle.vt_spec.specs.Machine.World.{World, mount_numbered, with_mounts}
+use Rattle.vt_spec.specs.Machine.Invariants.{MountInvariants, is_nowhere_or_attached, is_private}
+use Rattle.vt_spec.proofs.Lists as Spec
+use Rattle.vt_letting_go.proofs.Lists.{Among, all_pass, among-from_filter, among-from_flat_map, among-from_map, among-map, among_numbers, is_among_numbers, map_alike, map_twice, passes}
+use Rattle.vt_letting_go.proofs.MountingTaken as Taken
+use Rattle.vt_letting_go.proofs.PlacesLeft.{found_is_there, found_itself}
+use Rattle.vt_mount_laws.proofs.Standing.{standing_is_computed}
+use Rattle.vt_mount_laws.proofs.UnmountingTrees.{trees_closed}
+use Rattle.vt_detach.specs.Held.{is_ungrouped}
+use Rattle.vt_detach.proofs.DetachingBegins.{HasChildrenOf, detached_world}
+use Rattle.vt_detach.proofs.Keeping.{detached_in}
+use Rattle.vt_detach.proofs.MountsGone.{found_mapped}
+use Rattle.vt_detach.proofs.Moving.{map_itself}
+use Rattle.vt_detach.proofs.UnmountedAlone.{goes_alone}
+use Rattle.vt_detach.proofs.Ungrouped.{nothing_regrouped}
+
+-- Mounts ordered by their depth are the same mounts
+
+module _ (world : World ℕ) where
+  insert_among : (x mount : Mount ℕ) (sorted : List (Mount ℕ)) → (x ≡ mount) ⊎ Among x sorted → Among x (insert_deepest nat_eq world mount sorted)
+  insert_among x mount [] m = m
+  insert_among x mount (other ∷ rest) m =
+      by (nat_lt (depth_of nat_eq world mount) (depth_of nat_eq world other)) (insert_among x mount rest) m
+    where
+      by : (b : Bool) → ((x ≡ mount) ⊎ Among x rest → Among x (insert_deepest nat_eq world mount rest)) → (x ≡ mount) ⊎ Among x (other ∷ rest)
+          → Among x (cond b (other ∷ insert_deepest nat_eq world mount rest) (mount ∷ other ∷ rest))
+      by true next n = ⊎_elim (λ same. inr (next (inl same))) (λ later. ⊎_elim (λ same. inl same) (λ l. inr (next (inr l))) later) n
+      by false next n = n
+
+  among_insert : (x mount : Mount ℕ) (sorted : List (Mount ℕ)) → Among x (insert_deepest nat_eq world mount sorted) → (x ≡ mount) ⊎ Among x sorted
+  among_insert x mount [] m = m
+  among_insert x mount (other ∷ rest) m =
+      by (nat_lt (depth_of nat_eq world mount) (depth_of nat_eq world other)) (among_insert x mount rest) m
+    where
+      by : (b : Bool) → (Among x (insert_deepest nat_eq world mount rest) → (x ≡ mount) ⊎ Among x rest)
+          → Among x (cond b (other ∷ insert_deepest nat_eq world mount rest) (mount ∷ other ∷ rest)) → (x ≡ mount) ⊎ Among x (other ∷ rest)
+      by true next n = ⊎_elim (λ same. inr (inl same)) (λ later. ⊎_elim (λ same. inl same) (λ l. inr (inr l)) (next later)) n
+      by false next n = n
+
+  abbrev sorted_with : List (Mount ℕ) → List (Mount ℕ) → List (Mount ℕ)
+  sorted_with start mounts = folded (λ sorted mount. insert_deepest nat_eq world mount sorted) start mounts
+
+  sorted_among : (x : Mount ℕ) (mounts start : List (Mount ℕ)) → Among x start ⊎ Among x mounts → Among x (sorted_with start mounts)
+  sorted_among x [] start m = ⊎_elim (λ s. s) (λ none. absurd none) m
+  sorted_among x (mount ∷ mounts) start m =
+      sorted_among x mounts (insert_deepest nat_eq world mount start)
+      (⊎_elim (λ s. inl (insert_among x mount start (inr s)))
+      (λ later. ⊎_elim (λ same. inl (insert_among x mount start (inl same))) (λ l. inr l) later) m)
+
+  among_sorted : (x : Mount ℕ) (mounts start : List (Mount ℕ)) → Among x (sorted_with start mounts) → Among x start ⊎ Among x mounts
+  among_sorted x [] start m = inl m
+  among_sorted x (mount ∷ mounts) start m =
+      ⊎_elim
+      (λ s. ⊎_elim (λ same. inr (inl same)) (λ l. inl l) (among_insert x mount start s))
+      (λ later. inr (inr later))
+      (among_sorted x mounts (insert_deepest nat_eq world mount start) m)
+
+-- One event after the other
+
+module _ (world : World ℕ) (ungrouped : list_all (λ (mount : Mount ℕ). is_ungrouped mount.propagation) world.mounts ≡ true)
+    (one : any_pair (λ (a b : Mount ℕ). nat_eq a.number b.number) world.mounts ≡ false)
+    (tree : List ℕ) (closed : HasChildrenOf tree world.mounts)
+    (attached : (mount : Mount ℕ) → Among mount world.mounts → is_among nat_eq mount.number tree ≡ true → is_some mount.namespace ≡ true) where
+  -- these are detached, and others of the tree may have other mount points
+  record IsUnderway (done : List ℕ) (now : World ℕ) : Type 0 where
+    change : Mount ℕ → Mount ℕ
+    is : now ≡ with_mounts world (map change world.mounts)
+    number : (mount : Mount ℕ) → (change mount).number ≡ mount.number
+    same : (mount : Mount ℕ) → detached (change mount) ≡ detached mount
+    gone : (mount : Mount ℕ) → Among mount world.mounts → is_among nat_eq mount.number done ≡ true → change mount ≡ detached mount
+    others : (mount : Mount ℕ) → Among mount world.mounts → is_among nat_eq mount.number tree ≡ false → change mount ≡ mount
+    waiting : (mount : Mount ℕ) → Among mount world.mounts → is_among nat_eq mount.number done ≡ false → (change mount).namespace ≡ mount.namespace
+    ungrouped_still : (mount : Mount ℕ) → is_ungrouped mount.propagation ≡ true → is_ungrouped (change mount).propagation ≡ true
+
+  begun : IsUnderway [] world
+  begun = record {
+    change = λ mount. mount;
+    is = ap (with_mounts world) (map_itself world.mounts);
+    number = λ mount. refl;
+    same = λ mount. refl;
+    gone = λ mount m e. absurd (true≢false (sym e));
+    others = λ mount m e. refl;
+    waiting = λ mount m e. refl;
+    ungrouped_still = λ mount e. e;
+  }
+
+  module _ (done : List ℕ) (now : World ℕ) (so : IsUnderway done now) (number : ℕ) (in_tree : is_among nat_eq number tree ≡ true) where
+    -- the mount of that number now
+    now_is : (mount : Mount ℕ) → Among mount world.mounts → mount.number ≡ number → mount_numbered nat_eq now number ≡ so.change mount
+    now_is mount m numbered =
+        ap (λ (w : World ℕ). mount_numbered nat_eq w number) so.is
+        ∙ ap (λ o. unwrap_or o (no_mount number)) (found_mapped so.change so.number world.mounts number)
+        ∙ ap (λ o. unwrap_or (option_map so.change o) (no_mount number)) (found mount m numbered)
+      where
+        found : (mount : Mount ℕ) → Among mount world.mounts → mount.number ≡ number
+            → find (λ (x : Mount ℕ). nat_eq number x.number) world.mounts ≡ Some mount
+        found mount m numbered = by (find (λ (x : Mount ℕ). nat_eq number x.number) world.mounts) refl
+          where
+            itself : mount_in nat_eq world.mounts number ≡ mount
+            itself = ap (mount_in nat_eq world.mounts) (sym numbered) ∙ found_itself world.mounts one mount m
+
+            by : (o : Option (Mount ℕ)) → find (λ (x : Mount ℕ). nat_eq number x.number) world.mounts ≡ o → o ≡ Some mount
+            by None e = absurd (true≢false (sym (attached mount m (ap (λ n. is_among nat_eq n tree) numbered ∙ in_tree))
+                ∙ ap (λ (x : Mount ℕ). is_some x.namespace) (sym itself) ∙ ap (λ o. is_some (unwrap_or o (no_mount number)).namespace) e))
+            by (Some x) e = ap Some (ap (λ o. unwrap_or o (no_mount number)) (sym e) ∙ itself)
+
+    split : (mount : Mount ℕ) → is_among nat_eq mount.number (number ∷ done) ≡ true
+        → (mount.number ≡ number) ⊎ (is_among nat_eq mount.number done ≡ true)
+    split mount e = by (nat_eq mount.number number) refl e
+      where
+        by : (b : Bool) → nat_eq mount.number number ≡ b → (b || is_among nat_eq mount.number done) ≡ true
+            → (mount.number ≡ number) ⊎ (is_among nat_eq mount.number done ≡ true)
+        by true f h = inl (eqb-true mount.number number f)
+        by false f h = inr h
+
+    apart : (mount : Mount ℕ) → is_among nat_eq mount.number (number ∷ done) ≡ false
+        → (nat_eq mount.number number ≡ false) × (is_among nat_eq mount.number done ≡ false)
+    apart mount e = by (nat_eq mount.number number) refl e
+      where
+        by : (b : Bool) → nat_eq mount.number number ≡ b → (b || is_among nat_eq mount.number done) ≡ false
+            → (nat_eq mount.number number ≡ false) × (is_among nat_eq mount.number done ≡ false)
+        by true f h = absurd (true≢false h)
+        by false f h = (f, h)
+
+    -- an event that is skipped
+    skipped : is_some (mount_numbered nat_eq now number).namespace ≡ false → IsUnderway (number ∷ done) now
+    skipped nowhere = record {
+      change = so.change;
+      is = so.is;
+      number = so.number;
+      same = so.same;
+      gone = λ mount m e. ⊎_elim (λ numbered. earlier mount m numbered (is_among nat_eq mount.number done) refl) (λ before. so.gone mount m before) (split mount e);
+      others = so.others;
+      waiting = λ mount m e. so.waiting mount m (apart mount e).1;
+      ungrouped_still = so.ungrouped_still;
+    }
+      where
+        earlier : (mount : Mount ℕ) → Among mount world.mounts → mount.number ≡ number → (b : Bool) → is_among nat_eq mount.number done ≡ b → so.change mount ≡ detached mount
+        earlier mount m numbered true e = so.gone mount m e
+        earlier mount m numbered false e =
+            absurd (true≢false (sym (attached mount m (ap (λ n. is_among nat_eq n tree) numbered ∙ in_tree))
+            ∙ ap is_some (sym (so.waiting mount m e)) ∙ ap (λ (x : Mount ℕ). is_some x.namespace) (sym (now_is mount m numbered)) ∙ nowhere))
+
+    -- an event that detaches the mount
+    abbrev next_change : Mount ℕ → Mount ℕ
+    next_change mount = after_going nat_eq now (number ∷ []) (so.change mount)
+
+    now_mounts : now.mounts ≡ map so.change world.mounts
+    now_mounts = ap (λ (w : World ℕ). w.mounts) so.is
+
+    now_ungrouped : (change : Mount ℕ → Mount ℕ) → ((mount : Mount ℕ) → is_ungrouped mount.propagation ≡ true → is_ungrouped (change mount).propagation ≡ true)
+        → list_all (λ (mount : Mount ℕ). is_ungrouped mount.propagation) (map change world.mounts) ≡ true
+    now_ungrouped change still =
+        all_pass (λ (mount : Mount ℕ). is_ungrouped mount.propagation) (map change world.mounts) (λ mount m.
+        let from = among-from_map change world.mounts mount m in
+        ap (λ (x : Mount ℕ). is_ungrouped x.propagation) from.2
+        ∙ still from.0 (passes (λ (x : Mount ℕ). is_ungrouped x.propagation) world.mounts ungrouped from.0 from.1))
+
+    going_so : (x : Mount ℕ) → x.number ≡ number → after_going nat_eq now (number ∷ []) x ≡ detached x
+    going_so x numbered =
+        ap (λ b. cond (b || false) (detached x) (record x { mount_point = option_map (mount_point_left nat_eq now (number ∷ [])) x.mount_point }))
+        (eq-eqb x.number number numbered)
+
+    stays_so : (x : Mount ℕ) → nat_eq x.number number ≡ false → is_going nat_eq (number ∷ []) x.number ≡ false
+    stays_so x other = ap (λ b. b || false) other
+
+    unplaced_stays : (x : Mount ℕ) → nat_eq x.number number ≡ false → x.mount_point ≡ None → after_going nat_eq now (number ∷ []) x ≡ x
+    unplaced_stays x other none =
+        Taken.stays now (number ∷ []) now.namespaces x (stays_so x other)
+        ∙ (λ i. record x { mount_point = (ap (option_map (mount_point_left nat_eq now (number ∷ []))) none ∙ sym none) i })
+
+    placed_stays : (x : Mount ℕ) (place : Place ℕ) → nat_eq x.number number ≡ false → x.mount_point ≡ Some place → nat_eq place.mount number ≡ false
+        → after_going nat_eq now (number ∷ []) x ≡ x
+    placed_stays x place other p apart_from =
+        let stays = Taken.stays now (number ∷ []) now.namespaces x (stays_so x other) in
+        stays
+        ∙ (λ i. record x {
+          mount_point = (ap (λ (y : Mount ℕ). y.mount_point) (sym stays)
+              ∙ Taken.same_place now (number ∷ []) now.namespaces false x place p (stays_so x other) (ap (λ b. b || false) apart_from) ∙ sym p) i;
+        })
+
+    -- one outside the tree stands on none of it
+    outside_stays : (mount : Mount ℕ) → Among mount world.mounts → is_among nat_eq mount.number tree ≡ false → after_going nat_eq now (number ∷ []) mount ≡ mount
+    outside_stays mount m out = by mount.mount_point refl
+      where
+        other : (n : ℕ) → is_among nat_eq n tree ≡ false → nat_eq n number ≡ false
+        other n outside = here (nat_eq n number) refl
+          where
+            here : (b : Bool) → nat_eq n number ≡ b → b ≡ false
+            here true e = absurd (true≢false (sym in_tree ∙ ap (λ k. is_among nat_eq k tree) (sym (eqb-true n number e)) ∙ outside))
+            here false e = refl
+
+        by : (o : Option (Place ℕ)) → mount.mount_point ≡ o → after_going nat_eq now (number ∷ []) mount ≡ mount
+        by None p = unplaced_stays mount (other mount.number out) p
+        by (Some place) p =
+            placed_stays mount place (other mount.number out) p (other place.mount (under (is_among nat_eq place.mount tree) refl))
+          where
+            under : (b : Bool) → is_among nat_eq place.mount tree ≡ b → b ≡ false
+            under true e = absurd (true≢false (sym (closed mount m place p e) ∙ out))
+            under false e = refl
+
+    detached_alike : (x : Mount ℕ) → detached (after_going nat_eq now (number ∷ []) x) ≡ detached x
+    detached_alike x = by (is_going nat_eq (number ∷ []) x.number)
+      where
+        by : (b : Bool) → detached (cond b (detached x) (record x { mount_point = option_map (mount_point_left nat_eq now (number ∷ [])) x.mount_point })) ≡ detached x
+        by true = refl
+        by false = refl
+
+    ungrouped_alike : (x : Mount ℕ) → is_ungrouped x.propagation ≡ true → is_ungrouped (after_going nat_eq now (number ∷ []) x).propagation ≡ true
+    ungrouped_alike x h = by (is_going nat_eq (number ∷ []) x.number)
+      where
+        by : (b : Bool) → is_ungrouped (cond b (detached x) (record x { mount_point = option_map (mount_point_left nat_eq now (number ∷ [])) x.mount_point })).propagation ≡ true
+        by true = refl
+        by false = h
+
+    next_gone : (mount : Mount ℕ) → Among mount world.mounts → is_among nat_eq mount.number (number ∷ done) ≡ true → next_change mount ≡ detached mount
+    next_gone mount m e = by (nat_eq mount.number number) refl
+      where
+        later : (b : Bool) → nat_eq mount.number number ≡ false → (mount.number ≡ number) ⊎ (is_among nat_eq mount.number done ≡ true) → next_change mount ≡ detached mount
+        later b f h =
+            ⊎_elim (λ numbered. absurd (true≢false (sym (eq-eqb mount.number number numbered) ∙ f)))
+            (λ before. ap (after_going nat_eq now (number ∷ [])) (so.gone mount m before)
+            ∙ unplaced_stays (detached mount) f refl) h
+
+        by : (b : Bool) → nat_eq mount.number number ≡ b → next_change mount ≡ detached mount
+        by true f = going_so (so.change mount) (so.number mount ∙ eqb-true mount.number number f) ∙ so.same mount
+        by false f = later true f (split mount e)
+
+    unmounted_now : is_some (mount_numbered nat_eq now number).namespace ≡ true → IsUnderway (number ∷ done) (taken_away nat_eq now (number ∷ []))
+    unmounted_now there = record {
+      change = next_change;
+      is = ap (λ mounts. regrouped nat_eq (with_mounts now mounts))
+          (ap (map (after_going nat_eq now (number ∷ []))) now_mounts ∙ map_twice (after_going nat_eq now (number ∷ [])) so.change world.mounts)
+          ∙ nothing_regrouped (with_mounts now (map next_change world.mounts))
+          (now_ungrouped next_change (λ mount h. ungrouped_alike (so.change mount) (so.ungrouped_still mount h)))
+          ∙ ap (λ w. with_mounts w (map next_change world.mounts)) so.is;
+      number = λ mount. Taken.same_number now (number ∷ []) now.namespaces false (so.change mount) ∙ so.number mount;
+      same = λ mount. detached_alike (so.change mount) ∙ so.same mount;
+      gone = next_gone;
+      others = λ mount m out. ap (after_going nat_eq now (number ∷ [])) (so.others mount m out) ∙ outside_stays mount m out;
+      waiting = λ mount m e.
+          Taken.same_namespace now (number ∷ []) now.namespaces false (so.change mount)
+          (stays_so (so.change mount) (ap (λ n. nat_eq n number) (so.number mount) ∙ (apart mount e).0))
+          ∙ so.waiting mount m (apart mount e).1;
+      ungrouped_still = λ mount h. ungrouped_alike (so.change mount) (so.ungrouped_still mount h);
+    }
+
+    next_event : (mount : Mount ℕ) → mount.number ≡ number → IsUnderway (number ∷ done) (unmounted_if_there nat_eq now mount)
+    next_event mount numbered =
+        subst (λ n. IsUnderway (number ∷ done) (cond (is_some (mount_numbered nat_eq now n).namespace) (unmounted nat_eq now n) now)) (sym numbered)
+        (by (is_some (mount_numbered nat_eq now number).namespace) refl)
+      where
+        by : (b : Bool) → is_some (mount_numbered nat_eq now number).namespace ≡ b
+            → IsUnderway (number ∷ done) (cond b (unmounted nat_eq now number) now)
+        by true e =
+            subst (λ gone. IsUnderway (number ∷ done) (taken_away nat_eq now gone))
+            (sym (goes_alone now (subst (λ all. list_all (λ (mount : Mount ℕ). is_ungrouped mount.propagation) all ≡ true) (sym now_mounts) (now_ungrouped so.change so.ungrouped_still)) number))
+            (unmounted_now e)
+        by false e = skipped e
+
+  -- all events
+  abbrev taken_by : List (Mount ℕ) → List ℕ → List ℕ
+  taken_by [] done = done
+  taken_by (mount ∷ events) done = taken_by events (mount.number ∷ done)
+
+  all_events : (events : List (Mount ℕ)) → ((mount : Mount ℕ) → Among mount events → is_among nat_eq mount.number tree ≡ true)
+      → (done : List ℕ) (now : World ℕ) → IsUnderway done now → IsUnderway (taken_by events done) (folded (unmounted_if_there nat_eq) now events)
+  all_events [] within done now so = so
+  all_events (mount ∷ events) within done now so =
+      all_events events (λ x m. within x (inr m)) (mount.number ∷ done) (unmounted_if_there nat_eq now mount)
+      (next_event done now so mount.number (within mount (inl refl)) mount refl)
+
+  stays_taken : (events : List (Mount ℕ)) (done : List ℕ) (number : ℕ) → Among number done → Among number (taken_by events done)
+  stays_taken [] done number m = m
+  stays_taken (mount ∷ events) done number m = stays_taken events (mount.number ∷ done) number (inr m)
+
+  event_taken : (events : List (Mount ℕ)) (done : List ℕ) (mount : Mount ℕ) → Among mount events → Among mount.number (taken_by events done)
+  event_taken [] done mount m = absurd m
+  event_taken (first ∷ events) done mount m =
+      ⊎_elim (λ same. stays_taken events (first.number ∷ done) mount.number (inl (ap (λ (x : Mount ℕ). x.number) same)))
+      (λ later. event_taken events (first.number ∷ done) mount later) m
+
+  -- where each mount of the tree has its event
+  pub events_detach : (events : List (Mount ℕ)) → ((mount : Mount ℕ) → Among mount events → is_among nat_eq mount.number tree ≡ true)
+      → ((number : ℕ) → is_among nat_eq number tree ≡ true → (mount : Mount ℕ) × Among mount events × (mount.number ≡ number))
+      → folded (unmounted_if_there nat_eq) world events ≡ detached_world tree world
+  events_detach events within each =
+      let so = all_events events within [] world begun in
+      so.is ∙ ap (with_mounts world) (map_alike so.change (detached_in tree) world.mounts (λ mount m. by so mount m (is_among nat_eq mount.number tree) refl))
+    where
+      by : (so : IsUnderway (taken_by events []) (folded (unmounted_if_there nat_eq) world events)) (mount : Mount ℕ) → Among mount world.mounts
+          → (b : Bool) → is_among nat_eq mount.number tree ≡ b → so.change mount ≡ cond b (detached mount) mount
+      by so mount m true e =
+          let event = each mount.number e in
+          so.gone mount m (is_among_numbers mount.number (taken_by events [])
+          (subst (λ n. Among n (taken_by events [])) event.2 (event_taken events [] event.0 event.1)))
+      by so mount m false e = so.others mount m e
+
+-- The tree of a mount
+
+pub to_spec : {A : Type 0} (x : A) (xs : List A) → Among x xs → Spec.Among x xs
+to_spec x [] m = m
+to_spec x (y ∷ ys) m = ⊎_elim (λ same. inl same) (λ later. inr (to_spec x ys later)) m
+
+append_none : {A : Type 0} (xs : List A) → xs ++ [] ≡ xs
+append_none [] = refl
+append_none (x ∷ xs) = ap (λ rest. x ∷ rest) (append_none xs)
+
+abbrev pub trees_numbers : World ℕ → List (Mount ℕ) → List ℕ
+trees_numbers world tops = map (λ (mount : Mount ℕ). mount.number) (flat_map (mount_tree nat_eq world.mounts) tops)
+
+-- trees of mounts have all that stands on them
+pub trees_have_children : (world : World ℕ) → MountInvariants nat_eq world → (tops : List (Mount ℕ)) → HasChildrenOf (trees_numbers world tops) world.mounts
+trees_have_children world kept tops mount m place p goes =
+    trees_closed world kept.one_number ((standing_is_computed world kept.one_number).0 kept.standing) tops mount place (to_spec mount world.mounts m) p goes
+
+-- a mount of a tree is the top, or has a mount point
+tree_member : (depth : ℕ) (mounts : List (Mount ℕ)) (top x : Mount ℕ) → Among x (tree_from nat_eq depth mounts top)
+    → (x ≡ top) ⊎ (Among x mounts × (is_some x.mount_point ≡ true))
+tree_member zero mounts top x m = ⊎_elim inl (λ none. absurd none) m
+tree_member (suc depth) mounts top x m =
+    ⊎_elim inl
+    (λ later.
+    let under = among-from_flat_map (tree_from nat_eq depth mounts) (children nat_eq mounts top.number) x later in
+    let child = among-from_filter (stands_on nat_eq top.number) mounts under.0 under.1 in
+    inr (⊎_elim (λ same. (subst (λ y. Among y mounts) (sym same) child.0, ap (λ (y : Mount ℕ). is_some y.mount_point) same ∙ placed under.0 child.1)) (λ l. l)
+    (tree_member depth mounts under.0 x under.2)))
+    m
+  where
+    placed : (child : Mount ℕ) → stands_on nat_eq top.number child ≡ true → is_some child.mount_point ≡ true
+    placed child on = by child.mount_point on
+      where
+        by : (o : Option (Place ℕ)) → holds_of (λ place. nat_eq top.number place.mount) o ≡ true → is_some o ≡ true
+        by None h = absurd (true≢false (sym h))
+        by (Some place) h = refl
+
+module _ (world : World ℕ) (ungrouped : list_all (λ (mount : Mount ℕ). is_ungrouped mount.propagation) world.mounts ≡ true) (kept : MountInvariants nat_eq world)
+    (number : ℕ) (there : is_some (mount_numbered nat_eq world number).namespace ≡ true) where
+  abbrev top : Mount ℕ
+  top = mount_numbered nat_eq world number
+
+  abbrev tree : List (Mount ℕ)
+  tree = mount_tree nat_eq world.mounts top
+
+  abbrev numbers : List ℕ
+  numbers = map (λ (mount : Mount ℕ). mount.number) tree
+
+  pub tree_has_children : HasChildrenOf numbers world.mounts
+  tree_has_children =
+      subst (λ all. HasChildrenOf (map (λ (mount : Mount ℕ). mount.number) all) world.mounts) (append_none tree) (trees_have_children world kept (top ∷ []))
+
+  placed_is_attached : (y : Mount ℕ) (b c : Bool) → c ≡ true → (b || (not c && is_private y.propagation)) ≡ true → b ≡ true
+  placed_is_attached y true c e g = refl
+  placed_is_attached y false true e g = absurd (true≢false (sym g))
+  placed_is_attached y false false e g = absurd (true≢false (sym e))
+
+  member_attached : (y : Mount ℕ) → (y ≡ top) ⊎ (Among y world.mounts × (is_some y.mount_point ≡ true)) → Among y world.mounts × (is_some y.namespace ≡ true)
+  member_attached y h =
+      ⊎_elim
+      (λ same. (subst (λ x. Among x world.mounts) (sym same) (found_is_there world.mounts number there), ap (λ (x : Mount ℕ). is_some x.namespace) same ∙ there))
+      (λ placed. (placed.0, placed_is_attached y (is_some y.namespace) (is_some y.mount_point) placed.1 (passes is_nowhere_or_attached world.mounts kept.nowhere y placed.0)))
+      h
+
+  tree_attached : (mount : Mount ℕ) → Among mount world.mounts → is_among nat_eq mount.number numbers ≡ true → is_some mount.namespace ≡ true
+  tree_attached mount m within =
+      let from = among-from_map (λ (x : Mount ℕ). x.number) tree mount.number (among_numbers mount.number numbers within) in
+      let member = member_attached from.0 (tree_member (length world.mounts) world.mounts top from.0 from.1) in
+      ap (λ (x : Mount ℕ). is_some x.namespace)
+      (sym (found_itself world.mounts kept.one_number mount m) ∙ ap (mount_in nat_eq world.mounts) from.2 ∙ found_itself world.mounts kept.one_number from.0 member.0)
+      ∙ member.1
+
+  -- A lazy unmount detaches the tree.
+  pub lazily_is_detached : lazily_unmounted nat_eq world number ≡ detached_world numbers world
+  lazily_is_detached =
+      events_detach world ungrouped kept.one_number numbers tree_has_children tree_attached (deepest_first nat_eq world tree)
+      (λ mount m. ⊎_elim (λ none. absurd none)
+      (λ n. is_among_numbers mount.number numbers (among-map (λ (x : Mount ℕ). x.number) tree mount n)) (among_sorted world mount tree [] m))
+      (λ n within. let from = among-from_map (λ (x : Mount ℕ). x.number) tree n (among_numbers n numbers within) in
+      (from.0, sorted_among world from.0 tree [] (inr from.1), sym from.2))

@@ -1,0 +1,181 @@
+-- The flags or the propagation type of a mount are set: mount(2) with MS_REMOUNT, MS_PRIVATE, MS_UNBINDABLE.
+use Rattle.std.proofs.Common.{◌≡◌, refl, sym, ap, subst, ◌∙◌, ℕ, nat_eq, Bool, true, false, true≢false, cond, List, [], ◌∷◌, map, Option, Some, None, is_some, arith}
+use Rattle.std.specs.Prelude.{option_to_list}
+use Rattle.std.specs.List.{list_any}
+use Rattle.vt_spec.specs.Language.Calls.{MountFlags, TaskName, TypeWord}
+use Rattle.vt_spec.specs.Lists.{Fresh}
+use Rattle.vt_spec.specs.Machine.Apply.{apply}
+use Rattle.vt_spec.specs.Machine.Mounts.{Mount, Propagation, numbers_by}
+use Rattle.vt_spec.specs.Machine.Mounts.Propagation.{Private, Shared, Slave, Unbindable}
+use Rattle.vt_spec.specs.Machine.Permits.{Permit}
+use Rattle.vt_spec.specs.Machine.Permits.Permit.{ToSetFlags, ToSetType}
+use Rattle.vt_spec.specs.Machine.Receives.{regrouped}
+use Rattle.vt_spec.specs.Machine.Types.{master_after, retyped, retyped_mount, type_after}
+use Rattle.vt_spec.specs.Machine.World.{World, mount_numbered, with_mounts}
+use Rattle.vt_count_laws.specs.Using.{Exchanges, is_inode}
+use Rattle.vt_fs.specs.FilesystemsValue.{Shown, shown}
+use Rattle.vt_letting_go.specs.Counts.{times}
+use Rattle.vt_letting_go.specs.Keeping.{flags_if}
+use Rattle.vt_letting_go.specs.Mounting.{inode_at}
+use Rattle.vt_letting_go.proofs.Lists.{Among, among-from_map, is_among_numbers, among-map, map_alike, passes}
+use Rattle.vt_letting_go.proofs.PlacesLeft.{found_is_there, number_found}
+use Rattle.vt_letting_go.proofs.UsesKept.{flags_are_of_one}
+use Rattle.vt_mount.specs.MountsValue.{MountEntry, changed, mounts_in}
+use Rattle.vt_permit_laws.specs.Named.{permit_named}
+use Rattle.vt_run_laws.specs.Handed.{is_counted_before}
+use Rattle.vt_detach.specs.Events.{Permits}
+use Rattle.vt_detach.specs.Held.{IsHeld, is_ungrouped}
+use Rattle.vt_detach.specs.WorldValue.{WorldValue, world_of}
+use Rattle.vt_detach.proofs.FileEvents.{permit_fits}
+use Rattle.vt_detach.proofs.FilesSeen.{mount_named}
+use Rattle.vt_detach.proofs.LookLemmas.{turned}
+use Rattle.vt_detach.proofs.Moving.{exchanged_shown}
+use Rattle.vt_detach.proofs.MountsChanged.{KeepsWhatItShows, attached_entry, mount_is_changed, mounts_changed, next_of, next_ungrouped, one_changed, places_exchanged, with_mount_changed}
+use Rattle.vt_detach.proofs.Remaining.{remade}
+use Rattle.vt_detach.proofs.Staying.{IsDone}
+use Rattle.vt_detach.proofs.TreesLookedAt.{or_nothing}
+use Rattle.vt_detach.proofs.Ungrouped.{nothing_regrouped}
+
+-- A mount that keeps its mount point too
+
+same_shown : (all : List Shown) → all ≡ map (exchanged_shown [] []) all
+same_shown [] = refl
+same_shown (one ∷ rest) = ap (λ others. one ∷ others) (same_shown rest)
+
+-- a mount in a namespace has a counted number
+pub attached_named : (value : WorldValue) → IsHeld value → (number namespace : ℕ)
+    → (mount_numbered nat_eq (world_of value) number).namespace ≡ Some namespace → is_counted_before value.next number ≡ true
+attached_named value held number namespace own =
+    mount_named value held number
+    (is_among_numbers number (map (λ (mount : Mount ℕ). mount.number) (mounts_in value.mounts))
+    (subst (λ n. Among n (map (λ (mount : Mount ℕ). mount.number) (mounts_in value.mounts))) (number_found (mounts_in value.mounts) number)
+    (among-map (λ (mount : Mount ℕ). mount.number) (mounts_in value.mounts) (mount_numbered nat_eq (world_of value) number)
+    (found_is_there (mounts_in value.mounts) number (ap is_some own)))))
+
+-- and is in no group
+pub attached_free : (value : WorldValue) → IsHeld value → (number namespace : ℕ)
+    → (mount_numbered nat_eq (world_of value) number).namespace ≡ Some namespace
+    → is_ungrouped (mount_numbered nat_eq (world_of value) number).propagation ≡ true
+attached_free value held number namespace own =
+    let entry = among-from_map (λ (one : MountEntry). one.mount) value.mounts (mount_numbered nat_eq (world_of value) number)
+    (found_is_there (mounts_in value.mounts) number (ap is_some own)) in
+    ap (λ (mount : Mount ℕ). is_ungrouped mount.propagation) entry.2
+    ∙ passes (λ (one : MountEntry). is_ungrouped one.mount.propagation) value.mounts held.ungrouped entry.0 entry.1
+
+module _ (value : WorldValue) (whole : IsHeld value) (name : TaskName) (number : ℕ) (permit : Permit ℕ) (change : Mount ℕ → Mount ℕ)
+    (keeps : KeepsWhatItShows change) (stays : (mount : Mount ℕ) → (change mount).mount_point ≡ mount.mount_point)
+    (permits : Permits value name permit)
+    (own : (mount_numbered nat_eq (world_of value) number).namespace ≡ Some permits.task.namespace) where
+  nothing_exchanged : (filesystem : ℕ) → Exchanges [] [] filesystem (world_of value) (next_of value whole number change keeps)
+  nothing_exchanged filesystem =
+      let found = attached_entry value number permits.task.namespace own in
+      let moved = places_exchanged value whole number change keeps found.0 found.1 filesystem in
+      record {
+        same = moved.same;
+        uses = λ n.
+            let uses = moved.uses n in
+            let same : times (is_inode filesystem n) (map (inode_at (world_of value)) (option_to_list (change found.0.mount).mount_point))
+            ≡ times (is_inode filesystem n) (map (inode_at (world_of value)) (option_to_list found.0.mount.mount_point))
+            = ap (λ o. times (is_inode filesystem n) (map (inode_at (world_of value)) (option_to_list o))) (stays found.0.mount) in
+            omega (arith, uses, same);
+      }
+
+  -- the event of a change of one mount that keeps its mount point
+  pub mount_is_retouched : permit_named (is_counted_before value.next) permit ≡ true
+      → ((fresh : Fresh ℕ) → (apply nat_eq fresh (world_of value) permits.task permit).world ≡ next_of value whole number change keeps)
+      → IsDone value name permit (remade value (changed number (with_mount_changed change) value.mounts) value.filesystems value.tasks)
+  mount_is_retouched named applied =
+      mount_is_changed value whole number change keeps [] [] value.filesystems (same_shown (shown value.filesystems)) nothing_exchanged
+      (λ was m. refl) name permit permits.task
+      (record { called = permits.called; given = permits.given; named = named; applied = applied })
+
+-- Flags
+
+abbrev with_flags : MountFlags → Mount ℕ → Mount ℕ
+with_flags flags mount = record mount { flags = flags }
+
+flags_keep : (flags : MountFlags) → KeepsWhatItShows (with_flags flags)
+flags_keep flags = record {
+  number = λ mount. refl;
+  namespace = λ mount. refl;
+  filesystem = λ mount. refl;
+  root = λ mount. refl;
+  ungrouped = λ mount e. e;
+}
+
+pub flags_are_set : (value : WorldValue) → IsHeld value → (name : TaskName) (number : ℕ) (flags : MountFlags)
+    → Permits value name (ToSetFlags number flags)
+    → IsDone value name (ToSetFlags number flags)
+    (remade value (changed number (λ entry. record entry { mount = record entry.mount { flags = flags } }) value.mounts) value.filesystems value.tasks)
+flags_are_set value whole name number flags permits =
+    let own = (permit_fits value whole name (ToSetFlags number flags) permits).names in
+    mount_is_retouched value whole name number (ToSetFlags number flags) (with_flags flags) (flags_keep flags) (λ mount. refl) permits own
+    (attached_named value whole number permits.task.namespace own)
+    (λ fresh.
+    flags_are_of_one (world_of value) (record { mount = number; node = number }) flags whole.in_world.mounts.one_number
+    ∙ ap (with_mounts (world_of value))
+    (map_alike (flags_if number flags) (one_changed number (with_flags flags)) (mounts_in value.mounts)
+    (λ mount m. ap (λ b. cond b (with_flags flags mount) mount) (turned mount.number number))
+    ∙ sym (mounts_changed number (with_flags flags) value.mounts)))
+
+-- Types
+
+abbrev with_propagation : Propagation ℕ → Mount ℕ → Mount ℕ
+with_propagation kind mount = record mount { propagation = kind }
+
+kinds_keep : (kind : Propagation ℕ) → is_ungrouped kind ≡ true → KeepsWhatItShows (with_propagation kind)
+kinds_keep kind free = record {
+  number = λ mount. refl;
+  namespace = λ mount. refl;
+  filesystem = λ mount. refl;
+  root = λ mount. refl;
+  ungrouped = λ mount e. free;
+}
+
+no_master_above : (kind : Propagation ℕ) → is_ungrouped kind ≡ true → master_after kind ≡ None
+no_master_above (Shared group) e = refl
+no_master_above (Slave master) e = absurd (true≢false (sym e))
+no_master_above Private e = refl
+no_master_above Unbindable e = refl
+
+no_master_either : (b : Bool) → ◌≡◌ {A = Option ℕ} (cond b None None) None
+no_master_either true = refl
+no_master_either false = refl
+
+module _ (value : WorldValue) (whole : IsHeld value) (name : TaskName) (number : ℕ) (word : TypeWord) (kind : Propagation ℕ)
+    (free : is_ungrouped kind ≡ true) (sets : (new : ℕ) (old : Propagation ℕ) → type_after new word old ≡ kind)
+    (permits : Permits value name (ToSetType number word false)) where
+  abbrev world : World ℕ
+  world = world_of value
+
+  abbrev named : Mount ℕ
+  named = mount_numbered nat_eq (world_of value) number
+
+  abbrev next : World ℕ
+  next = next_of value whole number (with_propagation kind) (kinds_keep kind free)
+
+  own : (mount_numbered nat_eq (world_of value) number).namespace ≡ Some permits.task.namespace
+  own = (permit_fits value whole name (ToSetType number word false) permits).names
+
+  retyped_one : (group : ℕ → ℕ) → retyped nat_eq (world_of value) group word (mount_numbered nat_eq (world_of value) number ∷ []) ≡ next
+  retyped_one group =
+      ap (regrouped nat_eq)
+      (λ i. record (world_of value) {
+        mounts = (map_alike (retyped_mount nat_eq group word (named ∷ [])) (one_changed number (with_propagation kind)) (mounts_in value.mounts) (λ mount m.
+            (λ j. cond (is_named mount j) (record mount { propagation = sets (group mount.number) mount.propagation j }) mount))
+            ∙ sym (mounts_changed number (with_propagation kind) value.mounts)) i;
+        master = λ other. (ap (λ above. cond (nat_eq other (group named.number)) above None) (no_master_above named.propagation (attached_free value whole number permits.task.namespace own))
+            ∙ no_master_either (nat_eq other (group named.number))) i;
+      })
+      ∙ nothing_regrouped next (next_ungrouped value whole number (with_propagation kind) (kinds_keep kind free))
+    where
+      is_named : (mount : Mount ℕ) → list_any (λ (other : Mount ℕ). nat_eq mount.number other.number) (named ∷ []) ≡ nat_eq number mount.number
+      is_named mount =
+          or_nothing (nat_eq mount.number named.number) ∙ ap (nat_eq mount.number) (number_found (mounts_in value.mounts) number) ∙ turned mount.number number
+
+  pub type_is_set : IsDone value name (ToSetType number word false)
+      (remade value (changed number (λ entry. record entry { mount = record entry.mount { propagation = kind } }) value.mounts) value.filesystems value.tasks)
+  type_is_set =
+      mount_is_retouched value whole name number (ToSetType number word false) (with_propagation kind) (kinds_keep kind free) (λ mount. refl) permits own
+      (attached_named value whole number permits.task.namespace own)
+      (λ fresh. retyped_one (numbers_by nat_eq fresh (mount_numbered nat_eq (world_of value) number ∷ [])))

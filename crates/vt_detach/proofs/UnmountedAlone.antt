@@ -1,0 +1,103 @@
+-- A mount on which no other stands is unmounted: umount(2).
+use Rattle.std.proofs.Common.{◌≡◌, refl, sym, ap, subst, ◌∙◌, inl, ℕ, nat_eq, true, false, true≢false, ◌||◌, List, [], ◌∷◌, ◌++◌, map, find, flat_map, Option, Some, None, option_map, is_some, unwrap_or, arith}
+use Rattle.std.specs.Prelude.{IfSome, ◌<◌}
+use Rattle.std.specs.List.{list_all}
+use Rattle.std.proofs.lemmas.Bool.{or_parts}
+use Rattle.vt_spec.specs.Language.Calls.{TaskName}
+use Rattle.vt_spec.specs.Lists.{holds_of}
+use Rattle.vt_spec.specs.Machine.Detach.{going, going_at, going_from, has_child, is_used, taken_away}
+use Rattle.vt_spec.specs.Machine.Mounts.{Location as Place, Mount, Propagation, is_shared, mount_in, no_mount, stands_on}
+use Rattle.vt_spec.specs.Machine.Mounts.Propagation.{Private, Shared, Slave, Unbindable}
+use Rattle.vt_spec.specs.Machine.Permits.Permit.{ToUnmount}
+use Rattle.vt_spec.specs.Machine.Run.{numbers_in_use, used_by_filesystem, used_by_mount}
+use Rattle.vt_spec.specs.Machine.World.{World, mount_numbered}
+use Rattle.vt_count_laws.specs.Sweeping.{living}
+use Rattle.vt_fs.specs.FilesystemsValue.{Filesystems}
+use Rattle.vt_laws.proofs.Supports.{used_numbers_are_named}
+use Rattle.vt_letting_go.proofs.Lists.{among-append_left, among-flat_map, fails, is_among_numbers, passes}
+use Rattle.vt_letting_go.proofs.PlacesLeft.{found_is_there, number_found}
+use Rattle.vt_location.specs.declared.locations.Location.{Location}
+use Rattle.vt_location.specs.Locations.{location_of}
+use Rattle.vt_mount.specs.MountsValue.{MountEntry}
+use Rattle.vt_run_laws.specs.Handed.{is_counted_before}
+use Rattle.vt_detach.specs.Events.{Permits}
+use Rattle.vt_detach.specs.Held.{IsHeld, is_ungrouped}
+use Rattle.vt_detach.specs.Uses.{kept, point_of, without_attachment}
+use Rattle.vt_detach.specs.WorldValue.{WorldValue, world_of}
+use Rattle.vt_detach.proofs.Detached.{detaching_on}
+use Rattle.vt_detach.proofs.DetachingBegins.{HasChildrenOf, detached_world, detaching_begins}
+use Rattle.vt_detach.proofs.DetachingEnds.{detached_done, held_is_kept, taken_is_detached}
+use Rattle.vt_detach.proofs.FileEvents.{permit_fits}
+use Rattle.vt_detach.proofs.Leaving.{found_it}
+use Rattle.vt_detach.proofs.Moving.{swap_eq}
+use Rattle.vt_detach.proofs.Remaining.{remade}
+use Rattle.vt_detach.proofs.Staying.{IsDone}
+
+pub attached_is_named : (value : WorldValue) → IsHeld value → (number : ℕ) → is_some (mount_numbered nat_eq (world_of value) number).namespace ≡ true
+    → is_counted_before value.next number ≡ true
+attached_is_named value whole number attached =
+    let world = world_of value in
+    used_numbers_are_named (is_counted_before value.next) world whole.given (3, 7, (λ e. absurd (omega (arith, e))), refl, refl) number
+    (is_among_numbers number (numbers_in_use world)
+    (among-append_left (flat_map used_by_mount world.mounts ++ flat_map used_by_filesystem world.filesystems) (map (λ namespace. namespace.number) world.namespaces) number
+    (among-append_left (flat_map used_by_mount world.mounts) (flat_map used_by_filesystem world.filesystems) number
+    (among-flat_map used_by_mount world.mounts (mount_in nat_eq world.mounts number) number (found_is_there world.mounts number attached)
+    (inl (sym (number_found world.mounts number)))))))
+
+-- no mount of a world in which none is in a group is shared
+pub none_is_shared : (mounts : List (Mount ℕ)) → list_all (λ (mount : Mount ℕ). is_ungrouped mount.propagation) mounts ≡ true → (number : ℕ)
+    → is_shared (mount_in nat_eq mounts number).propagation ≡ false
+none_is_shared mounts ungrouped number = by (find (λ (mount : Mount ℕ). nat_eq number mount.number) mounts) refl
+  where
+    alone : (propagation : Propagation ℕ) → is_ungrouped propagation ≡ true → is_shared propagation ≡ false
+    alone (Shared group) h = absurd (true≢false (sym h))
+    alone (Slave master) h = refl
+    alone Private h = refl
+    alone Unbindable h = refl
+
+    by : (o : Option (Mount ℕ)) → find (λ (mount : Mount ℕ). nat_eq number mount.number) mounts ≡ o → is_shared (unwrap_or o (no_mount number)).propagation ≡ false
+    by None e = refl
+    by (Some mount) e =
+        alone mount.propagation
+        (passes (λ (x : Mount ℕ). is_ungrouped x.propagation) mounts ungrouped mount (found_it (λ (x : Mount ℕ). nat_eq number x.number) mounts mount e).0)
+
+-- so an unmount event is one of that mount alone
+pub goes_alone : (world : World ℕ) → list_all (λ (mount : Mount ℕ). is_ungrouped mount.propagation) world.mounts ≡ true → (number : ℕ)
+    → going nat_eq world (mount_numbered nat_eq world number) ≡ number ∷ []
+goes_alone world ungrouped number = by (mount_numbered nat_eq world number).mount_point
+  where
+    its_number : (mount_numbered nat_eq world number).number ∷ [] ≡ number ∷ []
+    its_number = ap (λ n. n ∷ []) (number_found world.mounts number)
+
+    by : (o : Option (Place ℕ)) → going_at nat_eq world (mount_numbered nat_eq world number) o ≡ number ∷ []
+    by None = its_number
+    by (Some place) =
+        ap (going_from nat_eq world (mount_numbered nat_eq world number) place) (none_is_shared world.mounts ungrouped place.mount) ∙ its_number
+
+-- a mount without children is a list with its children
+pub childless : (world : World ℕ) (number : ℕ) → has_child nat_eq world number ≡ false → HasChildrenOf (number ∷ []) world.mounts
+childless world number none mount m place p h =
+    absurd (true≢false (sym h ∙ ap (λ b. b || false) (swap_eq place.mount number
+    ∙ sym (ap (holds_of (λ (l : Place ℕ). nat_eq number l.mount)) p) ∙ fails (stands_on nat_eq number) world.mounts none mount m)))
+
+pub unmount_is_done : (value : WorldValue) (name : TaskName) (number : ℕ) (point : Option Location) (mounts : List MountEntry) (filesystems : Filesystems)
+    → IsHeld value → Permits value name (ToUnmount number)
+    → option_map location_of point ≡ point_of number value.mounts → IfSome point (λ point. point.node.slot < 18446744073709551616)
+    → kept mounts filesystems ≡ without_attachment number point (kept value.mounts value.filesystems)
+    → IsDone value name (ToUnmount number) (remade value mounts filesystems value.tasks)
+unmount_is_done value name number point mounts filesystems whole permits point_is few is_kept =
+    let world = world_of value in
+    let names = (permit_fits value whole name (ToUnmount number) permits).names in
+    let start = held_is_kept value whole in
+    let none = (or_parts (has_child nat_eq world number) (is_used nat_eq world (going nat_eq world (mount_numbered nat_eq world number))) names.2).0 in
+    let closed = childless world number none in
+    detached_done value name (ToUnmount number) permits.task (number ∷ []) mounts filesystems whole
+    (record {
+      called = permits.called;
+      given = permits.given;
+      named = attached_is_named value whole number (ap is_some names.0);
+      applied = λ fresh. ap (taken_away nat_eq world) (goes_alone world start.ungrouped number) ∙ taken_is_detached world (number ∷ []) start.ungrouped closed;
+    })
+    (subst (Rattle.vt_detach.proofs.Detached.IsDetaching value [] (living (detached_world (number ∷ []) world)) []) (sym is_kept)
+    (detaching_on value [] (living (detached_world (number ∷ []) world)) number [] (kept value.mounts value.filesystems) point
+    (detaching_begins value [] [] world (kept value.mounts value.filesystems) start (number ∷ []) closed) point_is few))

@@ -1,0 +1,14 @@
+use Rattle.std.proofs.Common.{ap, ◌∙◌}
+use Rattle.vt_location.specs.Locations.{number_of}
+use Rattle.vt_location.specs.Numbers.{counted}
+use Rattle.vt_detach.specs.Uses.{let_go_mount}
+use Rattle.vt_detach.proofs.Shown.{unpins}
+use Rattle.vt_detach.proofs.uses.leave.Goals as goal
+
+pub returns-clause-left : goal.returns-clause-left
+returns-clause-left c =
+    c.let_go_mount.ensures
+    ∙ ap (let_go_mount (counted c.args.at.mount.count)) (λ i. record {
+      mounts = c.release.ensures i;
+      filesystems = unpins c.args.at.node.filesystem.count (number_of c.args.at.node) c.args.filesystems.now c.unpin.new.self c.unpin.ensures i;
+    })

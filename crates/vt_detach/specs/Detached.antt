@@ -1,0 +1,25 @@
+-- Mounts that leave their namespaces one after the other.
+use Rattle.std.specs.Prelude.{IfSome, List, None, Option, Some, [], filter, flat_map, map, nat_eq, option_map, ℕ, ◌<◌, ◌∷◌, ◌≡◌}
+use Rattle.vt_spec.specs.Machine.Mounts.{Mount, mount_in, mount_tree}
+use Rattle.vt_location.specs.declared.locations.Location.{Location}
+use Rattle.vt_location.specs.Locations.{location_of, number_of}
+use Rattle.vt_mount.specs.MountsValue.{stands_over}
+use Rattle.vt_detach.specs.Uses.{Kept, point_of, without_attachment}
+
+-- Each in its turn is detached from its mount point, and goes if nothing is on it.
+abbrev pub LeaveInTurn : List ℕ → Kept → Kept → Type 0
+LeaveInTurn [] k last = last ≡ k
+LeaveInTurn (number ∷ rest) k last =
+    (point : Option Location) × (option_map location_of point ≡ point_of number k.mounts)
+    × IfSome point (λ point. point.node.slot < 18446744073709551616)
+    × LeaveInTurn rest (without_attachment number point k) last
+
+-- the numbers of a mount and of all its descendants
+abbrev pub tree_numbers : List (Mount ℕ) → ℕ → List ℕ
+tree_numbers mounts number = map (λ mount. mount.number) (mount_tree nat_eq mounts (mount_in nat_eq mounts number))
+
+-- the numbers of the mounts on what is replaced, and of all their descendants
+abbrev pub trees_of_replaced : List (Mount ℕ) → Option Location → List ℕ
+trees_of_replaced mounts None = []
+trees_of_replaced mounts (Some other) =
+    flat_map (tree_numbers mounts) (map (λ mount. mount.number) (filter (stands_over (number_of other.node)) mounts))

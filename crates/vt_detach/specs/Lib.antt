@@ -1,0 +1,8 @@
+pub mod WorldValue
+pub mod Held
+pub mod Events
+pub mod Looking
+pub mod Uses
+pub mod Detached
+pub mod Forking
+pub mod NamespacesLeft

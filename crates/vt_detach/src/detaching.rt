@@ -1,0 +1,35 @@
+//! Mounts that leave their namespaces: umount(2).
+ghost use Rattle.std.specs.Prelude.{◌<◌, ◌≡◌, IfSome, map, option_map};
+ghost use Rattle.vt_location.specs.Locations.{location_of};
+ghost use Rattle.vt_location.specs.Numbers.{counted};
+ghost use Rattle.vt_detach.specs.Detached.{LeaveInTurn};
+ghost use Rattle.vt_detach.specs.Uses.{kept, point_of, without_attachment};
+
+use crate::uses::let_go_mount;
+use vt_fs::Filesystems;
+use vt_location::{Location, MountId};
+use vt_mount::Mounts;
+
+/// A mount leaves its namespace and its mount point, which is returned, and goes if nothing is on it. It takes no memory.
+pub fn detach(mounts: &mut Mounts, filesystems: &mut Filesystems, id: MountId) -> Option<Location>
+    ensures point { option_map location_of result ≡ point_of (counted id.count) mounts.old }
+    ensures left { kept mounts.new filesystems.new ≡ without_attachment (counted id.count) result (kept mounts.old filesystems.old) }
+    ensures slot { IfSome result (λ point. point.node.slot < 18446744073709551616) }
+{
+    let mount = mounts.get(id)?;
+    mounts.detach(id);
+    if let Some(point) = mount.mount_point {
+        filesystems.unpin(point.node);
+    }
+    let_go_mount(mounts, filesystems, id);
+    mount.mount_point
+}
+
+/// Mounts leave their namespaces one after the other. It takes no memory.
+pub fn detach_each(mounts: &mut Mounts, filesystems: &mut Filesystems, ids: &[MountId])
+    ensures { LeaveInTurn (map (λ id. counted id.count) ids.now) (kept mounts.old filesystems.old) (kept mounts.new filesystems.new) }
+{
+    for id in ids {
+        detach(mounts, filesystems, *id);
+    }
+}

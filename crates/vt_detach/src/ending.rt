@@ -1,0 +1,46 @@
+//! Namespaces that tasks leave, and that end with their last: mount_namespaces(7).
+ghost use Rattle.std.specs.Prelude.{◌≡◌};
+ghost use Rattle.vt_location.specs.Numbers.{counted};
+ghost use Rattle.vt_detach.specs.NamespacesLeft.{MountsAreLeft, NamespaceEnds, namespace_entry, with_one_task_less};
+ghost use Rattle.vt_detach.specs.Uses.{kept};
+ghost use Rattle.vt_detach.specs.WorldValue.{entries_of};
+
+use crate::detaching::detach;
+use crate::namespaces::Namespace;
+use indexmap::IndexMap;
+use vt_fs::Filesystems;
+use vt_location::NamespaceId;
+use vt_mount::Mounts;
+
+/// One task less of a namespace. With its last it goes, and its mounts are detached. It takes no memory.
+pub fn leave_namespace(
+    mounts: &mut Mounts,
+    filesystems: &mut Filesystems,
+    namespaces: &mut IndexMap<NamespaceId, Namespace>,
+    id: NamespaceId,
+)
+    ensures namespaces { entries_of namespaces.new.entries ≡ with_one_task_less id.count (entries_of namespaces.old.entries) }
+    ensures mounts { MountsAreLeft (counted id.count) (namespace_entry id.count (entries_of namespaces.old.entries))
+        (kept mounts.old filesystems.old) (kept mounts.new filesystems.new) }
+{
+    let Some(namespace) = namespaces.get_mut(&id) else {
+        return;
+    };
+    if namespace.tasks > 1 {
+        namespace.tasks -= 1;
+        return;
+    }
+    namespaces.shift_remove(&id);
+    detach_all(mounts, filesystems, id);
+}
+
+// Detaches the mounts of a namespace, the last one first.
+fn detach_all(mounts: &mut Mounts, filesystems: &mut Filesystems, id: NamespaceId)
+    ensures { NamespaceEnds (counted id.count) (kept mounts.old filesystems.old) (kept mounts.new filesystems.new) }
+{
+    while let Some(last) = mounts.attached_in(id).last() {
+        let mount = *last;
+        mounts.are_ascending();
+        detach(mounts, filesystems, mount);
+    }
+}
