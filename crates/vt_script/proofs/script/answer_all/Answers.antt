@@ -4,7 +4,7 @@ use Rattle.vt_script.specs.Session.{Fed}
 use Rattle.vt_script.specs.SessionValue.{state_of}
 use Rattle.vt_script.proofs.SessionLemmas.{fed_nothing, fed_then, broke_then}
 use Rattle.vt_script.proofs.ToldLemmas.{whole_held, broke_held, ends_well, ends_badly}
-use Rattle.vt_script.proofs.script.run.Goals as goal
+use Rattle.vt_script.proofs.script.answer_all.Goals as goal
 
 pub returns-in-Err-clause-after_read : goal.returns-in-Err-clause-after_read
 returns-in-Err-clause-after_read g c = λ is tells holds.
@@ -16,17 +16,17 @@ returns-in-Err-clause-after_read g c = λ is tells holds.
 
 pub pieces-init : goal.pieces-init
 pieces-init g c =
-    let new = state_of c.in_ok-session.session in
+    let new = state_of c.args.session.now in
     let sink = c.args.sink.now in
     record {
       source_failures = refl;
       sink_failures = refl;
-      lines = omega (arith, c.in_ok-session.ensures.begun, g.met.R.Source.limited c.args.source.now);
+      lines = omega (arith, c.requires.begun, g.met.R.Source.limited c.args.source.now);
       source_tells = λ tells. tells;
       read = [];
       rest = λ tells. refl;
-      feeds = subst (λ old. Fed g.W.Sink old [] new sink sink) c.in_ok-session.ensures.opening
-          (fed_nothing g.W.Sink new [] sink c.in_ok-session.ensures.reading);
+      feeds = subst (λ old. Fed g.W.Sink old [] new sink sink) c.requires.opening
+          (fed_nothing g.W.Sink new [] sink c.requires.reading);
     }
 
 pub pieces-preserved : goal.pieces-preserved
@@ -51,7 +51,7 @@ returns-in_err-feed-clause-after_write g c = λ is tells holds.
 
 pub returns-in_err-feed-clause-no_write_failed : goal.returns-in_err-feed-clause-no_write_failed
 returns-in_err-feed-clause-no_write_failed g c =
-    let failed = err_from_is_err_and c.from_residual-in_err-feed.result c.from_residual-in_err-feed.ensures.1 in
+    let failed = err_from_is_err_and c.from_residual.result c.from_residual.ensures.1 in
     inl (failed.1 ∙ ap Err (failed.2 ∙ c.in_err-feed.ensures.fault))
 
 pub returns-clause-ok : goal.returns-clause-ok

@@ -2,7 +2,7 @@ use Rattle.std.proofs.Common.{◌≡◌, ◌<◌, ◌+◌, ◌^◌, ℕ, List, �
 use Rattle.vt_script.specs.Progress.{opening_moment}
 use Rattle.vt_script.specs.Session.{lines_begun, Fed}
 use Rattle.vt_script.specs.SessionValue.{state_of}
-use Rattle.vt_script.proofs.script.run.Given as goal
+use Rattle.vt_script.proofs.script.answer_all.Given as goal
 
 abbrev pub invariant-pieces : goal.invariant-pieces
 invariant-pieces g l = record {
