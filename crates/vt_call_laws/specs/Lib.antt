@@ -2,3 +2,4 @@ pub mod Given
 pub mod Inodes
 pub mod Tasks
 pub mod Effects
+pub mod Reached
