@@ -218,7 +218,8 @@ module _ (fresh : Fresh ℕ) (world : World ℕ) (task : Task ℕ) (filesystem n
       entry = entry_named (name_of to.last) (entries_in (node_at nat_eq world to.parent))
 
       nodes : (o : Option ℕ)
-          → map (λ (location : Location ℕ). location.node) (option_to_list (option_map (λ object. record { mount = to.parent.mount; node = object }) o))
+          → map (λ (location : Location ℕ). location.node)
+          (option_to_list (option_map (λ object. record { mount = to.parent.mount; node = object }) o))
           ≡ option_to_list o
       nodes None = refl
       nodes (Some object) = refl
@@ -369,7 +370,8 @@ module _ (fresh : Fresh ℕ) (world : World ℕ) (task : Task ℕ) (filesystem n
       (ended (IsOldPlace world task) (old_leaf_walk nat_eq world task old) from (ends_old_leaf_walk world task old) e) word.0
       (ended (IsNewPlace world task) (new_walk nat_eq world task new) to (ends_new_walk world task new) f_new).0 pass.0
       (subst (λ walk. Apart ((from.parent ∷ option_to_list from.object) ++ directory_and_object_at walk)) f_new
-      (subst (λ walk. Apart (directory_and_object_at walk ++ directory_and_object_at (new_walk nat_eq world task new))) e apart))))))
+      (subst (λ walk. Apart (directory_and_object_at walk ++ directory_and_object_at (new_walk nat_eq world task new))) e
+      apart))))))
   spares (Chmod path mode) apart root =
       walked (object_walk nat_eq world task path) _ (λ here e.
       attr_spares here.location _ _ (subst (λ walk. Apart (object_at walk)) e apart))
