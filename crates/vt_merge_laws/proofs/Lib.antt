@@ -1,1 +1,2 @@
 pub mod MergedNumbers
+pub mod UpperCopying

@@ -1,1 +1,2 @@
 pub mod MergedTrees
+pub mod UpperChanges

@@ -5,3 +5,4 @@
 #![tactic(auto)]
 
 pub mod merged;
+pub mod upper;
