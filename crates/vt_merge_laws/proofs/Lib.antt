@@ -1,2 +1,3 @@
 pub mod MergedNumbers
 pub mod UpperCopying
+pub mod UpperFronts

@@ -194,7 +194,7 @@ module _ (fresh : Fresh ℕ) (stack : Stack ℕ) (merge : Merge ℕ) (whole : Is
       by None e = refl
       by (Some u) e = absurd (at u (is_kind_in White (merge.upper.tree.node u)) refl e)
 
-  same_seen : SameObject (merge.files.tree.node object) (node_seen stack merge.upper path)
+  pub same_seen : SameObject (merge.files.tree.node object) (node_seen stack merge.upper path)
   same_seen = subst (λ o. SameObject (then_some o merge.files.tree.node) (node_seen stack merge.upper path)) leads (whole.shown.shows path)
 
 -- what is copied is what is shown
@@ -229,7 +229,7 @@ module _ (fresh : Fresh ℕ) (stack : Stack ℕ) (m : Merge ℕ) (whole : IsWhol
       ap (object_above stack m.upper) (front_of_longer front name)
       ∙ ap (λ o. unwrap_or o 0) (named_above stack m whole front parent (upper_of m parent) above (upper_real m parent stands))
 
-  one_is_copied : (copy_of nat_eq m object (fresh (length path)) (m.files.tree.node object) (is_in_upper m object)).upper
+  pub one_is_copied : (copy_of nat_eq m object (fresh (length path)) (m.files.tree.node object) (is_in_upper m object)).upper
       ≡ copied_at fresh stack m.upper path
   one_is_copied = by (m.files.tree.node object) refl (is_in_upper m object) refl
     where
