@@ -1,3 +1,4 @@
 pub mod MergedNumbers
 pub mod UpperCopying
 pub mod UpperFronts
+pub mod UpperPlaces

@@ -106,7 +106,7 @@ module _ (fresh : Fresh ℕ) (stack : Stack ℕ) (merge : Merge ℕ) (whole : Is
   at path = number_at_path merge.files path
 
   -- what stands in the upper layer is not copied
-  one_stays : (m : Merge ℕ) (object copy : ℕ) (o : Option (Node ℕ)) (b : Bool) → b ≡ true → copy_of nat_eq m object copy o b ≡ m
+  pub one_stays : (m : Merge ℕ) (object copy : ℕ) (o : Option (Node ℕ)) (b : Bool) → b ≡ true → copy_of nat_eq m object copy o b ≡ m
   one_stays m object copy None b e = refl
   one_stays m object copy (Some node) true e = refl
   one_stays m object copy (Some node) false e = absurd (true≢false (sym e))
@@ -198,7 +198,7 @@ module _ (fresh : Fresh ℕ) (stack : Stack ℕ) (merge : Merge ℕ) (whole : Is
   same_seen = subst (λ o. SameObject (then_some o merge.files.tree.node) (node_seen stack merge.upper path)) leads (whole.shown.shows path)
 
 -- what is copied is what is shown
-same_copied : (parent : ℕ) (content other : Content ℕ) → same_content content other ≡ true → copied_content parent content ≡ copied_content parent other
+pub same_copied : (parent : ℕ) (content other : Content ℕ) → same_content content other ≡ true → copied_content parent content ≡ copied_content parent other
 same_copied parent (Directory p e o) (Directory q f r) s = refl
 same_copied parent (Directory p e o) (Regular bytes) s = absurd (true≢false (sym s))
 same_copied parent (Directory p e o) (Symlink text) s = absurd (true≢false (sym s))

@@ -6,6 +6,7 @@ use Rattle.vt_spec.specs.Language.Changes.Change.{Make}
 use Rattle.vt_spec.specs.Lists.{Fresh, front_of, last_or, then_some}
 use Rattle.vt_spec.specs.Machine.Layers.{Shown, shown}
 use Rattle.vt_spec.specs.Machine.Merging.{real_object}
+use Rattle.vt_spec.specs.Machine.Views.{cuts, hides, node_led}
 use Rattle.vt_spec.specs.Machine.CopyUp.{Merge, Stack, copied_content, copied_up, copy_of, directories_to, is_in_upper, line_to, upper_of}
 use Rattle.vt_spec.specs.Machine.Invariants.{SameObject, number_at_path}
 use Rattle.vt_spec.specs.Machine.World.{Real, upper_object}
@@ -19,18 +20,20 @@ use Rattle.vt_layer_laws.specs.Layers.ChangesUpper.{StandsInUpper}
 use Rattle.vt_layer_laws.specs.Layers.Views.{TakesName, names_entry, view_in}
 use Rattle.vt_layer_laws.proofs.CopyingParts.{kept_part}
 use Rattle.vt_layer_laws.proofs.ShownAtPath.{none_is_some, some_is_one}
-use Rattle.vt_layer_laws.proofs.ShownDirectories.{append_assoc, last_of, no_white_directory}
+use Rattle.vt_layer_laws.proofs.ShownDirectories.{append_assoc, last_of, led_is_there, no_white_directory}
 use Rattle.vt_layer_laws.proofs.ShownNames.{last_name}
 use Rattle.vt_layer_laws.proofs.ShownPaths.{last_of_longer, length_longer, not_empty, one_path}
 use Rattle.vt_layer_laws.proofs.UpperLine.{has_entries, is_reached_in, named_so}
 use Rattle.vt_layer_laws.proofs.UpperShown.{front_of_longer, has_a_name, way_to}
 use Rattle.vt_layer_laws.proofs.ViewsBelow.{is_named}
-use Rattle.vt_layer_laws.proofs.ViewsNames.{make_adds_path}
+use Rattle.vt_layer_laws.proofs.ViewsFronts.{fronts_agree, hides_so, hiding_alike}
+use Rattle.vt_layer_laws.proofs.ViewsMoves.{led_parts}
+use Rattle.vt_layer_laws.proofs.ViewsNames.{make_adds_inode, make_adds_path}
 use Rattle.vt_overlay_laws.specs.WhatIsShown.{IsWhole, inode_behind, layers_under}
 use Rattle.vt_overlay_laws.proofs.WholeParts.{real_by}
 use Rattle.vt_spec.proofs.Trees.{led-append}
 use Rattle.vt_overlay_laws.proofs.WholeAttributes.{upper_real}
-use Rattle.vt_overlay_laws.proofs.WholeLines.{IsLineCopied, object_copied, stands_copied}
+use Rattle.vt_overlay_laws.proofs.WholeLines.{IsLineCopied, object_copied, stands_copied, to_object}
 use Rattle.vt_overlay_laws.proofs.WholeNames.{above_named, directory_above, entry_named_so, named_above}
 use Rattle.vt_merge_laws.specs.UpperChanges.{AreNew, copied_at, copied_to, copy_node, copy_over, led_above, node_seen, object_above}
 use Rattle.vt_merge_laws.proofs.UpperCopying.{copied_after, copied_longer, directories_count, led_none, led_stands, none_copied, one_is_copied, reached_at, same_seen, stays}
@@ -129,6 +132,27 @@ module _ (fresh : Fresh ℕ) (distinct : (j k : ℕ) → fresh j ≡ fresh k →
       (kept_part is_some (with_inode nat_eq before copy (copy_node parent node)) parent (node_with_entry name copy) (is_some-node_with_entry name copy) (fresh j)
       ∙ ap is_some (node_other before.tree copy (Some (copy_node parent node)) (fresh j) (λ e. let same = distinct j (length path) e in let no : ⊥ = omega (arith, same, h) in no)
       ∙ copies.vacant j (omega (arith, longer, h))))
+
+  -- and where its path is no front nothing else is cut
+  pub cut_elsewhere : IsDirectory before.tree stack.directory → (other : List (List ℕ)) → ((rest : List (List ℕ)) → path ++ rest ≢ other)
+      → cuts (view_in one_more stack.directory) other ≡ cuts (view_in before stack.directory) other
+  cut_elsewhere top other out =
+      fronts_agree (λ f. hides (node_led (view_in before stack.directory) f)) (λ f. hides (node_led (view_in one_more stack.directory) f)) other
+      (λ f is. at f (λ same. out is.0 (ap (λ p. p ++ is.0) (sym same) ∙ is.1)))
+    where
+      vacant : before.tree.node copy ≡ None
+      vacant = copies.vacant (length path) (omega (arith, longer))
+
+      by : (f : List (List ℕ)) (o : Option ℕ) → led_above stack before f ≡ o → hides (then_some o one_more.tree.node) ≡ hides (then_some o before.tree.node)
+      by f None e = refl
+      by f (Some u) e =
+          let used = led_is_there (record { tree = before.tree; directory = stack.directory }) tree top f u e in
+          hiding_alike (before.tree.node u) (one_more.tree.node u)
+          (hides_so _ _ ((make_adds_inode before stack.directory parent copy name (copy_node parent node) directory vacant).1 u
+          (λ same. true≢false (sym used ∙ ap (λ n. is_some (before.tree.node n)) same ∙ ap is_some vacant))))
+
+      at : (f : List (List ℕ)) → f ≢ path → hides (node_led (view_in one_more stack.directory) f) ≡ hides (node_led (view_in before stack.directory) f)
+      at f differs = ap (λ o. hides (then_some o one_more.tree.node)) (other_leads f differs) ∙ by f (led_above stack before f) refl
 
   on_front : (other rest : List (List ℕ)) → other ++ rest ≡ path → led_above stack one_more other ≡ Some (unwrap_or (led_above stack upper other) (fresh (length other)))
   on_front other [] is =
@@ -294,23 +318,43 @@ module _ (fresh : Fresh ℕ) (distinct : (j k : ℕ) → fresh j ≡ fresh k →
         directory_above stack m line.copied.whole parent (upper_of m parent) (upper_real m parent stands)
         ∙ ap (λ files. is_directory_node (files.tree.node parent)) line.copied.files ∙ has_entries merge.files.tree parent name object entry
 
-    copies_now : Copies fresh stack merge.upper (front ++ name ∷ []) (copied_at fresh stack m.upper (front ++ name ∷ []))
-    copies_now =
+    -- so it is one copy more
+    is_made : (node : Node ℕ) × (copied_at fresh stack m.upper (front ++ name ∷ [])
+        ≡ changed nat_eq m.upper (Make (upper_of m parent) name (fresh (length (front ++ name ∷ []))) (copy_node (upper_of m parent) node)))
+    is_made =
         by (node_seen stack m.upper (front ++ name ∷ [])) (same_seen fresh stack m line.copied.whole object there_now (front ++ name ∷ []) leads_later) refl
       where
         by : (o : Option (Node ℕ)) → SameObject (m.files.tree.node object) o → node_seen stack m.upper (front ++ name ∷ []) ≡ o
-            → Copies fresh stack merge.upper (front ++ name ∷ []) (copied_at fresh stack m.upper (front ++ name ∷ []))
+            → (node : Node ℕ) × (copied_at fresh stack m.upper (front ++ name ∷ [])
+            ≡ changed nat_eq m.upper (Make (upper_of m parent) name (fresh (length (front ++ name ∷ []))) (copy_node (upper_of m parent) node)))
         by None same e = absurd (no (m.files.tree.node object) there_now same)
           where
             no : (node : Option (Node ℕ)) → is_some node ≡ true → SameObject node None → ⊥
             no None t s = true≢false (sym t)
             no (Some node) t s = s
-        by (Some node) same e =
-            subst (Copies fresh stack merge.upper (front ++ name ∷ []))
-            (sym (ap (λ o. copy_over fresh stack m.upper (front ++ name ∷ []) o (node_seen stack m.upper (front ++ name ∷ []))) still_free
-            ∙ ap (copy_over fresh stack m.upper (front ++ name ∷ []) None) e
-            ∙ (λ i. changed nat_eq m.upper (Make (above_is i) (last_of_longer front name [] i) (fresh (length (front ++ name ∷ []))) (copy_node (above_is i) node)))))
-            (one_more_copies fresh distinct stack merge.upper m.upper (line.copied.whole.layers 0 _ refl).0 front name (upper_of m parent) node before.copies up up_directory free)
+        by (Some node) same e = (
+          node,
+          ap (λ o. copy_over fresh stack m.upper (front ++ name ∷ []) o (node_seen stack m.upper (front ++ name ∷ []))) still_free
+              ∙ ap (copy_over fresh stack m.upper (front ++ name ∷ []) None) e
+              ∙ (λ i. changed nat_eq m.upper (Make (above_is i) (last_of_longer front name [] i) (fresh (length (front ++ name ∷ []))) (copy_node (above_is i) node))),
+        )
+
+    top_is : IsTree m.upper.tree × IsDirectory m.upper.tree stack.directory
+    top_is = line.copied.whole.layers 0 _ refl
+
+    copies_now : Copies fresh stack merge.upper (front ++ name ∷ []) (copied_at fresh stack m.upper (front ++ name ∷ []))
+    copies_now =
+        subst (Copies fresh stack merge.upper (front ++ name ∷ [])) (sym is_made.1)
+        (one_more_copies fresh distinct stack merge.upper m.upper top_is.0 front name (upper_of m parent) is_made.0 before.copies up up_directory free)
+
+    -- a copy cuts no path that does not go through its own
+    pub low_cuts : (other : List (List ℕ)) → ((rest : List (List ℕ)) → (front ++ name ∷ []) ++ rest ≢ other)
+        → cuts (view_in (copied_up nat_eq fresh merge object).upper stack.directory) other ≡ cuts (view_in merge.upper stack.directory) other
+    low_cuts other out =
+        let good = to_object merge.files whole.tree whole.numbers parent parent_there in
+        ap (λ u. cuts (view_in u stack.directory) other) (one_copied ∙ is_made.1)
+        ∙ cut_elsewhere fresh distinct stack merge.upper m.upper top_is.0 front name (upper_of m parent) is_made.0 before.copies up up_directory free top_is.1 other out
+        ∙ line.cut (good.directories (has_entries merge.files.tree parent name object entry)) other
 
     pub low_copied_to : IsCopiedTo (front ++ name ∷ []) object
     low_copied_to = record {
@@ -341,3 +385,41 @@ module _ (fresh : Fresh ℕ) (distinct : (j k : ℕ) → fresh j ≡ fresh k →
       by front name l k false low (Some parent) e f before =
           low_copied_to front name parent object e f there low
           (before front parent k (directory_used merge.files.tree parent (has_entries merge.files.tree parent name object f)) e)
+
+  -- Copies of what a path leads to cut no path to a directory that was not cut.
+  pub cuts_stay : (path : List (List ℕ)) (object : ℕ) → is_some (merge.files.tree.node object) ≡ true → at path ≡ Some object
+      → (other : List (List ℕ)) (directory : ℕ) → at other ≡ Some directory → IsDirectory merge.files.tree directory
+      → cuts (view_in (copied_up nat_eq fresh merge object).upper stack.directory) other ≡ cuts (view_in merge.upper stack.directory) other
+  cuts_stay path object there leads other directory other_leads is_directory =
+      by (is_directory_node (merge.files.tree.node object)) refl (is_in_upper merge object) refl path refl
+    where
+      not_through : is_directory_node (merge.files.tree.node object) ≡ false → (rest : List (List ℕ)) → path ++ rest ≢ other
+      not_through file [] e =
+          let same = some_is_one object directory (sym (led_parts merge.files.tree path [] merge.files.tree.root object leads) ∙ ap at e ∙ other_leads) in
+          true≢false (sym is_directory ∙ ap (λ n. is_directory_node (merge.files.tree.node n)) (sym same) ∙ file)
+      not_through file (word ∷ rest) e =
+          entry (entry_at merge.files.tree object word) refl (sym (led_parts merge.files.tree path (word ∷ rest) merge.files.tree.root object leads) ∙ ap at e ∙ other_leads)
+        where
+          entry : (o : Option ℕ) → entry_at merge.files.tree object word ≡ o → option_and_then (λ next. led merge.files.tree next rest) o ≡ Some directory → ⊥
+          entry None f l = none_is_some directory l
+          entry (Some next) f l = true≢false (sym (has_entries merge.files.tree object word next f) ∙ file)
+
+      low : is_directory_node (merge.files.tree.node object) ≡ false → is_in_upper merge object ≡ false → (front : List (List ℕ)) (name : List ℕ) → front ++ name ∷ [] ≡ path
+          → (o : Option ℕ) → at front ≡ o → option_and_then (λ d. entry_at merge.files.tree d name) o ≡ Some object
+          → cuts (view_in (copied_up nat_eq fresh merge object).upper stack.directory) other ≡ cuts (view_in merge.upper stack.directory) other
+      low file lies front name split None e f = none_is_some object f
+      low file lies front name split (Some parent) e f =
+          low_cuts front name parent object e f there lies
+          (copied_along (length front) front parent refl (directory_used merge.files.tree parent (has_entries merge.files.tree parent name object f)) e)
+          other (λ rest same. not_through file rest (ap (λ p. p ++ rest) (sym split) ∙ same))
+
+      by : (d : Bool) → is_directory_node (merge.files.tree.node object) ≡ d → (b : Bool) → is_in_upper merge object ≡ b → (way : List (List ℕ)) → path ≡ way
+          → cuts (view_in (copied_up nat_eq fresh merge object).upper stack.directory) other ≡ cuts (view_in merge.upper stack.directory) other
+      by true d b u way e =
+          (object_copied stack fresh distinct merge object whole unused there).cut ((to_object merge.files whole.tree whole.numbers object there).directories d) other
+      by false d true u way e = ap (λ n. cuts (view_in n.upper stack.directory) other) (stays fresh stack merge whole object u)
+      by false d false u [] e = absurd (true≢false (sym (root_stands object (sym (ap at e) ∙ leads)) ∙ u))
+      by false d false u (word ∷ way) e =
+          let last = last_of (word ∷ way) (not_empty word way) in
+          low d u last.0 last.1 (last.2 ∙ sym e) (at last.0) refl
+          (sym (last_name merge.files.tree merge.files.tree.root last.0 last.1) ∙ ap at (last.2 ∙ sym e) ∙ leads)

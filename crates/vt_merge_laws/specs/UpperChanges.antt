@@ -2,7 +2,7 @@
 -- (copy_up) and "whiteouts and opaque directories". Objects are given by paths, or by their real objects if they have no name.
 use Rattle.std.specs.Prelude.{Bool, List, None, Option, Some, [], is_some, length, nat_eq, slice_get, true, unwrap_or, ℕ, ◌++◌, ◌∷◌, ◌≡◌, ◌≢◌}
 use Rattle.vt_spec.specs.declared.attributes.Attr.{Attr}
-use Rattle.vt_spec.specs.Language.Changes.{Change, changed, changed_node, content_with_parent, node_with_attr, node_with_mark, with_inode, with_moved}
+use Rattle.vt_spec.specs.Language.Changes.{changed, changed_node, content_with_parent, node_with_attr, node_with_mark, with_inode, with_moved}
 use Rattle.vt_spec.specs.Language.Changes.Change.{AddName, CopyUp, Make, Move, Remove, SetAttr, SetBytes, SetMark}
 use Rattle.vt_spec.specs.FileTree.{FileTree}
 use Rattle.vt_spec.specs.Lists.{Fresh, evens, folded, front_of, fronts, last_or, odds, then_some, when}
@@ -13,7 +13,8 @@ use Rattle.vt_spec.specs.Machine.World.{Real, upper_object}
 use Rattle.vt_spec.specs.Machine.World.Real.{Below, Upper}
 use Rattle.vt_spec.specs.Machine.Invariants.{number_at_path}
 use Rattle.vt_spec.specs.Tree.{Node, is_directory_node, node_with_bytes}
-use Rattle.vt_spec.specs.TreeLaws.{IsDirectory, entry_at, led}
+use Rattle.vt_spec.specs.TreeLaws.{IsDirectory, led}
+use Rattle.vt_tree_laws.specs.Trees.{MayMove}
 use Rattle.vt_overlay_laws.specs.WhatIsShown.{IsWhole}
 
 -- the layers, the upper one on top
@@ -107,3 +108,135 @@ CopiesAreOfFronts =
     → IsWhole stack merge → AreNew fresh merge.upper → is_some (merge.files.tree.node object) ≡ true → IsAt merge object place
     → ((copied_up nat_eq fresh merge object).upper ≡ copied_for fresh stack merge.upper place)
     × (upper_object ((copied_up nat_eq fresh merge object).real object) ≡ Some (object_of fresh stack merge.upper place))
+
+-- what is said of an overlay and the new numbers for a change of it
+abbrev pub OfCopies : (Fresh ℕ → Stack ℕ → Merge ℕ → Type 0) → Type 0
+OfCopies Said =
+    (fresh : Fresh ℕ) (stack : Stack ℕ) (merge : Merge ℕ) → IsWhole stack merge → AreNew fresh merge.upper → Said fresh stack merge
+
+-- So each front leads to what it led to, or to its copy; and every other path leads where it led.
+abbrev pub FrontsLeadToCopies : Type 0
+FrontsLeadToCopies =
+    OfCopies (λ fresh stack merge.
+    (path : List (List ℕ)) → is_some (number_at_path merge.files path) ≡ true
+    → ((front rest : List (List ℕ)) → front ++ rest ≡ path
+    → led_above stack (copied_to fresh stack merge.upper path) front
+    ≡ Some (unwrap_or (led_above stack merge.upper front) (fresh (length front))))
+    × ((other : List (List ℕ)) → ((rest : List (List ℕ)) → other ++ rest ≢ path)
+    → led_above stack (copied_to fresh stack merge.upper path) other ≡ led_above stack merge.upper other))
+
+-- a path leads to a directory of the overlay
+abbrev pub LeadsToDirectory : Merge ℕ → List (List ℕ) → ℕ → Type 0
+LeadsToDirectory merge path directory =
+    (number_at_path merge.files path ≡ Some directory) × IsDirectory merge.files.tree directory
+
+-- What lower layers show at a name is the same before copies and after them, and so is whether it is a directory.
+abbrev pub CopiesHideNothing : Type 0
+CopiesHideNothing =
+    OfCopies (λ fresh stack merge.
+    (path way : List (List ℕ)) (directory : ℕ) (name : List ℕ)
+    → is_some (number_at_path merge.files path) ≡ true → LeadsToDirectory merge way directory
+    → (seen_below stack (copied_to fresh stack merge.upper path) (way ++ name ∷ []) ≡ seen_below stack merge.upper (way ++ name ∷ []))
+    × (directory_below stack (copied_to fresh stack merge.upper path) (way ++ name ∷ [])
+    ≡ directory_below stack merge.upper (way ++ name ∷ [])))
+
+-- Each kind of change
+
+-- bytes, owner and mode, and mark: of the upper object, after its copy if it lay only below
+abbrev pub upper_with : Fresh ℕ → Stack ℕ → FileTree ℕ → Place → (Option (Node ℕ) → Option (Node ℕ)) → FileTree ℕ
+upper_with fresh stack upper place change =
+    changed_node nat_eq (copied_for fresh stack upper place) (object_of fresh stack upper place) change
+
+abbrev pub BytesAreSetAbove : Type 0
+BytesAreSetAbove =
+    OfCopies (λ fresh stack merge.
+    (file : ℕ) (place : Place) (bytes : List ℕ) → is_some (merge.files.tree.node file) ≡ true → IsAt merge file place
+    → (merge_changed nat_eq fresh stack merge (SetBytes file bytes)).upper
+    ≡ upper_with fresh stack merge.upper place (node_with_bytes bytes))
+
+abbrev pub AttrIsSetAbove : Type 0
+AttrIsSetAbove =
+    OfCopies (λ fresh stack merge.
+    (object : ℕ) (place : Place) (attr : Attr) → is_some (merge.files.tree.node object) ≡ true → IsAt merge object place
+    → (merge_changed nat_eq fresh stack merge (SetAttr object attr)).upper
+    ≡ upper_with fresh stack merge.upper place (node_with_attr attr))
+
+abbrev pub MarkIsSetAbove : Type 0
+MarkIsSetAbove =
+    OfCopies (λ fresh stack merge.
+    (directory : ℕ) (place : Place) (opaque : Bool) → is_some (merge.files.tree.node directory) ≡ true → IsAt merge directory place
+    → (merge_changed nat_eq fresh stack merge (SetMark directory opaque)).upper
+    ≡ upper_with fresh stack merge.upper place (node_with_mark opaque))
+
+abbrev pub OpenedIsCopied : Type 0
+OpenedIsCopied =
+    OfCopies (λ fresh stack merge.
+    (object : ℕ) (place : Place) → is_some (merge.files.tree.node object) ≡ true → IsAt merge object place
+    → (merge_changed nat_eq fresh stack merge (CopyUp object)).upper ≡ copied_for fresh stack merge.upper place)
+
+-- A new object: in the upper directory at a path, copied if it lay only below, with an opaque mark where lower layers show a
+-- directory under the name.
+abbrev pub made_in : Fresh ℕ → Stack ℕ → FileTree ℕ → FileTree ℕ → List (List ℕ) → List ℕ → Node ℕ → FileTree ℕ
+made_in fresh stack upper copies path name node =
+    marked nat_eq (directory_below stack upper (path ++ name ∷ []))
+    (changed nat_eq copies
+    (Make (object_above stack copies path) name (fresh 0)
+    (record { attr = node.attr; content = content_with_parent (object_above stack copies path) node.content })))
+    (fresh 0)
+
+abbrev pub MadeAbove : Type 0
+MadeAbove =
+    OfCopies (λ fresh stack merge.
+    (path : List (List ℕ)) (directory : ℕ) (name : List ℕ) (number : ℕ) (node : Node ℕ) → LeadsToDirectory merge path directory
+    → (merge_changed nat_eq fresh stack merge (Make directory name number node)).upper
+    ≡ made_in (odds fresh) stack merge.upper (copied_to (evens fresh) stack merge.upper path) path name node)
+
+-- A further name of the object at a path, which is copied first and then the directory.
+abbrev pub linked_in : Stack ℕ → FileTree ℕ → List (List ℕ) → List (List ℕ) → List ℕ → FileTree ℕ
+linked_in stack copies old path name =
+    changed nat_eq copies (AddName (object_above stack copies path) name (object_above stack copies old))
+
+abbrev pub LinkedAbove : Type 0
+LinkedAbove =
+    OfCopies (λ fresh stack merge.
+    (old path : List (List ℕ)) (directory object : ℕ) (name : List ℕ)
+    → LeadsToDirectory merge path directory → number_at_path merge.files old ≡ Some object
+    → (merge_changed nat_eq fresh stack merge (AddName directory name object)).upper
+    ≡ linked_in stack (copied_to (odds fresh) stack (copied_to (evens fresh) stack merge.upper old) path) old path name)
+
+-- A name that is removed leaves a whiteout if lower layers show something under it; and a directory that had it loses its
+-- whiteouts.
+abbrev pub removed_in : Fresh ℕ → Stack ℕ → FileTree ℕ → FileTree ℕ → List (List ℕ) → List ℕ → FileTree ℕ
+removed_in fresh stack upper copies path name =
+    emptied nat_eq
+    (name_left_by nat_eq (is_some (seen_below stack upper (path ++ name ∷ []))) fresh stack copies (object_above stack copies path) name)
+    (directory_above stack copies (path ++ name ∷ []))
+
+abbrev pub RemovedAbove : Type 0
+RemovedAbove =
+    OfCopies (λ fresh stack merge.
+    (path : List (List ℕ)) (directory : ℕ) (name : List ℕ) (object : ℕ) → LeadsToDirectory merge path directory
+    → (merge_changed nat_eq fresh stack merge (Remove directory name object)).upper
+    ≡ removed_in (odds fresh) stack merge.upper (copied_to (evens fresh) stack merge.upper path) path name)
+
+-- An object that is moved is copied first, and then the new directory; what it replaces loses its whiteouts, the old name leaves a
+-- whiteout if lower layers show something under it, and under the new name it is opaque if they show a directory there.
+abbrev pub moved_in : Fresh ℕ → Stack ℕ → FileTree ℕ → FileTree ℕ → List (List ℕ) → List ℕ → List (List ℕ) → List ℕ → FileTree ℕ
+moved_in fresh stack upper copies from old to new =
+    marked nat_eq (directory_below stack upper (to ++ new ∷ []))
+    (name_left_by nat_eq (is_some (seen_below stack upper (from ++ old ∷ []))) fresh stack
+    (with_moved nat_eq (emptied nat_eq copies (directory_above stack copies (to ++ new ∷ [])))
+    (object_above stack copies from) old (object_above stack copies to) new (object_above stack copies (from ++ old ∷ [])))
+    (object_above stack copies from) old)
+    (object_above stack copies (from ++ old ∷ []))
+
+abbrev pub MovedAbove : Type 0
+MovedAbove =
+    OfCopies (λ fresh stack merge.
+    (from_path to_path : List (List ℕ)) (from to object : ℕ) (old new : List ℕ)
+    → number_at_path merge.files from_path ≡ Some from → number_at_path merge.files to_path ≡ Some to
+    → MayMove merge.files.tree from old to new object
+    → (merge_changed nat_eq fresh stack merge (Move from old to new object)).upper
+    ≡ moved_in (odds (odds fresh)) stack merge.upper
+    (copied_to (evens (odds fresh)) stack (copied_to (evens fresh) stack merge.upper (from_path ++ old ∷ [])) to_path)
+    from_path old to_path new)
