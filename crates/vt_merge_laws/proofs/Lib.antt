@@ -2,3 +2,4 @@ pub mod MergedNumbers
 pub mod UpperCopying
 pub mod UpperFronts
 pub mod UpperPlaces
+pub mod UpperKinds

@@ -61,7 +61,8 @@ copy_over fresh stack upper path None (Some node) =
     (copy_node (object_above stack upper (front_of path)) node))
 
 abbrev pub copied_at : Fresh ℕ → Stack ℕ → FileTree ℕ → List (List ℕ) → FileTree ℕ
-copied_at fresh stack upper path = copy_over fresh stack upper path (led_above stack upper path) (node_seen stack upper path)
+copied_at fresh stack upper path = copy_over fresh stack upper path (led_above stack upper path)
+    (node_seen stack upper path)
 
 -- so is what is shown at each front of a path, the shortest first
 abbrev pub copied_to : Fresh ℕ → Stack ℕ → FileTree ℕ → List (List ℕ) → FileTree ℕ
@@ -105,14 +106,17 @@ pub record AreNew (fresh : Fresh ℕ) (upper : FileTree ℕ) : Type 0 where
 abbrev pub CopiesAreOfFronts : Type 0
 CopiesAreOfFronts =
     (fresh : Fresh ℕ) (stack : Stack ℕ) (merge : Merge ℕ) (object : ℕ) (place : Place)
-    → IsWhole stack merge → AreNew fresh merge.upper → is_some (merge.files.tree.node object) ≡ true → IsAt merge object place
+    → IsWhole stack merge → AreNew fresh merge.upper → is_some (merge.files.tree.node object) ≡ true
+    → IsAt merge object place
     → ((copied_up nat_eq fresh merge object).upper ≡ copied_for fresh stack merge.upper place)
-    × (upper_object ((copied_up nat_eq fresh merge object).real object) ≡ Some (object_of fresh stack merge.upper place))
+    × (upper_object ((copied_up nat_eq fresh merge object).real object) ≡ Some
+    (object_of fresh stack merge.upper place))
 
 -- what is said of an overlay and the new numbers for a change of it
 abbrev pub OfCopies : (Fresh ℕ → Stack ℕ → Merge ℕ → Type 0) → Type 0
 OfCopies Said =
-    (fresh : Fresh ℕ) (stack : Stack ℕ) (merge : Merge ℕ) → IsWhole stack merge → AreNew fresh merge.upper → Said fresh stack merge
+    (fresh : Fresh ℕ) (stack : Stack ℕ) (merge : Merge ℕ) → IsWhole stack merge → AreNew fresh merge.upper
+    → Said fresh stack merge
 
 -- So each front leads to what it led to, or to its copy; and every other path leads where it led.
 abbrev pub FrontsLeadToCopies : Type 0
@@ -136,7 +140,8 @@ CopiesHideNothing =
     OfCopies (λ fresh stack merge.
     (path way : List (List ℕ)) (directory : ℕ) (name : List ℕ)
     → is_some (number_at_path merge.files path) ≡ true → LeadsToDirectory merge way directory
-    → (seen_below stack (copied_to fresh stack merge.upper path) (way ++ name ∷ []) ≡ seen_below stack merge.upper (way ++ name ∷ []))
+    → (seen_below stack (copied_to fresh stack merge.upper path) (way ++ name ∷ []) ≡ seen_below stack merge.upper
+    (way ++ name ∷ []))
     × (directory_below stack (copied_to fresh stack merge.upper path) (way ++ name ∷ [])
     ≡ directory_below stack merge.upper (way ++ name ∷ [])))
 
@@ -157,14 +162,16 @@ BytesAreSetAbove =
 abbrev pub AttrIsSetAbove : Type 0
 AttrIsSetAbove =
     OfCopies (λ fresh stack merge.
-    (object : ℕ) (place : Place) (attr : Attr) → is_some (merge.files.tree.node object) ≡ true → IsAt merge object place
+    (object : ℕ) (place : Place) (attr : Attr) → is_some (merge.files.tree.node object) ≡ true
+    → IsAt merge object place
     → (merge_changed nat_eq fresh stack merge (SetAttr object attr)).upper
     ≡ upper_with fresh stack merge.upper place (node_with_attr attr))
 
 abbrev pub MarkIsSetAbove : Type 0
 MarkIsSetAbove =
     OfCopies (λ fresh stack merge.
-    (directory : ℕ) (place : Place) (opaque : Bool) → is_some (merge.files.tree.node directory) ≡ true → IsAt merge directory place
+    (directory : ℕ) (place : Place) (opaque : Bool) → is_some (merge.files.tree.node directory) ≡ true
+    → IsAt merge directory place
     → (merge_changed nat_eq fresh stack merge (SetMark directory opaque)).upper
     ≡ upper_with fresh stack merge.upper place (node_with_mark opaque))
 
@@ -187,7 +194,8 @@ made_in fresh stack upper copies path name node =
 abbrev pub MadeAbove : Type 0
 MadeAbove =
     OfCopies (λ fresh stack merge.
-    (path : List (List ℕ)) (directory : ℕ) (name : List ℕ) (number : ℕ) (node : Node ℕ) → LeadsToDirectory merge path directory
+    (path : List (List ℕ)) (directory : ℕ) (name : List ℕ) (number : ℕ) (node : Node ℕ)
+    → LeadsToDirectory merge path directory
     → (merge_changed nat_eq fresh stack merge (Make directory name number node)).upper
     ≡ made_in (odds fresh) stack merge.upper (copied_to (evens fresh) stack merge.upper path) path name node)
 
@@ -202,14 +210,16 @@ LinkedAbove =
     (old path : List (List ℕ)) (directory object : ℕ) (name : List ℕ)
     → LeadsToDirectory merge path directory → number_at_path merge.files old ≡ Some object
     → (merge_changed nat_eq fresh stack merge (AddName directory name object)).upper
-    ≡ linked_in stack (copied_to (odds fresh) stack (copied_to (evens fresh) stack merge.upper old) path) old path name)
+    ≡ linked_in stack (copied_to (odds fresh) stack
+    (copied_to (evens fresh) stack merge.upper old) path) old path name)
 
 -- A name that is removed leaves a whiteout if lower layers show something under it; and a directory that had it loses its
 -- whiteouts.
 abbrev pub removed_in : Fresh ℕ → Stack ℕ → FileTree ℕ → FileTree ℕ → List (List ℕ) → List ℕ → FileTree ℕ
 removed_in fresh stack upper copies path name =
     emptied nat_eq
-    (name_left_by nat_eq (is_some (seen_below stack upper (path ++ name ∷ []))) fresh stack copies (object_above stack copies path) name)
+    (name_left_by nat_eq (is_some (seen_below stack upper (path ++ name ∷ []))) fresh stack copies
+    (object_above stack copies path) name)
     (directory_above stack copies (path ++ name ∷ []))
 
 abbrev pub RemovedAbove : Type 0
@@ -221,12 +231,14 @@ RemovedAbove =
 
 -- An object that is moved is copied first, and then the new directory; what it replaces loses its whiteouts, the old name leaves a
 -- whiteout if lower layers show something under it, and under the new name it is opaque if they show a directory there.
-abbrev pub moved_in : Fresh ℕ → Stack ℕ → FileTree ℕ → FileTree ℕ → List (List ℕ) → List ℕ → List (List ℕ) → List ℕ → FileTree ℕ
+abbrev pub moved_in : Fresh ℕ → Stack ℕ → FileTree ℕ → FileTree ℕ → List (List ℕ) → List ℕ → List (List ℕ) → List ℕ
+    → FileTree ℕ
 moved_in fresh stack upper copies from old to new =
     marked nat_eq (directory_below stack upper (to ++ new ∷ []))
     (name_left_by nat_eq (is_some (seen_below stack upper (from ++ old ∷ []))) fresh stack
     (with_moved nat_eq (emptied nat_eq copies (directory_above stack copies (to ++ new ∷ [])))
-    (object_above stack copies from) old (object_above stack copies to) new (object_above stack copies (from ++ old ∷ [])))
+    (object_above stack copies from) old (object_above stack copies to) new
+    (object_above stack copies (from ++ old ∷ [])))
     (object_above stack copies from) old)
     (object_above stack copies (from ++ old ∷ []))
 
