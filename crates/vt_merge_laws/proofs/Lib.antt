@@ -3,3 +3,4 @@ pub mod UpperCopying
 pub mod UpperFronts
 pub mod UpperPlaces
 pub mod UpperKinds
+pub mod UpperWorlds

@@ -1,2 +1,3 @@
 pub mod MergedTrees
 pub mod UpperChanges
+pub mod UpperCalls

@@ -1,6 +1,7 @@
 //! Laws of what a change of an overlay makes of its upper layer, in terms of layers alone.
 ghost use Rattle.vt_merge_laws.specs.UpperChanges.{AttrIsSetAbove, BytesAreSetAbove, CopiesAreOfFronts, CopiesHideNothing, FrontsLeadToCopies, LinkedAbove};
 ghost use Rattle.vt_merge_laws.specs.UpperChanges.{MadeAbove, MarkIsSetAbove, MovedAbove, OpenedIsCopied, RemovedAbove};
+ghost use Rattle.vt_merge_laws.specs.UpperCalls.{ChangesAreByLayers, UpperLayersAfterCalls};
 
 /// What a path leads to is copied up with what is shown at the fronts of the path, where the upper layer has nothing; an object
 /// without a name is copied alone. Each front then leads to its copy, every other path leads where it led, and what lower layers
@@ -22,4 +23,11 @@ pub fn changes_of_the_upper_layer_are_by_layers()
     ensures linked { LinkedAbove }
     ensures removed { RemovedAbove }
     ensures moved { MovedAbove }
+{}
+
+/// So a change that is given by places in place of numbers makes of the upper layer's tree what is said by layers alone; and so
+/// does each permitted call that changes an overlay, in the world that it leaves.
+pub fn calls_change_the_upper_layer_by_layers()
+    ensures changes { ChangesAreByLayers }
+    ensures calls { UpperLayersAfterCalls }
 {}
