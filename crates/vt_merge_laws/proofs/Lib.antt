@@ -4,3 +4,4 @@ pub mod UpperFronts
 pub mod UpperPlaces
 pub mod UpperKinds
 pub mod UpperWorlds
+pub mod MountedLeft

@@ -5,4 +5,5 @@
 #![tactic(auto)]
 
 pub mod merged;
+pub mod mounted;
 pub mod upper;
