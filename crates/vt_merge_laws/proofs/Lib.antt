@@ -5,3 +5,4 @@ pub mod UpperPlaces
 pub mod UpperKinds
 pub mod UpperWorlds
 pub mod MountedLeft
+pub mod MountedAgain

@@ -1,23 +1,18 @@
 -- What `mount overlay` leaves when what nothing uses is gone.
-use Rattle.std.proofs.Common.{◌≡◌, refl, sym, ap, subst, ◌∙◌, true≢false, arith, ℕ, nat_eq, Bool, true, false, not, cond, ◌||◌, List, [], ◌∷◌, map, Option, Some, None, Result, Ok, Err, find, is_some, unwrap_or}
-use Rattle.std.specs.Prelude.{All, is_ok, ok_or}
-use Rattle.vt_spec.specs.declared.errors.Deny.{Deny}
+use Rattle.std.proofs.Common.{◌≡◌, refl, sym, subst, true≢false, ℕ, nat_eq, true, false, not, List, Option, Some, None, is_some}
 use Rattle.vt_spec.specs.Language.Answers.Answer.{Done}
 use Rattle.vt_spec.specs.Language.Calls.{MountFlags, OverlayWords}
-use Rattle.vt_spec.specs.Lists.{Fresh, evens, holds_of}
-use Rattle.vt_spec.specs.Machine.Filesystems.{raised_if_changed}
+use Rattle.vt_spec.specs.Lists.{Fresh, holds_of}
 use Rattle.vt_spec.specs.Machine.Invariants.{IsWorld, OverlayInvariants, TreeInvariants}
 use Rattle.vt_spec.specs.Machine.Mounts.{Location}
 use Rattle.vt_spec.specs.Machine.Outcome.Mounting.{LayerPlaces, admin_rules, destination_walk, layer_rules, layers_walked, mount_overlay_outcome, new_mount_rules, overlay_at, overlay_by, overlay_mounted}
 use Rattle.vt_spec.specs.Machine.Outcomes.{granted}
 use Rattle.vt_spec.specs.Machine.Settled.{settled}
-use Rattle.vt_spec.specs.Machine.World.{Filesystem, Overlay, Task, World, filesystem_numbered, mount_at, no_filesystem}
+use Rattle.vt_spec.specs.Machine.World.{Task, World, mount_at}
 use Rattle.vt_tree_laws.proofs.TreesWalked.{Passed, after_any, after_holds, judged_holds}
-use Rattle.vt_layer_laws.specs.Layers.Mounted.{AreLayers}
 use Rattle.vt_layer_laws.specs.Layers.Mounting.{AreNewNumbers}
 use Rattle.vt_layer_laws.proofs.MountingKept.{mounting_keeps_overlays, mounting_keeps_trees}
 use Rattle.vt_layer_laws.proofs.MountingWalked.{AreWalked, are_walked, has_layers, shown_plain}
-use Rattle.vt_letting_go.specs.Attaching.{is_attached}
 use Rattle.vt_overlays_let_go.proofs.NewOverlays.{new_mounts_of_overlays_keep_all}
 use Rattle.vt_merge_laws.specs.MountedAnew.{MountingLeavesOverlays, MountingLeavesTrees, MountingLetsNothingGo}
 
