@@ -4,5 +4,6 @@ pub mod UpperFronts
 pub mod UpperPlaces
 pub mod UpperKinds
 pub mod UpperWorlds
+pub mod UpperAsked
 pub mod MountedLeft
 pub mod MountedAgain

@@ -1,13 +1,14 @@
 -- What each kind of change makes of the upper layer.
-use Rattle.std.proofs.Common.{◌≡◌, refl, sym, ap, ◌∙◌, true≢false, ℕ, ◌*◌, nat_eq, Bool, true, false, cond, if◌then◌else◌, List, [], ◌∷◌, ◌++◌, Option, Some, None, is_some, option_and_then, unwrap_or}
+use Rattle.std.proofs.Common.{◌≡◌, refl, sym, ap, ◌∙◌, true≢false, ℕ, ◌+◌, ◌*◌, nat_eq, eqb-true, Bool, true, false, cond, if◌then◌else◌, List, [], ◌∷◌, ◌++◌, Option, Some, None, is_some, option_and_then, unwrap_or}
 use Rattle.vt_spec.specs.FileTree.{FileTree}
 use Rattle.vt_spec.specs.Language.Changes.{changed, changed_node, content_with_parent, node_with_attr, node_with_mark, with_moved}
 use Rattle.vt_spec.specs.Language.Changes.Change.{AddName, Make}
 use Rattle.vt_spec.specs.Lists.{Fresh, evens, odds, then_some, when}
-use Rattle.vt_spec.specs.Machine.CopyUp.{Merge, Stack, changed_both, copied_up, emptied, hides_directory, is_directory_shown, marked, name_left_by, path_to, shown_below, upper_directory_named, upper_of}
+use Rattle.vt_spec.specs.Machine.CopyUp.{Merge, Stack, changed_both, copied_each, copied_up, copy_of, emptied, hides_directory, is_directory_shown, is_in_upper, line_to, marked, name_left_by, path_to, shown_below, upper_directory_named, upper_of}
 use Rattle.vt_spec.specs.Machine.Invariants.{number_at_path}
 use Rattle.vt_spec.specs.Machine.Layers.{below}
 use Rattle.vt_spec.specs.Machine.World.{upper_object}
+use Rattle.vt_spec.specs.Machine.World.Real.{Upper}
 use Rattle.vt_spec.specs.Tree.{Node, is_directory_node, node_with_bytes}
 use Rattle.vt_spec.specs.TreeLaws.{entry_at}
 use Rattle.vt_layer_laws.specs.Layers.ChangesUpper.{StandsInUpper}
@@ -21,7 +22,7 @@ use Rattle.vt_overlay_laws.proofs.WholeLines.{IsCopied, object_copied, stands_co
 use Rattle.vt_overlay_laws.proofs.WholeNames.{above_named, directory_above as directory_stands, named_above}
 use Rattle.vt_overlay_laws.proofs.WholePlaces.{path_to_is}
 use Rattle.vt_overlay_laws.proofs.WholeTogether.{even_distinct, odd_distinct, still_unused, twice}
-use Rattle.vt_merge_laws.specs.UpperChanges.{AreNew, AttrIsSetAbove, BytesAreSetAbove, LeadsToDirectory, LinkedAbove, MadeAbove, MarkIsSetAbove, MovedAbove, OpenedIsCopied, RemovedAbove, copied_to, directory_above, directory_below, layers_with, led_above, linked_in, moved_in, object_above, seen_below, IsAt, Place, upper_with}
+use Rattle.vt_merge_laws.specs.UpperChanges.{AreNew, AttrIsSetAbove, BytesAreSetAbove, LeadsToDirectory, LinkedAbove, MadeAbove, object_of, MarkIsSetAbove, MovedAbove, OpenedIsCopied, RemovedAbove, copied_to, directory_above, directory_below, layers_with, led_above, linked_in, moved_in, object_above, seen_below, IsAt, Place, upper_with}
 use Rattle.vt_merge_laws.specs.UpperChanges.Place.{Named}
 use Rattle.vt_merge_laws.proofs.UpperPlaces.{at_place, copies_hide_nothing, path_there}
 
@@ -108,6 +109,27 @@ module _ (stack : Stack ℕ) (c : Merge ℕ) (whole : IsWhole stack c) where
         by None e = none (λ u l d. none_is_some (found u l d).0 (sym e ∙ (found u l d).1))
         by (Some object) e = some object e (is_directory_node (c.files.tree.node object)) refl
             (upper_object (c.real object)) refl
+
+-- what stands in the upper layer keeps its real object in copies
+real_stays : (fresh : Fresh ℕ) (k : ℕ) (m : Merge ℕ) (list : List ℕ) (object : ℕ) → StandsInUpper m object
+    → (copied_each nat_eq fresh k m list).real object ≡ m.real object
+real_stays fresh k m [] object stands = refl
+real_stays fresh k m (first ∷ list) object stands =
+    let same = by (m.files.tree.node first) (is_in_upper m first) refl in
+    real_stays fresh (k + 1) (copy_of nat_eq m first (fresh k) (m.files.tree.node first)
+    (is_in_upper m first)) list object
+    (ap (λ r. is_some (upper_object r)) same ∙ stands)
+    ∙ same
+  where
+    by : (o : Option (Node ℕ)) (b : Bool) → is_in_upper m first ≡ b
+        → (copy_of nat_eq m first (fresh k) o b).real object ≡ m.real object
+    by None b e = refl
+    by (Some node) true e = refl
+    by (Some node) false e = at (nat_eq object first) refl
+      where
+        at : (c : Bool) → nat_eq object first ≡ c → cond c (Some (Upper (fresh k))) (m.real object) ≡ m.real object
+        at true same = absurd (true≢false (sym stands ∙ ap (is_in_upper m) (eqb-true object first same) ∙ e))
+        at false same = refl
 
 -- New numbers, in parts
 even_new : (fresh : Fresh ℕ) (upper : FileTree ℕ) → AreNew fresh upper → AreNew (evens fresh) upper
@@ -224,26 +246,28 @@ removed_above fresh stack merge whole new path directory name object is =
 
 -- A further name
 pub linked_above : LinkedAbove
-linked_above fresh stack merge whole new old path directory object name is leads =
+linked_above fresh stack merge whole new old path directory object name is used at_old =
     let one = even_new fresh merge.upper new in
-    let there = path_there stack merge whole old object leads in
     let first = copied_up nat_eq (evens fresh) merge object in
-    let first_line = line (evens fresh) stack merge whole one object old leads in
+    let first_line = (object_copied stack (evens fresh) one.distinct merge object whole one.unused used).copied in
+    let first_stands = stands_copied stack (evens fresh) one.distinct merge object whole one.unused used in
+    let says = at_place (evens fresh) stack merge whole one object used old at_old in
     let two : AreNew (odds fresh) first.upper =
-    record { distinct = odd_distinct fresh new.distinct; unused = still_unused fresh stack merge whole new.distinct new.unused object there } in
-    let later = directory_later (evens fresh) stack merge whole one object old leads path directory is in
+    record { distinct = odd_distinct fresh new.distinct; unused = still_unused fresh stack merge whole new.distinct new.unused object used } in
+    let leads = ap (λ files. number_at_path files path) first_line.files ∙ is.0 in
     let second = copied_up nat_eq (odds fresh) first directory in
-    let second_line = line (odds fresh) stack first first_line.whole two directory path later.0 in
-    let at_old = ap (λ files. number_at_path files old) (second_line.files ∙ first_line.files) ∙ leads in
-    let at_path = ap (λ files. number_at_path files path) (second_line.files ∙ first_line.files) ∙ is.0 in
+    let second_line = line (odds fresh) stack first first_line.whole two directory path leads in
+    let at_path = ap (λ files. number_at_path files path) second_line.files ∙ leads in
     let parent = object_is stack second second_line.whole path directory at_path
-    (stands (odds fresh) stack first first_line.whole two directory path later.0) in
-    let own = object_is stack second second_line.whole old object at_old
-    (second_line.grows object (stands (evens fresh) stack merge whole one object old leads)) in
-    let upper = upper_is (odds fresh) stack first first_line.whole two directory path later.0
-    ∙ ap (λ u. copied_to (odds fresh) stack u path) (upper_is (evens fresh) stack merge whole one object old leads) in
+    (stands (odds fresh) stack first first_line.whole two directory path leads) in
+    let own : upper_of second object ≡ object_of (evens fresh) stack merge.upper old =
+    ap (λ r. unwrap_or (upper_object r) object)
+    (real_stays (odds fresh) 0 first (line_to nat_eq first.files directory) object first_stands)
+    ∙ ap (λ o. unwrap_or o object) says.1 in
+    let upper = upper_is (odds fresh) stack first first_line.whole two directory path leads
+    ∙ ap (λ u. copied_to (odds fresh) stack u path) says.0 in
     (λ i. changed nat_eq second.upper (AddName (parent i) name (own i)))
-    ∙ ap (λ u. linked_in stack u old path name) upper
+    ∙ ap (λ u. linked_in stack u (object_of (evens fresh) stack merge.upper old) path name) upper
 
 -- A move
 abbrev moved_by : Fresh ℕ → Stack ℕ → List ℕ → List ℕ → Bool → Bool → FileTree ℕ → Option ℕ → ℕ → ℕ → ℕ → FileTree ℕ

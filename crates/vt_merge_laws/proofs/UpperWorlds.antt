@@ -29,8 +29,8 @@ use Rattle.vt_merge_laws.proofs.UpperKinds.{attr_is_set_above, bytes_are_set_abo
 pub changes_are_by_layers : ChangesAreByLayers
 changes_are_by_layers fresh stack merge whole new change at (makes path directory name number node is) =
     made_above fresh stack merge whole new path directory name number node is
-changes_are_by_layers fresh stack merge whole new change at (links old path directory object name is leads) =
-    linked_above fresh stack merge whole new old path directory object name is leads
+changes_are_by_layers fresh stack merge whole new change at (links old path directory object name is at_old) =
+    linked_above fresh stack merge whole new old path directory object name is at_old.0 at_old.1
 changes_are_by_layers fresh stack merge whole new change at (removes path directory object name is) =
     removed_above fresh stack merge whole new path directory name object is
 changes_are_by_layers fresh stack merge whole new change at

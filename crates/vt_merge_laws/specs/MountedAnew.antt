@@ -26,7 +26,8 @@ MountingLeavesOverlays = OfMounting (λ world. OverlayInvariants nat_eq (settled
 
 -- the world that a granted `mount overlay` leaves, its last step done, and the number of the overlay in it
 abbrev pub world_mounted : Fresh ℕ → World ℕ → Task ℕ → List ℕ → OverlayWords → MountFlags → World ℕ
-world_mounted fresh world task path words flags = (policy nat_eq fresh world task.name (MountOverlay path (Some words) flags)).world
+world_mounted fresh world task path words flags =
+    (policy nat_eq fresh world task.name (MountOverlay path (Some words) flags)).world
 
 abbrev pub number_mounted : Fresh ℕ → ℕ
 number_mounted fresh = evens (evens fresh) 0

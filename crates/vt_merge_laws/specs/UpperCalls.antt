@@ -19,12 +19,14 @@ use Rattle.vt_spec.specs.Machine.World.{Layer, Overlay, Task, World, filesystem_
 use Rattle.vt_spec.specs.Tree.{Node, bytes_in, node_with_bytes}
 use Rattle.vt_spec.specs.TreeLaws.{IsReached}
 use Rattle.vt_tree_laws.specs.Trees.{MayMove}
-use Rattle.vt_merge_laws.specs.UpperChanges.{AreNew, IsAt, LeadsToDirectory, OfCopies, Place, copied_for, copied_to, linked_in, made_in, moved_in, removed_in, upper_with}
+use Rattle.vt_overlay_laws.specs.WhatIsShown.{IsWhole}
+use Rattle.vt_overlay_laws.specs.WholeChanges.{IsAskedWell}
+use Rattle.vt_merge_laws.specs.UpperChanges.{AreNew, IsAt, LeadsToDirectory, OfCopies, Place, copied_for, copied_to, linked_in, object_of, made_in, moved_in, removed_in, upper_with}
 
 -- a change, by places in place of numbers
 pub data ChangeAt : Type 0 where
   MakeAt : (path : List (List ℕ)) → (name : List ℕ) → (node : Node ℕ) → ChangeAt
-  LinkAt : (old : List (List ℕ)) → (path : List (List ℕ)) → (name : List ℕ) → ChangeAt
+  LinkAt : (old : Place) → (path : List (List ℕ)) → (name : List ℕ) → ChangeAt
   RemoveAt : (path : List (List ℕ)) → (name : List ℕ) → ChangeAt
   MoveAt : (from : List (List ℕ)) → (old : List ℕ) → (to : List (List ℕ)) → (new : List ℕ) → ChangeAt
   BytesAt : (file : Place) → (bytes : List ℕ) → ChangeAt
@@ -40,8 +42,8 @@ IsThereAt merge object place = (is_some (merge.files.tree.node object) ≡ true)
 pub data Asks (merge : Merge ℕ) : Change ℕ → ChangeAt → Type 0 where
   makes : (path : List (List ℕ)) (directory : ℕ) (name : List ℕ) (number : ℕ) (node : Node ℕ)
       → LeadsToDirectory merge path directory → Asks merge (Make directory name number node) (MakeAt path name node)
-  links : (old path : List (List ℕ)) (directory object : ℕ) (name : List ℕ)
-      → LeadsToDirectory merge path directory → number_at_path merge.files old ≡ Some object
+  links : (old : Place) (path : List (List ℕ)) (directory object : ℕ) (name : List ℕ)
+      → LeadsToDirectory merge path directory → IsThereAt merge object old
       → Asks merge (AddName directory name object) (LinkAt old path name)
   removes : (path : List (List ℕ)) (directory object : ℕ) (name : List ℕ)
       → LeadsToDirectory merge path directory → Asks merge (Remove directory name object) (RemoveAt path name)
@@ -62,7 +64,8 @@ abbrev pub changed_above : Fresh ℕ → Stack ℕ → FileTree ℕ → ChangeAt
 changed_above fresh stack upper (MakeAt path name node) =
     made_in (odds fresh) stack upper (copied_to (evens fresh) stack upper path) path name node
 changed_above fresh stack upper (LinkAt old path name) =
-    linked_in stack (copied_to (odds fresh) stack (copied_to (evens fresh) stack upper old) path) old path name
+    linked_in stack (copied_to (odds fresh) stack (copied_for (evens fresh) stack upper old) path)
+    (object_of (evens fresh) stack upper old) path name
 changed_above fresh stack upper (RemoveAt path name) =
     removed_in (odds fresh) stack upper (copied_to (evens fresh) stack upper path) path name
 changed_above fresh stack upper (MoveAt from old to new) =
@@ -78,6 +81,12 @@ ChangesAreByLayers =
     OfCopies (λ fresh stack merge.
     (change : Change ℕ) (at : ChangeAt) → Asks merge change at
     → (merge_changed nat_eq fresh stack merge change).upper ≡ changed_above fresh stack merge.upper at)
+
+-- What is asked well, as the calls' tables of rules see to, is at some places.
+abbrev pub AskedChangesHavePlaces : Type 0
+AskedChangesHavePlaces =
+    (stack : Stack ℕ) (merge : Merge ℕ) (change : Change ℕ) → IsWhole stack merge → IsAskedWell stack merge change
+    → (at : ChangeAt) × Asks merge change at
 
 -- The change of a filesystem that a permit makes: at which location, and by which new numbers.
 pub data Does (fresh : Fresh ℕ) (world : World ℕ) : Permit ℕ → Location ℕ → Fresh ℕ → Change ℕ → Type 0 where

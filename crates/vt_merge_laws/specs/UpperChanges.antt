@@ -199,19 +199,19 @@ MadeAbove =
     → (merge_changed nat_eq fresh stack merge (Make directory name number node)).upper
     ≡ made_in (odds fresh) stack merge.upper (copied_to (evens fresh) stack merge.upper path) path name node)
 
--- A further name of the object at a path, which is copied first and then the directory.
-abbrev pub linked_in : Stack ℕ → FileTree ℕ → List (List ℕ) → List (List ℕ) → List ℕ → FileTree ℕ
-linked_in stack copies old path name =
-    changed nat_eq copies (AddName (object_above stack copies path) name (object_above stack copies old))
+-- A further name of an object, which is copied first and then the directory.
+abbrev pub linked_in : Stack ℕ → FileTree ℕ → ℕ → List (List ℕ) → List ℕ → FileTree ℕ
+linked_in stack copies object path name =
+    changed nat_eq copies (AddName (object_above stack copies path) name object)
 
 abbrev pub LinkedAbove : Type 0
 LinkedAbove =
     OfCopies (λ fresh stack merge.
-    (old path : List (List ℕ)) (directory object : ℕ) (name : List ℕ)
-    → LeadsToDirectory merge path directory → number_at_path merge.files old ≡ Some object
+    (old : Place) (path : List (List ℕ)) (directory object : ℕ) (name : List ℕ)
+    → LeadsToDirectory merge path directory → is_some (merge.files.tree.node object) ≡ true → IsAt merge object old
     → (merge_changed nat_eq fresh stack merge (AddName directory name object)).upper
-    ≡ linked_in stack (copied_to (odds fresh) stack
-    (copied_to (evens fresh) stack merge.upper old) path) old path name)
+    ≡ linked_in stack (copied_to (odds fresh) stack (copied_for (evens fresh) stack merge.upper old) path)
+    (object_of (evens fresh) stack merge.upper old) path name)
 
 -- A name that is removed leaves a whiteout if lower layers show something under it; and a directory that had it loses its
 -- whiteouts.
