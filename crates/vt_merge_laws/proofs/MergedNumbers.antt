@@ -155,7 +155,8 @@ module _ (number_of : Real ℕ → ℕ) (held : ℕ → Option (Real ℕ)) (worl
           → option_and_then (λ d. entry_at filesystem.files.tree d name) o ≡ Some number
           → HasEntry filesystem.files path number
       by front name split None l e = none_is_some number e
-      by front name split (Some d) l e = record { front = front; name = name; directory = d; split = split; leads = l; entry = e }
+      by front name split (Some d) l e =
+          record { front = front; name = name; directory = d; split = split; leads = l; entry = e }
 
   -- what a path leads to is there,
   reached_there : (path : List (List ℕ)) (number : ℕ) → at path ≡ Some number
@@ -274,8 +275,11 @@ module _ (number_of : Real ℕ → ℕ) (held : ℕ → Option (Real ℕ)) (worl
   path_of_name : (number : ℕ) → HasName filesystem.files.tree number → (path : List (List ℕ)) × (at path ≡ Some number)
   path_of_name number has =
       let reached = is_reached_in filesystem.files is.tree has.0 has.1 number has.2 in
-      let way = way_to filesystem.files.tree reached.0 has.0 reached.1 in
-      (way.0 ++ has.1 ∷ [], led-append filesystem.files.tree filesystem.files.tree.root way.0 has.1 has.0 number way.1 has.2)
+      let way = way_to filesystem.files.tree reached.0 has.0 reached.1 in (
+        way.0 ++ has.1 ∷ [],
+        led-append filesystem.files.tree filesystem.files.tree.root way.0 has.1 has.0 number way.1
+            has.2,
+      )
 
   pub other_is_held : (number : ℕ) → ((path : List (List ℕ)) → at path ≢ Some number)
       → (filesystem.files.tree.node number ≡ inode_held world overlay held number)
@@ -369,7 +373,8 @@ module _ (number_of : Real ℕ → ℕ) (held : ℕ → Option (Real ℕ)) (worl
 pub merged_trees_are_one : MergedTreesAreOne
 merged_trees_are_one number_of held world one other overlay another upper lowers is named other_is other_named = (
   λ i. record {
-    root = some_is_one _ _ (same_paths number_of held world one other overlay another upper lowers is named other_is other_named []) i;
+    root = some_is_one _ _ (same_paths number_of held world one other overlay another upper lowers is named other_is
+        other_named []) i;
     node = λ number. (same number).0 i;
   },
   λ i. λ number. (same number).1 i,

@@ -149,13 +149,15 @@ module _ (fresh : Fresh ℕ) (later : World ℕ) (conditions : IsWorld nat_eq la
     files_are =
         ap (λ w. (filesystem_numbered nat_eq w (number_mounted fresh)).files) world_is
         ∙ files_raised changed (number_mounted fresh) mounted.world.filesystems
-        ∙ ap (λ f. f.files) (mounting_makes_overlay fresh later task path words flags places conditions are_new walked granted_so)
+        ∙ ap (λ f. f.files) (mounting_makes_overlay fresh later task path words flags places conditions are_new walked
+        granted_so)
 
     pub are_layers : AreLayers later (overlay_at nat_eq later task places)
     are_layers = layers_of_granted later fresh task words flags places walked path granted_so
 
 pub mounted_anew_shows_the_same : MountedAnewShowsTheSame
-mounted_anew_shows_the_same fresh before later number left task path words flags places conditions is later_conditions are_new task_is grants walked as_left way =
+mounted_anew_shows_the_same fresh before later number left task path words flags places conditions is later_conditions
+    are_new task_is grants walked as_left way =
     subst (λ files. SameObject (then_some (number_at_path files way) files.tree.node)
     (then_some (number_at_path (filesystem_numbered nat_eq before number).files way)
     (filesystem_numbered nat_eq before number).files.tree.node))
@@ -179,8 +181,10 @@ kept_as_others before later (layer ∷ layers) kept = (
 )
 
 pub mounted_over_the_same_layers : MountedOverTheSameLayers
-mounted_over_the_same_layers fresh before later number left task path words flags places conditions is later_conditions are_new task_is grants walked same kept =
-    mounted_anew_shows_the_same fresh before later number left task path words flags places conditions is later_conditions are_new task_is grants walked
+mounted_over_the_same_layers fresh before later number left task path words flags places conditions is
+    later_conditions are_new task_is grants walked same kept =
+    mounted_anew_shows_the_same fresh before later number left task path words flags places conditions is
+    later_conditions are_new task_is grants walked
     (subst (λ layers. AreAsOthers (map (open_layer nat_eq before) (shown_layers left))
     (map (open_layer nat_eq later) layers)) (sym same)
     (kept_as_others before later (shown_layers left) kept))

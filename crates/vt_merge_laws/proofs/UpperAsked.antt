@@ -64,8 +64,11 @@ module _ (stack : Stack ℕ) (merge : Merge ℕ) (whole : IsWhole stack merge) w
       by false e (Some name) f =
           let entry = named_so merge.files whole.tree object name f in
           let reached = is_reached_in merge.files whole.tree name.0 name.1 object entry in
-          let way = way_to merge.files.tree reached.0 name.0 reached.1 in
-          (Named (way.0 ++ name.1 ∷ []), led-append merge.files.tree merge.files.tree.root way.0 name.1 name.0 object way.1 entry)
+          let way = way_to merge.files.tree reached.0 name.0 reached.1 in (
+            Named (way.0 ++ name.1 ∷ []),
+            led-append merge.files.tree merge.files.tree.root way.0 name.1 name.0 object
+                way.1 entry,
+          )
       by false e None f = let real = real_of object there in (Held real.0, (real.1, no_path object e f))
 
   -- and a directory with an entry at a path
@@ -94,8 +97,11 @@ asked_changes_have_places stack merge (Remove directory name object) whole asked
     let path = path_of stack merge whole directory name object asked.named in
     (RemoveAt path.0 name, removes path.0 directory object name path.1)
 asked_changes_have_places stack merge (Move from old to new object) whole asked =
-    let path = path_of stack merge whole from old object asked.0.named in
-    (MoveAt path.0 old asked.0.reached.0 new, moves path.0 asked.0.reached.0 from to object old new path.1.0 asked.0.reached.1 asked.0)
+    let path = path_of stack merge whole from old object asked.0.named in (
+      MoveAt path.0 old asked.0.reached.0 new,
+      moves path.0 asked.0.reached.0 from to object old new path.1.0
+          asked.0.reached.1 asked.0,
+    )
 asked_changes_have_places stack merge (SetBytes file bytes) whole asked =
     let place = place_of stack merge whole file asked in
     (BytesAt place.0 bytes, sets_bytes file place.0 bytes (asked, place.1))

@@ -38,7 +38,8 @@ use Rattle.vt_overlay_laws.proofs.WholeNames.{above_named, directory_above, entr
 use Rattle.vt_merge_laws.specs.UpperChanges.{copied_at, copied_to, copy_node, copy_over, led_above, node_seen, object_above}
 use Rattle.vt_merge_laws.proofs.UpperCopying.{copied_after, copied_longer, directories_count, led_none, led_stands, none_copied, one_is_copied, reached_at, same_seen, stays}
 
--- What copies of the fronts of a path leave: numbers that are still new, what other paths lead to, and what the fronts lead to.
+-- What copies of the fronts of a path leave: numbers that are still new, what other paths lead to, and what the
+-- fronts lead to.
 pub record Copies (fresh : Fresh ℕ) (stack : Stack ℕ) (upper : FileTree ℕ) (path : List (List ℕ))
     (later : FileTree ℕ) : Type 0 where
   pub vacant : (j : ℕ) → length path < j → later.tree.node (fresh j) ≡ None
@@ -317,7 +318,8 @@ module _ (fresh : Fresh ℕ) (distinct : (j k : ℕ) → fresh j ≡ fresh k →
             let found = named_so merge.files whole.tree object other e in
             let reached = is_reached_in merge.files whole.tree other.0 other.1 object found in
             let way = way_to merge.files.tree reached.0 other.0 reached.1 in
-            let other_leads = led-append merge.files.tree merge.files.tree.root way.0 other.1 other.0 object way.1 found in
+            let other_leads = led-append merge.files.tree merge.files.tree.root way.0 other.1 other.0 object way.1
+            found in
             let same = one_way stack merge whole object low (way.0 ++ other.1 ∷ [])
             (front ++ name ∷ []) there other_leads leads in
             let fronts_same = sym (front_of_longer way.0 other.1) ∙ ap front_of same ∙ front_of_longer front name in

@@ -191,13 +191,16 @@ set_above fresh stack merge whole new object place there is change =
     λ i. changed_node nat_eq (says.0 i) (same i) change
 
 pub bytes_are_set_above : BytesAreSetAbove
-bytes_are_set_above fresh stack merge whole new file place bytes there is = set_above fresh stack merge whole new file place there is (node_with_bytes bytes)
+bytes_are_set_above fresh stack merge whole new file place bytes there is =
+    set_above fresh stack merge whole new file place there is (node_with_bytes bytes)
 
 pub attr_is_set_above : AttrIsSetAbove
-attr_is_set_above fresh stack merge whole new object place attr there is = set_above fresh stack merge whole new object place there is (node_with_attr attr)
+attr_is_set_above fresh stack merge whole new object place attr there is =
+    set_above fresh stack merge whole new object place there is (node_with_attr attr)
 
 pub mark_is_set_above : MarkIsSetAbove
-mark_is_set_above fresh stack merge whole new directory place opaque there is = set_above fresh stack merge whole new directory place there is (node_with_mark opaque)
+mark_is_set_above fresh stack merge whole new directory place opaque there is =
+    set_above fresh stack merge whole new directory place there is (node_with_mark opaque)
 
 pub opened_is_copied : OpenedIsCopied
 opened_is_copied fresh stack merge whole new object place there is =
@@ -253,7 +256,11 @@ linked_above fresh stack merge whole new old path directory object name is used 
     let first_stands = stands_copied stack (evens fresh) one.distinct merge object whole one.unused used in
     let says = at_place (evens fresh) stack merge whole one object used old at_old in
     let two : AreNew (odds fresh) first.upper =
-    record { distinct = odd_distinct fresh new.distinct; unused = still_unused fresh stack merge whole new.distinct new.unused object used } in
+    record {
+      distinct = odd_distinct fresh new.distinct;
+      unused = still_unused fresh stack merge whole new.distinct
+          new.unused object used;
+    } in
     let leads = ap (λ files. number_at_path files path) first_line.files ∙ is.0 in
     let second = copied_up nat_eq (odds fresh) first directory in
     let second_line = line (odds fresh) stack first first_line.whole two directory path leads in
@@ -289,7 +296,11 @@ moved_above fresh stack merge whole new from_path to_path from to object old new
     let first_line = line (evens fresh) stack merge whole one object path leads in
     let two : AreNew (evens (odds fresh)) first.upper =
     even_new (odds fresh) first.upper
-    (record { distinct = odd_distinct fresh new.distinct; unused = still_unused fresh stack merge whole new.distinct new.unused object there }) in
+    (record {
+      distinct = odd_distinct fresh new.distinct;
+      unused = still_unused fresh stack merge whole new.distinct
+          new.unused object there;
+    }) in
     let from_later = directory_later (evens fresh) stack merge whole one object path leads from_path from from_is in
     let to_later = directory_later (evens fresh) stack merge whole one object path leads to_path to to_is in
     let second = copied_up nat_eq (evens (odds fresh)) first to in
@@ -304,10 +315,12 @@ moved_above fresh stack merge whole new from_path to_path from to object old new
     let own = object_is stack second ready.whole path object at_path ready.object in
     let gone = named_is stack second ready.whole to_path to to_now new_name in
     let mark = hides_is stack second ready.whole to_path to to_now new_name
-    ∙ (still_below (evens (odds fresh)) stack first first_line.whole two to to_path to_later.0 to_path to new_name to_later).1
+    ∙ (still_below (evens (odds fresh)) stack first first_line.whole two to to_path to_later.0 to_path to new_name
+    to_later).1
     ∙ (still_below (evens fresh) stack merge whole one object path leads to_path to new_name to_is).1 in
     let left = below_is stack second ready.whole from_path from from_now old
-    ∙ (still_below (evens (odds fresh)) stack first first_line.whole two to to_path to_later.0 from_path from old from_later).0
+    ∙ (still_below (evens (odds fresh)) stack first first_line.whole two to to_path to_later.0 from_path from old
+    from_later).0
     ∙ (still_below (evens fresh) stack merge whole one object path leads from_path from old from_is).0 in
     let upper = upper_is (evens (odds fresh)) stack first first_line.whole two to to_path to_later.0
     ∙ ap (λ u. copied_to (evens (odds fresh)) stack u to_path)

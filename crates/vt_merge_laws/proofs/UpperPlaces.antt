@@ -1,4 +1,5 @@
--- What copies make of the upper layer, for an object at a path or without a name, and what lower layers show beside them.
+-- What copies make of the upper layer, for an object at a path or without a name, and what lower layers show beside
+-- them.
 use Rattle.std.proofs.Common.{arith, ◌≡◌, ◌≢◌, refl, sym, ap, subst, ◌∙◌, true≢false, ℕ, suc, ◌+◌, nat_eq, eq-eqb, Bool, true, false, cond, not, List, [], ◌∷◌, ◌++◌, length, map, Option, Some, None, is_some, slice_get, unwrap_or}
 use Rattle.vt_spec.specs.FileTree.{FileTree, a_name, is_kind_in}
 use Rattle.vt_spec.specs.Language.Changes.{with_inode}
@@ -118,14 +119,16 @@ module _ (fresh : Fresh ℕ) (stack : Stack ℕ) (merge : Merge ℕ) (whole : Is
   at_place (Held real) is = held real is
 
 pub copies_are_of_fronts : CopiesAreOfFronts
-copies_are_of_fronts fresh stack merge object place whole new there is = at_place fresh stack merge whole new object there place is
+copies_are_of_fronts fresh stack merge object place whole new there is =
+    at_place fresh stack merge whole new object there place is
 
 -- what a path of an overlay leads to is there
 pub path_there : (stack : Stack ℕ) (merge : Merge ℕ) → IsWhole stack merge → (path : List (List ℕ)) (object : ℕ)
     → number_at_path merge.files path ≡ Some object
     → is_some (merge.files.tree.node object) ≡ true
 path_there stack merge whole path object leads =
-    led_is_there (record { tree = merge.files.tree; directory = merge.files.tree.root }) whole.tree whole.tree.root_directory path object leads
+    led_is_there (record { tree = merge.files.tree; directory = merge.files.tree.root }) whole.tree
+    whole.tree.root_directory path object leads
 
 pub fronts_lead_to_copies : FrontsLeadToCopies
 fronts_lead_to_copies fresh stack merge whole new path some = by (number_at_path merge.files path) refl some
@@ -217,5 +220,8 @@ copies_hide_nothing fresh stack merge whole new path way directory name some lea
         let copied = copied_along fresh new.distinct stack merge whole new.unused
         (length path) path object refl there e in
         let cut = ap (λ u. cuts (view_in u stack.directory) way) (sym copied.is)
-        ∙ cuts_stay fresh new.distinct stack merge whole new.unused path object there e way directory leads.0 leads.1 in
-        (seen_same stack merge.upper (copied_to fresh stack merge.upper path) way name cut, directory_same stack merge.upper (copied_to fresh stack merge.upper path) way name cut)
+        ∙ cuts_stay fresh new.distinct stack merge whole new.unused path object there e way directory leads.0 leads.1 in (
+          seen_same stack merge.upper (copied_to fresh stack merge.upper path) way name cut,
+          directory_same stack
+              merge.upper (copied_to fresh stack merge.upper path) way name cut,
+        )

@@ -184,5 +184,6 @@ module _ (fresh : Fresh ℕ) (world : World ℕ) (task : Task ℕ) (location : L
       upper_by_layers world world conditions refl location overlay upper is has reached numbers change at new asks
 
 pub upper_layers_after_calls : UpperLayersAfterCalls
-upper_layers_after_calls fresh numbers world task permit location change at overlay upper conditions does is has reached new asks =
+upper_layers_after_calls fresh numbers world task permit location change at overlay upper conditions does is has
+    reached new asks =
     after_call fresh world task location at overlay upper conditions is has reached numbers permit change does new asks

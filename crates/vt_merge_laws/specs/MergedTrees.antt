@@ -1,4 +1,5 @@
--- The tree of an overlay is a function of what its layers show, of the numbers that objects have, and of what is held without a
+-- The tree of an overlay is a function of what its layers show, of the numbers that objects have, and of what is
+-- held without a
 -- name: the kernel's overlayfs document, "upper and lower", "directories" and "non-directories".
 use Rattle.std.specs.Prelude.{List, Option, Some, [], false, filter_map, map, nat_eq, option_map, slice_get, unwrap_or, ℕ, ◌++◌, ◌∷◌, ◌≡◌, ◌≢◌}
 use Rattle.vt_spec.specs.Lists.{front_of, then_some}
@@ -23,7 +24,8 @@ pub record IsMergedTree (world : World ℕ) (filesystem : Filesystem ℕ) (overl
   pub numbers : ListsNumbers nat_eq filesystem.files
   pub merged : IsMerged nat_eq world filesystem overlay
 
--- An inode's number is that of its real object; and without a name those inodes are there that are held, with these real objects.
+-- An inode's number is that of its real object; and without a name those inodes are there that are held, with these
+-- real objects.
 pub record IsNamedBy (number_of : Real ℕ → ℕ) (held : ℕ → Option (Real ℕ)) (filesystem : Filesystem ℕ)
     (overlay : Overlay ℕ) : Type 0 where
   pub numbered : (number : ℕ) (object : Real ℕ) → overlay.real number ≡ Some object → number ≡ number_of object
@@ -94,7 +96,8 @@ OtherInodesAreHeld =
     (number : ℕ) → ((path : List (List ℕ)) → number_at_path filesystem.files path ≢ Some number)
     → (filesystem.files.tree.node number ≡ inode_held world overlay held number) × (overlay.real number ≡ held number))
 
--- So two merged trees of the same layers, with the same numbers and the same held inodes, are one tree with the same real objects.
+-- So two merged trees of the same layers, with the same numbers and the same held inodes, are one tree with the same
+-- real objects.
 abbrev pub MergedTreesAreOne : Type 0
 MergedTreesAreOne =
     (number_of : Real ℕ → ℕ) (held : ℕ → Option (Real ℕ)) (world : World ℕ) (one other : Filesystem ℕ)

@@ -1,4 +1,5 @@
--- Overlays that are mounted, and mounted anew, in the world that the call leaves: mount(2), and the kernel's overlayfs document,
+-- Overlays that are mounted, and mounted anew, in the world that the call leaves: mount(2), and the kernel's
+-- overlayfs document,
 -- "upper and lower" and "changes to underlying filesystems".
 use Rattle.std.specs.Prelude.{All, List, Ok, Some, map, nat_eq, ℕ, ◌≡◌}
 use Rattle.vt_spec.specs.Language.Answers.Answer.{Done}
@@ -32,7 +33,8 @@ world_mounted fresh world task path words flags =
 abbrev pub number_mounted : Fresh ℕ → ℕ
 number_mounted fresh = evens (evens fresh) 0
 
--- An overlay was left in one world, and a task of another mounts one over layers that lead everywhere to what the first one's led
+-- An overlay was left in one world, and a task of another mounts one over layers that lead everywhere to what the
+-- first one's led
 -- to: it shows the tree that the first one showed, whoever mounts it, and wherever.
 abbrev pub MountedAnewShowsTheSame : Type 0
 MountedAnewShowsTheSame =
