@@ -1,5 +1,5 @@
 -- An object at a path is copied with the fronts of that: what leads where, and which numbers are still new.
-use Rattle.std.proofs.Common.{arith, ◌≡◌, ◌≢◌, ◌<◌, refl, sym, ap, subst, ◌∙◌, true≢false, ℕ, zero, suc, ◌+◌, nat_eq, Bool, true, false, cond, List, [], ◌∷◌, ◌++◌, length, Option, Some, None, is_some, option_and_then, unwrap_or}
+use Rattle.std.proofs.Common.{arith, ◌≡◌, ◌≢◌, ◌<◌, refl, sym, ap, subst, ◌∙◌, true≢false, ℕ, zero, suc, ◌+◌, nat_eq, ne_eqb, Bool, true, false, cond, List, [], ◌∷◌, ◌++◌, length, Option, Some, None, is_some, option_and_then, unwrap_or}
 use Rattle.vt_spec.specs.FileTree.{FileTree, a_name}
 use Rattle.vt_spec.specs.Language.Changes.{changed, with_inode}
 use Rattle.vt_spec.specs.Language.Changes.Change.{Make}
@@ -266,6 +266,9 @@ module _ (fresh : Fresh ℕ) (distinct : (j k : ℕ) → fresh j ≡ fresh k →
   pub record IsCopiedTo (path : List (List ℕ)) (object : ℕ) : Type 0 where
     pub is : (copied_up nat_eq fresh merge object).upper ≡ copied_to fresh stack merge.upper path
     pub copies : Copies fresh stack merge.upper path (copied_up nat_eq fresh merge object).upper
+    -- what is at no front keeps its real object
+    pub else : (number : ℕ) → ((front rest : List (List ℕ)) → front ++ rest ≡ path → at front ≢ Some number)
+        → (copied_up nat_eq fresh merge object).real number ≡ merge.real number
 
   stands_copied_to : (path : List (List ℕ)) (object : ℕ) → is_some (merge.files.tree.node object) ≡ true
       → at path ≡ Some object → StandsInUpper merge object
@@ -275,6 +278,7 @@ module _ (fresh : Fresh ℕ) (distinct : (j k : ℕ) → fresh j ≡ fresh k →
       let same = stays fresh stack merge whole object stands in
       record {
         is = ap (λ m. m.upper) same ∙ sym (none_copied fresh stack merge.upper (length path) path refl has);
+        else = λ number out. ap (λ m. m.real number) same;
         copies = subst (λ m. Copies fresh stack merge.upper path m.upper) (sym same)
             (none_changes fresh stack merge.upper path unused has);
       }
@@ -417,8 +421,38 @@ module _ (fresh : Fresh ℕ) (distinct : (j k : ℕ) → fresh j ≡ fresh k →
         (upper_of m parent) is_made.0 before.copies up up_directory free top_is.1 other out
         ∙ line.cut (good.directories (has_entries merge.files.tree parent name object entry)) other
 
+    -- the copy is the object's alone
+    real_later : (number : ℕ) → number ≢ object
+        → (copied_up nat_eq fresh merge object).real number ≡ m.real number
+    real_later number other =
+        ap (λ n. n.real number) (copied_after fresh stack merge whole object (parent, name) name_is)
+        ∙ by (m.files.tree.node object) (is_in_upper m object)
+      where
+        by : (o : Option (Node ℕ)) (b : Bool)
+            → (copy_of nat_eq m object (fresh (length (directories_to nat_eq merge.files parent))) o b).real number
+            ≡ m.real number
+        by None b = refl
+        by (Some node) true = refl
+        by (Some node) false =
+            ap (λ c. cond c (Some (Upper (fresh (length (directories_to nat_eq merge.files parent))))) (m.real number))
+            (ne_eqb number object other)
+
+    real_else : (number : ℕ)
+        → ((way rest : List (List ℕ)) → way ++ rest ≡ front ++ name ∷ [] → at way ≢ Some number)
+        → (copied_up nat_eq fresh merge object).real number ≡ merge.real number
+    real_else number out =
+        real_later number (λ same. out (front ++ name ∷ []) [] (no_more (front ++ name ∷ [])) (leads ∙ ap Some (sym same)))
+        ∙ before.else number
+        (λ way rest is. out way (rest ++ name ∷ [])
+        (sym (append_assoc way rest (name ∷ [])) ∙ ap (λ p. p ++ name ∷ []) is))
+      where
+        no_more : (p : List (List ℕ)) → p ++ [] ≡ p
+        no_more [] = refl
+        no_more (word ∷ p) = ap (λ q. word ∷ q) (no_more p)
+
     pub low_copied_to : IsCopiedTo (front ++ name ∷ []) object
     low_copied_to = record {
+      else = real_else;
       is = one_copied ∙ ap (λ u. copied_at fresh stack u (front ++ name ∷ [])) before.is
           ∙ sym (copied_longer fresh stack merge.upper front name);
       copies = subst (Copies fresh stack merge.upper (front ++ name ∷ [])) (sym one_copied) copies_now;

@@ -1,6 +1,6 @@
 -- What copies make of the upper layer, for an object at a path or without a name, and what lower layers show beside
 -- them.
-use Rattle.std.proofs.Common.{arith, ◌≡◌, ◌≢◌, refl, sym, ap, subst, ◌∙◌, true≢false, ℕ, suc, ◌+◌, nat_eq, eq-eqb, Bool, true, false, cond, not, List, [], ◌∷◌, ◌++◌, length, map, Option, Some, None, is_some, slice_get, unwrap_or}
+use Rattle.std.proofs.Common.{arith, ◌≡◌, ◌≢◌, refl, sym, ap, subst, ◌∙◌, true≢false, ℕ, suc, ◌+◌, nat_eq, eq-eqb, ne_eqb, Bool, true, false, cond, not, List, [], ◌∷◌, ◌++◌, length, map, Option, Some, None, is_some, slice_get, unwrap_or}
 use Rattle.vt_spec.specs.FileTree.{FileTree, a_name, is_kind_in}
 use Rattle.vt_spec.specs.Language.Changes.{with_inode}
 use Rattle.vt_spec.specs.Lists.{Fresh, front_of, holds_of, then_some, when}
@@ -20,9 +20,9 @@ use Rattle.vt_overlay_laws.specs.WhatIsShown.{IsWhole, inode_behind}
 use Rattle.vt_overlay_laws.proofs.WholeAttributes.{upper_real}
 use Rattle.vt_overlay_laws.proofs.WholeLines.{object_copied, stands_copied}
 use Rattle.vt_overlay_laws.proofs.WholeNames.{named_above}
-use Rattle.vt_merge_laws.specs.UpperChanges.{AreNew, CopiesAreOfFronts, CopiesHideNothing, FrontsLeadToCopies, IsAt, Place, copied_for, copied_to, directory_below, held_over, layers_with, led_above, node_below, object_of, seen_below}
+use Rattle.vt_merge_laws.specs.UpperChanges.{AreNew, CopiesAreOfFronts, CopiesHideNothing, FrontsHaveTheirCopies, FrontsLeadToCopies, HeldHaveTheirCopies, IsAt, Place, copied_for, copied_to, directory_below, held_over, layers_with, led_above, node_below, object_of, seen_below}
 use Rattle.vt_merge_laws.specs.UpperChanges.Place.{Held, Named}
-use Rattle.vt_merge_laws.proofs.UpperCopying.{same_copied, stays}
+use Rattle.vt_merge_laws.proofs.UpperCopying.{led_none, same_copied, stays}
 use Rattle.vt_merge_laws.proofs.UpperFronts.{Copies, copied_along, cuts_stay}
 use Rattle.vt_layer_laws.proofs.ShownDirectories.{led_is_there}
 use Rattle.vt_spec.specs.declared.attributes.Kind.TheVariants.{White}
@@ -225,3 +225,42 @@ copies_hide_nothing fresh stack merge whole new path way directory name some lea
           directory_same stack
               merge.upper (copied_to fresh stack merge.upper path) way name cut,
         )
+
+-- what a path leads to in the upper layer is the real object of what is there
+led_real : (stack : Stack ℕ) (merge : Merge ℕ) → IsWhole stack merge → (path : List (List ℕ)) (number u : ℕ)
+    → number_at_path merge.files path ≡ Some number → led_above stack merge.upper path ≡ Some u
+    → merge.real number ≡ Some (Upper u)
+led_real stack merge whole path number u leads led = by (is_in_upper merge number) refl
+  where
+    there : is_some (merge.files.tree.node number) ≡ true
+    there = path_there stack merge whole path number leads
+
+    by : (b : Bool) → is_in_upper merge number ≡ b → merge.real number ≡ Some (Upper u)
+    by true stands =
+        upper_real merge number stands
+        ∙ ap (λ o. Some (Upper o)) (some_is_one (upper_of merge number) u
+        (sym (named_above stack merge whole path number (upper_of merge number) leads (upper_real merge number stands)) ∙ led))
+    by false low = none_is_some u (sym (led_none (λ k. k) stack merge whole number there path leads low) ∙ led)
+
+pub fronts_have_their_copies : FrontsHaveTheirCopies
+fronts_have_their_copies fresh stack merge whole new path object leads =
+    let there = path_there stack merge whole path object leads in
+    let copied = copied_along fresh new.distinct stack merge whole new.unused (length path) path object refl there leads in
+    let line = object_copied stack fresh new.distinct merge object whole new.unused there in (
+      λ front rest number is at_front.
+          led_real stack (copied_up nat_eq fresh merge object) line.copied.whole front number
+          (unwrap_or (led_above stack merge.upper front) (fresh (length front)))
+          (ap (λ files. number_at_path files front) line.copied.files ∙ at_front) (copied.copies.on front rest is),
+      copied.else,
+    )
+
+pub held_have_their_copies : HeldHaveTheirCopies
+held_have_their_copies fresh stack merge whole new object number held there is other =
+    ap (λ n. (copied_each nat_eq fresh 0 merge (line_by nat_eq merge.files object n)).real number)
+    (no_name fresh stack merge whole new object there is.1)
+    ∙ by (merge.files.tree.node object) (is_in_upper merge object)
+  where
+    by : (o : Option (Node ℕ)) (b : Bool) → (copy_of nat_eq merge object (fresh 0) o b).real number ≡ merge.real number
+    by None b = refl
+    by (Some node) true = refl
+    by (Some node) false = ap (λ c. cond c (Some (Upper (fresh 0))) (merge.real number)) (ne_eqb number object other)

@@ -132,6 +132,26 @@ FrontsLeadToCopies =
     × ((other : List (List ℕ)) → ((rest : List (List ℕ)) → other ++ rest ≢ path)
     → led_above stack (copied_to fresh stack merge.upper path) other ≡ led_above stack merge.upper other))
 
+-- An inode at a front has for its real object what the front leads to then; every other inode keeps its own.
+abbrev pub FrontsHaveTheirCopies : Type 0
+FrontsHaveTheirCopies =
+    OfCopies (λ fresh stack merge.
+    (path : List (List ℕ)) (object : ℕ) → number_at_path merge.files path ≡ Some object
+    → ((front rest : List (List ℕ)) (number : ℕ) → front ++ rest ≡ path → number_at_path merge.files front ≡ Some number
+    → (copied_up nat_eq fresh merge object).real number
+    ≡ Some (Upper (unwrap_or (led_above stack merge.upper front) (fresh (length front)))))
+    × ((number : ℕ)
+    → ((front rest : List (List ℕ)) → front ++ rest ≡ path → number_at_path merge.files front ≢ Some number)
+    → (copied_up nat_eq fresh merge object).real number ≡ merge.real number))
+
+-- So with an object without a name.
+abbrev pub HeldHaveTheirCopies : Type 0
+HeldHaveTheirCopies =
+    OfCopies (λ fresh stack merge.
+    (object number : ℕ) (held : Real ℕ)
+    → is_some (merge.files.tree.node object) ≡ true → IsAt merge object (Held held) → number ≢ object
+    → (copied_up nat_eq fresh merge object).real number ≡ merge.real number)
+
 -- a path leads to a directory of the overlay
 abbrev pub LeadsToDirectory : Merge ℕ → List (List ℕ) → ℕ → Type 0
 LeadsToDirectory merge path directory =

@@ -1,6 +1,6 @@
 //! Laws of what a change of an overlay makes of its upper layer, in terms of layers alone.
-ghost use Rattle.vt_merge_laws.specs.UpperChanges.{AttrIsSetAbove, BytesAreSetAbove, CopiesAreOfFronts, CopiesHideNothing, FrontsLeadToCopies, LinkedAbove};
-ghost use Rattle.vt_merge_laws.specs.UpperChanges.{MadeAbove, MarkIsSetAbove, MovedAbove, OpenedIsCopied, RemovedAbove};
+ghost use Rattle.vt_merge_laws.specs.UpperChanges.{AttrIsSetAbove, BytesAreSetAbove, CopiesAreOfFronts, CopiesHideNothing, FrontsHaveTheirCopies, FrontsLeadToCopies};
+ghost use Rattle.vt_merge_laws.specs.UpperChanges.{HeldHaveTheirCopies, LinkedAbove, MadeAbove, MarkIsSetAbove, MovedAbove, OpenedIsCopied, RemovedAbove};
 ghost use Rattle.vt_merge_laws.specs.UpperCalls.{AskedChangesHavePlaces, ChangesAreByLayers, UpperLayersAfterCalls};
 
 /// What a path leads to is copied up with what is shown at the fronts of the path, where the upper layer has nothing; an object
@@ -9,6 +9,8 @@ ghost use Rattle.vt_merge_laws.specs.UpperCalls.{AskedChangesHavePlaces, Changes
 pub fn copies_are_of_fronts()
     ensures copies { CopiesAreOfFronts }
     ensures lead { FrontsLeadToCopies }
+    ensures real { FrontsHaveTheirCopies }
+    ensures held { HeldHaveTheirCopies }
     ensures below { CopiesHideNothing }
 {}
 
