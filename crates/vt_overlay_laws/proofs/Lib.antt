@@ -1,3 +1,5 @@
+pub mod UpperNames
+pub mod UpperGoes
 pub mod WholeAttributes
 pub mod WholeCopied
 pub mod WholeGrown

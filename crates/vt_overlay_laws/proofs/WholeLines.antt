@@ -23,7 +23,9 @@ use Rattle.vt_layer_laws.proofs.ShownAtPath.{none_is_some, some_is_one}
 use Rattle.vt_layer_laws.proofs.ShownObjects.{Among}
 use Rattle.vt_layer_laws.proofs.UpperChain.{depth_bound, up_at_root, up_from}
 use Rattle.vt_layer_laws.proofs.UpperLine.{ReachedIn, has_entries, is_reached_in, named_so, reached_directory}
-use Rattle.vt_overlay_laws.proofs.WholeCopied.{copy_cuts, copy_keeps_whole}
+use Rattle.vt_overlay_laws.proofs.UpperGoes.{Goes, goes_both, goes_none}
+use Rattle.vt_overlay_laws.proofs.WholeCopied.{copy_cuts, copy_goes, copy_keeps_whole}
+use Rattle.vt_overlay_laws.proofs.WholeNames.{top_good}
 
 -- each object of a list comes after the directory of its name
 abbrev pub IsLine : FileTree ℕ → List ℕ → List ℕ → Type 0
@@ -117,6 +119,7 @@ pub record IsCopied (stack : Stack ℕ) (fresh : Fresh ℕ) (merge later : Merge
   pub grows : (n : ℕ) → StandsInUpper merge n → StandsInUpper later n
   pub vacant : (x : ℕ) → merge.upper.tree.node x ≡ None → ((j : ℕ) → x ≢ fresh j) → later.upper.tree.node x ≡ None
   pub lower : (n layer : ℕ) (path : List (List ℕ)) → later.real n ≡ Some (Below layer path) → merge.real n ≡ Some (Below layer path)
+  pub upper : Goes stack.directory merge.upper later.upper
 
 pub record IsLineCopied (stack : Stack ℕ) (fresh : Fresh ℕ) (merge later : Merge ℕ) (list : List ℕ) : Type 0 where
   pub copied : IsCopied stack fresh merge later
@@ -161,7 +164,14 @@ module _ (stack : Stack ℕ) (fresh : Fresh ℕ) (distinct : (j k : ℕ) → fre
       → ((j : ℕ) → k ≤ j → merge.upper.tree.node (fresh j) ≡ None)
       → IsLineCopied stack fresh merge (copied_each nat_eq fresh k merge list) list
   line_copied [] k merge done whole line up there unused = record {
-    copied = record { whole = whole; files = refl; grows = λ n h. h; vacant = λ x none out. none; lower = λ n layer path e. e };
+    copied = record {
+      whole = whole;
+      files = refl;
+      grows = λ n h. h;
+      vacant = λ x none out. none;
+      lower = λ n layer path e. e;
+      upper = goes_none stack.directory merge.upper (top_good stack merge whole);
+    };
     all = λ n m. absurd m;
     cut = λ d path. refl;
   }
@@ -201,6 +211,9 @@ module _ (stack : Stack ℕ) (fresh : Fresh ℕ) (distinct : (j k : ℕ) → fre
               grows = λ n h. next.copied.grows n (grows n h);
               vacant = λ x none out. next.copied.vacant x (still x none (out k)) out;
               lower = λ n layer path e. below_before merge object (fresh k) n layer path (next.copied.lower n layer path e);
+              upper = goes_both stack.directory merge.upper one.upper (copied_each nat_eq fresh (k + 1) one rest).upper
+                  (copy_goes stack merge object (fresh k) node whole is (no_some (upper_object (merge.real object)) low) (unused k (omega arith)) (λ name e. up name.0 (line.0 name e)))
+                  next.copied.upper;
             };
             all = λ n m. ⊎_elim (λ e. subst (StandsInUpper (copied_each nat_eq fresh (k + 1) one rest)) e (next.copied.grows object stands)) (λ l. next.all n l) m;
             cut = λ d path.
