@@ -1,3 +1,5 @@
+pub mod UpperRemoved
+pub mod UpperMade
 pub mod UpperNames
 pub mod UpperGoes
 pub mod WholeAttributes

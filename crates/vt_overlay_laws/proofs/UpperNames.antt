@@ -106,6 +106,87 @@ unchanged_node files number change same =
     (λ t. ap (λ b. cond b (change (files.tree.node number)) (files.tree.node k)) t.0)
     (eqb_tells k number))
 
+-- A name given is the name given in exchange
+module _ (files : FileTree ℕ) (d : ℕ) (w : List ℕ) (in_order : is_sorted name_cmp (entries_in (files.tree.node d)) ≡ true) where
+  abbrev free : FileTree ℕ
+  free = without_name nat_eq files d w
+
+  there : free.tree.node d ≡ node_without_entry w (files.tree.node d)
+  there = Rattle.vt_tree_laws.proofs.ChangesNodes.there files d (node_without_entry w)
+
+  elsewhere : (k : ℕ) → k ≢ d → free.tree.node k ≡ files.tree.node k
+  elsewhere k differ = Rattle.vt_tree_laws.proofs.ChangesNodes.elsewhere files d (node_without_entry w) k differ
+
+  pub freed_named : (k : ℕ) → with_name nat_eq free d w k ≡ with_name nat_eq files d w k
+  freed_named k =
+      same_tree (with_name nat_eq free d w k) (with_name nat_eq files d w k) refl refl
+      (λ j. ⊎_elim
+      (λ t. ap (λ b. cond b (node_with_entry w k (free.tree.node d)) (free.tree.node j)) t.0
+      ∙ ap (node_with_entry w k) there ∙ node_with_over_without w k (files.tree.node d) in_order
+      ∙ sym (ap (λ b. cond b (node_with_entry w k (files.tree.node d)) (files.tree.node j)) t.0))
+      (λ t. ap (λ b. cond b (node_with_entry w k (free.tree.node d)) (free.tree.node j)) t.0
+      ∙ elsewhere j t.1
+      ∙ sym (ap (λ b. cond b (node_with_entry w k (files.tree.node d)) (files.tree.node j)) t.0))
+      (eqb_tells j d))
+
+  -- so it is with a new inode
+  pub freed_made : (c : ℕ) (node : Node ℕ) → d ≢ c
+      → with_name nat_eq (with_inode nat_eq free c node) d w c ≡ with_name nat_eq (with_inode nat_eq files c node) d w c
+  freed_made c node differ =
+      same_tree (with_name nat_eq (with_inode nat_eq free c node) d w c) (with_name nat_eq (with_inode nat_eq files c node) d w c) refl refl
+      (λ j. by j (nat_eq j d) refl (nat_eq j c) refl)
+    where
+      at_d : (o : Option (Node ℕ)) → cond (nat_eq d c) (Some node) o ≡ o
+      at_d o = ap (λ b. cond b (Some node) o) (ne_eqb d c differ)
+
+      by : (j : ℕ) (a : Bool) → nat_eq j d ≡ a → (b : Bool) → nat_eq j c ≡ b
+          → cond a (node_with_entry w c (cond (nat_eq d c) (Some node) (free.tree.node d))) (cond b (Some node) (free.tree.node j))
+          ≡ cond a (node_with_entry w c (cond (nat_eq d c) (Some node) (files.tree.node d))) (cond b (Some node) (files.tree.node j))
+      by j true e b f =
+          ap (node_with_entry w c) (at_d (free.tree.node d) ∙ there) ∙ node_with_over_without w c (files.tree.node d) in_order
+          ∙ sym (ap (node_with_entry w c) (at_d (files.tree.node d)))
+      by j false e true f = refl
+      by j false e false f = elsewhere j (λ same. true≢false (sym (eq-eqb j d same) ∙ e))
+
+-- a name that is taken away is free
+pub without_name_free : (files : FileTree ℕ) (d : ℕ) (w : List ℕ) → entry_at (without_name nat_eq files d w).tree d w ≡ None
+without_name_free files d w =
+    ap (entry_named w)
+    (ap entries_in (Rattle.vt_tree_laws.proofs.ChangesNodes.there files d (node_without_entry w))
+    ∙ Rattle.vt_tree_laws.proofs.ChangesNodes.entries-node_without_entry w (files.tree.node d))
+    ∙ entry_named-without_entry w w (entries_in (files.tree.node d))
+    ∙ ap (λ b. cond (not b) (entry_named w (entries_in (files.tree.node d))) None) ((bytes_decides w w).1 refl)
+
+-- changes of two inodes in one order and in the other
+pub two_changed : (files : FileTree ℕ) (a b : ℕ) (f g : Option (Node ℕ) → Option (Node ℕ)) → a ≢ b
+    → changed_node nat_eq (changed_node nat_eq files a f) b g ≡ changed_node nat_eq (changed_node nat_eq files b g) a f
+two_changed files a b f g differ =
+    same_tree (changed_node nat_eq (changed_node nat_eq files a f) b g) (changed_node nat_eq (changed_node nat_eq files b g) a f) refl refl
+    (λ j. by j (nat_eq j a) refl (nat_eq j b) refl)
+  where
+    by : (j : ℕ) (p : Bool) → nat_eq j a ≡ p → (q : Bool) → nat_eq j b ≡ q
+        → cond q (g (cond (nat_eq b a) (f (files.tree.node a)) (files.tree.node b))) (cond p (f (files.tree.node a)) (files.tree.node j))
+        ≡ cond p (f (cond (nat_eq a b) (g (files.tree.node b)) (files.tree.node a))) (cond q (g (files.tree.node b)) (files.tree.node j))
+    by j true e true h = absurd (differ (sym (eqb-true j a e) ∙ eqb-true j b h))
+    by j true e false h = sym (ap (λ x. f (cond x (g (files.tree.node b)) (files.tree.node a))) (ne_eqb a b differ))
+    by j false e true h = ap (λ x. g (cond x (f (files.tree.node a)) (files.tree.node b))) (ne_eqb b a (λ same. differ (sym same)))
+    by j false e false h = refl
+
+-- a new inode beside the change of another
+pub inode_changed : (files : FileTree ℕ) (c : ℕ) (node : Node ℕ) (b : ℕ) (g : Option (Node ℕ) → Option (Node ℕ)) → c ≢ b
+    → changed_node nat_eq (with_inode nat_eq files c node) b g ≡ with_inode nat_eq (changed_node nat_eq files b g) c node
+inode_changed files c node b g differ =
+    same_tree (changed_node nat_eq (with_inode nat_eq files c node) b g) (with_inode nat_eq (changed_node nat_eq files b g) c node) refl refl
+    (λ j. by j (nat_eq j c) refl (nat_eq j b) refl)
+  where
+    by : (j : ℕ) (p : Bool) → nat_eq j c ≡ p → (q : Bool) → nat_eq j b ≡ q
+        → cond q (g (cond (nat_eq b c) (Some node) (files.tree.node b))) (cond p (Some node) (files.tree.node j))
+        ≡ cond p (Some node) (cond q (g (files.tree.node b)) (files.tree.node j))
+    by j true e true h = absurd (differ (sym (eqb-true j c e) ∙ eqb-true j b h))
+    by j true e false h = refl
+    by j false e true h = ap (λ x. g (cond x (Some node) (files.tree.node b))) (ne_eqb b c (λ same. differ (sym same)))
+    by j false e false h = refl
+
 -- The tree in which a name is taken from what is no directory, if something has it
 module _ (top : ℕ) (files : FileTree ℕ) (good : IsGood top files) (d : ℕ) (w : List ℕ)
     (plain : (r : ℕ) → entry_at files.tree d w ≡ Some r → is_directory_node (files.tree.node r) ≡ false) where
@@ -114,12 +195,6 @@ module _ (top : ℕ) (files : FileTree ℕ) (good : IsGood top files) (d : ℕ) 
 
   in_order : is_sorted name_cmp (entries_in (files.tree.node d)) ≡ true
   in_order = good.tree.in_order d
-
-  there : freed.tree.node d ≡ node_without_entry w (files.tree.node d)
-  there = Rattle.vt_tree_laws.proofs.ChangesNodes.there files d (node_without_entry w)
-
-  elsewhere : (k : ℕ) → k ≢ d → freed.tree.node k ≡ files.tree.node k
-  elsewhere k differ = Rattle.vt_tree_laws.proofs.ChangesNodes.elsewhere files d (node_without_entry w) k differ
 
   pub freed_kind : (k : ℕ) → is_directory_node (freed.tree.node k) ≡ is_directory_node (files.tree.node k)
   freed_kind k =
@@ -163,39 +238,4 @@ module _ (top : ℕ) (files : FileTree ℕ) (good : IsGood top files) (d : ℕ) 
           (λ same. true≢false (sym is ∙ ap (λ n. is_directory_node (files.tree.node n)) same ∙ plain r e)) is reached).1)
 
   pub freed_free : entry_at freed.tree d w ≡ None
-  freed_free =
-      ap (entry_named w) (ap entries_in there ∙ Rattle.vt_tree_laws.proofs.ChangesNodes.entries-node_without_entry w (files.tree.node d))
-      ∙ entry_named-without_entry w w (entries_in (files.tree.node d))
-      ∙ ap (λ b. cond (not b) (entry_named w (entries_in (files.tree.node d))) None) ((bytes_decides w w).1 refl)
-
-  -- the name given is the name given in exchange
-  pub freed_named : (k : ℕ) → with_name nat_eq freed d w k ≡ with_name nat_eq files d w k
-  freed_named k =
-      same_tree (with_name nat_eq freed d w k) (with_name nat_eq files d w k) refl refl
-      (λ j. ⊎_elim
-      (λ t. ap (λ b. cond b (node_with_entry w k (freed.tree.node d)) (freed.tree.node j)) t.0
-      ∙ ap (node_with_entry w k) there ∙ node_with_over_without w k (files.tree.node d) in_order
-      ∙ sym (ap (λ b. cond b (node_with_entry w k (files.tree.node d)) (files.tree.node j)) t.0))
-      (λ t. ap (λ b. cond b (node_with_entry w k (freed.tree.node d)) (freed.tree.node j)) t.0
-      ∙ elsewhere j t.1
-      ∙ sym (ap (λ b. cond b (node_with_entry w k (files.tree.node d)) (files.tree.node j)) t.0))
-      (eqb_tells j d))
-
-  -- so it is with a new inode
-  pub freed_made : (c : ℕ) (node : Node ℕ) → d ≢ c
-      → with_name nat_eq (with_inode nat_eq freed c node) d w c ≡ with_name nat_eq (with_inode nat_eq files c node) d w c
-  freed_made c node differ =
-      same_tree (with_name nat_eq (with_inode nat_eq freed c node) d w c) (with_name nat_eq (with_inode nat_eq files c node) d w c) refl refl
-      (λ j. by j (nat_eq j d) refl (nat_eq j c) refl)
-    where
-      at_d : (o : Option (Node ℕ)) → cond (nat_eq d c) (Some node) o ≡ o
-      at_d o = ap (λ b. cond b (Some node) o) (ne_eqb d c differ)
-
-      by : (j : ℕ) (a : Bool) → nat_eq j d ≡ a → (b : Bool) → nat_eq j c ≡ b
-          → cond a (node_with_entry w c (cond (nat_eq d c) (Some node) (freed.tree.node d))) (cond b (Some node) (freed.tree.node j))
-          ≡ cond a (node_with_entry w c (cond (nat_eq d c) (Some node) (files.tree.node d))) (cond b (Some node) (files.tree.node j))
-      by j true e b f =
-          ap (node_with_entry w c) (at_d (freed.tree.node d) ∙ there) ∙ node_with_over_without w c (files.tree.node d) in_order
-          ∙ sym (ap (node_with_entry w c) (at_d (files.tree.node d)))
-      by j false e true f = refl
-      by j false e false f = elsewhere j (λ same. true≢false (sym (eq-eqb j d same) ∙ e))
+  freed_free = without_name_free files d w
