@@ -1,3 +1,4 @@
+pub mod UpperMoved
 pub mod UpperRemoved
 pub mod UpperMade
 pub mod UpperNames
