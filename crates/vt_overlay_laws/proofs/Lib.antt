@@ -1,3 +1,4 @@
+pub mod UpperWhole
 pub mod UpperMoved
 pub mod UpperRemoved
 pub mod UpperMade

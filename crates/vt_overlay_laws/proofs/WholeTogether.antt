@@ -22,6 +22,7 @@ use Rattle.vt_spec.specs.Machine.Invariants.{number_at_path}
 use Rattle.vt_spec.specs.TreeLaws.{IsDirectory, entry_at, led}
 use Rattle.vt_overlay_laws.specs.WhatIsShown.{IsWhole}
 use Rattle.vt_overlay_laws.specs.WholeChanges.{ChangesKeepShown}
+use Rattle.vt_overlay_laws.proofs.UpperGoes.{Goes, goes_both}
 use Rattle.vt_overlay_laws.proofs.WholeAttributes.{attr_keeps_whole, bytes_keep_whole, upper_real}
 use Rattle.vt_overlay_laws.proofs.WholeLines.{IsCopied, object_copied, stands_copied, to_object}
 use Rattle.vt_overlay_laws.proofs.WholeMoved.{move_keeps_shown}
@@ -90,6 +91,7 @@ pub record IsReadyToMove (fresh : Fresh ℕ) (stack : Stack ℕ) (merge : Merge 
       ≡ has_lower_directory (record { tree = merge.upper.tree; directory = stack.directory } ∷ []) stack.lowers (path_to nat_eq merge f old)
   pub lower : (n layer : ℕ) (path : List (List ℕ)) → two.real n ≡ Some (Below layer path) → merge.real n ≡ Some (Below layer path)
   pub files : two.files ≡ merge.files
+  pub upper : Goes stack.directory merge.upper two.upper
 
 pub twice : (fresh : Fresh ℕ) (stack : Stack ℕ) (merge : Merge ℕ) → IsWhole stack merge → ((j k : ℕ) → fresh j ≡ fresh k → j ≡ k)
     → ((k : ℕ) → merge.upper.tree.node (fresh k) ≡ None) → (f : ℕ) (old : List ℕ) (t : ℕ) (new : List ℕ) (o : ℕ) → MayMove merge.files.tree f old t new o
@@ -123,6 +125,7 @@ twice fresh stack merge whole distinct unused f old t new o may =
           ∙ first.cut ((to_object merge.files whole.tree whole.numbers o o_there).directories (subst (λ files. IsDirectory files.tree o) both d)) (path_to nat_eq merge f old));
       lower = λ n layer path e. first.copied.lower n layer path (second.copied.lower n layer path e);
       files = both;
+      upper = goes_both stack.directory merge.upper one.upper two.upper first.copied.upper second.copied.upper;
     }
 
 pub changes_keep_shown : ChangesKeepShown

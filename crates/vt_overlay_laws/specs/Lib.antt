@@ -1,2 +1,3 @@
 pub mod WhatIsShown
 pub mod WholeChanges
+pub mod WholeStays
