@@ -1,0 +1,3 @@
+pub mod AskedNames
+pub mod AskedOthers
+pub mod AskedOverlays
