@@ -1,3 +1,5 @@
+pub mod UpperOwn
+pub mod UpperTold
 pub mod UpperWhole
 pub mod UpperMoved
 pub mod UpperRemoved

@@ -57,7 +57,7 @@ copy_kind parent (Regular bytes) = refl
 copy_kind parent (Symlink text) = refl
 copy_kind parent Whiteout = refl
 
-copy_bare : (parent : ℕ) (content : Content ℕ) → entries_of (copied_content parent content) ≡ []
+pub copy_bare : (parent : ℕ) (content : Content ℕ) → entries_of (copied_content parent content) ≡ []
 copy_bare parent (Directory old entries opaque) = refl
 copy_bare parent (Regular bytes) = refl
 copy_bare parent (Symlink text) = refl

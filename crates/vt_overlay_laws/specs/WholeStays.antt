@@ -1,6 +1,6 @@
 -- An overlay stays whole in each change, so that changes follow one another, and the tree of its upper layer stays a tree: the
 -- kernel's overlayfs document, "upper and lower", "directories" and "whiteouts and opaque directories".
-use Rattle.std.specs.Prelude.{List, [], None, false, nat_eq, ℕ, ⊤, ◌∷◌, ◌≡◌}
+use Rattle.std.specs.Prelude.{List, [], None, Some, false, nat_eq, ℕ, ⊤, ◌∷◌, ◌≡◌, ◌⊎◌}
 use Rattle.vt_spec.specs.declared.attributes.Kind.TheVariants.{White}
 use Rattle.vt_spec.specs.FileTree.{is_kind}
 use Rattle.vt_spec.specs.Language.Changes.{Change}
@@ -8,7 +8,8 @@ use Rattle.vt_spec.specs.Lists.{Fresh}
 use Rattle.vt_spec.specs.Machine.CopyUp.{Merge, Stack, linked, made, merge_changed, moved, path_to, removed}
 use Rattle.vt_spec.specs.Machine.Layers.{has_lower_directory}
 use Rattle.vt_spec.specs.Tree.{Node, kind_of}
-use Rattle.vt_spec.specs.TreeLaws.{IsDirectory}
+use Rattle.vt_spec.specs.Machine.World.Real.{Upper}
+use Rattle.vt_spec.specs.TreeLaws.{IsDirectory, entry_at}
 use Rattle.vt_tree_laws.specs.Trees.{IsFileTree, MayAddName, MayMake, MayMove, MayRemove}
 use Rattle.vt_layer_laws.specs.Layers.ChangesUpper.{StandsInUpper}
 use Rattle.vt_overlay_laws.specs.WhatIsShown.{IsWhole}
@@ -54,6 +55,11 @@ pub record AreNew (fresh : Fresh ℕ) (merge : Merge ℕ) : Type 0 where
   pub distinct : (j k : ℕ) → fresh j ≡ fresh k → j ≡ k
   pub unused : (k : ℕ) → merge.upper.tree.node (fresh k) ≡ None
 
+-- an upper object of the overlay, named or not, or an inode with one of these numbers
+abbrev pub IsOwnOrNew : Fresh ℕ → Merge ℕ → ℕ → Type 0
+IsOwnOrNew fresh merge object =
+    ((number : ℕ) × (merge.real number ≡ Some (Upper object))) ⊎ ((k : ℕ) × (object ≡ fresh k))
+
 -- A whole change, with the copies that it needs.
 abbrev pub ChangesKeepWhole : Type 0
 ChangesKeepWhole =
@@ -92,3 +98,18 @@ MergedTreesStay =
     (fresh : Fresh ℕ) (stack : Stack ℕ) (merge : Merge ℕ) (change : Change ℕ)
     → IsWhole stack merge → AreNew fresh merge → IsAskedWell stack merge change → IsFileTree merge.files
     → IsFileTree (merge_changed nat_eq fresh stack merge change).files
+
+-- A name in the upper layer's tree leads where it led, or to an upper object of the overlay or a new inode.
+abbrev pub NamesLeadToOwn : Type 0
+NamesLeadToOwn =
+    (fresh : Fresh ℕ) (stack : Stack ℕ) (merge : Merge ℕ) (change : Change ℕ) (directory : ℕ) (name : List ℕ) (object : ℕ)
+    → IsWhole stack merge → AreNew fresh merge → IsAskedWell stack merge change
+    → entry_at (merge_changed nat_eq fresh stack merge change).upper.tree directory name ≡ Some object
+    → (entry_at merge.upper.tree directory name ≡ Some object) ⊎ IsOwnOrNew fresh merge object
+
+-- No other inode becomes an upper object of it.
+abbrev pub ObjectsAreOwn : Type 0
+ObjectsAreOwn =
+    (fresh : Fresh ℕ) (stack : Stack ℕ) (merge : Merge ℕ) (change : Change ℕ) (number object : ℕ)
+    → IsWhole stack merge → AreNew fresh merge → IsAskedWell stack merge change
+    → (merge_changed nat_eq fresh stack merge change).real number ≡ Some (Upper object) → IsOwnOrNew fresh merge object
