@@ -67,7 +67,7 @@ move_keeps_whole fresh stack merge f old t new o whole from to own vacant may al
     (move_keeps_shown fresh stack merge f old t new o whole from to own vacant may alone)
 
 -- what a change asks of its own tree
-proper : (stack : Stack ℕ) (merge : Merge ℕ) (change : Change ℕ) → IsAskedWell stack merge change → IsProper merge.files.tree change
+pub proper : (stack : Stack ℕ) (merge : Merge ℕ) (change : Change ℕ) → IsAskedWell stack merge change → IsProper merge.files.tree change
 proper stack merge (Make d w number node) asked = asked.0
 proper stack merge (AddName d w object) asked = asked
 proper stack merge (Remove d w object) asked = asked

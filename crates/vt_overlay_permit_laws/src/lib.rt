@@ -4,3 +4,4 @@
 #![tactic(auto)]
 
 pub mod asked;
+pub mod changed;
