@@ -1,3 +1,4 @@
+pub mod ApartPaths
 pub mod UpperOwn
 pub mod UpperTold
 pub mod UpperWhole

@@ -1,5 +1,5 @@
 -- Where the names of the upper layer lead after a change of the overlay, and which inodes are its upper objects.
-use Rattle.std.proofs.Common.{◌≡◌, refl, sym, ap, subst, ◌∙◌, true≢false, inl, inr, ⊎_elim, ◌⊎◌, ◌*◌, ◌+◌, ℕ, nat_eq, Bool, true, false, cond, List, [], Option, Some, None, is_some}
+use Rattle.std.proofs.Common.{◌≡◌, refl, sym, ap, subst, ◌∙◌, true≢false, inl, inr, ⊎_elim, ◌⊎◌, ◌*◌, ◌+◌, ℕ, nat_eq, Bool, true, false, cond, List, [], ◌∷◌, ◌++◌, Option, Some, None, is_some}
 use Rattle.vt_spec.specs.Language.Changes.{Change, changed, content_with_parent, node_with_attr, with_inode}
 use Rattle.vt_spec.specs.Language.Changes.Change.{AddName, CopyUp, Make, Move, Remove, SetAttr, SetBytes, SetMark}
 use Rattle.vt_spec.specs.Laws.Trees.{IsNewIn}
@@ -7,7 +7,9 @@ use Rattle.vt_spec.specs.Lists.{Fresh, evens, odds}
 use Rattle.vt_spec.specs.Machine.CopyUp.{Merge, Stack, copied_up, emptied, hides_directory, linked, made, merge_changed, moved, name_left_by, removed, shown_below, upper_directory_named, upper_of}
 use Rattle.vt_spec.specs.Machine.World.{upper_object}
 use Rattle.vt_spec.specs.Machine.World.Real.{Upper}
-use Rattle.vt_spec.specs.Tree.{Content, Node, entries_in, entries_of, kind_of, node_with_bytes}
+use Rattle.vt_spec.specs.Tree.{Content, Node, entries_in, entries_of, is_directory_node, kind_of, node_with_bytes}
+use Rattle.vt_spec.specs.TreeLaws.{led}
+use Rattle.vt_spec.proofs.Trees.{led-append}
 use Rattle.vt_spec.specs.Tree.Content.{Directory, Regular, Symlink, Whiteout}
 use Rattle.vt_spec.proofs.Nodes.{directory_used, entries-node_with_bytes}
 use Rattle.vt_tree_laws.specs.Trees.{MayAddName, MayMake, MayMove, MayRemove}
@@ -15,15 +17,17 @@ use Rattle.vt_tree_laws.proofs.ChangesNodes.{attr_keeps_place}
 use Rattle.vt_layer_laws.specs.Layers.ChangesUpper.{StandsInUpper}
 use Rattle.vt_layer_laws.specs.Layers.Upper.{IsThere}
 use Rattle.vt_layer_laws.proofs.ShownAtPath.{some_is_one}
-use Rattle.vt_layer_laws.proofs.UpperLine.{has_entries}
+use Rattle.vt_layer_laws.proofs.UpperLine.{has_entries, is_reached_in}
+use Rattle.vt_layer_laws.proofs.UpperShown.{way_to}
 use Rattle.vt_overlay_laws.specs.WhatIsShown.{IsWhole}
 use Rattle.vt_overlay_laws.specs.WholeChanges.{IsAskedWell}
-use Rattle.vt_overlay_laws.specs.WholeStays.{AreNew, IsOwnOrNew, NamesLeadToOwn, ObjectsAreOwn}
+use Rattle.vt_overlay_laws.specs.WholeStays.{AreNew, IsNewBy, IsOwnPlaced, NamesLeadToOwn, ObjectsAreOwn}
 use Rattle.vt_overlay_laws.proofs.UpperTold.{Told, told_both, told_emptied, told_inode, told_left, told_marked, told_moved, told_name, told_stay, told_wider}
 use Rattle.vt_overlay_laws.proofs.WholeAttributes.{upper_real}
 use Rattle.vt_overlay_laws.proofs.WholeLines.{IsCopied, object_copied, stands_copied}
 use Rattle.vt_overlay_laws.proofs.WholeMade.{new_bare}
-use Rattle.vt_overlay_laws.proofs.WholeTogether.{both_copied, copied, is_copied, odd_distinct, own_after, own_of_evens, own_of_odds, still_unused, twice}
+use Rattle.vt_overlay_laws.proofs.WholeNames.{directory_above, named_above}
+use Rattle.vt_overlay_laws.proofs.WholeTogether.{both_copied, copied, is_copied, new_of_evens, new_of_odds, odd_distinct, stands_now, still_unused, twice}
 
 bare_above : (p : ℕ) (c : Content ℕ) → entries_of c ≡ [] → entries_of (content_with_parent p c) ≡ []
 bare_above p (Directory q n o) e = e
@@ -72,11 +76,19 @@ module _ (fresh : Fresh ℕ) (stack : Stack ℕ) (merge : Merge ℕ) (whole : Is
   unused = new.unused
 
   abbrev Own : ℕ → Type 0
-  Own = IsOwnOrNew fresh merge
+  Own y = IsOwnPlaced stack merge y ⊎ IsNewBy fresh y
 
-  -- what stands in the upper layer after the copies
-  stands_own : (one : Merge ℕ) → ((n object : ℕ) → one.real n ≡ Some (Upper object) → Own object) → (n : ℕ) → StandsInUpper one n → Own (upper_of one n)
-  stands_own one objects n stands = objects n (upper_of one n) (upper_real one n stands)
+  new_own : (supply : Fresh ℕ) → ((y : ℕ) → IsNewBy supply y → IsNewBy fresh y) → (one two : Merge ℕ) → Told (IsNewBy supply) one.upper two.upper
+      → Told Own one.upper two.upper
+  new_own supply wider one two names = told_wider (IsNewBy supply) Own one.upper two.upper (λ y n. inr (wider y n)) names
+
+  -- what stands in the upper layer after the copies, and is placed
+  placed : (one : Merge ℕ) (n : ℕ) → ((n object : ℕ) → one.real n ≡ Some (Upper object) → (merge.real n ≡ Some (Upper object)) ⊎ IsNewBy fresh object)
+      → ((object : ℕ) → merge.real n ≡ Some (Upper object)
+      → (is_directory_node (merge.upper.tree.node object) ≡ false) ⊎ ((path : List (List ℕ)) × (led merge.upper.tree stack.directory path ≡ Some object)))
+      → StandsInUpper one n → Own (upper_of one n)
+  placed one n objects is stands =
+      ⊎_elim (λ e. inl (n, e, is (upper_of one n) e)) inr (objects n (upper_of one n) (upper_real one n stands))
 
   pub told : (change : Change ℕ) → IsAskedWell stack merge change → Told Own merge.upper (merge_changed nat_eq fresh stack merge change).upper
   told (Make d w number node) asked =
@@ -84,7 +96,7 @@ module _ (fresh : Fresh ℕ) (stack : Stack ℕ) (merge : Merge ℕ) (whole : Is
       let there = directory_used merge.files.tree d asked.0.name_is_free.in_directory in
       let one = copied fresh stack merge whole distinct unused d there in
       told_both Own merge.upper one.upper last
-      (told_wider (IsOwnOrNew (evens fresh) merge) Own merge.upper one.upper (own_of_evens fresh merge) (is_copied fresh stack merge whole distinct unused d there).names)
+      (new_own (evens fresh) (new_of_evens fresh) merge one (is_copied fresh stack merge whole distinct unused d there).names)
       (made_told Own (odds fresh) stack one (inr (1, refl)) d w number node (new_bare d node asked.0.fits))
   told (AddName d w object) may =
       let last = (merge_changed nat_eq fresh stack merge (AddName d w object)).upper in
@@ -93,62 +105,76 @@ module _ (fresh : Fresh ℕ) (stack : Stack ℕ) (merge : Merge ℕ) (whole : Is
       let there = subst (λ files. IsThere files d) (sym first.files) (directory_used merge.files.tree d may.name_is_free.in_directory) in
       let second = object_copied stack (odds fresh) (odd_distinct fresh distinct) one d first.whole (still_unused fresh stack merge whole distinct unused object may.is_there) there in
       let two = copied_up nat_eq (odds fresh) one d in
-      let objects : (n o : ℕ) → two.real n ≡ Some (Upper o) → Own o =
-      λ n o e. own_after fresh merge one first.objects o (own_of_odds fresh one o (second.copied.objects n o e)) in
-      told_both Own merge.upper one.upper last
-      (told_wider (IsOwnOrNew (evens fresh) merge) Own merge.upper one.upper (own_of_evens fresh merge) first.names)
-      (told_both Own one.upper two.upper last
-      (told_wider (IsOwnOrNew (odds fresh) one) Own one.upper two.upper
-      (λ y own. own_after fresh merge one first.objects y (own_of_odds fresh one y own)) second.copied.names)
+      told_both Own merge.upper one.upper last (new_own (evens fresh) (new_of_evens fresh) merge one first.names)
+      (told_both Own one.upper two.upper last (new_own (odds fresh) (new_of_odds fresh) one two second.copied.names)
       (told_name Own two.upper (upper_of two d) w (upper_of two object)
-      (stands_own two objects object
-      (second.copied.grows object (Rattle.vt_overlay_laws.proofs.WholeTogether.stands_now fresh stack merge whole distinct unused object may.is_there)))))
+      (placed two object (λ n o e. objects_of_two one two first.objects second.copied.objects n o e)
+      (λ o e. inl (directory_above stack merge whole object o e ∙ may.no_directory))
+      (second.copied.grows object (stands_now fresh stack merge whole distinct unused object may.is_there)))))
+    where
+      objects_of_two : (one two : Merge ℕ)
+          → ((n o : ℕ) → one.real n ≡ Some (Upper o) → (merge.real n ≡ Some (Upper o)) ⊎ IsNewBy (evens fresh) o)
+          → ((n o : ℕ) → two.real n ≡ Some (Upper o) → (one.real n ≡ Some (Upper o)) ⊎ IsNewBy (odds fresh) o)
+          → (n o : ℕ) → two.real n ≡ Some (Upper o) → (merge.real n ≡ Some (Upper o)) ⊎ IsNewBy fresh o
+      objects_of_two one two a b n o e =
+          ⊎_elim (λ f. ⊎_elim inl (λ g. inr (new_of_evens fresh o g)) (a n o f)) (λ g. inr (new_of_odds fresh o g)) (b n o e)
   told (Remove d w object) may =
       let last = (merge_changed nat_eq fresh stack merge (Remove d w object)).upper in
       let there = directory_used merge.files.tree d (has_entries merge.files.tree d w object may.named) in
       let one = copied fresh stack merge whole distinct unused d there in
       told_both Own merge.upper one.upper last
-      (told_wider (IsOwnOrNew (evens fresh) merge) Own merge.upper one.upper (own_of_evens fresh merge) (is_copied fresh stack merge whole distinct unused d there).names)
+      (new_own (evens fresh) (new_of_evens fresh) merge one (is_copied fresh stack merge whole distinct unused d there).names)
       (removed_told Own (odds fresh) stack one (inr (1, refl)) d w object)
   told (Move f old t to object) asked =
       let last = (merge_changed nat_eq fresh stack merge (Move f old t to object)).upper in
       let m = twice fresh stack merge whole distinct unused f old t to object asked.0 in
       let two = both_copied fresh stack merge f old t to object in
-      told_both Own merge.upper two.upper last m.names
-      (moved_told Own (odds (odds fresh)) stack two (inr (3, refl)) f old t to object (stands_own two m.objects object m.object))
+      let steps = is_reached_in merge.files whole.tree f old object asked.0.named in
+      let way = way_to merge.files.tree steps.0 f steps.1 in
+      told_both Own merge.upper two.upper last (new_own fresh (λ y n. n) merge two m.names)
+      (moved_told Own (odds (odds fresh)) stack two (inr (3, refl)) f old t to object
+      (placed two object m.objects
+      (λ o e. inr (
+        way.0 ++ old ∷ [],
+        named_above stack merge whole (way.0 ++ old ∷ []) object o
+            (led-append merge.files.tree merge.files.tree.root way.0 old f object way.1 asked.0.named) e,
+      )) m.object))
   told (SetBytes file bytes) there =
       let last = (merge_changed nat_eq fresh stack merge (SetBytes file bytes)).upper in
       let is = (object_copied stack fresh distinct merge file whole unused there).copied in
       let one = copied_up nat_eq fresh merge file in
-      told_both Own merge.upper one.upper last is.names (told_stay Own one.upper (upper_of one file) (node_with_bytes bytes) (entries-node_with_bytes bytes))
+      told_both Own merge.upper one.upper last (new_own fresh (λ y n. n) merge one is.names)
+      (told_stay Own one.upper (upper_of one file) (node_with_bytes bytes) (entries-node_with_bytes bytes))
   told (SetAttr object attr) there =
       let last = (merge_changed nat_eq fresh stack merge (SetAttr object attr)).upper in
       let is = (object_copied stack fresh distinct merge object whole unused there).copied in
       let one = copied_up nat_eq fresh merge object in
-      told_both Own merge.upper one.upper last is.names (told_stay Own one.upper (upper_of one object) (node_with_attr attr) (attr_keeps_place attr).entries)
+      told_both Own merge.upper one.upper last (new_own fresh (λ y n. n) merge one is.names)
+      (told_stay Own one.upper (upper_of one object) (node_with_attr attr) (attr_keeps_place attr).entries)
   told (SetMark d opaque) asked = absurd asked
-  told (CopyUp object) there = (object_copied stack fresh distinct merge object whole unused there).copied.names
+  told (CopyUp object) there =
+      new_own fresh (λ y n. n) merge (copied_up nat_eq fresh merge object) (object_copied stack fresh distinct merge object whole unused there).copied.names
 
   pub objects : (change : Change ℕ) → IsAskedWell stack merge change → (n object : ℕ)
-      → (merge_changed nat_eq fresh stack merge change).real n ≡ Some (Upper object) → Own object
-  objects (Make d w number node) asked n object e =
-      let there = directory_used merge.files.tree d asked.0.name_is_free.in_directory in
-      by (nat_eq n number) e
+      → (merge_changed nat_eq fresh stack merge change).real n ≡ Some (Upper object) → (merge.real n ≡ Some (Upper object)) ⊎ IsNewBy fresh object
+  objects (Make d w number node) asked n object e = by (nat_eq n number) e
     where
       by : (b : Bool)
-          → cond b (Some (Upper (odds fresh 0))) ((copied_up nat_eq (evens fresh) merge d).real n) ≡ Some (Upper object) → Own object
+          → cond b (Some (Upper (odds fresh 0))) ((copied_up nat_eq (evens fresh) merge d).real n) ≡ Some (Upper object)
+          → (merge.real n ≡ Some (Upper object)) ⊎ IsNewBy fresh object
       by true e = inr (1, sym (some_is_one (odds fresh 0) object (ap upper_object e)))
       by false e =
-          own_of_evens fresh merge object
+          ⊎_elim inl (λ g. inr (new_of_evens fresh object g))
           ((is_copied fresh stack merge whole distinct unused d (directory_used merge.files.tree d asked.0.name_is_free.in_directory)).objects n object e)
   objects (AddName d w o) may n object e =
       let first = is_copied fresh stack merge whole distinct unused o may.is_there in
       let one = copied fresh stack merge whole distinct unused o may.is_there in
       let there = subst (λ files. IsThere files d) (sym first.files) (directory_used merge.files.tree d may.name_is_free.in_directory) in
       let second = object_copied stack (odds fresh) (odd_distinct fresh distinct) one d first.whole (still_unused fresh stack merge whole distinct unused o may.is_there) there in
-      own_after fresh merge one first.objects object (own_of_odds fresh one object (second.copied.objects n object e))
+      ⊎_elim (λ f. ⊎_elim inl (λ g. inr (new_of_evens fresh object g)) (first.objects n object f)) (λ g. inr (new_of_odds fresh object g))
+      (second.copied.objects n object e)
   objects (Remove d w o) may n object e =
-      own_of_evens fresh merge object
+      ⊎_elim inl (λ g. inr (new_of_evens fresh object g))
       ((is_copied fresh stack merge whole distinct unused d (directory_used merge.files.tree d (has_entries merge.files.tree d w o may.named))).objects n object e)
   objects (Move f old t to o) asked n object e = (twice fresh stack merge whole distinct unused f old t to o asked.0).objects n object e
   objects (SetBytes file bytes) there n object e = (object_copied stack fresh distinct merge file whole unused there).copied.objects n object e

@@ -1,5 +1,5 @@
 -- A whole change of an overlay: copies first, and then what is asked.
-use Rattle.std.proofs.Common.{arith, inl, inr, ◌*◌, ◌+◌, ◌≡◌, ◌≢◌, sym, subst, ◌∙◌, ℕ, nat_eq, None, refl, ap, List, [], ◌∷◌, ◌++◌, ◌&&◌, ◌||◌, map, not, false, Option, Some, is_some, option_and_then, unwrap_or}
+use Rattle.std.proofs.Common.{arith, ◌⊎◌, ⊎_elim, inl, inr, ◌*◌, ◌+◌, ◌≡◌, ◌≢◌, sym, subst, ◌∙◌, ℕ, nat_eq, None, refl, ap, List, [], ◌∷◌, ◌++◌, ◌&&◌, ◌||◌, map, not, false, Option, Some, is_some, option_and_then, unwrap_or}
 use Rattle.vt_spec.specs.Language.Changes.Change.{AddName, CopyUp, Make, Move, Remove, SetAttr, SetBytes, SetMark}
 use Rattle.vt_spec.specs.Lists.{Fresh, evens, odds}
 use Rattle.vt_spec.specs.Machine.CopyUp.{Merge, Stack, copied_up, path_to, upper_of}
@@ -24,7 +24,7 @@ use Rattle.vt_overlay_laws.specs.WhatIsShown.{IsWhole}
 use Rattle.vt_overlay_laws.specs.WholeChanges.{ChangesKeepShown}
 use Rattle.vt_overlay_laws.proofs.UpperGoes.{Goes, goes_both}
 use Rattle.vt_overlay_laws.proofs.UpperTold.{Told, told_both, told_wider}
-use Rattle.vt_overlay_laws.specs.WholeStays.{IsOwnOrNew}
+use Rattle.vt_overlay_laws.specs.WholeStays.{IsNewBy}
 use Rattle.vt_overlay_laws.proofs.WholeAttributes.{attr_keeps_whole, bytes_keep_whole, upper_real}
 use Rattle.vt_overlay_laws.proofs.WholeLines.{IsCopied, object_copied, stands_copied, to_object}
 use Rattle.vt_overlay_laws.proofs.WholeMoved.{move_keeps_shown}
@@ -76,20 +76,12 @@ stands_above stack merge whole d w object named stands =
         let found = above_named stack merge whole way.0 u l (no_white_directory (merge.upper.tree.node u) (has_entries merge.upper.tree u w (upper_of merge object) e)) in
         subst (StandsInUpper merge) (some_is_one found.0 d (sym found.1 ∙ way.1)) (ap (λ r. is_some (upper_object r)) found.2)
 
--- what is its own or new by some of the numbers is so by all
-pub own_of_evens : (fresh : Fresh ℕ) (merge : Merge ℕ) (y : ℕ) → IsOwnOrNew (evens fresh) merge y → IsOwnOrNew fresh merge y
-own_of_evens fresh merge y (inl own) = inl own
-own_of_evens fresh merge y (inr new) = inr (2 * new.0, new.1)
+-- what is new by some of the numbers is so by all
+pub new_of_evens : (fresh : Fresh ℕ) (y : ℕ) → IsNewBy (evens fresh) y → IsNewBy fresh y
+new_of_evens fresh y new = (2 * new.0, new.1)
 
-pub own_of_odds : (fresh : Fresh ℕ) (merge : Merge ℕ) (y : ℕ) → IsOwnOrNew (odds fresh) merge y → IsOwnOrNew fresh merge y
-own_of_odds fresh merge y (inl own) = inl own
-own_of_odds fresh merge y (inr new) = inr (2 * new.0 + 1, new.1)
-
--- and what is so after copies was so before
-pub own_after : (fresh : Fresh ℕ) (merge one : Merge ℕ) → ((n object : ℕ) → one.real n ≡ Some (Upper object) → IsOwnOrNew (evens fresh) merge object)
-    → (y : ℕ) → IsOwnOrNew fresh one y → IsOwnOrNew fresh merge y
-own_after fresh merge one objects y (inl own) = own_of_evens fresh merge y (objects own.0 y own.1)
-own_after fresh merge one objects y (inr new) = inr new
+pub new_of_odds : (fresh : Fresh ℕ) (y : ℕ) → IsNewBy (odds fresh) y → IsNewBy fresh y
+new_of_odds fresh y new = (2 * new.0 + 1, new.1)
 
 -- what a move asks for is copied, the object and then the new directory
 abbrev pub both_copied : Fresh ℕ → Stack ℕ → Merge ℕ → ℕ → List ℕ → ℕ → List ℕ → ℕ → Merge ℕ
@@ -109,8 +101,8 @@ pub record IsReadyToMove (fresh : Fresh ℕ) (stack : Stack ℕ) (merge : Merge 
   pub lower : (n layer : ℕ) (path : List (List ℕ)) → two.real n ≡ Some (Below layer path) → merge.real n ≡ Some (Below layer path)
   pub files : two.files ≡ merge.files
   pub upper : Goes stack.directory merge.upper two.upper
-  pub names : Told (IsOwnOrNew fresh merge) merge.upper two.upper
-  pub objects : (n object : ℕ) → two.real n ≡ Some (Upper object) → IsOwnOrNew fresh merge object
+  pub names : Told (IsNewBy fresh) merge.upper two.upper
+  pub objects : (n object : ℕ) → two.real n ≡ Some (Upper object) → (merge.real n ≡ Some (Upper object)) ⊎ IsNewBy fresh object
 
 pub twice : (fresh : Fresh ℕ) (stack : Stack ℕ) (merge : Merge ℕ) → IsWhole stack merge → ((j k : ℕ) → fresh j ≡ fresh k → j ≡ k)
     → ((k : ℕ) → merge.upper.tree.node (fresh k) ≡ None) → (f : ℕ) (old : List ℕ) (t : ℕ) (new : List ℕ) (o : ℕ) → MayMove merge.files.tree f old t new o
@@ -145,12 +137,15 @@ twice fresh stack merge whole distinct unused f old t new o may =
       lower = λ n layer path e. first.copied.lower n layer path (second.copied.lower n layer path e);
       files = both;
       upper = goes_both stack.directory merge.upper one.upper two.upper first.copied.upper second.copied.upper;
-      names = told_both (IsOwnOrNew fresh merge) merge.upper one.upper two.upper
-          (told_wider (IsOwnOrNew (evens fresh) merge) (IsOwnOrNew fresh merge) merge.upper one.upper (own_of_evens fresh merge) first.copied.names)
-          (told_wider (IsOwnOrNew (evens (odds fresh)) one) (IsOwnOrNew fresh merge) one.upper two.upper
-          (λ y own. own_after fresh merge one first.copied.objects y (own_of_odds fresh one y (own_of_evens (odds fresh) one y own))) second.copied.names);
+      names = told_both (IsNewBy fresh) merge.upper one.upper two.upper
+          (told_wider (IsNewBy (evens fresh)) (IsNewBy fresh) merge.upper one.upper (new_of_evens fresh) first.copied.names)
+          (told_wider (IsNewBy (evens (odds fresh))) (IsNewBy fresh) one.upper two.upper
+          (λ y n. new_of_odds fresh y (new_of_evens (odds fresh) y n)) second.copied.names);
       objects = λ n object e.
-          own_after fresh merge one first.copied.objects object (own_of_odds fresh one object (own_of_evens (odds fresh) one object (second.copied.objects n object e)));
+          ⊎_elim
+          (λ f. ⊎_elim inl (λ g. inr (new_of_evens fresh object g)) (first.copied.objects n object f))
+          (λ g. inr (new_of_odds fresh object (new_of_evens (odds fresh) object g)))
+          (second.copied.objects n object e);
     }
 
 pub changes_keep_shown : ChangesKeepShown

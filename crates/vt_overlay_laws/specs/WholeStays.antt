@@ -7,9 +7,9 @@ use Rattle.vt_spec.specs.Language.Changes.{Change}
 use Rattle.vt_spec.specs.Lists.{Fresh}
 use Rattle.vt_spec.specs.Machine.CopyUp.{Merge, Stack, linked, made, merge_changed, moved, path_to, removed}
 use Rattle.vt_spec.specs.Machine.Layers.{has_lower_directory}
-use Rattle.vt_spec.specs.Tree.{Node, kind_of}
+use Rattle.vt_spec.specs.Tree.{Node, is_directory_node, kind_of}
 use Rattle.vt_spec.specs.Machine.World.Real.{Upper}
-use Rattle.vt_spec.specs.TreeLaws.{IsDirectory, entry_at}
+use Rattle.vt_spec.specs.TreeLaws.{IsDirectory, entry_at, led}
 use Rattle.vt_tree_laws.specs.Trees.{IsFileTree, MayAddName, MayMake, MayMove, MayRemove}
 use Rattle.vt_layer_laws.specs.Layers.ChangesUpper.{StandsInUpper}
 use Rattle.vt_overlay_laws.specs.WhatIsShown.{IsWhole}
@@ -55,10 +55,16 @@ pub record AreNew (fresh : Fresh ℕ) (merge : Merge ℕ) : Type 0 where
   pub distinct : (j k : ℕ) → fresh j ≡ fresh k → j ≡ k
   pub unused : (k : ℕ) → merge.upper.tree.node (fresh k) ≡ None
 
--- an upper object of the overlay, named or not, or an inode with one of these numbers
-abbrev pub IsOwnOrNew : Fresh ℕ → Merge ℕ → ℕ → Type 0
-IsOwnOrNew fresh merge object =
-    ((number : ℕ) × (merge.real number ≡ Some (Upper object))) ⊎ ((k : ℕ) × (object ≡ fresh k))
+-- an inode with one of these numbers
+abbrev pub IsNewBy : Fresh ℕ → ℕ → Type 0
+IsNewBy fresh object = (k : ℕ) × (object ≡ fresh k)
+
+-- an upper object of the overlay that is no directory, or that names lead to from the upper layer's directory
+abbrev pub IsOwnPlaced : Stack ℕ → Merge ℕ → ℕ → Type 0
+IsOwnPlaced stack merge object =
+    (number : ℕ) × (merge.real number ≡ Some (Upper object))
+    × ((is_directory_node (merge.upper.tree.node object) ≡ false)
+    ⊎ ((path : List (List ℕ)) × (led merge.upper.tree stack.directory path ≡ Some object)))
 
 -- A whole change, with the copies that it needs.
 abbrev pub ChangesKeepWhole : Type 0
@@ -99,17 +105,18 @@ MergedTreesStay =
     → IsWhole stack merge → AreNew fresh merge → IsAskedWell stack merge change → IsFileTree merge.files
     → IsFileTree (merge_changed nat_eq fresh stack merge change).files
 
--- A name in the upper layer's tree leads where it led, or to an upper object of the overlay or a new inode.
+-- A name in the upper layer's tree leads where it led, or to such an upper object, or to a new inode.
 abbrev pub NamesLeadToOwn : Type 0
 NamesLeadToOwn =
     (fresh : Fresh ℕ) (stack : Stack ℕ) (merge : Merge ℕ) (change : Change ℕ) (directory : ℕ) (name : List ℕ) (object : ℕ)
     → IsWhole stack merge → AreNew fresh merge → IsAskedWell stack merge change
     → entry_at (merge_changed nat_eq fresh stack merge change).upper.tree directory name ≡ Some object
-    → (entry_at merge.upper.tree directory name ≡ Some object) ⊎ IsOwnOrNew fresh merge object
+    → (entry_at merge.upper.tree directory name ≡ Some object) ⊎ (IsOwnPlaced stack merge object ⊎ IsNewBy fresh object)
 
--- No other inode becomes an upper object of it.
+-- The upper object of an inode is the one that it was, or a new inode.
 abbrev pub ObjectsAreOwn : Type 0
 ObjectsAreOwn =
     (fresh : Fresh ℕ) (stack : Stack ℕ) (merge : Merge ℕ) (change : Change ℕ) (number object : ℕ)
     → IsWhole stack merge → AreNew fresh merge → IsAskedWell stack merge change
-    → (merge_changed nat_eq fresh stack merge change).real number ≡ Some (Upper object) → IsOwnOrNew fresh merge object
+    → (merge_changed nat_eq fresh stack merge change).real number ≡ Some (Upper object)
+    → (merge.real number ≡ Some (Upper object)) ⊎ IsNewBy fresh object

@@ -15,7 +15,8 @@ pub fn changes_keep_overlays_whole()
 {}
 
 /// The overlay's tree and that of its upper layer stay trees, with the numbers of their inodes beside them, and what lost its name is
-/// its own parent. Each name of the upper layer's tree leads where it led, or to an object of the overlay or a new inode.
+/// its own parent. Each name of the upper layer's tree leads where it led, or to an object of the overlay or a new inode, and the
+/// upper object of an inode is the one that it was, or a new one.
 pub fn changes_keep_both_trees()
     ensures upper { UpperTreesStay }
     ensures merged { MergedTreesStay }
