@@ -1,3 +1,4 @@
+pub mod ApartLater
 pub mod ApartPaths
 pub mod UpperOwn
 pub mod UpperTold
