@@ -328,3 +328,255 @@ module _ (fresh : Fresh ℕ) (world : World ℕ) (location : Location ℕ) (chan
             subst (λ x. Among x (overlays world)) (sym same) (among-filter is_overlay world.filesystems old o (ap is_overlay (sym same) ∙ over)),
             λ at. true≢false (sym (eq-eqb changed.number old.number (number_of_filesystem world number ∙ sym at ∙ ap (λ x. x.number) same)) ∙ e),
           )
+
+  -- one filesystem has a number
+  own_number : (f : Filesystem ℕ) → Among f world.filesystems → filesystem_numbered nat_eq world f.number ≡ f
+  own_number f m = ap (λ o. Rattle.std.specs.Prelude.unwrap_or o (Rattle.vt_spec.specs.Machine.World.no_filesystem f.number)) (by world.filesystems conditions.files.one_filesystem m)
+    where
+      first : (p q : Bool) → (p || q) ≡ false → p ≡ false
+      first true q e = e
+      first false q e = refl
+
+      second : (p q : Bool) → (p || q) ≡ false → q ≡ false
+      second true q e = absurd (true≢false e)
+      second false q e = e
+
+      by : (fs : List (Filesystem ℕ)) → any_pair (λ (a b : Filesystem ℕ). nat_eq a.number b.number) fs ≡ false → Among f fs
+          → Rattle.std.specs.Prelude.find (λ (g : Filesystem ℕ). nat_eq f.number g.number) fs ≡ Some f
+      by [] e m = absurd m
+      by (x ∷ fs) e (inl same) =
+          ap (λ b. cond b (Some x) (Rattle.std.specs.Prelude.find (λ (g : Filesystem ℕ). nat_eq f.number g.number) fs))
+          (eq-eqb f.number x.number (ap (λ g. g.number) same)) ∙ ap Some (sym same)
+      by (x ∷ fs) e (inr l) =
+          ap (λ b. cond b (Some x) (Rattle.std.specs.Prelude.find (λ (g : Filesystem ℕ). nat_eq f.number g.number) fs))
+          (ne_eqb f.number x.number (λ same.
+          true≢false (sym (eq-eqb x.number f.number (sym same))
+          ∙ none_among (λ (g : Filesystem ℕ). nat_eq x.number g.number) fs
+          (first (list_any (λ (g : Filesystem ℕ). nat_eq x.number g.number) fs) (any_pair (λ (a b : Filesystem ℕ). nat_eq a.number b.number) fs) e) f l)))
+          ∙ by fs (second (list_any (λ (g : Filesystem ℕ). nat_eq x.number g.number) fs) (any_pair (λ (a b : Filesystem ℕ). nat_eq a.number b.number) fs) e) l
+
+  -- What counts under a layer: the parts of it
+  record Counts (w : World ℕ) (layer : Layer ℕ) (n object : ℕ) (g : Filesystem ℕ) : Type 0 where
+    overlay_of : Overlay ℕ
+    is_of : g.overlay ≡ Some overlay_of
+    upper_of_it : Layer ℕ
+    has_it : overlay_of.upper ≡ Some upper_of_it
+    lies : lies_in_layer nat_eq w upper_of_it.filesystem upper_of_it.directory layer ≡ true
+    object_of : is_object_of nat_eq n object g overlay_of ≡ true
+
+  counts_parts : (w : World ℕ) (layer : Layer ℕ) (n object : ℕ) (g : Filesystem ℕ) → counts_in_layer nat_eq w n object layer g ≡ true → Counts w layer n object g
+  counts_parts w layer n object g e = by g.overlay refl e
+    where
+      at : (v : Overlay ℕ) → g.overlay ≡ Some v → (o : Option (Layer ℕ)) → v.upper ≡ o
+          → (holds_of (λ u. lies_in_layer nat_eq w u.filesystem u.directory layer) o && is_object_of nat_eq n object g v) ≡ true → Counts w layer n object g
+      at v f None u e = absurd (true≢false (sym e))
+      at v f (Some u) k e = record {
+        overlay_of = v;
+        is_of = f;
+        upper_of_it = u;
+        has_it = k;
+        lies = and_first (lies_in_layer nat_eq w u.filesystem u.directory layer) _ e;
+        object_of = and_second (lies_in_layer nat_eq w u.filesystem u.directory layer) _ e;
+      }
+
+      by : (o : Option (Overlay ℕ)) → g.overlay ≡ o
+          → overlay_or false (λ v. holds_of (λ u. lies_in_layer nat_eq w u.filesystem u.directory layer) v.upper && is_object_of nat_eq n object g v) o ≡ true
+          → Counts w layer n object g
+      by None f e = absurd (true≢false (sym e))
+      by (Some v) f e = at v f v.upper refl e
+
+  counts_again : (layer : Layer ℕ) (n object : ℕ) (g : Filesystem ℕ) → Among g (overlays world) → Counts world layer n object g → Lies layer n object
+  counts_again layer n object g m parts =
+      right_holds (lies_in_layer nat_eq world n object layer) _
+      (any_from_among (counts_in_layer nat_eq world n object layer) (overlays world) g m
+      (ap (overlay_or false (λ v. holds_of (λ u. lies_in_layer nat_eq world u.filesystem u.directory layer) v.upper && is_object_of nat_eq n object g v)) parts.is_of
+      ∙ both_hold _ _ (ap (holds_of (λ u. lies_in_layer nat_eq world u.filesystem u.directory layer)) parts.has_it ∙ parts.lies) parts.object_of))
+
+  -- the object of which it is said is one of the upper layer
+  real_of_object : (g : Filesystem ℕ) (v : Overlay ℕ) (u : Layer ℕ) → v.upper ≡ Some u → (n object : ℕ) → is_object_of nat_eq n object g v ≡ true
+      → (n ≡ u.filesystem) × ((k : ℕ) × (v.real k ≡ Some (Upper object)))
+  real_of_object g v u has_u n object e =
+      let first = and_first (holds_of (λ l. nat_eq n l.filesystem) v.upper) _ e in
+      let found = any_among (is_real_upper nat_eq v object) g.files.numbers (and_second (holds_of (λ l. nat_eq n l.filesystem) v.upper) _ e) in
+      (
+        eqb-true n u.filesystem (sym (ap (holds_of (λ l. nat_eq n l.filesystem)) has_u) ∙ first),
+        (found.0, by (v.real found.0) found.2),
+      )
+    where
+      by : (r : Option (Real ℕ)) → holds_of (nat_eq object) (upper_object r) ≡ true → r ≡ Some (Upper object)
+      by None h = absurd (true≢false (sym h))
+      by (Some (Upper k)) h = ap (λ x. Some (Upper x)) (sym (eqb-true object k h))
+      by (Some (Below layer path)) h = absurd (true≢false (sym h))
+
+  -- what lies or counts under a layer is there
+  is_there_if : (layer : Layer ℕ) → is_plain_layer nat_eq world layer ≡ true → (n object : ℕ) → Lies layer n object → is_some (inode_in world n object) ≡ true
+  is_there_if layer plain n object e =
+      ⊎_elim led_there counted (or_cases (lies_in_layer nat_eq world n object layer) _ e)
+    where
+      led_there : lies_in_layer nat_eq world n object layer ≡ true → is_some (inode_in world n object) ≡ true
+      led_there f =
+          let same = eqb-true n layer.filesystem (and_first (nat_eq n layer.filesystem) _ f) in
+          let tree = layer_tree world conditions layer plain in
+          let way = under_led (filesystem_numbered nat_eq world layer.filesystem).files tree layer.directory object
+          (subst (λ k. is_under nat_eq (filesystem_numbered nat_eq world k).files layer.directory object ≡ true) same (and_second (nat_eq n layer.filesystem) _ f)) in
+          subst (λ k. is_some (inode_in world k object) ≡ true) (sym same)
+          (led_is_there (open_layer nat_eq world layer) tree
+          (and_second (not (is_overlay (filesystem_numbered nat_eq world layer.filesystem))) _ plain) way.0 object way.1)
+
+      counted : list_any (counts_in_layer nat_eq world n object layer) (overlays world) ≡ true → is_some (inode_in world n object) ≡ true
+      counted f =
+          let found = any_among (counts_in_layer nat_eq world n object layer) (overlays world) f in
+          let g = found.0 in
+          let parts = counts_parts world layer n object g found.2 in
+          let real = real_of_object g parts.overlay_of parts.upper_of_it parts.has_it n object parts.object_of in
+          let here = own_number g (among-from_filter is_overlay world.filesystems g found.1).0 in
+          let of_it : (filesystem_numbered nat_eq world g.number).overlay ≡ Some parts.overlay_of = ap (λ x. x.overlay) here ∙ parts.is_of in
+          subst (λ k. is_some (inode_in world k object) ≡ true) (sym real.0)
+          (sym (ap (holds_of (λ l. is_there nat_eq world l.filesystem object)) parts.has_it)
+          ∙ (overlay_merges world conditions g.number parts.overlay_of of_it).upper_there real.1.0 object real.1.1)
+
+  upper_itself : lies_in_layer nat_eq world upper.filesystem upper.directory upper ≡ true
+  upper_itself = led_lies upper upper_plain upper.filesystem upper.directory refl ([], refl)
+
+  directory_there : (layer : Layer ℕ) → is_plain_layer nat_eq world layer ≡ true → is_some (inode_in world layer.filesystem layer.directory) ≡ true
+  directory_there layer plain =
+      directory_used (filesystem_numbered nat_eq world layer.filesystem).files.tree layer.directory
+      (and_second (not (is_overlay (filesystem_numbered nat_eq world layer.filesystem))) _ plain)
+
+  changed_parts : (w : World ℕ) (layer : Layer ℕ) (n object : ℕ) → Counts w layer n object changed
+      → (lies_in_layer nat_eq w upper.filesystem upper.directory layer ≡ true) × ((n ≡ upper.filesystem) × ((k : ℕ) × (merge.real k ≡ Some (Upper object))))
+  changed_parts w layer n object parts =
+      let same = some_is_one _ parts.overlay_of parts.is_of in
+      let one : upper ≡ parts.upper_of_it = some_is_one upper parts.upper_of_it (sym has ∙ ap (λ v. v.upper) same ∙ parts.has_it) in
+      let real = real_of_object changed parts.overlay_of parts.upper_of_it parts.has_it n object parts.object_of in
+      (
+        subst (λ u. lies_in_layer nat_eq w u.filesystem u.directory layer ≡ true) (sym one) parts.lies,
+        (real.0 ∙ ap (λ u. u.filesystem) (sym one), (real.1.0, ap (λ v. v.real real.1.0) same ∙ real.1.1)),
+      )
+
+  -- under the others
+  counted_other : (layer : Layer ℕ) → IsOther layer → (n object : ℕ) (g : Filesystem ℕ) → Counts later layer n object g
+      → (g ≡ changed) ⊎ (Among g (overlays world) × (g.number ≢ number)) → Lies layer n object
+  counted_other layer other n object g parts (inl same) =
+      let own = changed_parts later layer n object (subst (λ x. Counts later layer n object x) same parts) in
+      absurd (clash layer other upper.filesystem upper.directory (directory_there upper upper_plain)
+      (lies_first upper upper.filesystem upper.directory upper_itself)
+      (lies_first layer upper.filesystem upper.directory (other_lies layer other upper.filesystem upper.directory own.0)))
+  counted_other layer other n object g parts (inr old) =
+      counts_again layer n object g old.0 (record {
+        overlay_of = parts.overlay_of;
+        is_of = parts.is_of;
+        upper_of_it = parts.upper_of_it;
+        has_it = parts.has_it;
+        lies = other_lies layer other parts.upper_of_it.filesystem parts.upper_of_it.directory parts.lies;
+        object_of = parts.object_of;
+      })
+
+  later_other : (layer : Layer ℕ) → IsOther layer → (n object : ℕ) → lies_or_counts_under nat_eq later n object layer ≡ true → Lies layer n object
+  later_other layer other n object e =
+      ⊎_elim (λ f. lies_first layer n object (other_lies layer other n object f)) counted
+      (or_cases (lies_in_layer nat_eq later n object layer) _ e)
+    where
+      found_of : (g : Filesystem ℕ) × Among g (overlays later) × (counts_in_layer nat_eq later n object layer g ≡ true) → Lies layer n object
+      found_of (g, m, f) = counted_other layer other n object g (counts_parts later layer n object g f) (overlay_then g m)
+
+      counted : list_any (counts_in_layer nat_eq later n object layer) (overlays later) ≡ true → Lies layer n object
+      counted f = found_of (any_among (counts_in_layer nat_eq later n object layer) (overlays later) f)
+
+  same_layer : (a b : Layer ℕ) → (a ≡ b) ⊎ (a ≢ b)
+  same_layer a b =
+      ⊎_elim
+      (λ f. ⊎_elim (λ d. inl (λ i. record { filesystem = f.1 i; directory = d.1 i })) (λ d. inr (λ e. d.1 (ap (λ l. l.directory) e))) (eqb_tells a.directory b.directory))
+      (λ f. inr (λ e. f.1 (ap (λ l. l.filesystem) e))) (eqb_tells a.filesystem b.filesystem)
+
+  -- under the upper one
+  counted_upper : (n object : ℕ) (g : Filesystem ℕ) → Counts later upper n object g
+      → (g ≡ changed) ⊎ (Among g (overlays world) × (g.number ≢ number)) → Lies upper n object ⊎ IsNewBy fresh object
+  counted_upper n object g parts (inl same) =
+      let own = changed_parts later upper n object (subst (λ x. Counts later upper n object x) same parts) in
+      ⊎_elim (λ was. inl (subst (λ k. Lies upper k object) (sym own.1.0) (upper_counts object (own.1.1.0, was)))) inr
+      (UpperOwn.objects fresh stack before whole new change asked own.1.1.0 object own.1.1.1)
+  counted_upper n object g parts (inr old) =
+      ⊎_elim
+      (λ same. inl (counts_again upper n object g old.0 (record {
+        overlay_of = parts.overlay_of;
+        is_of = parts.is_of;
+        upper_of_it = parts.upper_of_it;
+        has_it = parts.has_it;
+        lies = subst (λ x. lies_in_layer nat_eq world x.filesystem x.directory upper ≡ true) (sym same) upper_itself;
+        object_of = parts.object_of;
+      })))
+      (λ differ.
+      ⊎_elim
+      (λ under. absurd (clash parts.upper_of_it (inl (live, differ)) parts.upper_of_it.filesystem parts.upper_of_it.directory
+      (directory_there parts.upper_of_it (changed_plain parts.upper_of_it live)) under
+      (lies_first parts.upper_of_it parts.upper_of_it.filesystem parts.upper_of_it.directory
+      (led_lies parts.upper_of_it (changed_plain parts.upper_of_it live) parts.upper_of_it.filesystem parts.upper_of_it.directory refl ([], refl)))))
+      (λ fresh_one. absurd (true≢false (sym (directory_there parts.upper_of_it (changed_plain parts.upper_of_it live))
+      ∙ ap (λ k. is_some (inode_in world parts.upper_of_it.filesystem k)) fresh_one.1 ∙ ap is_some (none parts.upper_of_it.filesystem fresh_one.0))))
+      (upper_lies parts.upper_of_it.filesystem parts.upper_of_it.directory parts.lies))
+      (same_layer parts.upper_of_it upper)
+    where
+      live : Among parts.upper_of_it (live_upper_and_work world)
+      live =
+          among-flat_map (of_overlay [] upper_and_work) (overlays world) g parts.upper_of_it old.0
+          (subst (λ o. Among parts.upper_of_it (overlay_or [] upper_and_work o)) (sym parts.is_of)
+          (subst (λ o. Among parts.upper_of_it (option_to_list o ++ option_to_list parts.overlay_of.work)) (sym parts.has_it) (inl refl)))
+
+  later_upper : (n object : ℕ) → lies_or_counts_under nat_eq later n object upper ≡ true → Lies upper n object ⊎ IsNewBy fresh object
+  later_upper n object e =
+      ⊎_elim (λ f. upper_lies n object f) counted (or_cases (lies_in_layer nat_eq later n object upper) _ e)
+    where
+      found_of : (g : Filesystem ℕ) × Among g (overlays later) × (counts_in_layer nat_eq later n object upper g ≡ true) → Lies upper n object ⊎ IsNewBy fresh object
+      found_of (g, m, f) = counted_upper n object g (counts_parts later upper n object g f) (overlay_then g m)
+
+      counted : list_any (counts_in_layer nat_eq later n object upper) (overlays later) ≡ true → Lies upper n object ⊎ IsNewBy fresh object
+      counted f = found_of (any_among (counts_in_layer nat_eq later n object upper) (overlays later) f)
+
+  -- what overlaps then overlapped before
+  not_new : (layer : Layer ℕ) → is_plain_layer nat_eq world layer ≡ true → (n object : ℕ) → Lies layer n object → IsNewBy fresh object → ⊥
+  not_new layer plain n object lies fresh_one =
+      true≢false (sym (is_there_if layer plain n object lies) ∙ ap (λ k. is_some (inode_in world n k)) fresh_one.1 ∙ ap is_some (none n fresh_one.0))
+
+  IsLive : Layer ℕ → Type 0
+  IsLive layer = (layer ≡ upper) ⊎ IsOther layer
+
+  live_plain : (layer : Layer ℕ) → IsLive layer → is_plain_layer nat_eq world layer ≡ true
+  unfolding IsLive
+  live_plain layer (inl same) = ap (is_plain_layer nat_eq world) same ∙ upper_plain
+  live_plain layer (inr other) = other_plain layer other
+
+  both_lie : (a b : Layer ℕ) → IsLive a → IsLive b → a ≢ b → (n object : ℕ) → lies_or_counts_under nat_eq later n object a ≡ true
+      → lies_or_counts_under nat_eq later n object b ≡ true → Lies a n object × Lies b n object
+  unfolding IsLive
+  both_lie a b (inl x) (inl y) differ n object p q = absurd (differ (x ∙ sym y))
+  both_lie a b (inl x) (inr y) differ n object p q =
+      let in_b = later_other b y n object q in
+      (
+        ⊎_elim (λ l. subst (λ m. Lies m n object) (sym x) l) (λ f. absurd (not_new b (other_plain b y) n object in_b f))
+            (later_upper n object (subst (λ m. lies_or_counts_under nat_eq later n object m ≡ true) x p)),
+        in_b,
+      )
+  both_lie a b (inr x) (inl y) differ n object p q =
+      let in_a = later_other a x n object p in
+      (
+        in_a,
+        ⊎_elim (λ l. subst (λ m. Lies m n object) (sym y) l) (λ f. absurd (not_new a (other_plain a x) n object in_a f))
+            (later_upper n object (subst (λ m. lies_or_counts_under nat_eq later n object m ≡ true) y q)),
+      )
+  both_lie a b (inr x) (inr y) differ n object p q = (later_other a x n object p, later_other b y n object q)
+
+  overlap_itself : (a : Layer ℕ) → IsLive a → overlap nat_eq world a a ≡ true
+  overlap_itself a live =
+      let plain = live_plain a live in
+      let lies = lies_first a a.filesystem a.directory (led_lies a plain a.filesystem a.directory refl ([], refl)) in
+      overlap_of a a a.filesystem a.directory refl (directory_there a plain) lies lies
+
+  overlap_before : (a b : Layer ℕ) → IsLive a → IsLive b → (n object : ℕ) → n ≡ a.filesystem → lies_or_counts_under nat_eq later n object a ≡ true
+      → lies_or_counts_under nat_eq later n object b ≡ true → overlap nat_eq world a b ≡ true
+  overlap_before a b live_a live_b n object same p q =
+      ⊎_elim (λ one. subst (λ x. overlap nat_eq world a x ≡ true) one (overlap_itself a live_a))
+      (λ differ.
+      let lie = both_lie a b live_a live_b differ n object p q in
+      overlap_of a b n object same (is_there_if a (live_plain a live_a) n object lie.0) lie.0 lie.1)
+      (same_layer a b)
