@@ -22,7 +22,7 @@ use Rattle.vt_group.specs.Steps.{ended_if_lost, retyped}
 use Rattle.vt_group.proofs.Peers.{lookup-among, lookup-peer, numbers-retyped, peers-left, peers-set, retyped_other, retyped_same}
 use Rattle.vt_group.proofs.Regrouping.{member_shared, regrouped-has, shared_member}
 
-group_shared : (kind : Propagation ℕ) (group : ℕ) → group_of kind ≡ Some group → kind ≡ Shared group
+pub group_shared : (kind : Propagation ℕ) (group : ℕ) → group_of kind ≡ Some group → kind ≡ Shared group
 group_shared (Shared own) group e = ap Shared (same_Some own group e)
 group_shared (Slave above) group e = absurd (true≢false (sym (ap is_some e)))
 group_shared Private group e = absurd (true≢false (sym (ap is_some e)))

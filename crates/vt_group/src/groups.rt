@@ -10,6 +10,8 @@ ghost use Rattle.vt_spec.specs.declared.errors.Rule.TheVariants.{S5};
 ghost use Rattle.vt_location.specs.MountValue.{propagation_of};
 ghost use Rattle.vt_location.specs.Numbers.{counted};
 ghost use Rattle.vt_group.specs.Grouping.{Follows, GroupsLive, Has, HasGroup, HasMount, LacksGroup, below, master_in, no_groups, numbers_of, propagation_in, with_propagation};
+ghost use Rattle.vt_spec.specs.Language.Calls.TypeWord.{ToPrivate, ToSlave, ToUnbindable};
+ghost use Rattle.vt_group.specs.Together.{Retypes, TakesAway};
 ghost use Rattle.vt_group.specs.Steps.{ended, ended_if_lost, group_number, handed, handed_type, has_peers, retyped, type_or_private};
 
 use crate::propagation::{hand_over, is_in, own_group, replace_master, source};
@@ -152,6 +154,44 @@ impl Groups {
     {
         let old = self.mounts.remove(&mount.count);
         self.end_if_lost(old);
+    }
+
+    /// All these mounts become private at once, or unbindable, or are detached; then the groups without members end. It does not
+    /// allocate.
+    pub fn leave_all(&mut self, mounts: &[MountId])
+        ensures private { Retypes self.old self.new ToPrivate (map (λ mount. counted mount.count) mounts.now) }
+        ensures unbindable { Retypes self.old self.new ToUnbindable (map (λ mount. counted mount.count) mounts.now) }
+        ensures detached { TakesAway self.old self.new (map (λ mount. counted mount.count) mounts.now) }
+    {
+        for mount in mounts {
+            self.leave(*mount);
+        }
+    }
+
+    /// Those of these mounts that are members of a group become slaves of it at once; then the groups without members end. It does
+    /// not allocate.
+    pub fn make_slaves(&mut self, mounts: &[MountId])
+        ensures { Retypes self.old self.new ToSlave (map (λ mount. counted mount.count) mounts.now) }
+    {
+        for mount in mounts {
+            self.make_slave_of_own(*mount);
+        }
+    }
+
+    // A mount becomes a slave of the group that it is in, if it is in one.
+    fn make_slave_of_own(&mut self, mount: MountId)
+        ensures member { (group : ℕ) → propagation_in self.old (counted mount.count) ≡ SharedIn group
+            → self.new ≡ retyped (counted mount.count) (SlaveOf group) self.old }
+        ensures other { group_of (propagation_in self.old (counted mount.count)) ≡ None → self.new ≡ self.old }
+    {
+        let Some(kind) = self.propagation_of(mount) else {
+            return;
+        };
+        let Some(group) = own_group(kind) else {
+            return;
+        };
+        // It cannot fail: the mount has a type.
+        let _ = self.set(mount, Propagation::Slave(group));
     }
 
     /// A mount becomes the first member of a new group, which has this master, if any. A group that has a master keeps it.
