@@ -11,3 +11,6 @@ pub mod Heirs
 pub mod Alike
 pub mod Stepping
 pub mod Together
+pub mod Adding
+pub mod Sharing
+pub mod Typed

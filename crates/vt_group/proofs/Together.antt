@@ -77,11 +77,11 @@ eqb-swapped : (a b : ℕ) (t : Bool) → nat_eq a b ≡ t → nat_eq b a ≡ t
 eqb-swapped a b true e = eq-eqb b a (sym (eqb-true a b e))
 eqb-swapped a b false e = ne_eqb b a (λ same. eqb-false a b e (sym same))
 
-map_alike : {A B : Type 0} (f g : A → B) (list : List A) → ((a : A) → Among a list → f a ≡ g a) → map f list ≡ map g list
+pub map_alike : {A B : Type 0} (f g : A → B) (list : List A) → ((a : A) → Among a list → f a ≡ g a) → map f list ≡ map g list
 map_alike f g [] same = refl
 map_alike f g (a ∷ list) same = λ i. same a (inl refl) i ∷ map_alike f g list (λ x m. same x (inr m)) i
 
-map-twice : {A B C : Type 0} (f : B → C) (g : A → B) (list : List A) → map f (map g list) ≡ map (λ a. f (g a)) list
+pub map-twice : {A B C : Type 0} (f : B → C) (g : A → B) (list : List A) → map f (map g list) ≡ map (λ a. f (g a)) list
 map-twice f g [] = refl
 map-twice f g (a ∷ list) = ap (λ l. f (g a) ∷ l) (map-twice f g list)
 
@@ -254,7 +254,7 @@ module _ (world : World ℕ) (live : GroupsLive world) where
       by mount false = refl
 
   -- the masters of the groups that were there stay
-  old_masters : (group : ℕ → ℕ) → ((number : ℕ) → LacksGroup world (group number)) → (named : List (Mount ℕ)) (master : ℕ → Option ℕ)
+  pub old_masters : (group : ℕ → ℕ) → ((number : ℕ) → LacksGroup world (group number)) → (named : List (Mount ℕ)) (master : ℕ → Option ℕ)
       (one : ℕ) → were one ≡ true → with_new_groups nat_eq group master named one ≡ master one
   old_masters group lacks [] master one has = refl
   old_masters group lacks (mount ∷ rest) master one has =

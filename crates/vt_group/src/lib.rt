@@ -5,7 +5,7 @@ mod groups;
 pub mod laws;
 mod propagation;
 
-pub use groups::Groups;
+pub use groups::{Groups, NewGroup};
 
 #[cfg(test)]
 mod tests;
