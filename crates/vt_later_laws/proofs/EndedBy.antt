@@ -3,7 +3,7 @@ use Rattle.std.proofs.Common.{◌≡◌, refl, sym, ap, ◌∙◌, inl, inr, ◌
 use Rattle.std.proofs.lemmas.Bool.{and_parts}
 use Rattle.std.specs.Prelude.{Contains}
 use Rattle.vt_call_laws.proofs.EffectsRights.{given, ruled}
-use Rattle.vt_call_laws.proofs.GivenPermits.{permits_are_for_their_calls}
+use Rattle.vt_laws.proofs.GivenPermits.{permits_are_for_their_calls}
 use Rattle.vt_call_laws.proofs.InodesRemain.{only_unused_inodes_end}
 use Rattle.vt_call_laws.specs.Given.{IsFor}
 use Rattle.vt_call_laws.specs.Inodes.{change_of, inode_in, mounts_overlay}
