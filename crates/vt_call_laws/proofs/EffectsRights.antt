@@ -49,7 +49,7 @@ first_false true b e = cc
 first_false false b e = (refl, e)
 
 -- a word that is no word that stands for a directory is a name
-no_special : (last : LastWord) → is_dot_dot last ≡ false → is_dot last ≡ false → is_no_word last ≡ false → is_special last ≡ false
+pub no_special : (last : LastWord) → is_dot_dot last ≡ false → is_dot last ≡ false → is_no_word last ≡ false → is_special last ≡ false
 no_special NoWord a b c = c
 no_special Dot a b c = b
 no_special DotDot a b c = a

@@ -1,3 +1,4 @@
 pub mod Effects
 pub mod Inodes
 pub mod Tasks
+pub mod Reached
