@@ -3,7 +3,7 @@ use Rattle.std.proofs.Common.{◌≡◌, refl, sym, ap, subst, ◌∙◌, inl, i
 use Rattle.std.specs.Prelude.{⊤}
 use Rattle.vt_call_laws.proofs.EffectsRights.{no_special, open_found, ruled}
 use Rattle.vt_laws.proofs.GivenPermits.{permits_are_for_their_calls}
-use Rattle.vt_call_laws.specs.Given.{IsFor, IsForAttr, NoneFails, makes_a_name}
+use Rattle.vt_laws.specs.Given.{IsFor, IsForAttr, NoneFails, makes_a_name}
 use Rattle.vt_call_laws.specs.Inodes.{changes_names, is_own, sets_mark, sets_mode, sets_owner, writes_bytes}
 use Rattle.vt_call_laws.specs.Reached.{directory_and_new, directory_and_new_at, directory_and_object_at, directory_at, file_or_new, file_or_new_at, is_at_one_of, is_new_root, nothing_or_new, nothing_or_new_at, object_at, reached_by}
 use Rattle.vt_spec.specs.declared.attributes.Attr.{Attr}

@@ -5,7 +5,7 @@ use Rattle.std.specs.Prelude.{Contains}
 use Rattle.vt_call_laws.proofs.EffectsRights.{given, ruled}
 use Rattle.vt_laws.proofs.GivenPermits.{permits_are_for_their_calls}
 use Rattle.vt_call_laws.proofs.InodesRemain.{only_unused_inodes_end}
-use Rattle.vt_call_laws.specs.Given.{IsFor}
+use Rattle.vt_laws.specs.Given.{IsFor}
 use Rattle.vt_call_laws.specs.Inodes.{change_of, inode_in, mounts_overlay}
 use Rattle.vt_laws.proofs.OwnRules.{denial_changes_nothing}
 use Rattle.vt_laws.proofs.Unchanged.{look_changes_nothing}
