@@ -43,7 +43,8 @@ checked_same steps ((true, rule) ∷ rows) a b e = cc
 checked_same steps ((false, rule) ∷ rows) a b e = checked_same steps rows a b e
 
 renamed_walk : (world : World ℕ) (task : Task ℕ) (path : List ℕ) (directory : Bool) (place : Place ℕ)
-    → rename_new_walk nat_eq (looks_of nat_eq world) task path directory ≡ Ok place → new_walk nat_eq world task path ≡ Ok place
+    → rename_new_walk nat_eq (looks_of nat_eq world) task path directory ≡ Ok place
+    → new_walk nat_eq world task path ≡ Ok place
 renamed_walk world task path directory place e = by (new_walk nat_eq world task path) e
   where
     by : (walk : Result (Place ℕ) (Stop ℕ))
@@ -53,7 +54,8 @@ renamed_walk world task path directory place e = by (new_walk nat_eq world task 
     by (Err stop) e = cc
 
 -- the object of a place is found beside its directory, in one filesystem
-object_is : (o : Option (Location ℕ)) (other : Location ℕ) → is_some o ≡ true → option_to_list o ≡ unwrap_or o other ∷ []
+object_is : (o : Option (Location ℕ)) (other : Location ℕ) → is_some o ≡ true
+    → option_to_list o ≡ unwrap_or o other ∷ []
 object_is None other e = cc
 object_is (Some location) other e = refl
 
@@ -88,7 +90,8 @@ module _ (fresh : Fresh ℕ) (world : World ℕ) (task : Task ℕ) (filesystem n
   abbrev Spares : Judgement ℕ → Type 0
   Spares judgement = IfOk judgement IsSpared
 
-  abbrev passing : (rows : Rules) (judgement : Judgement ℕ) → (NoneFails rows → Spares judgement) → Spares (unless rows judgement)
+  abbrev passing : (rows : Rules) (judgement : Judgement ℕ) → (NoneFails rows → Spares judgement)
+      → Spares (unless rows judgement)
   passing = ruled fresh world task IsSpared
 
   walked : {A : Type 0} (walk : Result A (Stop ℕ)) (next : A → Judgement ℕ) → ((a : A) → walk ≡ Ok a → Spares (next a))
@@ -175,7 +178,8 @@ module _ (fresh : Fresh ℕ) (world : World ℕ) (task : Task ℕ) (filesystem n
       passing (exclusive_word_rules place) _ (λ pass.
       created_spares place access mode (subst (λ walk. Apart (directory_and_new_at fresh walk)) e apart)))
 
-  written_spares : (place : Place ℕ) (bytes : List ℕ) (o : Option (Location ℕ)) → Apart (file_or_new fresh place.parent o)
+  written_spares : (place : Place ℕ) (bytes : List ℕ) (o : Option (Location ℕ))
+      → Apart (file_or_new fresh place.parent o)
       → Spares (written_permit nat_eq looks task place bytes o)
   written_spares place bytes (Some file) apart =
       passing (rewrite_rules looks task file bytes) _ (λ pass. spared_one file apart)
@@ -274,7 +278,8 @@ module _ (fresh : Fresh ℕ) (world : World ℕ) (task : Task ℕ) (filesystem n
   unreached call (ToChange location (SetMark directory mark)) for plain root =
       absurd (true≢false (sym (ap reaches for.1) ∙ plain))
   unreached call (ToChange location (CopyUp object)) for plain root = absurd for
-  unreached call (ToMake directory name node) for plain root = absurd (true≢false (sym (making_reaches call for) ∙ plain))
+  unreached call (ToMake directory name node) for plain root =
+      absurd (true≢false (sym (making_reaches call for) ∙ plain))
   unreached call (ToRemoveDirectory parent name directory) for plain root =
       absurd (true≢false (sym (ap reaches for.1) ∙ plain))
   unreached call (ToRename from old to new object replaced) for plain root =
@@ -292,7 +297,8 @@ module _ (fresh : Fresh ℕ) (world : World ℕ) (task : Task ℕ) (filesystem n
       joined false b e = refl
   unreached call permit for plain root = refl
 
-  by_permit : (judgement : Judgement ℕ) → ((permit : Permit ℕ) → judgement ≡ Ok permit → IsSpared permit) → Spares judgement
+  by_permit : (judgement : Judgement ℕ) → ((permit : Permit ℕ) → judgement ≡ Ok permit → IsSpared permit)
+      → Spares judgement
   by_permit (Ok permit) h = h permit refl
   by_permit (Err deny) h = tt
 
@@ -314,8 +320,8 @@ module _ (fresh : Fresh ℕ) (world : World ℕ) (task : Task ℕ) (filesystem n
   -- what a permit names is reached
   pub spares : (call : Call) → Apart (reached_by fresh world task call)
       → is_new_root fresh call filesystem number ≡ false → Spares (judge_in nat_eq fresh world task call)
-  unfolding mkdir_permit symlink_permit whiteout_permit hard_link_permit write_permit unlink_permit rmdir_permit rename_permit
-      chmod_permit chown_permit opaque_permit open_permit pwrite_permit
+  unfolding mkdir_permit symlink_permit whiteout_permit hard_link_permit write_permit unlink_permit rmdir_permit
+      rename_permit chmod_permit chown_permit opaque_permit open_permit pwrite_permit
   spares (Write path bytes) apart root =
       walked (file_walk nat_eq world task path) _ (λ place e.
       passing (file_word_rules place) _ (λ word.
@@ -351,7 +357,8 @@ module _ (fresh : Fresh ℕ) (world : World ℕ) (task : Task ℕ) (filesystem n
       passing ((is_special place.last, E2) ∷ []) _ (λ word.
       passing (unlink_rules looks task place (object_there place)) _ (λ pass.
       spared_removed place
-      (ended (IsOldPlace world task) (old_leaf_walk nat_eq world task path) place (ends_old_leaf_walk world task path) e)
+      (ended (IsOldPlace world task) (old_leaf_walk nat_eq world task path) place (ends_old_leaf_walk world task path)
+      e)
       word.0 (subst (λ walk. Apart (directory_and_object_at walk)) e apart))))
   spares (Rmdir path) apart root =
       walked (old_walk nat_eq world task path) _ (λ place e.
@@ -359,7 +366,8 @@ module _ (fresh : Fresh ℕ) (world : World ℕ) (task : Task ℕ) (filesystem n
       passing (rmdir_rules nat_eq looks task place (object_there place)) _ (λ pass.
       spared_removed place
       (ended (IsOldPlace world task) (old_walk nat_eq world task path) place (ends_old_walk world task path) e)
-      (no_special place.last word.0 word.1.0 word.1.1.0) (subst (λ walk. Apart (directory_and_object_at walk)) e apart))))
+      (no_special place.last word.0 word.1.0 word.1.1.0)
+      (subst (λ walk. Apart (directory_and_object_at walk)) e apart))))
   spares (Rename old new) apart root =
       walked (old_leaf_walk nat_eq world task old) _ (λ from e.
       passing (old_word_rules from) _ (λ word.
@@ -367,11 +375,12 @@ module _ (fresh : Fresh ℕ) (world : World ℕ) (task : Task ℕ) (filesystem n
       passing (old_word_rules to) _ (λ pass.
       let f_new = renamed_walk world task new (is_directory_there nat_eq world from) to f in
       renamed_spares (is_one_object nat_eq looks (object_there from) to.object) from to
-      (ended (IsOldPlace world task) (old_leaf_walk nat_eq world task old) from (ends_old_leaf_walk world task old) e) word.0
+      (ended (IsOldPlace world task) (old_leaf_walk nat_eq world task old) from (ends_old_leaf_walk world task old) e)
+      word.0
       (ended (IsNewPlace world task) (new_walk nat_eq world task new) to (ends_new_walk world task new) f_new).0 pass.0
       (subst (λ walk. Apart ((from.parent ∷ option_to_list from.object) ++ directory_and_object_at walk)) f_new
-      (subst (λ walk. Apart (directory_and_object_at walk ++ directory_and_object_at (new_walk nat_eq world task new))) e
-      apart))))))
+      (subst (λ walk. Apart (directory_and_object_at walk ++ directory_and_object_at (new_walk nat_eq world task new)))
+      e apart))))))
   spares (Chmod path mode) apart root =
       walked (object_walk nat_eq world task path) _ (λ here e.
       attr_spares here.location _ _ (subst (λ walk. Apart (object_at walk)) e apart))
@@ -388,7 +397,8 @@ module _ (fresh : Fresh ℕ) (world : World ℕ) (task : Task ℕ) (filesystem n
   spares (Pwrite which offset bytes) apart root =
       by_descriptor (descriptor_at task which (λ descriptor. descriptor.writes)) refl
     where
-      by_descriptor : (found : Result (Descriptor ℕ) Deny) → descriptor_at task which (λ descriptor. descriptor.writes) ≡ found
+      by_descriptor : (found : Result (Descriptor ℕ) Deny)
+          → descriptor_at task which (λ descriptor. descriptor.writes) ≡ found
           → Spares (and_then found (λ descriptor. unless (pwrite_rules looks descriptor.location offset bytes)
           (Ok (ToWritePart descriptor.location offset bytes))))
       by_descriptor (Ok descriptor) e =

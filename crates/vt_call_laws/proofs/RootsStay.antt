@@ -1,20 +1,19 @@
 -- The root of a filesystem stays its root, as long as the filesystem is there.
-use Rattle.std.proofs.Common.{◌≡◌, refl, sym, ap, subst, ◌∙◌, inl, inr, ◌⊎◌, true≢false, ℕ, nat_eq, eqb-true, eq-eqb, Bool, true, false, not, cond, ◌||◌, List, [], ◌∷◌, ◌++◌, map, filter, find, Option, Some, None, is_some, option_map, unwrap_or, Ok, Err, ok_or}
+use Rattle.std.proofs.Common.{◌≡◌, refl, sym, ap, subst, ◌∙◌, inl, inr, ◌⊎◌, true≢false, ℕ, ◌+◌, nat_eq, eqb-true, eq-eqb, Bool, true, false, not, cond, ◌||◌, List, [], ◌∷◌, ◌++◌, map, filter, find, Option, Some, None, is_some, option_map, unwrap_or, Ok, Err, ok_or}
 use Rattle.std.proofs.lemmas.Option.{same_Some}
-use Rattle.std.specs.List.{All}
 use Rattle.vt_call_laws.proofs.InodesLeft.{lazily_filesystems, replaced_filesystems, typed_filesystems}
-use Rattle.vt_call_laws.specs.Inodes.{HasNoOverlays}
 use Rattle.vt_call_laws.specs.Reached.{RootsStay, root_in}
 use Rattle.vt_laws.proofs.CallsJudged.{policy_judges_then_applies}
 use Rattle.vt_spec.specs.declared.errors.Rule.TheVariants.{S2}
 use Rattle.vt_spec.specs.Errors.{denial}
-use Rattle.vt_spec.specs.FileTree.{FileTree}
-use Rattle.vt_spec.specs.Language.Changes.{Change, changed, without_parent}
+use Rattle.vt_spec.specs.FileTree.{FileTree, a_name}
+use Rattle.vt_spec.specs.Language.Changes.{Change, changed, with_moved, without_parent}
 use Rattle.vt_spec.specs.Language.Changes.Change.{AddName, CopyUp, Make, Move, Remove, SetAttr, SetBytes, SetMark}
-use Rattle.vt_spec.specs.Lists.{Fresh, odds}
+use Rattle.vt_spec.specs.Lists.{Fresh, evens, odds}
 use Rattle.vt_spec.specs.Machine.Apply.{apply}
+use Rattle.vt_spec.specs.Machine.CopyUp.{Merge, Stack, copied_each, copied_up, copy_named, copy_of, emptied, hides_directory, is_in_upper, line_to, linked, made, marked, merge_changed, moved, name_left, name_left_by, removed, shown_below, upper_directory_named, upper_of}
 use Rattle.vt_spec.specs.Machine.Detach.{deepest_first}
-use Rattle.vt_spec.specs.Machine.Filesystems.{filesystem_changed, filesystems_raised, raised, raised_if_changed, with_change, with_files}
+use Rattle.vt_spec.specs.Machine.Filesystems.{filesystem_changed, filesystems_raised, merge_of, overlay_changed, raised, raised_if_changed, stack_of, with_change, with_files}
 use Rattle.vt_spec.specs.Machine.Judge.{Judgement, judge_in}
 use Rattle.vt_spec.specs.Machine.Mounts.{Location, mount_tree}
 use Rattle.vt_spec.specs.Machine.Namespaces.{namespace_entered, unshared}
@@ -26,8 +25,9 @@ use Rattle.vt_spec.specs.Machine.Permits.{Permit}
 use Rattle.vt_spec.specs.Machine.Permits.Permit.{ToChange, ToEnterNamespace, ToExit, ToMake, ToMountOverlay, ToMountPlain, ToOpen, ToOpenNew, ToRemoveDirectory, ToRename, ToSetType, ToUnmount, ToUnmountLazily, ToUnshare, ToWritePart}
 use Rattle.vt_spec.specs.Machine.Policy.{filesystems_changed_by, finished, finished_by, only_looks}
 use Rattle.vt_spec.specs.Machine.Settled.{filesystem_lives, only_used, only_used_by, settled, used_in, without_dead_filesystems, without_dead_in, without_dead_mounts}
-use Rattle.vt_spec.specs.Machine.World.{Filesystem, Overlay, Task, World, filesystem_at, is_overlay, mount_at, mount_numbered, no_filesystem, replaced_if_numbered, task_called, without_task}
-use Rattle.vt_tree_laws.proofs.TreesOfWorlds.{number_numbered, numbered, numbered_anyhow, taken_filesystems}
+use Rattle.vt_spec.specs.Machine.World.{Filesystem, Layer, Overlay, Task, World, filesystem_at, filesystem_numbered, is_overlay, mount_at, mount_numbered, no_filesystem, replaced_if_numbered, task_called, without_task}
+use Rattle.vt_spec.specs.Tree.{Node}
+use Rattle.vt_tree_laws.proofs.TreesOfWorlds.{number_numbered, numbered, taken_filesystems}
 
 -- a change of a tree leaves its root
 changed_root : (files : FileTree ℕ) (change : Change ℕ) → (changed nat_eq files change).tree.root ≡ files.tree.root
@@ -43,6 +43,110 @@ changed_root files (SetBytes file bytes) = refl
 changed_root files (SetAttr object attr) = refl
 changed_root files (SetMark directory opaque) = refl
 changed_root files (CopyUp object) = refl
+
+-- A change of an overlay leaves the roots of its tree and of that of its upper layer
+abbrev SameRoots : Merge ℕ → Merge ℕ → Type 0
+SameRoots was now = (now.files.tree.root ≡ was.files.tree.root) × (now.upper.tree.root ≡ was.upper.tree.root)
+
+and_roots : (was then now : Merge ℕ) → SameRoots was then → SameRoots then now → SameRoots was now
+and_roots was then now first later = (later.0 ∙ first.0, later.1 ∙ first.1)
+
+copy_roots : (merge : Merge ℕ) (object copy : ℕ) (o : Option (Node ℕ)) (in_upper : Bool)
+    → SameRoots merge (copy_of nat_eq merge object copy o in_upper)
+copy_roots merge object copy None in_upper = (refl, refl)
+copy_roots merge object copy (Some node) true = (refl, refl)
+copy_roots merge object copy (Some node) false = (refl, by (a_name nat_eq merge.files object) _)
+  where
+    by : (name : Option (ℕ × List ℕ)) (upper : FileTree ℕ)
+        → (copy_named nat_eq merge copy name upper).tree.root ≡ upper.tree.root
+    by None upper = refl
+    by (Some name) upper = refl
+
+copied_roots : (fresh : Fresh ℕ) (k : ℕ) (merge : Merge ℕ) (list : List ℕ)
+    → SameRoots merge (copied_each nat_eq fresh k merge list)
+copied_roots fresh k merge [] = (refl, refl)
+copied_roots fresh k merge (object ∷ rest) =
+    and_roots merge copied (copied_each nat_eq fresh (k + 1) copied rest)
+    (copy_roots merge object (fresh k) (merge.files.tree.node object) (is_in_upper merge object))
+    (copied_roots fresh (k + 1) copied rest)
+  where
+    copied : Merge ℕ
+    copied = copy_of nat_eq merge object (fresh k) (merge.files.tree.node object) (is_in_upper merge object)
+
+up_roots : (fresh : Fresh ℕ) (merge : Merge ℕ) (object : ℕ) → SameRoots merge (copied_up nat_eq fresh merge object)
+up_roots fresh merge object = copied_roots fresh 0 merge (line_to nat_eq merge.files object)
+
+marked_root : (b : Bool) (upper : FileTree ℕ) (object : ℕ) → (marked nat_eq b upper object).tree.root ≡ upper.tree.root
+marked_root true upper object = refl
+marked_root false upper object = refl
+
+emptied_root : (upper : FileTree ℕ) (o : Option ℕ) → (emptied nat_eq upper o).tree.root ≡ upper.tree.root
+emptied_root upper None = refl
+emptied_root upper (Some object) = refl
+
+name_left_root : (b : Bool) (fresh : Fresh ℕ) (stack : Stack ℕ) (upper : FileTree ℕ) (directory : ℕ) (name : List ℕ)
+    → (name_left_by nat_eq b fresh stack upper directory name).tree.root ≡ upper.tree.root
+name_left_root true fresh stack upper directory name = refl
+name_left_root false fresh stack upper directory name = refl
+
+moved_roots : (fresh : Fresh ℕ) (stack : Stack ℕ) (merge : Merge ℕ) (from : ℕ) (old : List ℕ) (to : ℕ) (new : List ℕ)
+    (object : ℕ) → SameRoots merge (moved nat_eq fresh stack merge from old to new object)
+moved_roots fresh stack merge from old to new object = (
+  changed_root merge.files (Move from old to new object),
+  marked_root (hides_directory nat_eq stack merge to new)
+      (name_left nat_eq fresh stack merge renamed from old) (upper_of merge object)
+      ∙ name_left_root (is_some (shown_below nat_eq stack merge from old)) fresh stack renamed (upper_of merge from) old
+      ∙ changed_root upper (Move (upper_of merge from) old (upper_of merge to) new (upper_of merge object))
+      ∙ emptied_root merge.upper (upper_directory_named merge to new),
+)
+  where
+    upper : FileTree ℕ
+    upper = emptied nat_eq merge.upper (upper_directory_named merge to new)
+
+    renamed : FileTree ℕ
+    renamed = with_moved nat_eq upper (upper_of merge from) old (upper_of merge to) new (upper_of merge object)
+
+merged_roots : (fresh : Fresh ℕ) (stack : Stack ℕ) (merge : Merge ℕ) (change : Change ℕ)
+    → SameRoots merge (merge_changed nat_eq fresh stack merge change)
+merged_roots fresh stack merge (Make directory name number node) =
+    and_roots merge copied (made nat_eq (odds fresh) stack copied directory name number node)
+    (up_roots (evens fresh) merge directory)
+    (refl, marked_root (hides_directory nat_eq stack copied directory name) _ (odds fresh 0))
+  where
+    copied : Merge ℕ
+    copied = copied_up nat_eq (evens fresh) merge directory
+merged_roots fresh stack merge (AddName directory name object) =
+    and_roots merge first (linked nat_eq (copied_up nat_eq (odds fresh) first directory) directory name object)
+    (up_roots (evens fresh) merge object) (up_roots (odds fresh) first directory)
+  where
+    first : Merge ℕ
+    first = copied_up nat_eq (evens fresh) merge object
+merged_roots fresh stack merge (Remove directory name object) =
+    and_roots merge copied (removed nat_eq (odds fresh) stack copied directory name object)
+    (up_roots (evens fresh) merge directory) (
+      refl,
+      emptied_root (name_left nat_eq (odds fresh) stack copied copied.upper directory name)
+          (upper_directory_named copied directory name)
+          ∙ name_left_root (is_some (shown_below nat_eq stack copied directory name)) (odds fresh) stack copied.upper
+          (upper_of copied directory) name,
+    )
+  where
+    copied : Merge ℕ
+    copied = copied_up nat_eq (evens fresh) merge directory
+merged_roots fresh stack merge (Move from old to new object) =
+    and_roots merge both (moved nat_eq (odds (odds fresh)) stack both from old to new object)
+    (and_roots merge first both (up_roots (evens fresh) merge object) (up_roots (evens (odds fresh)) first to))
+    (moved_roots (odds (odds fresh)) stack both from old to new object)
+  where
+    first : Merge ℕ
+    first = copied_up nat_eq (evens fresh) merge object
+
+    both : Merge ℕ
+    both = copied_up nat_eq (evens (odds fresh)) first to
+merged_roots fresh stack merge (SetBytes file bytes) = up_roots fresh merge file
+merged_roots fresh stack merge (SetAttr object attr) = up_roots fresh merge object
+merged_roots fresh stack merge (SetMark directory opaque) = up_roots fresh merge directory
+merged_roots fresh stack merge (CopyUp object) = up_roots fresh merge object
 
 module _ (number : ℕ) where
   -- the root of the filesystem that comes first with the number
@@ -122,30 +226,55 @@ module _ (number : ℕ) where
         by (Some one) e = same_Some one.files.tree.root root e
 
     -- What a permit leaves
-    change_root : (fresh : Fresh ℕ) (world : World ℕ) (location : Location ℕ) (change : Change ℕ) → HasNoOverlays world
-        → Is world.filesystems → Is (with_change nat_eq fresh world location change).filesystems
-    change_root fresh world location change plain h = by at.overlay overlay
-      where
-        at : Filesystem ℕ
-        at = filesystem_at nat_eq world location
+    -- a filesystem that is found by a number has it, if the number is this one
+    its_root : (world : World ℕ) (shown : ℕ) → Is world.filesystems
+        → number ≡ (numbered shown world.filesystems).number → (numbered shown world.filesystems).files.tree.root ≡ root
+    its_root world shown h same =
+        ap (λ n. (numbered n world.filesystems).files.tree.root)
+        (sym (same ∙ number_numbered shown world.filesystems))
+        ∙ root_found world.filesystems h
 
+    change_root : (fresh : Fresh ℕ) (world : World ℕ) (location : Location ℕ) (change : Change ℕ)
+        → Is world.filesystems → Is (with_change nat_eq fresh world location change).filesystems
+    change_root fresh world location change h = by at.overlay
+      where
         shown : ℕ
         shown = (mount_at nat_eq world location).filesystem
 
-        overlay : is_some at.overlay ≡ false
-        overlay = numbered_anyhow (λ filesystem. is_overlay filesystem ≡ false) shown world.filesystems plain refl
+        at : Filesystem ℕ
+        at = filesystem_at nat_eq world location
 
-        by : (o : Option (Overlay ℕ)) → is_some o ≡ false
-            → Is (filesystem_changed nat_eq fresh world at o change).filesystems
-        by None e =
+        merged_in : (overlay : Overlay ℕ) (upper : Option (Layer ℕ))
+            → Is (overlay_changed nat_eq fresh world at overlay upper change).filesystems
+        merged_in overlay None = h
+        merged_in overlay (Some upper) =
+            replaced_root (with_files below merge.upper)
+            (λ same. roots.1 ∙ its_root world upper.filesystem h same)
+            (map (replaced_if_numbered nat_eq new) world.filesystems)
+            (replaced_root new (λ same. roots.0 ∙ its_root world shown h same) world.filesystems h)
+          where
+            below : Filesystem ℕ
+            below = filesystem_numbered nat_eq world upper.filesystem
+
+            was : Merge ℕ
+            was = merge_of nat_eq world at overlay upper
+
+            merge : Merge ℕ
+            merge = merge_changed nat_eq fresh (stack_of nat_eq world overlay upper) was change
+
+            new : Filesystem ℕ
+            new = record at { files = merge.files; overlay = Some (record overlay { real = merge.real }) }
+
+            roots : SameRoots was merge
+            roots = merged_roots fresh (stack_of nat_eq world overlay upper) was change
+
+        by : (o : Option (Overlay ℕ)) → Is (filesystem_changed nat_eq fresh world at o change).filesystems
+        by None =
             replaced_root (with_files at (changed nat_eq at.files change))
-            (λ same.
-            changed_root at.files change
-            ∙ ap (λ n. (numbered n world.filesystems).files.tree.root) (sym (same ∙ number_numbered shown world.filesystems))
-            ∙ root_found world.filesystems h) world.filesystems h
-        by (Some overlay) e = absurd (true≢false e)
+            (λ same. changed_root at.files change ∙ its_root world shown h same) world.filesystems h
+        by (Some overlay) = merged_in overlay overlay.upper
 
-    module _ (fresh : Fresh ℕ) (world : World ℕ) (plain : HasNoOverlays world) (h : Is world.filesystems) where
+    module _ (fresh : Fresh ℕ) (world : World ℕ) (h : Is world.filesystems) where
       abbrev same_list : (list : List (Filesystem ℕ)) → list ≡ world.filesystems → Is list
       same_list list e = subst Is (sym e) h
 
@@ -153,25 +282,24 @@ module _ (number : ℕ) where
           → Is (with_change nat_eq fresh (without_replaced nat_eq world replaced) location change).filesystems
       replaced_left replaced location change =
           change_root fresh (without_replaced nat_eq world replaced) location change
-          (subst (All (λ filesystem. is_overlay filesystem ≡ false)) (sym (replaced_filesystems world replaced)) plain)
           (same_list (without_replaced nat_eq world replaced).filesystems (replaced_filesystems world replaced))
 
       copied_left : (copies : Bool) (file : Location ℕ) → Is (with_copy nat_eq copies fresh world file).filesystems
-      copied_left true file = change_root fresh world file (CopyUp file.node) plain h
+      copied_left true file = change_root fresh world file (CopyUp file.node) h
       copied_left false file = h
 
       written_left : (file : Location ℕ) (offset : ℕ) (bytes : List ℕ)
           → Is (pwritten nat_eq fresh world file offset bytes).filesystems
       written_left file offset [] = h
-      written_left file offset (byte ∷ bytes) = change_root fresh world file _ plain h
+      written_left file offset (byte ∷ bytes) = change_root fresh world file _ h
 
       root_left : (task : Task ℕ) (permit : Permit ℕ) → Is (apply nat_eq fresh world task permit).world.filesystems
-      root_left task (ToChange location change) = change_root fresh world location change plain h
-      root_left task (ToMake directory name node) = change_root (odds fresh) world directory _ plain h
+      root_left task (ToChange location change) = change_root fresh world location change h
+      root_left task (ToMake directory name node) = change_root (odds fresh) world directory _ h
       root_left task (ToRemoveDirectory parent name directory) = replaced_left (Some directory) parent _
       root_left task (ToRename from old to new object replaced) = replaced_left replaced from _
       root_left task (ToOpen file access) = copied_left (is_copied_up nat_eq world file access) file
-      root_left task (ToOpenNew directory name node access) = change_root (odds fresh) world directory _ plain h
+      root_left task (ToOpenNew directory name node access) = change_root (odds fresh) world directory _ h
       root_left task (ToWritePart file offset bytes) = written_left file offset bytes
       root_left task ToExit = same_list _ (taken_filesystems (without_task world task.name) _)
       root_left task ToUnshare = same_list _ (taken_filesystems (unshared nat_eq world fresh task) _)
@@ -182,8 +310,8 @@ module _ (number : ℕ) where
       root_left task (ToUnmount mount) = same_list _ (taken_filesystems world _)
       root_left task (ToUnmountLazily mount) =
           same_list _
-          (lazily_filesystems (deepest_first nat_eq world (mount_tree nat_eq world.mounts (mount_numbered nat_eq world mount)))
-          world)
+          (lazily_filesystems
+          (deepest_first nat_eq world (mount_tree nat_eq world.mounts (mount_numbered nat_eq world mount))) world)
       root_left task (ToSetType mount word recursive) = same_list _ (typed_filesystems fresh world mount word recursive)
       root_left task permit = h
 
@@ -191,9 +319,11 @@ module _ (number : ℕ) where
   raises : (changes : List ℕ) → Keeps (raised_if_changed nat_eq changes)
   raises changes filesystem = by _
     where
-      by : (b : Bool) → ((cond b (record filesystem { change = raised filesystem.change }) filesystem).number ≡ filesystem.number)
-          × ((cond b (record filesystem { change = raised filesystem.change }) filesystem).files.tree.root
-          ≡ filesystem.files.tree.root)
+      chosen : Bool → Filesystem ℕ
+      chosen b = cond b (record filesystem { change = raised filesystem.change }) filesystem
+
+      by : (b : Bool) → ((chosen b).number ≡ filesystem.number)
+          × ((chosen b).files.tree.root ≡ filesystem.files.tree.root)
       by true = (refl, refl)
       by false = (refl, refl)
 
@@ -274,7 +404,7 @@ module _ (number : ℕ) where
           ∙ mapped _ (only_used_keeps living is_overlay) living.filesystems
 
 pub roots_stay : RootsStay
-roots_stay fresh world name call filesystem root plain is =
+roots_stay fresh world name call filesystem root is =
     subst (λ outcome. Stays outcome.world) (sym (policy_judges_then_applies fresh world name call))
     (by_task (task_called world name))
   where
@@ -290,8 +420,10 @@ roots_stay fresh world name call filesystem root plain is =
             ≡ root_of filesystem (settled nat_eq outcome.world).filesystems
         raised_root = mapped filesystem _ (raises filesystem changes) (settled nat_eq outcome.world).filesystems
 
-        by : (root_of filesystem (settled nat_eq outcome.world).filesystems ≡ root_of filesystem outcome.world.filesystems)
-            ⊎ (root_of filesystem (settled nat_eq outcome.world).filesystems ≡ None)
+        left : Option ℕ
+        left = root_of filesystem (settled nat_eq outcome.world).filesystems
+
+        by : (left ≡ root_of filesystem outcome.world.filesystems) ⊎ (left ≡ None)
             → Stays (filesystems_raised nat_eq changes (settled nat_eq outcome.world))
         by (inl same) = inl (raised_root ∙ same ∙ h)
         by (inr gone) = inr (raised_root ∙ gone)
@@ -300,7 +432,7 @@ roots_stay fresh world name call filesystem root plain is =
         → Stays (finished nat_eq world name call changes (after world judgement (apply nat_eq fresh world task))).world
     by_permit changes task (Ok permit) =
         finished_stays _ changes (apply nat_eq fresh world task permit)
-        (root_left filesystem root fresh world plain is task permit)
+        (root_left filesystem root fresh world is task permit)
     by_permit changes task (Err deny) = finished_stays (only_looks call || true) changes (denied world deny) is
 
     by_task : (o : Option (Task ℕ))

@@ -1,4 +1,5 @@
--- What a call leads to: it changes no inode but those that its paths and descriptors reach. In worlds without overlays.
+-- What a call leads to: in worlds without overlays it changes no inode but those that its paths and descriptors
+-- reach. In every world roots stay.
 use Rattle.std.specs.Prelude.{Bool, Err, List, None, Ok, Option, Result, Some, [], false, find, nat_eq, option_map, option_to_list, ℕ, ◌&&◌, ◌++◌, ◌∷◌, ◌≡◌, ◌⊎◌}
 use Rattle.std.specs.List.{list_any}
 use Rattle.vt_call_laws.specs.Inodes.{HasNoOverlays, inode_in, mounts_overlay}
@@ -50,8 +51,8 @@ abbrev pub nothing_or_new_at : Fresh ℕ → Result (Place ℕ) (Stop ℕ) → L
 nothing_or_new_at fresh (Ok place) = nothing_or_new fresh place.parent place.object
 nothing_or_new_at fresh (Err stop) = []
 
--- The locations that a call's paths and descriptors lead it to, through mounts and symlinks, so far as it may change what is
--- there, and that of the inode that it may make. No other call changes an inode, but for mount(2) of a tmpfs.
+-- The locations that a call's paths and descriptors lead it to, through mounts and symlinks, so far as it may change
+-- what is there, and that of the inode that it may make. No other call changes an inode, but for mount(2) of a tmpfs.
 abbrev pub reached_by : Fresh ℕ → World ℕ → Task ℕ → Call → List (Location ℕ)
 reached_by fresh world task (Write path bytes) = file_or_new_at fresh (file_walk nat_eq world task path)
 reached_by fresh world task (Mkdir path mode) = directory_and_new_at fresh (new_walk nat_eq world task path)
@@ -107,6 +108,6 @@ root_in world number =
 abbrev pub RootsStay : Type 0
 RootsStay =
     (fresh : Fresh ℕ) (world : World ℕ) (name : TaskName) (call : Call) (filesystem root : ℕ)
-    → HasNoOverlays world → root_in world filesystem ≡ Some root
+    → root_in world filesystem ≡ Some root
     → (root_in (policy nat_eq fresh world name call).world filesystem ≡ Some root)
     ⊎ (root_in (policy nat_eq fresh world name call).world filesystem ≡ None)

@@ -21,7 +21,7 @@ pub fn calls_change_their_own()
 /// and symlinks, path_resolution(7), and one that it makes: the object of a path, the directory of a name, and the
 /// object that has the name where that is removed, moved or replaced. Each other inode is as it was, or is gone.
 ///
-/// A filesystem that is still there has the root that it had.
+/// With overlays, too, a filesystem that is still there has the root that it had.
 pub fn calls_keep_to_their_paths()
     ensures paths { CallsKeepToTheirPaths }
     ensures roots { RootsStay }

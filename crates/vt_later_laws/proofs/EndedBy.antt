@@ -103,7 +103,8 @@ module _ (world : World ℕ) (fresh : Fresh ℕ) (task : Task ℕ) (is : IsWorld
 
   among_tasks : Contains world.tasks task
   among_tasks =
-      contains_from_among world.tasks task (found_among (λ (t : Task ℕ). same_name task.name t.name) world.tasks task called)
+      contains_from_among world.tasks task
+      (found_among (λ (t : Task ℕ). same_name task.name t.name) world.tasks task called)
 
   -- A change of a tree by which no name is lost
   module _ (permit : Permit ℕ) (given : IsGiven fresh world task permit) (location : Location ℕ) (change : Change ℕ)
@@ -122,8 +123,8 @@ module _ (world : World ℕ) (fresh : Fresh ℕ) (task : Task ℕ) (is : IsWorld
       numbers = changes_keep_numbers files change tree.numbers;
     }
 
-    there : is_among nat_eq (mount_at nat_eq world location).filesystem (map (λ (f : Filesystem ℕ). f.number) world.filesystems)
-        ≡ true
+    there : is_among nat_eq (mount_at nat_eq world location).filesystem
+        (map (λ (f : Filesystem ℕ). f.number) world.filesystems) ≡ true
     there = listed (mount_at nat_eq world location).filesystem world.filesystems location.node something
 
     no_overlay : is_overlay (filesystem_at nat_eq world location) ≡ false
@@ -132,8 +133,8 @@ module _ (world : World ℕ) (fresh : Fresh ℕ) (task : Task ℕ) (is : IsWorld
     changes_keep : (from : Fresh ℕ) → MayChange files change → names_lost files change ≡ []
         → KeepsAll (with_change nat_eq from world location change)
     changes_keep from may none =
-        file_changes_let_go from world location change (worlds_are_settled world is) is.files.one_filesystem there no_overlay
-        after_tree may
+        file_changes_let_go from world location change (worlds_are_settled world is) is.files.one_filesystem there
+        no_overlay after_tree may
         ∙ ap (λ names. let_go_all_inodes (with_change nat_eq from world location change) (map (λ inode.
         ((mount_at nat_eq world location).filesystem, inode)) names)) none
 
@@ -172,22 +173,26 @@ module _ (world : World ℕ) (fresh : Fresh ℕ) (task : Task ℕ) (is : IsWorld
         → is_some (node_at nat_eq world location) ≡ true → KeepsAll (with_change nat_eq fresh world location change)
     change_keeps location (Make directory name number node) given for sees something = absurd for
     change_keeps location (AddName directory name object) given for sees something =
-        changes_keep (ToChange location (AddName directory name object)) given location (AddName directory name object) refl
-        something fresh tt
+        changes_keep (ToChange location (AddName directory name object)) given location (AddName directory name object)
+        refl something fresh tt
         (ap (λ d. option_to_list (entry_at (files_at nat_eq world location).tree d name)) sees.0
         ∙ ap option_to_list sees.1.name_is_free.free)
     change_keeps location (Remove directory name object) given for sees something =
         not_this (Unlink for.0) for.1 refl
     change_keeps location (Move from old to new object) given for sees something = absurd for
     change_keeps location (SetBytes file bytes) given for sees something =
-        changes_keep (ToChange location (SetBytes file bytes)) given location (SetBytes file bytes) refl something fresh tt refl
+        changes_keep (ToChange location (SetBytes file bytes)) given location (SetBytes file bytes) refl something fresh
+        tt refl
     change_keeps location (SetAttr object attr) given for sees something =
-        changes_keep (ToChange location (SetAttr object attr)) given location (SetAttr object attr) refl something fresh tt refl
+        changes_keep (ToChange location (SetAttr object attr)) given location (SetAttr object attr) refl something fresh
+        tt refl
     change_keeps location (SetMark directory mark) given for sees something =
-        changes_keep (ToChange location (SetMark directory mark)) given location (SetMark directory mark) refl something fresh tt refl
+        changes_keep (ToChange location (SetMark directory mark)) given location (SetMark directory mark) refl something
+        fresh tt refl
     change_keeps location (CopyUp object) given for sees something = absurd for
 
-    written_keeps : (file : Location ℕ) (offset : ℕ) (bytes : List ℕ) → IsGiven fresh world task (ToWritePart file offset bytes)
+    written_keeps : (file : Location ℕ) (offset : ℕ) (bytes : List ℕ)
+        → IsGiven fresh world task (ToWritePart file offset bytes)
         → is_kind_in File (node_at nat_eq world file) ≡ true → KeepsAll (pwritten nat_eq fresh world file offset bytes)
     written_keeps file offset [] given regular = is.nothing_unused
     written_keeps file offset (byte ∷ bytes) given regular =
@@ -199,9 +204,10 @@ module _ (world : World ℕ) (fresh : Fresh ℕ) (task : Task ℕ) (is : IsWorld
         → IsGiven fresh world task (ToOpenNew directory name node access) → MayBeMade world directory name node
         → KeepsAll (apply nat_eq fresh world task (ToOpenNew directory name node access)).world
     opened_keeps directory name node access given may =
-        opened_new_keeps_all fresh world task directory name node access (worlds_are_settled world is) is.files.one_filesystem
-        is.tasks.one_task among_tasks (there permit given directory change refl something)
-        (no_overlay permit given directory change refl something) (after_tree permit given directory change refl something)
+        opened_new_keeps_all fresh world task directory name node access (worlds_are_settled world is)
+        is.files.one_filesystem is.tasks.one_task among_tasks (there permit given directory change refl something)
+        (no_overlay permit given directory change refl something)
+        (after_tree permit given directory change refl something)
         (is_made directory name node may) may.name_is_free.free
       where
         permit : Permit ℕ
@@ -213,21 +219,24 @@ module _ (world : World ℕ) (fresh : Fresh ℕ) (task : Task ℕ) (is : IsWorld
         something : is_some (node_at nat_eq world directory) ≡ true
         something = used_directory directory name node may
 
-    permit_keeps : (permit : Permit ℕ) → IsGiven fresh world task permit → IsFor (looks_of nat_eq world) task call permit
-        → mounts_overlay call ≡ false → NamesWhatIsThere world task permit → SeesTo world task permit
+    permit_keeps : (permit : Permit ℕ) → IsGiven fresh world task permit
+        → IsFor (looks_of nat_eq world) task call permit → mounts_overlay call ≡ false
+        → NamesWhatIsThere world task permit → SeesTo world task permit
         → Keeps (apply nat_eq fresh world task permit).world
     permit_keeps (ToChange location change) given for plainly names sees =
         kept _ (change_keeps location change given for sees (and_parts _ _ names.0.there).1)
     permit_keeps (ToMake directory name node) given for plainly names sees =
-        kept _ (changes_keep (ToMake directory name node) given directory (Make directory.node name (evens fresh 0) node) refl
-        (used_directory directory name node sees) (odds fresh) (is_made directory name node sees)
+        kept _ (changes_keep (ToMake directory name node) given directory
+        (Make directory.node name (evens fresh 0) node) refl (used_directory directory name node sees) (odds fresh)
+        (is_made directory name node sees)
         (ap option_to_list sees.name_is_free.free))
-    permit_keeps (ToRemoveDirectory parent name directory) given for plainly names sees = not_this (Rmdir for.0) for.1 refl
+    permit_keeps (ToRemoveDirectory parent name directory) given for plainly names sees =
+        not_this (Rmdir for.0) for.1 refl
     permit_keeps (ToRename from old to new object replaced) given for plainly names sees =
         not_this (Rename for.0 for.1) for.2 refl
     permit_keeps (ToOpen file access) given for plainly names sees =
-        kept _ (opened_files_keep_all fresh world task file access (worlds_are_settled world is) is.tasks.one_task among_tasks
-        (not_copied file access))
+        kept _ (opened_files_keep_all fresh world task file access (worlds_are_settled world is) is.tasks.one_task
+        among_tasks (not_copied file access))
     permit_keeps (ToOpenNew directory name node access) given for plainly names sees =
         kept _ (opened_keeps directory name node access given sees.0)
     permit_keeps (ToWritePart file offset bytes) given for plainly names sees =
@@ -296,7 +305,8 @@ module _ (world : World ℕ) (fresh : Fresh ℕ) (name : TaskName) (call : Call)
   few_keeps few =
       permit_keeps world fresh did.task is plain serves called_so call only did.permit given_so
       (permits_are_for_their_calls fresh world did.task call did.permit did.judged) plainly
-      (permits_fit world fresh did.task call did.permit is plain serves called_so (one_word call plainly) did.judged).names
+      (permits_fit world fresh did.task call did.permit is plain serves called_so (one_word call plainly)
+      did.judged).names
       (given_permits_are_seen_to world fresh did.task did.permit is plain given_so)
     where
       given_so : IsGiven fresh world did.task did.permit

@@ -14,7 +14,6 @@ pub mod OneTreeNames
 pub mod OneTreeNumbers
 pub mod OneTreeOpening
 pub mod OneTreeOpens
-pub mod OneTreeRefusals
 pub mod OneTreeRenamed
 pub mod OneTreeRenames
 pub mod OneTreeRewrites

@@ -1,2 +1,0 @@
-pub mod OneTreeCalls
-pub mod OneTreeLater
