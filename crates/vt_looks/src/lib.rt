@@ -3,4 +3,4 @@
 
 mod look;
 
-pub use look::{Attachment, Look, LookAtMounts};
+pub use look::{Attachment, Ground, Look, LookAtMounts};
