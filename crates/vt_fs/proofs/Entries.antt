@@ -47,6 +47,15 @@ turned a b e = by (nat_eq b a) refl
     by true t = absurd (true≢false (sym (eq-eqb a b (sym (eqb-true b a t))) ∙ e))
     by false t = refl
 
+-- the first filesystem is found under its count
+pub first_found : (id first : FilesystemId) (x : Held) (es : List (FilesystemId × Held)) → Some (first, x) ≡ slice_get es 0 → key_eq first id ≡ true
+    → Some x ≡ lookup (is_key id.count) es
+first_found id first x [] at is = absurd cc
+first_found id first x (e ∷ es) at is =
+    let here : e ≡ (first, x) = cc in
+    sym (ap (λ e. lookup (is_key id.count) (e ∷ es)) here
+    ∙ ap (λ b. cond b (Some x) (lookup (is_key id.count) es)) (eq-eqb id.count first.count (sym (eqb-true first.count id.count is))))
+
 module _ (f : ℕ) where
   -- a count finds the filesystem that it is the key of
   pub entry_of-held : (es : List (FilesystemId × Held)) → entry_of (held es) f ≡ option_map (of_count f) (lookup (is_key f) es)

@@ -2,6 +2,7 @@
 ghost use Rattle.std.specs.Prelude.{◌≡◌, ◌≢◌, ℕ, [], ◌+◌, ◌-◌, ◌++◌, ◌∷◌, ◌↔◌, ◌⊎◌, nat_eq, length, map, drop, take, false, is_some, slice_get, None, Ok, Some, IfOk, IfErr, IfSome, IsErrOf, IsOk, IsOkUnless, IsTrue, OnOk, OnErr, ◌<◌, option_copied, option_map};
 ghost use Rattle.std.specs.Option.{option_copied_mut};
 ghost use Rattle.std.specs.Borrow.{sem};
+ghost use Rattle.std.specs.Map.{lookup};
 ghost use Rattle.vt_spec.specs.Errors.{denial};
 ghost use Rattle.vt_spec.specs.declared.attributes.Kind.TheVariants.{File};
 ghost use Rattle.vt_spec.specs.declared.errors.Rule.TheVariants.{S5, E2};
@@ -47,6 +48,19 @@ impl Filesystem {
         ensures value { result.now ≡ self.old.tree }
     {
         &mut self.tree
+    }
+}
+
+// The filesystem of a number. The first one is the root filesystem, where most walks are: it is compared before a hash is taken.
+fn found_under(
+    by_number: &IndexMap<FilesystemId, Filesystem>,
+    id: FilesystemId,
+) -> Option<&Filesystem>
+    ensures { option_copied result ≡ lookup (λ other. nat_eq id.count other.count) by_number.now.entries }
+{
+    match by_number.first() {
+        Some((first, found)) if *first == id => Some(found),
+        _ => by_number.get(&id),
     }
 }
 
@@ -116,7 +130,7 @@ impl Filesystems {
     pub fn get(&self, filesystem: FilesystemId) -> Option<&Tree>
         ensures { option_copied result ≡ option_map (λ entry. entry.tree) (entry_of self.now filesystem.count) }
     {
-        let found = self.by_number.get(&filesystem)?;
+        let found = found_under(&self.by_number, filesystem)?;
         Some(&found.tree)
     }
 

@@ -1,8 +1,8 @@
 -- What the definitions see of what a world shows to code.
-use Rattle.std.specs.Prelude.{Bool, List, None, Option, [], false, nat_eq, option_map, unwrap_or, ℕ, ◌≡◌}
+use Rattle.std.specs.Prelude.{Bool, List, None, Option, [], false, nat_eq, option_map, true, unwrap_or, ℕ, ◌≡◌}
 use Rattle.std.specs.List.{list_any}
 use Rattle.vt_spec.specs.Language.Changes.{Change}
-use Rattle.vt_spec.specs.Machine.Looks.{Looks}
+use Rattle.vt_spec.specs.Machine.Looks.{Looks, topmost}
 use Rattle.vt_spec.specs.Machine.Mounts as meant
 use Rattle.vt_spec.specs.Machine.Mounts.{no_mount}
 use Rattle.vt_spec.specs.Machine.Permits.{Permit}
@@ -18,6 +18,7 @@ use Rattle.vt_location.specs.MountValue.{mount_of}
 use Rattle.vt_location.specs.Numbers.{counted, exchanged}
 use Rattle.vt_looks.specs.declared.look.Attachment.{Attachment}
 use Rattle.vt_looks.specs.declared.look.Attachment.TheVariants.{Bind, Move, Plain}
+use Rattle.vt_looks.specs.declared.look.Ground.{Ground}
 
 -- the mount of a number, or the value of a number that no mount has
 abbrev pub mount_seen : MountId → Option Mount → meant.Mount ℕ
@@ -27,6 +28,11 @@ mount_seen id mount = unwrap_or (option_map mount_of mount) (no_mount (counted i
 abbrev pub node_seen : FilesystemId → Option (Node ℕ) → Option (Node ℕ)
 node_seen filesystem node =
     option_map (renamed_node (exchanged filesystem.count) (exchanged filesystem.count)) node
+
+-- what a walk keeps of a mount: its filesystem; and where it is bare, no mount is over a location on it
+pub record IsGround (looks : Looks ℕ) (mount : MountId) (ground : Ground) : Type 0 where
+  pub filesystem : counted ground.filesystem.count ≡ (looks.mount (counted mount.count)).filesystem
+  pub bare : ground.is_bare ≡ true → (at : meant.Location ℕ) → at.mount ≡ counted mount.count → topmost looks at ≡ at
 
 -- the second mount is the first, or a descendant of it
 abbrev pub is_at_or_below : Looks ℕ → ℕ → ℕ → Bool

@@ -5,5 +5,5 @@
 mod look;
 mod places;
 
-pub use look::{Attachment, Look, LookAtMounts};
+pub use look::{Attachment, Ground, Look, LookAtMounts};
 pub use places::{LastWord, Place};

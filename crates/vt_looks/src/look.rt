@@ -9,9 +9,9 @@ ghost use Rattle.vt_spec.specs.Machine.Permits.{Permit};
 ghost use Rattle.vt_spec.specs.Machine.Rules.Conditions.{is_point_anywhere, is_point_in};
 ghost use Rattle.vt_location.specs.Locations.{location_of, number_of};
 ghost use Rattle.vt_location.specs.Numbers.{counted};
-ghost use Rattle.vt_looks.specs.Looking.{HasNoOverlays, is_at_or_below, mount_seen, node_seen, permit_of};
+ghost use Rattle.vt_looks.specs.Looking.{HasNoOverlays, IsGround, is_at_or_below, mount_seen, node_seen, permit_of};
 
-use vt_location::{Location, Mount, MountFlags, MountId, NamespaceId, NodeRef};
+use vt_location::{FilesystemId, Location, Mount, MountFlags, MountId, NamespaceId, NodeRef};
 use vt_node::Node;
 use vt_request::TaskName;
 use vt_spec::errors::Deny;
@@ -35,6 +35,15 @@ pub enum Attachment {
         mount: MountId,
         place: Location,
     },
+}
+
+/// What a walk keeps of the mount that it stands on, so as to ask for it once and not at each word.
+#[derive(Clone, Copy, Debug)]
+pub struct Ground {
+    /// The filesystem that the mount shows.
+    pub filesystem: FilesystemId,
+    /// Whether no mount stands on it.
+    pub is_bare: bool,
 }
 
 /// What walks, and the rules of calls on files and tasks, look at in a world. No look changes it.
@@ -68,6 +77,15 @@ pub trait Look {
 
     /// The inode at a location.
     fn node(&self, at: Location) -> Option<&Node>
+        ensures { node_seen at.node.filesystem (option_copied result) ≡ (looks self.now).node (location_of at) };
+
+    /// What a walk keeps of a mount.
+    fn ground(&self, mount: MountId) -> Ground
+        ensures { IsGround (looks self.now) mount result };
+
+    /// As `node`, of a location on a mount that was asked for before.
+    fn node_on(&self, ground: Ground, at: Location) -> Option<&Node>
+        requires { IsGround (looks self.now) at.mount ground }
         ensures { node_seen at.node.filesystem (option_copied result) ≡ (looks self.now).node (location_of at) };
 
     /// Whether the directory at a location has lost its name: rmdir(2) while it is in use.

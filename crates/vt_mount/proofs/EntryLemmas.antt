@@ -1,5 +1,5 @@
 -- The entries that contracts see of what is kept.
-use Rattle.std.proofs.Common.{◌≡◌, ◌<◌, ◌≤◌, ℕ, suc, Bool, true, false, cond, ◌&&◌, List, [], ◌∷◌, ◌++◌, map, length, not, nat_eq, nat_lt, Option, None, Some, option_map, refl, sym, ap, ◌∙◌, arith, eq-eqb, ne_eqb, le-ltb, lt-ltb}
+use Rattle.std.proofs.Common.{◌≡◌, ◌<◌, ◌≤◌, ℕ, suc, Bool, true, false, cond, ◌&&◌, List, [], ◌∷◌, ◌++◌, map, length, not, nat_eq, nat_lt, Option, None, Some, option_map, slice_get, refl, sym, ap, ◌∙◌, arith, eq-eqb, ne_eqb, le-ltb, lt-ltb}
 use Rattle.std.specs.Prelude.{find as seek}
 use Rattle.std.proofs.lemmas.Bool.{eqb-true, eqb-false, ltb-true, ltb-false}
 use Rattle.std.specs.List.{IsDistinct, list_all}
@@ -40,6 +40,15 @@ length-entries (one ∷ kept) = ap suc (length-entries kept)
 
 pub length-kept : (es : List (MountId × Mounted)) → IsDistinct same_id (keys_of es) → length (entries_of es) ≡ length es
 length-kept es distinct = length-entries (in_order es) ∙ length-in_order es distinct
+
+-- the first mount is found under its number
+pub first-found : (id first : MountId) (one : Mounted) (es : List (MountId × Mounted)) → Some (first, one) ≡ slice_get es 0 → same_id first id ≡ true
+    → Some one ≡ lookup (same_id id) es
+first-found id first one [] at is = absurd cc
+first-found id first one (e ∷ es) at is =
+    let here : e ≡ (first, one) = cc in
+    sym (ap (λ e. lookup (same_id id) (e ∷ es)) here
+    ∙ ap (λ b. cond b (Some one) (lookup (same_id id) es)) (eq-eqb id.count first.count (sym (eqb-true first.count id.count is))))
 
 -- a number finds its mount
 

@@ -27,6 +27,9 @@ impl<K: Eq + Hash + Copy + Drop> MountsBy<K> {
     pub(crate) fn get(&self, key: &K) -> &[MountId]
         ensures { result.now ≡ listed K.eq key.now self.now }
     {
+        if self.lists.is_empty() {
+            return &[];
+        }
         match self.lists.get(key) {
             Some(list) => list.as_slice(),
             None => &[],

@@ -1,7 +1,8 @@
 //! All mounts, by their numbers.
 ghost use Rattle.std.specs.Prelude.{◌≡◌, ◌%◌, ◌==◌, ◌++◌, ◌∷◌, [], None, Some, filter, find, length, map};
-ghost use Rattle.std.specs.Prelude.{nat_eq, nat_lt, not, option_map, true, ◌<◌, IfErr, IsOk, OnErr, OnOk, IfSome};
+ghost use Rattle.std.specs.Prelude.{nat_eq, nat_lt, not, option_copied, option_map, true, ◌<◌, IfErr, IsOk, OnErr, OnOk, IfSome};
 ghost use Rattle.std.specs.List.{list_all};
+ghost use Rattle.std.specs.Map.{lookup};
 ghost use Rattle.vt_spec.specs.declared.errors.Rule.TheVariants.{S5};
 ghost use Rattle.vt_spec.specs.Errors.{denial};
 ghost use Rattle.vt_spec.specs.Machine.Mounts.{detached};
@@ -9,6 +10,7 @@ ghost use Rattle.vt_location.specs.Flags.{flags_of};
 ghost use Rattle.vt_location.specs.Locations.{location_of};
 ghost use Rattle.vt_location.specs.MountValue.{mount_of, propagation_of};
 ghost use Rattle.vt_location.specs.Numbers.{counted};
+ghost use Rattle.vt_mount.specs.Listed.{same_id};
 ghost use Rattle.vt_mount.specs.MountsValue.{are_ascending, changed, held, mounts_in, released, uses_of, writers_of};
 
 use crate::indexes::Indexes;
@@ -44,6 +46,17 @@ impl Model for Mounts {
     ghost use Rattle.vt_mount.specs.Indexed.{IsIndexed};
 
     ghost invariant = { λ m. IsIndexed m.indexes (in_order m.by_number.entries) };
+}
+
+// What is kept under a number. The first mount is the root of the first namespace, where most walks are: it is compared before
+// a hash is taken.
+pub(crate) fn kept_under(by_number: &IndexMap<MountId, Mounted>, id: MountId) -> Option<&Mounted>
+    ensures { option_copied result ≡ lookup (same_id id) by_number.now.entries }
+{
+    match by_number.first() {
+        Some((first, kept)) if *first == id => Some(kept),
+        _ => by_number.get(&id),
+    }
 }
 
 impl Mounts {
@@ -82,7 +95,7 @@ impl Mounts {
     pub fn get(&self, id: MountId) -> Option<Mount>
         ensures { option_map mount_of result ≡ find (λ mount. nat_eq (counted id.count) mount.number) (mounts_in self.now) }
     {
-        let kept = self.by_number.get(&id)?;
+        let kept = kept_under(&self.by_number, id)?;
         Some(kept.mount(id))
     }
 
@@ -90,7 +103,7 @@ impl Mounts {
     pub fn uses(&self, id: MountId) -> u64
         ensures { result ≡ uses_of self.now (counted id.count) }
     {
-        match self.by_number.get(&id) {
+        match kept_under(&self.by_number, id) {
             Some(kept) => kept.uses,
             None => 0,
         }
@@ -100,7 +113,7 @@ impl Mounts {
     pub fn writers(&self, id: MountId) -> u64
         ensures { result ≡ writers_of self.now (counted id.count) }
     {
-        match self.by_number.get(&id) {
+        match kept_under(&self.by_number, id) {
             Some(kept) => kept.writers,
             None => 0,
         }

@@ -7,7 +7,7 @@ ghost use Rattle.vt_location.specs.Locations.{location_of, number_of};
 ghost use Rattle.vt_location.specs.Numbers.{counted};
 ghost use Rattle.vt_mount.specs.MountsValue.{mounts_in, stands_over};
 
-use crate::mounts::Mounts;
+use crate::mounts::{Mounts, kept_under};
 use vt_location::{Location, MountId, NamespaceId, NodeRef};
 
 impl Mounts {
@@ -53,7 +53,7 @@ impl Mounts {
         ensures { option_map location_of result ≡ option_map root_of (child_at nat_eq (mounts_in self.now) (location_of place)) }
     {
         let child = self.child_at(place)?;
-        let kept = self.by_number.get(&child)?;
+        let kept = kept_under(&self.by_number, child)?;
         Some(Location {
             mount: child,
             node: kept.root,

@@ -1,5 +1,5 @@
 -- What code finds in what is kept of a world is what the definitions see of its value.
-use Rattle.std.proofs.Common.{◌≡◌, refl, sym, ap, subst, ◌∙◌, ℕ, ◌<◌, nat_eq, Bool, true, false, ◌&&◌, [], ◌∷◌, Option, Some, None, filter, flat_map, map, option_map, unwrap_or}
+use Rattle.std.proofs.Common.{◌≡◌, refl, sym, ap, subst, ◌∙◌, ℕ, ◌<◌, nat_eq, Bool, true, false, cond, not, ◌&&◌, List, [], ◌∷◌, zero, suc, length, Option, Some, None, filter, flat_map, map, option_map, unwrap_or}
 use Rattle.std.specs.Prelude.{find, option_to_list}
 use Rattle.std.specs.List.{list_any}
 use Rattle.vt_spec.specs.FileTree.{is_directory_under, is_removed}
@@ -8,7 +8,9 @@ use Rattle.vt_spec.specs.Machine.Filesystems.{overlay_rules, path_of_name}
 use Rattle.vt_spec.specs.Machine.Layers.{has_lower_directory}
 use Rattle.vt_spec.specs.Machine.Locked.{lies_or_counts_under, of_overlay, overlay_or}
 use Rattle.vt_spec.specs.Machine.Mounts as meant
-use Rattle.vt_spec.specs.Machine.Mounts.{no_mount}
+use Rattle.vt_spec.specs.Lists.{chain, holds_of, last_or}
+use Rattle.vt_spec.specs.Machine.Looks.{topmost}
+use Rattle.vt_spec.specs.Machine.Mounts.{child_at, no_mount, root_of, same_location, stands_on}
 use Rattle.vt_spec.specs.Machine.World.{Filesystem, filesystem_at, filesystem_numbered, is_overlay, is_removed_at, layers_of, mount_at, mount_numbered, node_at, open_layer}
 use Rattle.vt_location.specs.declared.locations.Location.{Location}
 use Rattle.vt_location.specs.declared.locations.NodeRef.{NodeRef}
@@ -17,7 +19,9 @@ use Rattle.vt_location.specs.Locations.{location_of, number_of}
 use Rattle.vt_location.specs.MountValue.{mount_of}
 use Rattle.vt_location.specs.Numbers.{counted}
 use Rattle.vt_location.proofs.NumberLemmas.{counted_test, nodes_test}
-use Rattle.vt_looks.specs.Looking.{HasNoOverlays}
+use Rattle.vt_looks.specs.declared.look.Ground.{Ground}
+use Rattle.vt_looks.specs.Looking.{HasNoOverlays, IsGround}
+use Rattle.vt_fs.proofs.Entries.{or_first, or_second}
 use Rattle.vt_fs.specs.FilesystemsValue.{Filesystems, files_at, filesystems_seen}
 use Rattle.vt_fs.proofs.Numbers.{found_by_number}
 use Rattle.vt_mount.specs.MountsValue.{mounts_in, stands_over}
@@ -125,6 +129,38 @@ module _ (kept value : WorldValue) (is : kept ≡ value) (held : IsHeld kept) (a
     pub under_root_missing : got ≡ None → UnderRoot false value
     under_root_missing none =
         subst (UnderRoot false) is (sym (missing_root kept held at small (mount_missing kept (counted at.mount.count) got is_found none)))
+
+-- no mount is over a location on a mount that none stands on
+not_on : (at : meant.Location ℕ) (place : Option (meant.Location ℕ)) → holds_of (λ (place : meant.Location ℕ). nat_eq at.mount place.mount) place ≡ false
+    → holds_of (same_location nat_eq at) place ≡ false
+not_on at None none = refl
+not_on at (Some place) none = ap (λ b. b && nat_eq at.node place.node) none
+
+none_at : (at : meant.Location ℕ) (mounts : List (meant.Mount ℕ)) → list_any (stands_on nat_eq at.mount) mounts ≡ false → child_at nat_eq mounts at ≡ None
+none_at at [] none = refl
+none_at at (mount ∷ mounts) none =
+    ap (λ b. cond b (Some mount) (child_at nat_eq mounts at)) (not_on at mount.mount_point (or_first _ _ none)) ∙ none_at at mounts (or_second _ _ none)
+
+last_of_chain : (n : ℕ) (next : meant.Location ℕ → Option (meant.Location ℕ)) (at : meant.Location ℕ) → next at ≡ None → last_or at (chain n next at) ≡ at
+last_of_chain zero next at none = refl
+last_of_chain (suc n) next at none = ap (λ o. last_or at (elim o [ None ↦ at ∷ [] | Some b ↦ at ∷ chain n next b ])) none
+
+pub bare_top : (value : WorldValue) (mount : ℕ) → list_any (stands_on nat_eq mount) (mounts_in value.mounts) ≡ false
+    → (at : meant.Location ℕ) → at.mount ≡ mount → topmost (looks_of_value value) at ≡ at
+bare_top value mount none at on =
+    last_of_chain (length (mounts_in value.mounts)) (λ here. option_map root_of (child_at nat_eq (mounts_in value.mounts) here)) at
+    (ap (option_map root_of) (none_at at (mounts_in value.mounts) (ap (λ n. list_any (stands_on nat_eq n) (mounts_in value.mounts)) on ∙ none)))
+
+pub no_child : (b : Bool) → not b ≡ true → b ≡ false
+no_child false is = refl
+no_child true is = sym is
+
+-- an inode that is in the filesystem of the ground is seen
+pub seen_on : (value : WorldValue) (at : Location) (ground : Ground) (b : Bool) → IsGround (looks_of_value value) at.mount ground
+    → nat_eq ground.filesystem.count at.node.filesystem.count ≡ b → is_seen value at ≡ b
+seen_on value at ground b is same =
+    ap (λ n. nat_eq n (counted at.node.filesystem.count)) (sym is.filesystem)
+    ∙ counted_test ground.filesystem.count at.node.filesystem.count ∙ same
 
 -- no filesystem is an overlay
 no_overlays : (fs : Filesystems) → filter is_overlay (filesystems_seen fs) ≡ []

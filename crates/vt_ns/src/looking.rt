@@ -8,7 +8,7 @@ ghost use Rattle.vt_detach.specs.WorldValue.{world_of};
 
 use crate::world::World;
 use vt_location::{FilesystemId, Location, Mount, MountId, NamespaceId, NodeRef};
-use vt_looks::Look;
+use vt_looks::{Ground, Look};
 use vt_node::Node;
 use vt_request::TaskName;
 
@@ -60,6 +60,21 @@ impl Look for World {
 
     fn node(&self, at: Location) -> Option<&Node> {
         if self.is_seen(at) {
+            self.filesystems.node(at.node)
+        } else {
+            None
+        }
+    }
+
+    fn ground(&self, mount: MountId) -> Ground {
+        Ground {
+            filesystem: self.shown(mount),
+            is_bare: !self.mounts.has_child(mount),
+        }
+    }
+
+    fn node_on(&self, ground: Ground, at: Location) -> Option<&Node> {
+        if ground.filesystem == at.node.filesystem {
             self.filesystems.node(at.node)
         } else {
             None

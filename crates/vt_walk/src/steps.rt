@@ -8,7 +8,7 @@ ghost use Rattle.vt_spec.specs.PathText.{words};
 ghost use Rattle.vt_spec.specs.Tree.{entries_in, entry_named};
 ghost use Rattle.vt_location.specs.Locations.{location_of};
 ghost use Rattle.vt_location.specs.Numbers.{counted};
-ghost use Rattle.vt_looks.specs.Looking.{node_seen};
+ghost use Rattle.vt_looks.specs.Looking.{IsGround, node_seen};
 ghost use Rattle.vt_tasks.specs.TaskValue.{task_of};
 ghost use Rattle.vt_walk.specs.PendingTexts.{link_passed, walked_on_from};
 ghost use Rattle.vt_walk.specs.PlainWalks.{Follow, followed, last_walked, symlink_start, word_led, words_walked};
@@ -20,7 +20,7 @@ use crate::upward::step_up;
 use arrayvec::ArrayVec;
 use vt_cred::{Rights, allows};
 use vt_location::{Location, NodeRef};
-use vt_looks::{LastWord, Look};
+use vt_looks::{Ground, LastWord, Look};
 use vt_node::{Kind, Node};
 use vt_spec::errors::{Deny, Rule};
 use vt_tasks::Task;
@@ -74,10 +74,12 @@ fn stepped<L: Look>(
     world: &L,
     who: &Task,
     here: Location,
+    ground: Ground,
     directory: &Node,
     word: LastWord,
 ) -> Result<Location, Deny>
-    requires { IsNodeAt (L.looks world.now) here (Some directory.now) }
+    requires ground { IsGround (L.looks world.now) here.mount ground }
+    requires directory { IsNodeAt (L.looks world.now) here (Some directory.now) }
     ensures { location_result result
         ≡ stepped nat_eq (L.looks world.now) (task_of who.now) (location_of here) (last_of word.entry) }
 {
@@ -85,6 +87,7 @@ fn stepped<L: Look>(
         LastWord::NoWord | LastWord::Dot => Ok(here),
         LastWord::DotDot => step_up(world, who, here),
         LastWord::Named(name) => match entry_location(here, directory, name) {
+            Some(entry) if ground.is_bare => Ok(entry),
             Some(entry) => Ok(world.topmost(entry)),
             None => Err(Rule::W6.denial()),
         },
@@ -115,15 +118,17 @@ fn word_led<L: Look>(
     world: &L,
     who: &Task,
     here: Location,
+    ground: Ground,
     node: Option<&Node>,
     word: LastWord,
 ) -> Result<Location, Deny>
-    requires { IsNodeAt (L.looks world.now) here (option_copied node) }
+    requires ground { IsGround (L.looks world.now) here.mount ground }
+    requires node { IsNodeAt (L.looks world.now) here (option_copied node) }
     ensures { location_result result
         ≡ word_led (L.looks world.now) (task_of who.now) (location_of here) (last_of word.entry) }
 {
     let directory = searched(world, who, here, node)?;
-    stepped(world, who, here, directory, word)
+    stepped(world, who, here, ground, directory, word)
 }
 
 // The last word of a path walked; a final symlink is not followed.
@@ -139,8 +144,9 @@ pub(crate) fn last_walked<L: Look>(
     match last {
         LastWord::NoWord => Ok(here),
         _ => {
-            let node = world.node(here.location);
-            let next = word_led(world, who, here.location, node, last)?;
+            let ground = world.ground(here.location.mount);
+            let node = world.node_on(ground, here.location);
+            let next = word_led(world, who, here.location, ground, node, last)?;
             Ok(here.moved(next))
         }
     }
@@ -221,12 +227,16 @@ fn walked_to_link<'a, L: Look>(
     ensures left { IfOk result (λ reached. reached.here.left ≡ start.left) }
 {
     let mut here = start;
-    let mut node = world.node(here.location);
+    let mut ground = world.ground(start.location.mount);
+    let mut node = world.node_on(ground, start.location);
     while let Some(word) = words.next() {
         let directory = here.location;
-        let next = word_led(world, who, directory, node, LastWord::of(word))?;
+        let next = word_led(world, who, directory, ground, node, LastWord::of(word))?;
         here = here.moved(next);
-        node = world.node(next);
+        if next.mount != directory.mount {
+            ground = world.ground(next.mount);
+        }
+        node = world.node_on(ground, next);
         if let Some(text) = symlink_text(node) {
             let link = LinkMet {
                 directory,

@@ -1,0 +1,17 @@
+use Rattle.std.proofs.Common.{◌∙◌, ap, nat_eq, sym}
+use Rattle.std.specs.List.{list_any}
+use Rattle.vt_spec.specs.Machine.Mounts.{stands_on}
+use Rattle.vt_location.specs.Numbers.{counted}
+use Rattle.vt_mount.specs.MountsValue.{mounts_in}
+use Rattle.vt_ns.proofs.LooksKept.{bare_top, no_child}
+use Rattle.vt_ns.proofs.looking.WorldLook.ground.Goals as goal
+use Rattle.vt_ns.specs.WorldValue.{WorldValue}
+
+pub returns : goal.returns
+returns c =
+    let children = λ (value : WorldValue). list_any (stands_on nat_eq (counted c.args.mount.count)) (mounts_in value.mounts) in
+    record {
+      filesystem = c.shown.ensures;
+      bare = λ bare at on. bare_top c.args.self.now (counted c.args.mount.count)
+          (sym (ap children c.self.view_is) ∙ sym c.has_child.ensures ∙ no_child c.has_child.result bare) at on;
+    }
