@@ -13,7 +13,7 @@ use Rattle.vt_spec.specs.Language.Answers.Answer.{Bytes, Names}
 use Rattle.vt_spec.specs.Machine.Rightful.{node_allows}
 use Rattle.vt_spec.specs.Machine.Walk.{LastWord, is_special, name_of}
 use Rattle.vt_spec.specs.Machine.Walk.LastWord.{Dot, DotDot, Named, NoWord}
-use Rattle.vt_spec.specs.OneTree.Inodes.{tree_of}
+use Rattle.vt_spec.specs.Inodes.{tree_of}
 use Rattle.vt_spec.specs.OneTree.Permits.{Permit}
 use Rattle.vt_spec.specs.OneTree.Permits.Permit.{ToList, ToRead}
 use Rattle.vt_spec.specs.OneTree.Policy.{judge, list_permit, policy, read_permit, spent}

@@ -14,7 +14,7 @@ use Rattle.vt_spec.specs.FileTree.{symlink_text}
 use Rattle.vt_spec.specs.Machine.Rightful.{node_allows}
 use Rattle.vt_spec.specs.Machine.Walk.{LastWord}
 use Rattle.vt_spec.specs.Machine.Walk.LastWord.{Dot, DotDot, Named, NoWord}
-use Rattle.vt_spec.specs.OneTree.Inodes.{Inode, Inodes, inode_with_node, node_in, tree_of, with_changed, with_new}
+use Rattle.vt_spec.specs.Inodes.{Inode, Inodes, inode_with_node, node_in, tree_of, with_changed, with_new}
 use Rattle.vt_spec.specs.OneTree.Walk.{may, object_named}
 use Rattle.vt_spec.specs.OneTree.World.{World}
 use Rattle.vt_spec.specs.Rights.{Credentials, allows, cap_dac_override, cap_dac_read_search, class_bits, execute_right, has_all, is_directory, read_right}

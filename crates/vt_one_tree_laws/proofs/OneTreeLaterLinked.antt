@@ -10,7 +10,7 @@ use Rattle.vt_spec.specs.Machine.Outcome.Making.{link_text_rules}
 use Rattle.vt_spec.specs.Language.Answers.Answer.{Bytes, Done}
 use Rattle.vt_spec.specs.Machine.Walk.{final_word, name_of}
 use Rattle.vt_spec.specs.Language.Calls.{TaskName}
-use Rattle.vt_spec.specs.OneTree.Inodes.{Inodes, tree_of, with_new}
+use Rattle.vt_spec.specs.Inodes.{Inodes, tree_of, with_new}
 use Rattle.vt_spec.specs.OneTree.Permits.{Permit}
 use Rattle.vt_spec.specs.OneTree.Permits.Permit.{ToRead}
 use Rattle.vt_spec.specs.OneTree.Policy.{link_attr, making, readlink_permit, spent, symlink_permit}

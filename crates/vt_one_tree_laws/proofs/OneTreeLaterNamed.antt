@@ -9,7 +9,7 @@ use Rattle.vt_spec.specs.Language.Answers.{StatLine}
 use Rattle.vt_spec.specs.Language.Answers.Answer.{Done, Told}
 use Rattle.vt_spec.specs.Machine.Walk.{final_word, name_of}
 use Rattle.vt_spec.specs.Language.Calls.{TaskName}
-use Rattle.vt_spec.specs.OneTree.Inodes.{Inode, Inodes, node_in, pinned, tree_of, used_once_more, with_changed, with_name}
+use Rattle.vt_spec.specs.Inodes.{Inode, Inodes, node_in, pinned, tree_of, used_once_more, with_changed, with_name}
 use Rattle.vt_spec.specs.OneTree.Permits.{Permit}
 use Rattle.vt_spec.specs.OneTree.Permits.Permit.{ToChange, ToTell}
 use Rattle.vt_spec.specs.OneTree.Policy.{hard_link_permit, lstat_permit, spent}

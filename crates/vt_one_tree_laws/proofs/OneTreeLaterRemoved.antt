@@ -16,7 +16,7 @@ use Rattle.vt_spec.specs.Machine.Rightful.{node_allows}
 use Rattle.vt_spec.specs.Machine.Walk.{LastWord, final_word, name_of}
 use Rattle.vt_spec.specs.Machine.Walk.LastWord.{Dot, DotDot, Named, NoWord}
 use Rattle.vt_spec.specs.Language.Calls.{TaskName}
-use Rattle.vt_spec.specs.OneTree.Inodes.{Inode, Inodes, inode_with_node, node_in, tree_of, used_once_less, with_changed, without_name}
+use Rattle.vt_spec.specs.Inodes.{Inode, Inodes, inode_with_node, node_in, tree_of, used_once_less, with_changed, without_name}
 use Rattle.vt_spec.specs.OneTree.Permits.{Permit}
 use Rattle.vt_spec.specs.OneTree.Permits.Permit.{ToChange, ToTell}
 use Rattle.vt_spec.specs.OneTree.Policy.{lstat_permit, object_there, policy, spent, unlink_permit}

@@ -12,7 +12,7 @@ use Rattle.vt_spec.specs.FileTree.{is_kind, is_kind_in}
 use Rattle.vt_spec.specs.Machine.Outcome.Descriptors.{overwritten, padded}
 use Rattle.vt_spec.specs.Language.Answers.Answer.{Bytes, Done}
 use Rattle.vt_spec.specs.Language.Calls.{TaskName}
-use Rattle.vt_spec.specs.OneTree.Inodes.{tree_of}
+use Rattle.vt_spec.specs.Inodes.{tree_of}
 use Rattle.vt_spec.specs.OneTree.Permits.{Permit}
 use Rattle.vt_spec.specs.OneTree.Permits.Permit.{ToReadPart}
 use Rattle.vt_spec.specs.OneTree.Policy.{pread_permit, pwrite_permit, pwriting, spent}

@@ -11,7 +11,7 @@ use Rattle.vt_spec.specs.Machine.Outcome.Attributes.{attr_with_mode, attr_with_o
 use Rattle.vt_spec.specs.Machine.Outcome.Looking.{stat_line}
 use Rattle.vt_spec.specs.Language.Answers.Answer.{Done, Told}
 use Rattle.vt_spec.specs.Language.Calls.{TaskName}
-use Rattle.vt_spec.specs.OneTree.Inodes.{Inode, Inodes, node_in, tree_of, with_changed}
+use Rattle.vt_spec.specs.Inodes.{Inode, Inodes, node_in, tree_of, with_changed}
 use Rattle.vt_spec.specs.OneTree.Permits.{Permit}
 use Rattle.vt_spec.specs.OneTree.Permits.Permit.{ToChange, ToTell}
 use Rattle.vt_spec.specs.OneTree.Policy.{chmod_permit, chown_permit, policy, spent, stat_permit}

@@ -13,7 +13,7 @@ use Rattle.vt_spec.specs.Language.Answers.Answer.{Bytes, Done, Names}
 use Rattle.vt_spec.specs.Machine.Rightful.{node_allows}
 use Rattle.vt_spec.specs.Machine.Walk.{final_word, is_special, name_of}
 use Rattle.vt_spec.specs.Language.Calls.{TaskName}
-use Rattle.vt_spec.specs.OneTree.Inodes.{Inodes, tree_of, with_changed, with_new}
+use Rattle.vt_spec.specs.Inodes.{Inodes, tree_of, with_changed, with_new}
 use Rattle.vt_spec.specs.OneTree.Permits.{Permit}
 use Rattle.vt_spec.specs.OneTree.Permits.Permit.{ToChange}
 use Rattle.vt_spec.specs.OneTree.Policy.{making, mkdir_permit, new_attr, new_file, spent, write_permit, written}

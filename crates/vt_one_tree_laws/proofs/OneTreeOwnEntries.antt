@@ -10,7 +10,7 @@ use Rattle.vt_spec.specs.Language.Calls.Creation.{Exclusive, NoCreation, OrCreat
 use Rattle.vt_spec.specs.Language.Changes.{content_with_parent, node_with_attr, node_with_parent, node_without_entry, without_entry}
 use Rattle.vt_spec.specs.Language.Changes.Change.{AddName, Make, Move, Remove, SetAttr, SetBytes}
 use Rattle.vt_spec.specs.Lists.{is_among}
-use Rattle.vt_spec.specs.OneTree.Inodes.{Inode, Inodes, with_changed}
+use Rattle.vt_spec.specs.Inodes.{Inode, Inodes, with_changed}
 use Rattle.vt_spec.specs.OneTree.Permits.{Permit}
 use Rattle.vt_spec.specs.OneTree.Permits.Permit.{ToChange, ToOpen, ToOpenNew}
 use Rattle.vt_spec.specs.OneTree.Policy.{judge, spent}

@@ -5,7 +5,7 @@ use Rattle.vt_spec.specs.Language.Calls.{Call, TaskName}
 use Rattle.vt_spec.specs.Language.Changes.{Change, node_with_parent, node_without_entry}
 use Rattle.vt_spec.specs.Language.Changes.Change.{AddName, CopyUp, Make, Move, Remove, SetAttr, SetBytes, SetMark}
 use Rattle.vt_spec.specs.Lists.{is_among}
-use Rattle.vt_spec.specs.OneTree.Inodes.{Inode, Inodes, changed, pinned, tree_of, unpinned, used_once_less, used_once_more, with_changed, with_inode, with_new, without_replaced}
+use Rattle.vt_spec.specs.Inodes.{Inode, Inodes, changed, pinned, tree_of, unpinned, used_once_less, used_once_more, with_changed, with_inode, with_new, without_replaced}
 use Rattle.vt_spec.specs.OneTree.Permits.{Permit}
 use Rattle.vt_spec.specs.OneTree.Permits.Permit.{Allowed, ToChange, ToClose, ToExit, ToFork, ToList, ToOpen, ToOpenNew, ToRead, ToReadPart, ToSetCredentials, ToSetUmask, ToTell}
 use Rattle.vt_spec.specs.OneTree.Policy.{closed, judge, policy, spent, without_uses}

@@ -10,7 +10,7 @@ use Rattle.vt_spec.specs.Language.Changes.{content_with_parent, node_with_attr, 
 use Rattle.vt_spec.specs.FileTree.{attr_in, is_kind}
 use Rattle.vt_spec.specs.Lists.{when}
 use Rattle.vt_spec.specs.Machine.Outcome.Attributes.{attr_with_mode, attr_with_owner}
-use Rattle.vt_spec.specs.OneTree.Inodes.{Inode, Inodes, inode_with_node, node_in, pinned, tree_of, unpinned, used_once_less, used_once_more, with_changed, with_inode, with_moved, with_name, with_new, without_name, without_replaced}
+use Rattle.vt_spec.specs.Inodes.{Inode, Inodes, inode_with_node, node_in, pinned, tree_of, unpinned, used_once_less, used_once_more, with_changed, with_inode, with_moved, with_name, with_new, without_name, without_replaced}
 use Rattle.vt_spec.specs.OneTree.Policy.{closed, policy, spent, without_uses}
 use Rattle.vt_spec.specs.OneTree.World.{Descriptor, Task, World, descriptor_numbered}
 use Rattle.vt_spec.specs.Tree.{Content, Entries, Node, bytes_of, entries_of, kind_of, node_with_bytes, node_with_entry, with_bytes, with_entries}

@@ -12,7 +12,7 @@ use Rattle.vt_spec.specs.Machine.Outcome.Attributes.{attr_with_mode, attr_with_o
 use Rattle.vt_spec.specs.Machine.Outcome.Making.{file_mode, link_text_rules}
 use Rattle.vt_spec.specs.Machine.Walk.{LastWord, final_word, is_special, name_of}
 use Rattle.vt_spec.specs.Machine.Walk.LastWord.{Dot, DotDot, Named, NoWord}
-use Rattle.vt_spec.specs.OneTree.Inodes.{Inodes, tree_of}
+use Rattle.vt_spec.specs.Inodes.{Inodes, tree_of}
 use Rattle.vt_spec.specs.OneTree.Permits.{Permit}
 use Rattle.vt_spec.specs.OneTree.Permits.Permit.{Allowed, ToChange, ToClose, ToExit, ToList, ToOpen, ToRead, ToReadPart, ToTell}
 use Rattle.vt_spec.specs.OneTree.Policy.{chmod_permit, chown_permit, judge, hard_link_permit, making, mkdir_permit, new_file, object_there, open_by, open_permit, opened_or_made, opening_new, pwrite_permit, pwriting, rename_permit, renamed_by, rmdir_permit, symlink_permit, unlink_permit, write_permit, written}

@@ -12,7 +12,7 @@ use Rattle.vt_spec.specs.Machine.Outcome.Descriptors.{overwritten}
 use Rattle.vt_spec.specs.Machine.Outcome.Making.{file_mode, link_text_rules}
 use Rattle.vt_spec.specs.Machine.Outcome.Tasks.{capabilities_of, child_credentials, permission_bits, with_dropped}
 use Rattle.vt_spec.specs.Machine.Walk.{is_special, name_of}
-use Rattle.vt_spec.specs.OneTree.Inodes.{Inodes, tree_of}
+use Rattle.vt_spec.specs.Inodes.{Inodes, tree_of}
 use Rattle.vt_spec.specs.OneTree.Permits.{Permit}
 use Rattle.vt_spec.specs.OneTree.Permits.Permit.{Allowed, ToChange, ToClose, ToExit, ToFork, ToList, ToOpen, ToOpenNew, ToRead, ToReadPart, ToSetCredentials, ToSetUmask, ToTell}
 use Rattle.vt_spec.specs.OneTree.Policy.{chmod_permit, chown_permit, close_permit, exec_permit, fork_permit, judge, hard_link_permit, list_permit, lstat_permit, making, mkdir_permit, new_file, object_there, open_by, open_permit, opened_or_made, policy, pread_permit, pwrite_permit, pwriting, read_permit, readlink_permit, rename_permit, renamed_by, rmdir_permit, spent, stat_permit, symlink_permit, unlink_permit, write_permit, written}

@@ -11,7 +11,7 @@ use Rattle.vt_spec.specs.FileTree.{symlink_text}
 use Rattle.vt_spec.specs.Lists.{is_among}
 use Rattle.vt_spec.specs.Machine.Outcome.Tasks.{child_credentials}
 use Rattle.vt_spec.specs.Machine.Policy.{only_looks}
-use Rattle.vt_spec.specs.OneTree.Inodes.{Inode, Inodes, tree_of}
+use Rattle.vt_spec.specs.Inodes.{Inode, Inodes, tree_of}
 use Rattle.vt_spec.specs.OneTree.Permits.{Permit}
 use Rattle.vt_spec.specs.OneTree.Permits.Permit.{ToChange, ToClose, ToExit, ToOpen, ToOpenNew}
 use Rattle.vt_spec.specs.OneTree.Policy.{child_name, child_of, judge, policy}

@@ -1,3 +1,2 @@
 pub mod TreeValue
-pub mod TreeRules
 pub mod Paths

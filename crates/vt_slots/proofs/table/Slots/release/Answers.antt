@@ -1,5 +1,5 @@
 use Rattle.std.proofs.Common.{◌≤◌, None, sym, ap, ◌∙◌, arith}
-use Rattle.vt_spec.specs.OneTree.Inodes.{uses_in}
+use Rattle.vt_spec.specs.Inodes.{uses_in}
 use Rattle.vt_slots.specs.Slots.{slot_at, put_at}
 use Rattle.vt_slots.proofs.SlotLemmas.{get-updates, used_once_less-last}
 use Rattle.vt_slots.proofs.table.Slots.release.Goals as goal
