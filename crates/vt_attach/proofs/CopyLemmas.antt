@@ -12,7 +12,7 @@ use Rattle.std.proofs.lemmas.List.{append-nil, map-append}
 use Rattle.std.proofs.lemmas.List.Sorted.{IsNonDecreasingBy-from_default}
 use Rattle.vt_location.specs.declared.numbers.MountId.{MountId}
 use Rattle.vt_location.specs.Numbers.{counted}
-use Rattle.vt_fs.proofs.Exchanged.{counted_test}
+use Rattle.vt_location.proofs.NumberLemmas.{counted_test}
 use Rattle.vt_letting_go.proofs.Lists.{Among, all_pass, among-from_filter, none_passes, passes}
 use Rattle.vt_mount.specs.MountsValue.{are_ascending}
 use Rattle.vt_spec.specs.Lists.{holds_of, place_from}

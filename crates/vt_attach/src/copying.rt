@@ -15,7 +15,7 @@ use vt_mount::Mounts;
 
 /// Copies of the mounts of a namespace in the one that is counted `next`, in their order: the copy of the i-th, from 0, is
 /// counted `next + 2·i + 1`, and its mount point is on the copy of its parent.
-pub fn copies(
+pub(crate) fn copies(
     alloc: Global,
     mounts: &Mounts,
     namespace: NamespaceId,
@@ -83,8 +83,8 @@ fn point_on_copy(point: Option<Location>, originals: &[MountId], next: u64) -> O
     Some(on_copy(point?, originals, next))
 }
 
-/// A location on the copy of its mount.
-pub fn on_copy(at: Location, originals: &[MountId], next: u64) -> Location
+// A location on the copy of its mount.
+fn on_copy(at: Location, originals: &[MountId], next: u64) -> Location
     requires order { are_rising originals.now ≡ true }
     requires room { next + 2 * length originals.now + 1 < u64.MAX }
     ensures { (all : List (meant.Mount ℕ)) → AreOf originals.now all

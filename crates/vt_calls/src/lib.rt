@@ -13,6 +13,3 @@ mod spending;
 mod tasks;
 
 pub use calls::Calls;
-
-#[cfg(test)]
-mod tests;

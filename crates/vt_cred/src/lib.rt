@@ -12,6 +12,3 @@ pub use capabilities::Caps;
 pub use credentials::{Cred, MAX_GROUPS};
 pub use requests::Rights;
 pub use vt_spec::attributes::{Attr, Kind, Mode};
-
-#[cfg(test)]
-mod tests;

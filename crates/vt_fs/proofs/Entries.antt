@@ -16,7 +16,7 @@ use Rattle.vt_tree.specs.TreeValue.{TreeValue}
 use Rattle.vt_fs.specs.declared.filesystems.Filesystem.{Filesystem as Held}
 use Rattle.vt_fs.specs.FilesystemsValue.{FilesystemEntry, Filesystems, entry_at, entry_of, filesystems_seen, held, held_entry, held_with_tree, no_entry, with_changed, with_tree, without}
 use Rattle.vt_fs.specs.Lends.{with_tree_at}
-use Rattle.vt_fs.proofs.Exchanged.{counted_test}
+use Rattle.vt_location.proofs.NumberLemmas.{counted_test}
 
 -- the equality of numbers as the map compares them, and the test by which it finds one
 abbrev pub key_eq : FilesystemId → FilesystemId → Bool

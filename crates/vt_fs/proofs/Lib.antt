@@ -1,4 +1,3 @@
-pub mod Exchanged
 pub mod Renamed
 pub mod Entries
 pub mod Standing

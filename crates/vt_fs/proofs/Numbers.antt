@@ -8,7 +8,7 @@ use Rattle.vt_spec.specs.Inodes.{Inode, node_in, renamed_inode}
 use Rattle.vt_location.specs.Numbers.{counted, exchanged}
 use Rattle.vt_fs.specs.FilesystemsValue.{Filesystems, entry_of, filesystem_seen, filesystems_seen, filled_from, no_entry}
 use Rattle.vt_fs.specs.Laws.{FilesystemsAreFound, NumbersAreApart, NumbersAreCounted, NumbersAreListed}
-use Rattle.vt_fs.proofs.Exchanged.{counted_test, exchanged_back, one_test}
+use Rattle.vt_location.proofs.NumberLemmas.{counted_test, exchanged_back, one_test}
 
 abbrev Slots : Type 0
 Slots = List (Option (Inode ℕ))

@@ -11,7 +11,7 @@ use Rattle.vt_one_text.specs.Renaming.{Renaming}
 use Rattle.vt_one_text.proofs.Commuting.{Named, commutes_nat, node_itself, option_itself}
 use Rattle.vt_tree.specs.Paths.{path_in}
 use Rattle.vt_location.specs.Numbers.{exchanged}
-use Rattle.vt_fs.proofs.Exchanged.{exchanged_back}
+use Rattle.vt_location.proofs.NumberLemmas.{exchanged_back}
 
 -- slots and numbers of a filesystem, exchanged
 abbrev pub exchange : ℕ → Renaming ℕ ℕ

@@ -6,6 +6,3 @@ pub mod laws;
 mod propagation;
 
 pub use groups::Groups;
-
-#[cfg(test)]
-mod tests;

@@ -190,6 +190,3 @@ fn flush_retrying<W: Write>(writer: &mut W) -> Result<(), SinkFailed>
     }
     Err(SinkFailed)
 }
-
-#[cfg(test)]
-mod tests;

@@ -6,6 +6,4 @@ pub mod input;
 pub mod line;
 pub mod memory;
 pub mod output;
-#[cfg(test)]
-mod tests;
 pub mod writing;

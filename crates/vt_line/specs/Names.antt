@@ -1,5 +1,5 @@
 -- The calls by their names.
-use Rattle.std.specs.Prelude.{List, codes, false, true, ℕ}
+use Rattle.std.specs.Prelude.{List, [], codes, false, true, ℕ, ◌∷◌}
 use Rattle.vt_spec.specs.Language.Calls as spec
 use Rattle.vt_line.specs.declared.names.CallName.{CallName}
 use Rattle.vt_line.specs.declared.names.CallName.TheVariants.{Chmod, Chown, Close, Drop, Exit, Fork, Mkdir, Mount, Mounts, Open, Pair, Path, Pread, Pwrite, Remount, Setns, SetType, Umask, Unshare, Write}
@@ -51,6 +51,17 @@ name_text Mount = codes "mount"
 name_text Remount = codes "remount"
 name_text SetType = codes "type"
 name_text Mounts = codes "mounts"
+
+-- The names of the calls on files and tasks, in their order: of those on names, and of those on files and by tasks on themselves.
+abbrev pub name_call_names : List (List ℕ)
+name_call_names =
+    codes "ls" ∷ codes "stat" ∷ codes "lstat" ∷ codes "readlink" ∷ codes "read" ∷ codes "write" ∷ codes "exec"
+    ∷ codes "mkdir" ∷ codes "symlink" ∷ codes "link" ∷ codes "unlink" ∷ codes "rmdir" ∷ codes "rename" ∷ []
+
+abbrev pub handle_call_names : List (List ℕ)
+handle_call_names =
+    codes "chmod" ∷ codes "chown" ∷ codes "open" ∷ codes "pread" ∷ codes "pwrite" ∷ codes "close" ∷ codes "umask"
+    ∷ codes "drop" ∷ codes "fork" ∷ codes "exit" ∷ []
 
 -- a call with its path, or with its two words
 abbrev pub path_call : PathCall → List ℕ → spec.Call

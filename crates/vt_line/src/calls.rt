@@ -13,7 +13,7 @@ use std::alloc::{AllocError, Global};
 use vt_request::Call;
 
 /// Why no call was read.
-#[derive(Clone, Copy, Debug, PartialEq, Eq)]
+#[derive(Clone, Copy)]
 pub enum ReadError {
     /// The words are not of the grammar.
     Grammar,

@@ -9,7 +9,5 @@ mod listing;
 mod names;
 mod number;
 pub mod print;
-#[cfg(test)]
-mod tests;
 mod token;
 mod words;

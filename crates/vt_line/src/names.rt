@@ -5,7 +5,7 @@ ghost use Rattle.vt_spec.specs.Language.Script.{file_call_names, mounting_call_n
 use vt_request::Call;
 
 /// A call that is given a path alone.
-#[derive(Clone, Copy, Debug, PartialEq, Eq)]
+#[derive(Clone, Copy)]
 pub enum PathCall {
     Ls,
     Stat,
@@ -47,7 +47,7 @@ impl PathCall {
 }
 
 /// A call that is given two paths, or a text and a path.
-#[derive(Clone, Copy, Debug, PartialEq, Eq)]
+#[derive(Clone, Copy, PartialEq, Eq)]
 pub enum PairCall {
     Symlink,
     Link,
@@ -92,7 +92,7 @@ impl PairCall {
 }
 
 /// A call, without its words.
-#[derive(Clone, Copy, Debug, PartialEq, Eq)]
+#[derive(Clone, Copy)]
 pub enum CallName {
     Path(PathCall),
     Pair(PairCall),
@@ -119,12 +119,26 @@ pub enum CallName {
 impl CallName {
     ghost use Rattle.std.specs.List.{list_any};
     ghost use Rattle.std.specs.Str.{bytes_eq};
-    ghost use Rattle.vt_line.specs.Names.{name_text};
+    ghost use Rattle.vt_line.specs.Names.{handle_call_names, name_call_names, name_text};
 
     /// The call that a text names.
     pub fn from_text(text: &[u8]) -> Option<Self>
         ensures named { IfSome result (λ name. text.now ≡ name_text name) }
         ensures unknown { result ≡ None → list_any (bytes_eq text.now) (file_call_names ++ mounting_call_names) ≡ false }
+    {
+        if let Some(name) = CallName::on_names(text) {
+            return Some(name);
+        }
+        if let Some(name) = CallName::on_files(text) {
+            return Some(name);
+        }
+        CallName::on_mounts(text)
+    }
+
+    // The call on a name of a directory that a text names.
+    fn on_names(text: &[u8]) -> Option<Self>
+        ensures named { IfSome result (λ name. text.now ≡ name_text name) }
+        ensures unknown { result ≡ None → list_any (bytes_eq text.now) name_call_names ≡ false }
     {
         Some(match text {
             b"ls" => CallName::Path(PathCall::Ls),
@@ -132,21 +146,24 @@ impl CallName {
             b"lstat" => CallName::Path(PathCall::Lstat),
             b"readlink" => CallName::Path(PathCall::Readlink),
             b"read" => CallName::Path(PathCall::Read),
+            b"write" => CallName::Write,
             b"exec" => CallName::Path(PathCall::Exec),
-            b"unlink" => CallName::Path(PathCall::Unlink),
-            b"rmdir" => CallName::Path(PathCall::Rmdir),
-            b"chdir" => CallName::Path(PathCall::Chdir),
-            b"chroot" => CallName::Path(PathCall::Chroot),
-            b"umount" => CallName::Path(PathCall::Umount),
-            b"lazy" => CallName::Path(PathCall::Lazy),
+            b"mkdir" => CallName::Mkdir,
             b"symlink" => CallName::Pair(PairCall::Symlink),
             b"link" => CallName::Pair(PairCall::Link),
+            b"unlink" => CallName::Path(PathCall::Unlink),
+            b"rmdir" => CallName::Path(PathCall::Rmdir),
             b"rename" => CallName::Pair(PairCall::Rename),
-            b"bind" => CallName::Pair(PairCall::Bind),
-            b"rbind" => CallName::Pair(PairCall::Rbind),
-            b"move" => CallName::Pair(PairCall::Move),
-            b"write" => CallName::Write,
-            b"mkdir" => CallName::Mkdir,
+            _ => return None,
+        })
+    }
+
+    // The call on a file, or of a task on itself, that a text names.
+    fn on_files(text: &[u8]) -> Option<Self>
+        ensures named { IfSome result (λ name. text.now ≡ name_text name) }
+        ensures unknown { result ≡ None → list_any (bytes_eq text.now) handle_call_names ≡ false }
+    {
+        Some(match text {
             b"chmod" => CallName::Chmod,
             b"chown" => CallName::Chown,
             b"open" => CallName::Open,
@@ -157,12 +174,29 @@ impl CallName {
             b"drop" => CallName::Drop,
             b"fork" => CallName::Fork,
             b"exit" => CallName::Exit,
-            b"unshare" => CallName::Unshare,
-            b"setns" => CallName::Setns,
+            _ => return None,
+        })
+    }
+
+    // The call on mounts, or on the places and namespaces of tasks, that a text names.
+    fn on_mounts(text: &[u8]) -> Option<Self>
+        ensures named { IfSome result (λ name. text.now ≡ name_text name) }
+        ensures unknown { result ≡ None → list_any (bytes_eq text.now) mounting_call_names ≡ false }
+    {
+        Some(match text {
             b"mount" => CallName::Mount,
+            b"bind" => CallName::Pair(PairCall::Bind),
+            b"rbind" => CallName::Pair(PairCall::Rbind),
+            b"move" => CallName::Pair(PairCall::Move),
+            b"umount" => CallName::Path(PathCall::Umount),
+            b"lazy" => CallName::Path(PathCall::Lazy),
             b"remount" => CallName::Remount,
             b"type" => CallName::SetType,
             b"mounts" => CallName::Mounts,
+            b"chdir" => CallName::Path(PathCall::Chdir),
+            b"chroot" => CallName::Path(PathCall::Chroot),
+            b"unshare" => CallName::Unshare,
+            b"setns" => CallName::Setns,
             _ => return None,
         })
     }

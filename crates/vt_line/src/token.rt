@@ -34,7 +34,7 @@ pub fn is_plain(byte: u8) -> bool
 }
 
 /// Where the reading of a token stands: between bytes, in an escape `\xhh`, or at a fault.
-#[derive(Clone, Copy, Debug, PartialEq, Eq)]
+#[derive(Clone, Copy, PartialEq, Eq)]
 pub enum Reading {
     Between,
     AfterBackslash,

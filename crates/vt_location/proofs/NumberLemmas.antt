@@ -1,5 +1,5 @@
 -- The numbers of what is counted, and of inodes in their slots, are different where those are.
-use Rattle.std.proofs.Common.{◌≡◌, ◌≢◌, ◌<◌, ◌+◌, ◌-◌, ◌*◌, ℕ, Bool, true, false, not, nat_eq, nat_lt, ◌&&◌, refl, sym, ap, ◌∙◌, arith, lt-ltb, le-ltb, eq-eqb}
+use Rattle.std.proofs.Common.{◌≡◌, ◌≢◌, ◌<◌, ◌≤◌, ◌+◌, ◌-◌, ◌*◌, ℕ, Bool, true, false, not, nat_eq, nat_lt, ◌&&◌, refl, sym, ap, ◌∙◌, arith, lt-ltb, le-ltb, eq-eqb}
 use Rattle.std.specs.Prelude.{if◌then◌else◌, ◌/◌}
 use Rattle.std.proofs.lemmas.Bool.{eqb-true, ltb-true, ltb-false}
 use Rattle.vt_spec.specs.Machine.Mounts.{same_location}
@@ -85,6 +85,14 @@ slot_of f n e =
     let even = eqb-true (2 * (n / 2)) n (third_of (not low) high doubled e) in
     (n / 2 - 18446744073709551616 * (f + 1), omega (arith, above, below, even), omega (arith, above, below, even))
 
+-- what stands for no slot and is no inode of the filesystem is exchanged with no slot
+pub no_slot : (f n : ℕ) → is_inode_of f n ≡ false → 18446744073709551616 ≤ exchanged f n
+no_slot f n other = by (nat_lt n 18446744073709551616) refl
+  where
+    by : (small : Bool) → nat_lt n 18446744073709551616 ≡ small → 18446744073709551616 ≤ exchanged f n
+    by true e = let is = exchanged_slot f n (ltb-true n 18446744073709551616 e) in omega (arith, is)
+    by false e = let is = stays f n e other in omega (arith, is, ltb-false n 18446744073709551616 e)
+
 -- exchanged twice, a number is what it was
 pub exchanged_back : (f n : ℕ) → exchanged f (exchanged f n) ≡ n
 exchanged_back f n = by (nat_lt n 18446744073709551616) (is_inode_of f n) refl refl
@@ -110,7 +118,7 @@ both-second : (a b : Bool) → (a && b) ≡ true → b ≡ true
 both-second true b e = e
 both-second false b e = absurd cc
 
-one_test : (a b : Bool) → (a ≡ true → b ≡ true) → (b ≡ true → a ≡ true) → a ≡ b
+pub one_test : (a b : Bool) → (a ≡ true → b ≡ true) → (b ≡ true → a ≡ true) → a ≡ b
 one_test true b there back = sym (there refl)
 one_test false true there back = back refl
 one_test false false there back = refl

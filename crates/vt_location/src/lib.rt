@@ -10,6 +10,3 @@ pub use flags::MountFlags;
 pub use locations::{Location, NodeRef};
 pub use mounts::{Mount, Propagation};
 pub use numbers::{FilesystemId, GroupId, MountId, NamespaceId};
-
-#[cfg(test)]
-mod tests;

@@ -1,6 +1,9 @@
-//! What walks and rules look at in a world, as a trait: they are the same however the state is kept.
+//! What walks and rules look at in a world, as a trait: they are the same however the state is kept. And the places where
+//! walks end, which the rules are asked of.
 #![tactic(auto)]
 
 mod look;
+mod places;
 
 pub use look::{Attachment, Look, LookAtMounts};
+pub use places::{LastWord, Place};

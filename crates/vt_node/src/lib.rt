@@ -11,6 +11,3 @@ pub(crate) use entries::DirectoryEntries;
 pub use nodes::{LARGEST_FILE, Node};
 pub use numbers::NodeId;
 pub use vt_spec::attributes::{Attr, Kind, Mode};
-
-#[cfg(test)]
-mod tests;

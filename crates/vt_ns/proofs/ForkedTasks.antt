@@ -13,7 +13,7 @@ use Rattle.vt_spec.specs.Machine.Settled.{without_dead_mounts}
 use Rattle.vt_spec.specs.Machine.World.{Task, all_locations, locations_of, mount_at, task_called}
 use Rattle.vt_spec.specs.Machine.Invariants.{is_located_well}
 use Rattle.vt_spec.specs.Rights.{Credentials}
-use Rattle.vt_fs.proofs.Exchanged.{counted_test}
+use Rattle.vt_location.proofs.NumberLemmas.{counted_test}
 use Rattle.vt_fs.specs.FilesystemsValue.{Filesystems}
 use Rattle.vt_letting_go.specs.Counts.{times}
 use Rattle.vt_letting_go.proofs.Lists.{Among, among-append_left, among-append_right, among-from_map, among_from_all, map_alike, map_twice, passes}

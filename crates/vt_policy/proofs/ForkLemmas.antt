@@ -9,7 +9,7 @@ use Rattle.vt_spec.specs.Machine.Judge.{fork_permit}
 use Rattle.vt_spec.specs.Machine.Permits.Permit.{ToFork}
 use Rattle.vt_spec.specs.Machine.Rules.Conditions.{lacks}
 use Rattle.vt_spec.specs.Machine.World.{Task}
-use Rattle.vt_policy.proofs.Rows.{skipped}
+use Rattle.vt_rules.proofs.Rows.{skipped}
 
 differs : (a : ℕ) (lacking : Bool) → (not (a == a) && lacking) ≡ false
 differs a lacking = ap (λ same. not same && lacking) (eq-eqb a a refl)

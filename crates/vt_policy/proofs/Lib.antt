@@ -1,10 +1,5 @@
 mod ForkLemmas
-mod Judged
 mod MountLemmas
 mod MoveLemmas
 mod PlaceLemmas
-mod PlainRows
-mod Refusals
-mod RenameLemmas
-mod Rows
 mod WalkEnds

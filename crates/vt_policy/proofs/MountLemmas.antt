@@ -14,8 +14,8 @@ use Rattle.vt_spec.specs.Machine.Rules.Mounting.{bind_rules, destination_walk, m
 use Rattle.vt_spec.specs.Machine.Walking.{Here, directory_walk, walk_end}
 use Rattle.vt_spec.specs.Machine.World.{Task}
 use Rattle.vt_spec.specs.Rights.{cap_sys_admin}
-use Rattle.vt_policy.specs.Tables.{root_walk}
-use Rattle.vt_policy.proofs.Rows.{skipped}
+use Rattle.vt_policy.specs.Ends.{root_walk}
+use Rattle.vt_rules.proofs.Rows.{skipped}
 
 -- where a walk ends
 abbrev pub Reaches : Result (Here ℕ) Deny → Location ℕ → Type 0

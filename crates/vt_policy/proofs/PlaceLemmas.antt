@@ -21,9 +21,9 @@ use Rattle.vt_spec.specs.Tree.{Node}
 use Rattle.vt_location.specs.declared.locations.Location.{Location}
 use Rattle.vt_location.specs.Locations.{location_of}
 use Rattle.vt_looks.specs.Looking.{HasNoOverlays}
-use Rattle.vt_policy.specs.Tables.{remove_rules}
-use Rattle.vt_policy.proofs.PlainRows.{has_an_upper, mounter_may, neither}
-use Rattle.vt_policy.proofs.Rows.{kept, skipped}
+use Rattle.vt_rules.specs.Tables.{remove_rules}
+use Rattle.vt_rules.proofs.PlainRows.{has_an_upper, mounter_may, neither}
+use Rattle.vt_rules.proofs.Rows.{kept, skipped}
 
 -- what comes after a walk that has ended
 pub went : {A B : Type 0} (end : Result A Deny) (a : A) (next : A → Result B Deny) → end ≡ Ok a → and_then end next ≡ next a

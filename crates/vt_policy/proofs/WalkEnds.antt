@@ -4,7 +4,7 @@ use Rattle.vt_spec.specs.declared.errors.Deny.{Deny}
 use Rattle.vt_spec.specs.Machine.Walking as walked
 use Rattle.vt_location.specs.declared.locations.Location.{Location}
 use Rattle.vt_location.specs.Locations.{location_of}
-use Rattle.vt_walk.specs.declared.words.Place.{Place}
+use Rattle.vt_looks.specs.declared.places.Place.{Place}
 use Rattle.vt_walk.specs.WalkValue.{location_end, location_result, place_end, place_of, place_result, without_steps}
 use Rattle.vt_policy.specs.Ends.{EndsAt, EndsAtPlace}
 

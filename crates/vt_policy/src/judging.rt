@@ -13,11 +13,12 @@ use crate::looking::{exec, list, lstat, read, readlink, stat};
 use crate::making::{link, mkdir, symlink, write};
 use crate::mounting::{bind, lazy, mount_plain, move_mount, remount, set_type, umount};
 use crate::removing::{rename, rmdir, unlink};
-use crate::tasks::{chdir, chroot, fork, named, permission_bits, setns, unshare};
+use crate::tasks::{chdir, chroot, fork, permission_bits, setns, unshare};
 use std::alloc::Global;
-use vt_looks::{Look, LookAtMounts};
+use vt_looks::LookAtMounts;
 use vt_permits::Permit;
 use vt_request::Call;
+use vt_rules::named;
 use vt_spec::errors::Deny;
 use vt_tasks::Task;
 

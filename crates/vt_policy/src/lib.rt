@@ -9,7 +9,6 @@ mod making;
 mod mounting;
 mod paths;
 mod removing;
-mod rights;
 mod tasks;
 
 pub use attributes::{chmod, chown};
@@ -19,4 +18,4 @@ pub use looking::{exec, list, lstat, read, readlink, stat};
 pub use making::{link, mkdir, symlink, write};
 pub use mounting::{bind, lazy, mount_plain, move_mount, remount, set_type, umount};
 pub use removing::{rename, rmdir, unlink};
-pub use tasks::{chdir, chroot, fork, named, permission_bits, setns, unshare};
+pub use tasks::{chdir, chroot, fork, permission_bits, setns, unshare};

@@ -5,11 +5,11 @@ ghost use Rattle.vt_permits.specs.Memory.{JudgesAlike};
 ghost use Rattle.vt_tasks.specs.TaskValue.{task_of};
 
 use crate::paths::{directory_at, object_at, symlink_at};
-use crate::rights::{is_directory, is_kind, is_noexec, may};
 use vt_cred::Rights;
 use vt_looks::Look;
 use vt_node::Kind;
 use vt_permits::Permit;
+use vt_rules::{is_directory, is_kind, is_noexec, may};
 use vt_spec::errors::{Deny, Rule};
 use vt_tasks::Task;
 

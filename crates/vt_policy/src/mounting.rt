@@ -1,50 +1,21 @@
 //! Mount calls: mount(2) in its forms, umount(2).
-ghost use Rattle.std.specs.Prelude.{◌≡◌, is_some, nat_eq, Err, IfErr, IfOk, Ok};
-ghost use Rattle.vt_spec.specs.Errors.{unless};
+ghost use Rattle.std.specs.Prelude.{◌≡◌, nat_eq, Err, IfErr, IfOk};
 ghost use Rattle.vt_spec.specs.Machine.Judge.{bind_permit, lazy_permit, mount_plain_permit, move_permit, remount_permit, type_permit, umount_permit};
-ghost use Rattle.vt_spec.specs.Machine.Rules.Mounting.{has_shared_parent};
 ghost use Rattle.vt_location.specs.Flags.{flags_of};
-ghost use Rattle.vt_location.specs.Locations.{location_of};
-ghost use Rattle.vt_location.specs.Numbers.{counted};
 ghost use Rattle.vt_permits.specs.Memory.{JudgesAlike, JudgesByReceivers};
 ghost use Rattle.vt_request.specs.Requests.{type_word_of};
 ghost use Rattle.vt_tasks.specs.TaskValue.{task_of};
-ghost use Rattle.vt_policy.specs.Tables.{IsRootAt, move_table, root_walk};
+ghost use Rattle.vt_policy.specs.Ends.{IsRootAt, root_walk};
 
 use crate::paths::{destination_at, directory_at, source_at};
-use crate::rights::{is_elsewhere, is_no_root, is_shared, is_unbindable, lacks};
 use vt_cred::Caps;
-use vt_location::{Location, Mount, MountFlags, MountId};
+use vt_location::{Location, MountFlags};
 use vt_looks::{Attachment, Look, LookAtMounts};
 use vt_permits::Permit;
 use vt_request::TypeWord;
+use vt_rules::{is_attached_somewhere, is_elsewhere, is_no_root, is_unbindable, lacks, may_move};
 use vt_spec::errors::{Deny, Rule};
 use vt_tasks::Task;
-
-// Whether a mount has a mount point; the root mount of a namespace has none.
-fn is_attached_somewhere<L: Look>(world: &L, mount: MountId) -> bool
-    ensures { result ≡ is_some ((L.looks world.now).mount (counted mount.count)).mount_point }
-{
-    match world.mount(mount) {
-        Some(mount) => mount.mount_point.is_some(),
-        None => false,
-    }
-}
-
-// Whether the mount of a location stands on a shared mount.
-fn has_shared_parent<L: Look>(world: &L, at: Location) -> bool
-    ensures { result ≡ has_shared_parent (L.looks world.now) (location_of at) }
-{
-    match world.mount(at.mount) {
-        Some(
-            Mount {
-                mount_point: Some(place),
-                ..
-            },
-        ) => is_shared(world, place.mount),
-        _ => false,
-    }
-}
 
 // The root of a mount of the caller's namespace, to which a path leads: K1 (EPERM), and after the rules of the walk M2
 // (EINVAL), M7 (EINVAL).
@@ -63,33 +34,6 @@ fn root_at<L: Look>(world: &L, who: &Task, path: &[u8]) -> Result<Location, Deny
         return Err(Rule::M7.denial());
     }
     Ok(here)
-}
-
-// A mount may move: M2 (EINVAL), M4 (EINVAL), M5 (EINVAL), M6 (ELOOP), M7 (EINVAL).
-fn may_move<L: LookAtMounts>(
-    world: &L,
-    who: &Task,
-    source: Location,
-    place: Location,
-) -> Result<(), Deny>
-    ensures { result ≡ unless (move_table (L.looks world.now) (task_of who.now) (location_of source) (location_of place)) (Ok tt) }
-{
-    if is_elsewhere(world, who, source) || is_elsewhere(world, who, place) {
-        return Err(Rule::M2.denial());
-    }
-    if has_shared_parent(world, source) {
-        return Err(Rule::M4.denial());
-    }
-    if is_shared(world, place.mount) && world.has_unbindable(source.mount) {
-        return Err(Rule::M5.denial());
-    }
-    if world.is_at_or_below(source.mount, place.mount) {
-        return Err(Rule::M6.denial());
-    }
-    if is_no_root(world, source) {
-        return Err(Rule::M7.denial());
-    }
-    Ok(())
 }
 
 /// K1 (EPERM), and after the rules of the walk M2 (EINVAL), M9 (ENOSPC).

@@ -1,5 +1,5 @@
 //! Where paths as bytes lead: path_resolution(7).
-ghost use Rattle.std.specs.Prelude.{◌≡◌, is_some, nat_eq, true, Bool, Err, IfErr, IfOk};
+ghost use Rattle.std.specs.Prelude.{◌≡◌, is_some, nat_eq, true, Err, IfErr, IfOk};
 ghost use Rattle.vt_spec.specs.Machine.Rules.Mounting.{destination_walk, source_walk};
 ghost use Rattle.vt_spec.specs.Machine.Rules.Removing.{rename_new_walk};
 ghost use Rattle.vt_spec.specs.Machine.Walking.{directory_walk, file_walk, new_leaf_walk, new_walk, object_walk, old_leaf_walk, old_walk, symlink_walk, walk_end};
@@ -7,11 +7,10 @@ ghost use Rattle.vt_tasks.specs.TaskValue.{task_of};
 ghost use Rattle.vt_policy.specs.Ends.{EndsAt, EndsAtPlace};
 
 use vt_location::Location;
-use vt_looks::Look;
+use vt_looks::{Look, Place};
 use vt_spec::errors::Deny;
 use vt_tasks::Task;
 use vt_text::path::PathText;
-use vt_walk::Place;
 
 /// The object that a path leads to, a final symlink followed.
 pub(crate) fn object_at<L: Look>(world: &L, who: &Task, path: &[u8]) -> Result<Location, Deny>

@@ -1,36 +1,19 @@
 //! Calls on tasks and namespaces: chdir(2), chroot(2), fork(2), setuid(2), setgroups(2), capset(2), unshare(2), setns(2).
-ghost use Rattle.std.specs.Prelude.{◌≡◌, ◌||◌, length, nat_eq, nat_le, option_map, None, Ok, Some};
-ghost use Rattle.vt_spec.specs.Language.Limits.{deepest_name, most_forks};
-ghost use Rattle.vt_spec.specs.Errors.{unless};
+ghost use Rattle.std.specs.Prelude.{◌≡◌, nat_eq, option_map, None};
 ghost use Rattle.vt_spec.specs.Machine.Judge.{chdir_permit, chroot_permit, fork_permit, setns_permit, unshare_permit};
-ghost use Rattle.vt_spec.specs.Machine.Outcome.Tasks.{capabilities_of, child_credentials, permission_bits};
-ghost use Rattle.vt_spec.specs.Machine.Rules.Tasks.{enter_rules, fork_rules};
-ghost use Rattle.vt_cred.specs.Caps.{capability_bits};
-ghost use Rattle.vt_location.specs.Locations.{location_of};
+ghost use Rattle.vt_spec.specs.Machine.Outcome.Tasks.{permission_bits};
 ghost use Rattle.vt_permits.specs.Memory.{Judges, JudgesAlike};
-ghost use Rattle.vt_request.specs.Requests.{capabilities_of as word_of, fork_words_of};
+ghost use Rattle.vt_request.specs.Requests.{fork_words_of};
 ghost use Rattle.vt_tasks.specs.TaskValue.{task_of};
 
 use crate::paths::directory_at;
-use crate::rights::{lacks, may};
-use vt_cred::{Caps, Cred, Mode, Rights};
-use vt_location::Location;
+use vt_cred::{Caps, Cred, Mode};
 use vt_looks::Look;
 use vt_permits::Permit;
-use vt_request::{CapsWord, ForkWords, TaskName};
+use vt_request::{ForkWords, TaskName};
+use vt_rules::{is_barren, lacks, may_enter, may_fork, named};
 use vt_spec::errors::{Deny, Rule};
-use vt_tasks::{MAX_DEPTH, MAX_FORKS, Task};
-
-// A directory may be entered: C1 (EACCES).
-fn may_enter<L: Look>(world: &L, who: &Task, directory: Location) -> Result<(), Deny>
-    ensures { result ≡ unless (enter_rules (L.looks world.now) (task_of who.now) (location_of directory)) (Ok tt) }
-{
-    world.has_no_overlays();
-    if !may(world, who, directory, Rights::SEARCH) {
-        return Err(Rule::C1.denial());
-    }
-    Ok(())
-}
+use vt_tasks::Task;
 
 /// After the rules of the walk: C1 (EACCES).
 #[tactic(auto, unfolding(vt_spec::specs::Machine::Judge::chdir_permit))]
@@ -55,51 +38,11 @@ pub fn chroot<L: Look>(world: &L, who: &Task, path: &[u8]) -> Result<Permit, Den
     Ok(Permit::ToSetRoot { root })
 }
 
-/// The capabilities that a word names.
-pub fn named(who: &Cred, caps: CapsWord) -> Caps
-    ensures { capability_bits result ≡ capabilities_of (word_of caps) who.now }
-{
-    match caps {
-        CapsWord::Held => who.caps(),
-        CapsWord::Named(caps) => caps,
-    }
-}
-
 /// A mode's permission bits: umask(2).
 pub fn permission_bits(mode: Mode) -> Mode
     ensures { result ≡ permission_bits mode }
 {
     Mode::new(mode.bits() & 0o777).unwrap()
-}
-
-// Whether the task has no more forks, or its name can have no more numbers.
-fn is_barren(who: &Task) -> bool
-    ensures { result ≡ (nat_le most_forks (task_of who.now).forks || nat_le deepest_name (length (task_of who.now).name)) }
-{
-    who.forks >= MAX_FORKS || who.name.numbers().len() >= MAX_DEPTH
-}
-
-// The child may have these credentials: S6 (ENOSPC), K1 (EPERM).
-fn may_fork(who: &Task, child: &ForkWords) -> Result<(), Deny>
-    ensures { result ≡ unless (fork_rules (task_of who.now)
-        (child_credentials (task_of who.now).credentials (Some (fork_words_of child.now)))) (Ok tt) }
-{
-    if is_barren(who) {
-        return Err(Rule::S6.denial());
-    }
-    let cred = &who.cred;
-    if child.uid != cred.uid() && !cred.has(Caps::CAP_SETUID) {
-        return Err(Rule::K1.denial());
-    }
-    if (child.gid != cred.gid() || child.groups.as_slice() != cred.groups())
-        && !cred.has(Caps::CAP_SETGID)
-    {
-        return Err(Rule::K1.denial());
-    }
-    if !cred.has(named(cred, child.caps)) {
-        return Err(Rule::K1.denial());
-    }
-    Ok(())
 }
 
 /// S6 (ENOSPC), K1 (EPERM).

@@ -8,6 +8,3 @@ pub mod task;
 pub use answer::{Answer, MountLine, Spot, StatLine, TypeLine};
 pub use request::{Access, Call, CapsWord, Creation, ForkWords, TypeWord};
 pub use task::TaskName;
-
-#[cfg(test)]
-mod tests;

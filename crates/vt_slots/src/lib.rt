@@ -4,6 +4,3 @@
 mod table;
 
 pub use table::Slots;
-
-#[cfg(test)]
-mod tests;

@@ -9,6 +9,3 @@ mod tasks;
 pub use descriptors::{Descriptors, MAX_DESCRIPTORS, OpenFile};
 pub use task::{Left, MAX_DEPTH, MAX_FORKS, Task};
 pub use tasks::Tasks;
-
-#[cfg(test)]
-mod tests;

@@ -38,3 +38,27 @@ fn after_a_failed_write_the_answers_have_begun(rt: HostRuntime) -> Result<(), Fa
     }
     Ok(())
 }
+
+// What each failure says.
+const TEXTS: [(RunFault, &str); 3] = [
+    (
+        RunFault::Read,
+        "the script could not be read to its end; the complete lines before that were answered",
+    ),
+    (
+        RunFault::Write,
+        "the answers could not be written; what came out is a beginning of them",
+    ),
+    (
+        RunFault::Memory,
+        "memory was refused before the script was read",
+    ),
+];
+
+#[test]
+fn a_failure_says_what_was_answered(rt: HostRuntime) -> Result<(), Fail> {
+    for (fault, text) in &TEXTS {
+        assert_eq!(rt; fault.to_string(rt.alloc())?.as_str(), *text);
+    }
+    Ok(())
+}

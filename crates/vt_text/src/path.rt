@@ -181,6 +181,3 @@ impl<'a> PathText<'a> {
         self.text.last() == Some(&b'/')
     }
 }
-
-#[cfg(test)]
-mod tests;

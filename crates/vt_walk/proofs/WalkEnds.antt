@@ -6,7 +6,7 @@ use Rattle.vt_spec.specs.Machine.Mounts.{Location}
 use Rattle.vt_spec.specs.Machine.Walking.{Here, Place, Stop, walk_end}
 use Rattle.vt_location.specs.declared.locations.Location.{Location as CodeLocation}
 use Rattle.vt_location.specs.Locations.{location_of}
-use Rattle.vt_walk.specs.declared.words.Place.{Place as CodePlace}
+use Rattle.vt_looks.specs.declared.places.Place.{Place as CodePlace}
 use Rattle.vt_walk.specs.WalkValue.{location_end, place_end, place_of, without_steps}
 
 -- A walk to an object, and what comes after it, which looks at the location alone

@@ -4,24 +4,16 @@ use Rattle.vt_spec.specs.declared.errors.Deny.{Deny}
 use Rattle.vt_spec.specs.Errors.{and_then}
 use Rattle.vt_spec.specs.Machine.Looks.{Looks, is_directory_at, topmost}
 use Rattle.vt_spec.specs.Machine.Mounts.{Location as LocationMeant}
-use Rattle.vt_spec.specs.Machine.Walking.{Here as HereMeant, LastWord as WordMeant, Place as PlaceMeant, is_special, object_named}
-use Rattle.vt_spec.specs.Machine.Walking.LastWord.{Dot as MeansDot, DotDot as MeansDotDot, Named as MeansNamed, NoWord as MeansNoWord}
+use Rattle.vt_spec.specs.Machine.Walking.{Here as HereMeant, Place as PlaceMeant, is_special, object_named}
 use Rattle.vt_spec.specs.Machine.World.{Task}
 use Rattle.vt_spec.specs.Tree.{Node}
 use Rattle.vt_location.specs.declared.locations.Location.{Location}
 use Rattle.vt_location.specs.Locations.{location_of}
+use Rattle.vt_looks.specs.declared.places.Place.{Place}
 use Rattle.vt_looks.specs.Looking.{node_seen}
+use Rattle.vt_looks.specs.Places.{last_of}
 use Rattle.vt_walk.specs.declared.here.Here.{Here}
-use Rattle.vt_walk.specs.declared.words.LastWord.{LastWord}
-use Rattle.vt_walk.specs.declared.words.LastWord.TheVariants.{Dot, DotDot, Named, NoWord}
-use Rattle.vt_walk.specs.declared.words.Place.{Place}
 use Rattle.vt_walk.specs.PlainWalks.{standing}
-
-abbrev pub last_of : LastWord → WordMeant
-last_of NoWord = MeansNoWord
-last_of Dot = MeansDot
-last_of DotDot = MeansDotDot
-last_of (Named name) = MeansNamed name.now
 
 -- Code keeps no record of the filesystems that a walk meets.
 

@@ -12,4 +12,3 @@ pub use places::{
     file_walk, new_leaf_walk, new_walk, old_leaf_walk, old_walk, place_walk, rename_new_walk,
 };
 pub use walks::{destination_walk, directory_walk, object_walk, source_walk, symlink_walk};
-pub use words::{LastWord, Place};

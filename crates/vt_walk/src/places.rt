@@ -8,15 +8,16 @@ ghost use Rattle.vt_location.specs.Locations.{location_of};
 ghost use Rattle.vt_tasks.specs.TaskValue.{task_of};
 ghost use Rattle.vt_text.specs.Walkable.{IsWalkable};
 ghost use Rattle.vt_walk.specs.PlainWalks.{entered, file_walked, placed};
-ghost use Rattle.vt_walk.specs.WalkValue.{IsFilePlace, IsPlace, here_of, last_of, place_end, place_of, place_result};
+ghost use Rattle.vt_looks.specs.Places.{last_of};
+ghost use Rattle.vt_walk.specs.WalkValue.{IsFilePlace, IsPlace, here_of, place_end, place_of, place_result};
 
 use crate::here::{Here, MOST_LINKS};
 use crate::steps::{
     is_directory_at, link_begun, object_named, searched, symlink_text, words_walked,
 };
-use crate::words::{LastWord, Place, front_and_last};
+use crate::words::front_and_last;
 use vt_location::Location;
-use vt_looks::Look;
+use vt_looks::{LastWord, Look, Place};
 use vt_spec::errors::{Deny, Rule};
 use vt_tasks::Task;
 use vt_text::link;

@@ -12,15 +12,15 @@ ghost use Rattle.vt_looks.specs.Looking.{node_seen};
 ghost use Rattle.vt_tasks.specs.TaskValue.{task_of};
 ghost use Rattle.vt_walk.specs.PendingTexts.{link_passed, walked_on_from};
 ghost use Rattle.vt_walk.specs.PlainWalks.{Follow, followed, last_walked, symlink_start, word_led, words_walked};
-ghost use Rattle.vt_walk.specs.WalkValue.{IsNodeAt, here_of, here_result, last_of, location_result, named_result};
+ghost use Rattle.vt_looks.specs.Places.{last_of};
+ghost use Rattle.vt_walk.specs.WalkValue.{IsNodeAt, here_of, here_result, location_result, named_result};
 
 use crate::here::{Here, MOST_TEXTS, start_of};
 use crate::upward::step_up;
-use crate::words::LastWord;
 use arrayvec::ArrayVec;
 use vt_cred::{Rights, allows};
 use vt_location::{Location, NodeRef};
-use vt_looks::Look;
+use vt_looks::{LastWord, Look};
 use vt_node::{Kind, Node};
 use vt_spec::errors::{Deny, Rule};
 use vt_tasks::Task;

@@ -1,72 +1,13 @@
-//! The last words of paths, and the places that they name.
+//! The last word of a path, and those before it.
 ghost use Rattle.std.specs.Prelude.{◌≡◌, reverse};
 ghost use Rattle.vt_spec.specs.Lists.{rest_of};
-ghost use Rattle.vt_spec.specs.Machine.Walking.{last_word, final_word, is_no_word, is_special, name_of};
+ghost use Rattle.vt_spec.specs.Machine.Walking.{final_word};
 ghost use Rattle.vt_spec.specs.PathText.{words};
-ghost use Rattle.vt_walk.specs.WalkValue.{last_of};
+ghost use Rattle.vt_looks.specs.Places.{last_of};
 
-use vt_location::Location;
+use vt_looks::LastWord;
 use vt_text::link;
 use vt_text::path::Words;
-
-/// The last word of a path, as a call that names an object takes it. A path of slashes alone has none.
-#[derive(Clone, Copy, Debug)]
-pub enum LastWord<'a> {
-    NoWord,
-    Dot,
-    DotDot,
-    Named(&'a [u8]),
-}
-
-impl<'a> LastWord<'a> {
-    pub(crate) fn of(word: &'a [u8]) -> LastWord<'a>
-        ensures { last_of result ≡ last_word word.now }
-    {
-        if word == b".".as_slice() {
-            LastWord::Dot
-        } else if word == b"..".as_slice() {
-            LastWord::DotDot
-        } else {
-            LastWord::Named(word)
-        }
-    }
-
-    /// Whether it names no entry of a directory.
-    pub fn is_special(&self) -> bool
-        ensures { result ≡ is_special (last_of self.now) }
-    {
-        match self {
-            LastWord::Named(_) => false,
-            _ => true,
-        }
-    }
-
-    // Whether there is none.
-    pub(crate) fn is_no_word(&self) -> bool
-        ensures { result ≡ is_no_word (last_of self.now) }
-    {
-        matches!(self, LastWord::NoWord)
-    }
-
-    /// The name; empty for a word that names no entry.
-    pub fn name(&self) -> &'a [u8]
-        ensures { result.now ≡ name_of (last_of self.now) }
-    {
-        match self {
-            LastWord::Named(name) => name,
-            _ => &[],
-        }
-    }
-}
-
-/// Where a parent walk ends: the directory, the last word in it, the object there, if any, and whether a slash follows the word.
-#[derive(Clone, Copy, Debug)]
-pub struct Place<'a> {
-    pub parent: Location,
-    pub last: LastWord<'a>,
-    pub object: Option<Location>,
-    pub slash: bool,
-}
 
 // The words of a text before its last, and that one.
 pub(crate) fn front_and_last(text: &[u8]) -> (Words<'_>, LastWord<'_>)

@@ -6,7 +6,7 @@ use Rattle.vt_spec.specs.Machine.Walking.{object_walk, walk_end}
 use Rattle.vt_spec.specs.Rights.{owns}
 use Rattle.vt_location.specs.Locations.{location_of}
 use Rattle.vt_tasks.specs.TaskValue.{task_of}
-use Rattle.vt_policy.proofs.Judged.{answers_alike}
+use Rattle.vt_rules.proofs.Judged.{answers_alike}
 use Rattle.vt_policy.proofs.MountLemmas.{reached}
 use Rattle.vt_policy.proofs.attributes.chmod.Goals as goal
 
@@ -18,9 +18,9 @@ returns g c =
     let at = location_of c.in_ok-object.object in
     let old = c.attr_at-old.result in
     answers_alike task (chmod_permit nat_eq looks task c.args.path.now c.args.mode)
-    (attr_permit nat_eq looks at c.owns.result (attr_with_mode old c.args.mode)) c.set_attr.result
+    (attr_permit nat_eq looks at c.owns.result (attr_with_mode old c.args.mode)) c.attr_permit.result
     (reached (walk_end (object_walk nat_eq looks task c.args.path.now)) at
     (λ at. attr_permit nat_eq looks at (owns task.credentials (attr_at looks at)) (attr_with_mode (attr_at looks at) c.args.mode)) c.in_ok-object.ensures.ok
     ∙ ap (λ attr. attr_permit nat_eq looks at (owns task.credentials attr) (attr_with_mode attr c.args.mode)) (sym c.attr_at-old.ensures)
     ∙ ap (λ allowed. attr_permit nat_eq looks at allowed (attr_with_mode old c.args.mode)) (sym c.owns.ensures.value))
-    c.set_attr.ensures
+    c.attr_permit.ensures

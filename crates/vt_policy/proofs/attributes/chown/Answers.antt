@@ -6,7 +6,7 @@ use Rattle.vt_spec.specs.Machine.Rules.Attributes.{attr_at}
 use Rattle.vt_spec.specs.Machine.Walking.{object_walk, walk_end}
 use Rattle.vt_location.specs.Locations.{location_of}
 use Rattle.vt_tasks.specs.TaskValue.{task_of}
-use Rattle.vt_policy.proofs.Judged.{answers_alike}
+use Rattle.vt_rules.proofs.Judged.{answers_alike}
 use Rattle.vt_policy.proofs.MountLemmas.{reached}
 use Rattle.vt_policy.proofs.attributes.chown.Goals as goal
 
@@ -21,7 +21,7 @@ returns g c =
     let owner : attr_with_owner old c.args.uid c.args.gid ≡ new =
     (λ i. record { uid = sym c.unwrap_or.ensures i; gid = sym c.unwrap_or-2.ensures i; mode = old.mode }) in
     answers_alike task (chown_permit nat_eq looks task c.args.path.now c.args.uid c.args.gid)
-    (attr_permit nat_eq looks at c.may_chown.result new) c.set_attr.result
+    (attr_permit nat_eq looks at c.may_chown.result new) c.attr_permit.result
     (reached (walk_end (object_walk nat_eq looks task c.args.path.now)) at
     (λ at. attr_permit nat_eq looks at
     (may_chown task.credentials (attr_at looks at) (attr_with_owner (attr_at looks at) c.args.uid c.args.gid))
@@ -30,4 +30,4 @@ returns g c =
     (attr_with_owner attr c.args.uid c.args.gid)) (sym c.attr_at-old.ensures)
     ∙ ap (λ attr. attr_permit nat_eq looks at (may_chown task.credentials old attr) attr) owner
     ∙ ap (λ allowed. attr_permit nat_eq looks at allowed new) (sym c.may_chown.ensures))
-    c.set_attr.ensures
+    c.attr_permit.ensures

@@ -7,9 +7,9 @@ use Rattle.vt_spec.specs.Machine.Walking.{object_walk, walk_end}
 use Rattle.vt_location.specs.Locations.{location_of}
 use Rattle.vt_request.specs.Requests.{access_of}
 use Rattle.vt_tasks.specs.TaskValue.{task_of}
-use Rattle.vt_policy.proofs.Judged.{answers_without}
+use Rattle.vt_rules.proofs.Judged.{answers_without}
 use Rattle.vt_policy.proofs.MountLemmas.{reached}
-use Rattle.vt_policy.proofs.Rows.{skipped}
+use Rattle.vt_rules.proofs.Rows.{skipped}
 use Rattle.vt_policy.proofs.descriptors.open.Goals as goal
 
 pub returns-in_ok-file-in-Never : goal.returns-in_ok-file-in-Never
@@ -20,7 +20,7 @@ returns-in_ok-file-in-Never g c =
     let access = access_of c.args.access in
     let at = location_of c.in_ok-file-in-Never.file in
     rw c.in-Never.is (answers_without task (open_permit nat_eq looks task c.args.path.now access NoCreation)
-    (open_file_permit nat_eq looks task at access) c.open_there.result
+    (open_file_permit nat_eq looks task at access) c.open_file_permit.result
     (skipped (nat_le most_descriptors (length task.descriptors)) S3 [] _ (search rules)
     ∙ reached (walk_end (object_walk nat_eq looks task c.args.path.now)) at (λ at. open_file_permit nat_eq looks task at access) c.in_ok-file-in-Never.ensures.ok)
-    c.open_there.ensures)
+    c.open_file_permit.ensures)

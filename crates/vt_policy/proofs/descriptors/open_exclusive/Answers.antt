@@ -5,9 +5,9 @@ use Rattle.vt_spec.specs.Machine.Judge.{create_file_permit, open_by_permit}
 use Rattle.vt_spec.specs.Machine.Walking.{is_special, new_walk, walk_end}
 use Rattle.vt_request.specs.Requests.{access_of}
 use Rattle.vt_tasks.specs.TaskValue.{task_of}
-use Rattle.vt_policy.proofs.Judged.{answers}
+use Rattle.vt_rules.proofs.Judged.{answers}
 use Rattle.vt_policy.proofs.PlaceLemmas.{is_some_mapped, went}
-use Rattle.vt_policy.proofs.Rows.{skipped}
+use Rattle.vt_rules.proofs.Rows.{skipped}
 use Rattle.vt_policy.proofs.descriptors.open_exclusive.Goals as goal
 
 pub returns : goal.returns
@@ -17,9 +17,9 @@ returns g c =
     let access = access_of c.args.access in
     let at = c.in_ok-place.ensures.ok in
     answers task (open_by_permit nat_eq looks task c.args.path.now access (Exclusive c.args.mode))
-    (create_file_permit nat_eq looks task at.0 access c.args.mode) c.open_new.result
+    (create_file_permit nat_eq looks task at.0 access c.args.mode) c.create_file_permit.result
     (went (walk_end (new_walk nat_eq looks task c.args.path.now)) at.0 _ at.1
     ∙ skipped (is_special at.0.last) E1 _ _ (ap is_special at.2.last ∙ sym c.is_special.ensures ∙ c.if-is_special.false)
     ∙ skipped at.0.slash E2 _ _ (at.2.slash ∙ c.if-place.false)
     ∙ skipped (is_some at.0.object) E1 [] _ (ap is_some at.2.object ∙ is_some_mapped c.in_ok-place.place.object ∙ sym c.is_some.ensures ∙ c.if-is_some.false))
-    (c.open_new.ensures at.0 at.2)
+    (c.create_file_permit.ensures at.0 at.2)

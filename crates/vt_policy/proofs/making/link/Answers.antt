@@ -8,7 +8,7 @@ use Rattle.vt_spec.specs.Machine.Walking.{is_special, name_of}
 use Rattle.vt_location.proofs.NumberLemmas.{counted_test}
 use Rattle.vt_location.specs.Locations.{location_of}
 use Rattle.vt_tasks.specs.TaskValue.{task_of}
-use Rattle.vt_policy.proofs.Judged.{without_memory}
+use Rattle.vt_rules.proofs.Judged.{without_memory}
 use Rattle.vt_policy.proofs.PlaceLemmas.{is_some_mapped, link_asked}
 use Rattle.vt_policy.proofs.making.link.Goals as goal
 

@@ -6,9 +6,9 @@ use Rattle.vt_spec.specs.Machine.Rules.Making.{make_rules}
 use Rattle.vt_spec.specs.Machine.Walking.{Place, is_special, name_of, new_walk, walk_end}
 use Rattle.vt_spec.specs.Tree.{Node}
 use Rattle.vt_tasks.specs.TaskValue.{task_of}
-use Rattle.vt_policy.proofs.Judged.{refused, without_memory}
+use Rattle.vt_rules.proofs.Judged.{refused, without_memory}
 use Rattle.vt_policy.proofs.PlaceLemmas.{is_some_mapped, made_asked}
-use Rattle.vt_policy.proofs.Refusals.{unless-let_through, unless-stopped}
+use Rattle.vt_rules.proofs.Refusals.{unless-let_through, unless-stopped}
 use Rattle.vt_spec.specs.Machine.Outcome.Making.{directory_mode}
 use Rattle.vt_spec.specs.Machine.Rows.{new_attr}
 use Rattle.vt_spec.specs.Tree.{new_directory}

@@ -5,10 +5,10 @@ use Rattle.vt_spec.specs.Machine.Judge.{write_permit, written_permit}
 use Rattle.vt_spec.specs.Machine.Walking.{file_walk, is_special, walk_end}
 use Rattle.vt_location.specs.Locations.{location_of}
 use Rattle.vt_tasks.specs.TaskValue.{task_of}
-use Rattle.vt_policy.proofs.Judged.{answers, answers_without}
+use Rattle.vt_rules.proofs.Judged.{answers, answers_without}
 use Rattle.vt_policy.proofs.PlaceLemmas.{went}
-use Rattle.vt_policy.proofs.PlainRows.{neither}
-use Rattle.vt_policy.proofs.Rows.{skipped}
+use Rattle.vt_rules.proofs.PlainRows.{neither}
+use Rattle.vt_rules.proofs.Rows.{skipped}
 use Rattle.vt_policy.proofs.making.write.Goals as goal
 
 pub returns-in-Some : goal.returns-in-Some
@@ -18,11 +18,11 @@ returns-in-Some g c =
     let task = task_of c.args.who.now in
     let at = c.in_ok-place.ensures.ok in
     answers_without task (write_permit nat_eq looks task c.args.path.now c.args.bytes.items)
-    (written_permit nat_eq looks task at.0 c.args.bytes.items (Some (location_of c.in-Some.file))) c.rewritten.result
+    (written_permit nat_eq looks task at.0 c.args.bytes.items (Some (location_of c.in-Some.file))) c.rewrite_permit.result
     (went (walk_end (file_walk nat_eq looks task c.args.path.now)) at.0 _ at.1
     ∙ skipped (is_special at.0.last || at.0.slash) E2 [] _ (neither _ _ (ap is_special at.2.last ∙ sym c.is_special.ensures ∙ c.if-is_special.false) (at.2.slash ∙ c.if-place.false))
     ∙ ap (written_permit nat_eq looks task at.0 c.args.bytes.items) (at.2.object ∙ ap (option_map location_of) c.in-Some.is))
-    (c.rewritten.ensures at.0)
+    (c.rewrite_permit.ensures at.0)
 
 pub returns-in-None : goal.returns-in-None
 unfolding write_permit
@@ -31,8 +31,8 @@ returns-in-None g c =
     let task = task_of c.args.who.now in
     let at = c.in_ok-place.ensures.ok in
     answers task (write_permit nat_eq looks task c.args.path.now c.args.bytes.items)
-    (written_permit nat_eq looks task at.0 c.args.bytes.items None) c.written_new.result
+    (written_permit nat_eq looks task at.0 c.args.bytes.items None) c.new_file_permit.result
     (went (walk_end (file_walk nat_eq looks task c.args.path.now)) at.0 _ at.1
     ∙ skipped (is_special at.0.last || at.0.slash) E2 [] _ (neither _ _ (ap is_special at.2.last ∙ sym c.is_special.ensures ∙ c.if-is_special.false) (at.2.slash ∙ c.if-place.false))
     ∙ ap (written_permit nat_eq looks task at.0 c.args.bytes.items) (at.2.object ∙ ap (option_map location_of) c.in-None.is))
-    (c.written_new.ensures at.0 at.2)
+    (c.new_file_permit.ensures at.0 at.2)

@@ -5,10 +5,10 @@ use Rattle.vt_spec.specs.Machine.Judge.{bind_permit}
 use Rattle.vt_spec.specs.Machine.Permits.Permit.{ToBind}
 use Rattle.vt_location.specs.Locations.{location_of}
 use Rattle.vt_tasks.specs.TaskValue.{task_of}
-use Rattle.vt_policy.proofs.Judged.{no_receivers}
+use Rattle.vt_rules.proofs.Judged.{no_receivers}
 use Rattle.vt_policy.proofs.MountLemmas.{bind_asked}
-use Rattle.vt_policy.proofs.PlainRows.{neither}
-use Rattle.vt_policy.proofs.Rows.{skipped}
+use Rattle.vt_rules.proofs.PlainRows.{neither}
+use Rattle.vt_rules.proofs.Rows.{skipped}
 use Rattle.vt_policy.proofs.mounting.bind.Goals as goal
 
 pub returns-in_err-overfills : goal.returns-in_err-overfills

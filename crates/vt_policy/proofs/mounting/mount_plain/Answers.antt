@@ -6,9 +6,9 @@ use Rattle.vt_spec.specs.Machine.Permits.Permit.{ToMountPlain}
 use Rattle.vt_location.specs.Flags.{flags_of}
 use Rattle.vt_location.specs.Locations.{location_of}
 use Rattle.vt_tasks.specs.TaskValue.{task_of}
-use Rattle.vt_policy.proofs.Judged.{no_receivers}
+use Rattle.vt_rules.proofs.Judged.{no_receivers}
 use Rattle.vt_policy.proofs.MountLemmas.{mount_plain_asked}
-use Rattle.vt_policy.proofs.Rows.{skipped}
+use Rattle.vt_rules.proofs.Rows.{skipped}
 use Rattle.vt_policy.proofs.mounting.mount_plain.Goals as goal
 
 pub returns-in_err-overfills : goal.returns-in_err-overfills

@@ -6,9 +6,9 @@ use Rattle.vt_spec.specs.Machine.Looks.{mount_at}
 use Rattle.vt_spec.specs.Machine.Permits.Permit.{ToMove}
 use Rattle.vt_location.specs.Locations.{location_of}
 use Rattle.vt_tasks.specs.TaskValue.{task_of}
-use Rattle.vt_policy.proofs.Judged.{no_receivers_of_move, refused_before}
+use Rattle.vt_rules.proofs.Judged.{no_receivers_of_move, refused_before}
 use Rattle.vt_policy.proofs.MoveLemmas.{move_left, move_refused}
-use Rattle.vt_policy.proofs.Rows.{skipped, stopped}
+use Rattle.vt_rules.proofs.Rows.{skipped, stopped}
 use Rattle.vt_policy.proofs.mounting.move_mount.Goals as goal
 
 pub returns-in_err-may_move : goal.returns-in_err-may_move

@@ -5,7 +5,7 @@ use Rattle.vt_spec.specs.Machine.Judge.{umount_permit}
 use Rattle.vt_spec.specs.Machine.Looks.{mount_at}
 use Rattle.vt_spec.specs.Machine.Permits.Permit.{ToUnmount}
 use Rattle.vt_tasks.specs.TaskValue.{task_of}
-use Rattle.vt_policy.proofs.Judged.{refused_before}
+use Rattle.vt_rules.proofs.Judged.{refused_before}
 use Rattle.vt_policy.proofs.MountLemmas.{root_refused}
 use Rattle.vt_policy.proofs.mounting.umount.Goals as goal
 

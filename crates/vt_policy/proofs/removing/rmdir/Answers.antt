@@ -3,14 +3,14 @@ use Rattle.std.proofs.lemmas.Result.{err_from_is_err_and}
 use Rattle.vt_spec.specs.Machine.Judge.{rmdir_permit}
 use Rattle.vt_spec.specs.Machine.Permits.Permit.{ToRemoveDirectory}
 use Rattle.vt_spec.specs.Machine.Rules.Removing.{object_there}
-use Rattle.vt_walk.specs.WalkValue.{last_of}
+use Rattle.vt_looks.specs.Places.{last_of}
 use Rattle.vt_spec.specs.Machine.Walking.{name_of}
 use Rattle.vt_location.specs.Locations.{location_of}
 use Rattle.vt_tasks.specs.TaskValue.{task_of}
-use Rattle.vt_policy.specs.Tables.{remove_rules}
-use Rattle.vt_policy.proofs.Judged.{refused, without_memory}
+use Rattle.vt_rules.specs.Tables.{remove_rules}
+use Rattle.vt_rules.proofs.Judged.{refused, without_memory}
 use Rattle.vt_policy.proofs.PlaceLemmas.{there_mapped, rmdir_asked}
-use Rattle.vt_policy.proofs.Refusals.{unless-let_through, unless-stopped}
+use Rattle.vt_rules.proofs.Refusals.{unless-let_through, unless-stopped}
 use Rattle.vt_policy.proofs.removing.rmdir.Goals as goal
 
 pub returns-in_err-may_remove : goal.returns-in_err-may_remove

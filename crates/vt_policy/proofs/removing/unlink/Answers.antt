@@ -7,10 +7,10 @@ use Rattle.vt_spec.specs.Machine.Rules.Removing.{object_there, removing}
 use Rattle.vt_spec.specs.Machine.Walking.{is_special, name_of}
 use Rattle.vt_location.specs.Locations.{location_of}
 use Rattle.vt_tasks.specs.TaskValue.{task_of}
-use Rattle.vt_policy.specs.Tables.{remove_rules}
-use Rattle.vt_policy.proofs.Judged.{refused, without_memory}
+use Rattle.vt_rules.specs.Tables.{remove_rules}
+use Rattle.vt_rules.proofs.Judged.{refused, without_memory}
 use Rattle.vt_policy.proofs.PlaceLemmas.{there_mapped, unlink_asked}
-use Rattle.vt_policy.proofs.Refusals.{unless-let_through, unless-stopped}
+use Rattle.vt_rules.proofs.Refusals.{unless-let_through, unless-stopped}
 use Rattle.vt_policy.proofs.removing.unlink.Goals as goal
 
 pub returns-in_err-may_remove : goal.returns-in_err-may_remove

@@ -6,8 +6,8 @@ use Rattle.vt_spec.specs.Machine.Permits.Permit.{ToFork}
 use Rattle.vt_spec.specs.Machine.Rules.Tasks.{fork_rules}
 use Rattle.vt_request.specs.Requests.{fork_words_of}
 use Rattle.vt_tasks.specs.TaskValue.{task_of}
-use Rattle.vt_policy.proofs.Judged.{refused}
-use Rattle.vt_policy.proofs.Refusals.{unless-stopped}
+use Rattle.vt_rules.proofs.Judged.{refused}
+use Rattle.vt_rules.proofs.Refusals.{unless-stopped}
 use Rattle.vt_policy.proofs.tasks.fork.Goals as goal
 
 pub returns-in_default : goal.returns-in_default

@@ -3,7 +3,7 @@ use Rattle.vt_spec.specs.Machine.Judge.{fork_permit}
 use Rattle.vt_spec.specs.Machine.Permits.Permit.{ToFork}
 use Rattle.vt_tasks.specs.TaskValue.{task_of}
 use Rattle.vt_policy.proofs.ForkLemmas.{forked_alike}
-use Rattle.vt_policy.proofs.Judged.{without_memory}
+use Rattle.vt_rules.proofs.Judged.{without_memory}
 use Rattle.vt_policy.proofs.tasks.fork_alike.Goals as goal
 
 pub returns-in_default : goal.returns-in_default

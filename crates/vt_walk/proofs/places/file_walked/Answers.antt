@@ -2,7 +2,8 @@ use Rattle.std.proofs.Common.{Err, Ok, ap, arith, ◌∙◌}
 use Rattle.std.proofs.lemmas.Result.{err_from_is_err_and}
 use Rattle.vt_tasks.specs.TaskValue.{task_of}
 use Rattle.vt_walk.proofs.FilesWalked.{file_walk-begun, file_walk-over, file_walked-by, link-refused, next-turn, place-ended, place-refused}
-use Rattle.vt_walk.specs.WalkValue.{here_of, last_of, place_of}
+use Rattle.vt_looks.specs.Places.{last_of}
+use Rattle.vt_walk.specs.WalkValue.{here_of, place_of}
 use Rattle.vt_walk.proofs.places.file_walked.Goals as goal
 
 pub loop-link-init : goal.loop-link-init

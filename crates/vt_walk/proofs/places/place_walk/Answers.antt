@@ -4,7 +4,8 @@ use Rattle.vt_location.specs.Locations.{location_of}
 use Rattle.vt_tasks.specs.TaskValue.{task_of}
 use Rattle.vt_walk.proofs.WalksOfPaths.{place_walk-by}
 use Rattle.vt_walk.specs.PlainWalks.{placed}
-use Rattle.vt_walk.specs.WalkValue.{here_of, last_of}
+use Rattle.vt_looks.specs.Places.{last_of}
+use Rattle.vt_walk.specs.WalkValue.{here_of}
 use Rattle.vt_walk.proofs.places.place_walk.Goals as goal
 
 pub returns-in_err-here-clause-value : goal.returns-in_err-here-clause-value

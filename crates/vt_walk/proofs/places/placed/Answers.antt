@@ -3,7 +3,7 @@ use Rattle.std.proofs.lemmas.Result.{err_from_is_err_and}
 use Rattle.vt_location.specs.Locations.{location_of}
 use Rattle.vt_tasks.specs.TaskValue.{task_of}
 use Rattle.vt_walk.proofs.WalksOfPaths.{placed-refused, placed-searched}
-use Rattle.vt_walk.specs.WalkValue.{last_of}
+use Rattle.vt_looks.specs.Places.{last_of}
 use Rattle.vt_walk.proofs.places.placed.Goals as goal
 
 pub returns-in_err-directory-clause-value : goal.returns-in_err-directory-clause-value

@@ -5,7 +5,8 @@ use Rattle.vt_tasks.specs.TaskValue.{task_of}
 use Rattle.vt_walk.proofs.LeftToRight.{led-refused, led-walked, link-met, no-link, walk-ended, word-refused}
 use Rattle.vt_walk.proofs.NodeLemmas.{text-there}
 use Rattle.vt_walk.specs.PlainWalks.{word_walked}
-use Rattle.vt_walk.specs.WalkValue.{here_of, last_of}
+use Rattle.vt_looks.specs.Places.{last_of}
+use Rattle.vt_walk.specs.WalkValue.{here_of}
 use Rattle.vt_walk.proofs.steps.walked_to_link.Goals as goal
 
 pub returns-in_err-next-clause-value : goal.returns-in_err-next-clause-value

@@ -4,7 +4,7 @@ use Rattle.vt_spec.specs.Machine.Walking.{search_rules, stepped}
 use Rattle.vt_location.specs.Locations.{location_of}
 use Rattle.vt_tasks.specs.TaskValue.{task_of}
 use Rattle.vt_walk.proofs.RefusalLemmas.{unless-stopped}
-use Rattle.vt_walk.specs.WalkValue.{last_of}
+use Rattle.vt_looks.specs.Places.{last_of}
 use Rattle.vt_walk.proofs.steps.word_led.Goals as goal
 
 pub returns-in_err-directory : goal.returns-in_err-directory

@@ -2,7 +2,8 @@ use Rattle.std.proofs.Common.{Err, Ok, ap, sym, ◌∙◌}
 use Rattle.std.proofs.lemmas.Result.{err_from_is_err_and}
 use Rattle.vt_tasks.specs.TaskValue.{task_of}
 use Rattle.vt_walk.proofs.WalksOfPaths.{symlink_walk-by, symlink_walk-slash}
-use Rattle.vt_walk.specs.WalkValue.{here_of, last_of, location_end}
+use Rattle.vt_looks.specs.Places.{last_of}
+use Rattle.vt_walk.specs.WalkValue.{here_of, location_end}
 use Rattle.vt_walk.proofs.walks.symlink_walk.Goals as goal
 
 pub returns-then-ends_in_slash : goal.returns-then-ends_in_slash

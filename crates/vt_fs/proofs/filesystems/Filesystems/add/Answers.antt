@@ -4,7 +4,7 @@ use Rattle.vt_location.specs.Numbers.{inode_number}
 use Rattle.vt_fs.specs.FilesystemsValue.{FilesystemEntry, inodes_seen}
 use Rattle.vt_fs.proofs.Entries.{added}
 use Rattle.vt_fs.proofs.NewFilesystem.{new_seen}
-use Rattle.vt_fs.proofs.Exchanged.{exchanged_slot}
+use Rattle.vt_location.proofs.NumberLemmas.{exchanged_slot}
 use Rattle.vt_fs.proofs.Renamed.{by_numbers, one_by_numbers}
 use Rattle.vt_fs.proofs.filesystems.Filesystems.add.Goals as goal
 

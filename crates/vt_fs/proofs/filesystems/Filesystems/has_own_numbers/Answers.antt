@@ -3,7 +3,7 @@ use Rattle.std.specs.Prelude.{option_copied}
 use Rattle.vt_spec.specs.Inodes.{Inodes, renamed_inode}
 use Rattle.vt_location.specs.Numbers.{exchanged}
 use Rattle.vt_fs.specs.FilesystemsValue.{inodes_seen, seen_in}
-use Rattle.vt_fs.proofs.Exchanged.{no_slot}
+use Rattle.vt_location.proofs.NumberLemmas.{no_slot}
 use Rattle.vt_fs.proofs.Standing.{at_look, entry_nowhere}
 use Rattle.vt_fs.proofs.filesystems.Filesystems.has_own_numbers.Goals as goal
 

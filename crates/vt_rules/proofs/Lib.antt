@@ -1,0 +1,5 @@
+pub mod Judged
+pub mod PlainRows
+pub mod Refusals
+mod RenameLemmas
+pub mod Rows

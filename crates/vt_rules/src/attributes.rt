@@ -1,0 +1,50 @@
+//! Who may set attributes: chmod(2), chown(2).
+ghost use Rattle.std.specs.Prelude.{◌≡◌, nat_eq};
+ghost use Rattle.vt_spec.specs.Machine.Judge.{attr_permit};
+ghost use Rattle.vt_spec.specs.Machine.Outcome.Attributes.{may_chown};
+ghost use Rattle.vt_location.specs.Locations.{location_of};
+ghost use Rattle.vt_permits.specs.Memory.{JudgesAlike};
+ghost use Rattle.vt_tasks.specs.TaskValue.{task_of};
+
+use crate::rights::is_read_only;
+use vt_cred::{Caps, Cred};
+use vt_location::Location;
+use vt_looks::Look;
+use vt_node::Attr;
+use vt_permits::Permit;
+use vt_spec::errors::{Deny, Rule};
+use vt_tasks::Task;
+
+/// The permit to set the attributes of an object, to who is allowed to: chmod(2), chown(2).
+///
+/// F1 (EROFS), C2 (EPERM).
+pub fn attr_permit<L: Look>(
+    world: &L,
+    who: &Task,
+    object: Location,
+    allowed: bool,
+    attr: Attr,
+) -> Result<Permit, Deny>
+    ensures { JudgesAlike (task_of who.now) (attr_permit nat_eq (L.looks world.now) (location_of object) allowed attr) result }
+{
+    world.has_no_overlays();
+    if is_read_only(world, object) {
+        return Err(Rule::F1.denial());
+    }
+    if !allowed {
+        return Err(Rule::C2.denial());
+    }
+    Ok(Permit::ToSetAttr { object, attr })
+}
+
+/// Whether these credentials may change the owner and group of an object so: chown(2).
+///
+/// `CAP_CHOWN` allows any change; without it the owner keeps the uid, and takes one of his groups.
+pub fn may_chown(who: &Cred, old: &Attr, new: &Attr) -> bool
+    ensures { result ≡ may_chown who.now old.now new.now }
+{
+    who.has(Caps::CAP_CHOWN)
+        || (who.uid() == old.uid
+            && new.uid == old.uid
+            && (new.gid == old.gid || who.is_member(new.gid)))
+}

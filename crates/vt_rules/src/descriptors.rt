@@ -1,0 +1,109 @@
+//! What may be opened, and the files of descriptors: open(2), pread(2), pwrite(2).
+ghost use Rattle.std.specs.Prelude.{◌≡◌, nat_eq, ℕ};
+ghost use Rattle.vt_spec.specs.Machine.Judge.{create_file_permit, open_file_permit};
+ghost use Rattle.vt_spec.specs.Machine.Outcome.Descriptors.{access_rights};
+ghost use Rattle.vt_spec.specs.Machine.Rules.Descriptors.{descriptor_at};
+ghost use Rattle.vt_spec.specs.Machine.Walking.{Place as PlaceMeant};
+ghost use Rattle.vt_cred.specs.Rights.{right_bits};
+ghost use Rattle.vt_location.specs.Locations.{location_of};
+ghost use Rattle.vt_permits.specs.Memory.{Judges, JudgesAlike};
+ghost use Rattle.vt_request.specs.Requests.{access_of};
+ghost use Rattle.vt_tasks.specs.TaskValue.{task_of};
+ghost use Rattle.vt_rules.specs.Places.{IsPlaceOf, file_of, location_result};
+
+use crate::making::may_make;
+use crate::rights::{is_directory, is_kind, is_read_only, may, name_at, new_attr};
+use std::alloc::Global;
+use vt_cred::{Flags, Mode, Rights};
+use vt_location::Location;
+use vt_looks::{Look, Place};
+use vt_node::{Kind, Node};
+use vt_permits::Permit;
+use vt_request::Access;
+use vt_spec::errors::{Deny, Rule};
+use vt_tasks::Task;
+
+// The rights that an access mode asks for, as one request.
+fn rights_of(access: Access) -> Rights
+    ensures { right_bits result ≡ access_rights (access_of access) }
+{
+    match access {
+        Access::Read => Rights::READ,
+        Access::Write => Rights::WRITE,
+        Access::ReadWrite => Rights::READ.union(Rights::WRITE),
+    }
+}
+
+/// The permit to open an object that exists: open(2).
+///
+/// E2 (EISDIR), E9 (ENXIO), F1 (EROFS), C1 (EACCES).
+pub fn open_file_permit<L: Look>(
+    world: &L,
+    who: &Task,
+    file: Location,
+    access: Access,
+) -> Result<Permit, Deny>
+    ensures { JudgesAlike (task_of who.now) (open_file_permit nat_eq (L.looks world.now) (task_of who.now) (location_of file) (access_of access)) result }
+{
+    world.has_no_overlays();
+    if is_directory(world, file) {
+        return Err(Rule::E2.denial());
+    }
+    if is_kind(world, file, Kind::White) {
+        return Err(Rule::E9.denial());
+    }
+    if access.writes() && is_read_only(world, file) {
+        return Err(Rule::F1.denial());
+    }
+    if !may(world, who, file, rights_of(access)) {
+        return Err(Rule::C1.denial());
+    }
+    Ok(Permit::ToOpen { file, access })
+}
+
+/// The permit to make a file at a place, and to open it: open(2) with `O_CREAT`.
+///
+/// F1 (EROFS), C1 (EACCES). S5 (ENOMEM): the allocation of the name failed.
+pub fn create_file_permit<L: Look>(
+    alloc: Global,
+    world: &L,
+    who: &Task,
+    place: &Place,
+    access: Access,
+    mode: Mode,
+) -> Result<Permit, Deny>
+    ensures { (meant : PlaceMeant ℕ) → IsPlaceOf place.now meant → Judges (task_of who.now)
+        (create_file_permit nat_eq (L.looks world.now) (task_of who.now) meant (access_of access) mode) result }
+{
+    may_make(world, who, place.parent)?;
+    Ok(Permit::ToOpenNew {
+        directory: place.parent,
+        name: name_at(alloc, place)?,
+        node: Node::new_file(new_attr(who, mode), Vec::new(alloc)),
+        access,
+    })
+}
+
+/// The file of a descriptor that was opened for reading: pread(2).
+///
+/// S4 (EBADF).
+pub fn readable_file(who: &Task, descriptor: u8) -> Result<Location, Deny>
+    ensures { location_result result ≡ file_of (descriptor_at (task_of who.now) descriptor (λ d. d.reads)) }
+{
+    match who.descriptors.get(descriptor) {
+        Some(opened) if opened.access.reads() => Ok(opened.location),
+        _ => Err(Rule::S4.denial()),
+    }
+}
+
+/// The file of a descriptor that was opened for writing: pwrite(2).
+///
+/// S4 (EBADF).
+pub fn writable_file(who: &Task, descriptor: u8) -> Result<Location, Deny>
+    ensures { location_result result ≡ file_of (descriptor_at (task_of who.now) descriptor (λ d. d.writes)) }
+{
+    match who.descriptors.get(descriptor) {
+        Some(opened) if opened.access.writes() => Ok(opened.location),
+        _ => Err(Rule::S4.denial()),
+    }
+}

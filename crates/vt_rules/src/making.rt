@@ -1,0 +1,106 @@
+//! What may be made and written: mkdir(2), symlink(2), open(2) with `O_CREAT`, write(2).
+ghost use Rattle.std.specs.Prelude.{◌≡◌, nat_eq, None, Ok, Some, ℕ};
+ghost use Rattle.vt_spec.specs.Errors.{unless};
+ghost use Rattle.vt_spec.specs.Language.Changes.{Change};
+ghost use Rattle.vt_spec.specs.Machine.Judge.{written_permit};
+ghost use Rattle.vt_spec.specs.Machine.Rules.Making.{make_rules};
+ghost use Rattle.vt_spec.specs.Machine.Walking.{Place as PlaceMeant};
+ghost use Rattle.vt_spec.specs.Tree.{new_directory};
+ghost use Rattle.vt_location.specs.Locations.{location_of, number_of};
+ghost use Rattle.vt_permits.specs.PermitValue.{node_in};
+ghost use Rattle.vt_permits.specs.Memory.{Judges, JudgesAlike};
+ghost use Rattle.vt_tasks.specs.TaskValue.{task_of};
+ghost use Rattle.vt_rules.specs.Places.{IsPlaceOf};
+
+use crate::rights::{is_directory, is_kind, is_read_only, may, name_at, new_attr};
+use std::alloc::Global;
+use vt_cred::{Mode, Rights};
+use vt_location::Location;
+use vt_looks::{Look, Place};
+use vt_node::{Attr, Kind, LARGEST_FILE, Node};
+use vt_permits::Permit;
+use vt_spec::errors::{Deny, Rule};
+use vt_tasks::Task;
+
+/// The mode that a file made by write asks for, 0666: fopen(3).
+const FILE_MODE: u16 = 0o666;
+
+/// A name may be made in a directory: mkdir(2), symlink(2), open(2) with `O_CREAT`.
+///
+/// F1 (EROFS), C1 (EACCES).
+pub fn may_make<L: Look>(world: &L, who: &Task, directory: Location) -> Result<(), Deny>
+    ensures { (place : PlaceMeant ℕ) → (change : Change ℕ) → place.parent ≡ location_of directory
+        → result ≡ unless (make_rules (L.looks world.now) (task_of who.now) place change) (Ok tt) }
+{
+    world.has_no_overlays();
+    if is_read_only(world, directory) {
+        return Err(Rule::F1.denial());
+    }
+    if !may(world, who, directory, Rights::WRITE) {
+        return Err(Rule::C1.denial());
+    }
+    Ok(())
+}
+
+/// An empty directory whose parent is the one at a location: mkdir(2). It does not allocate.
+pub fn empty_directory(alloc: Global, attr: Attr, parent: Location) -> Node
+    ensures { node_in parent result ≡ record { attr = attr; content = new_directory (number_of parent.node) } }
+{
+    Node::new_directory(alloc, attr, parent.node.node())
+}
+
+/// The permit to write the whole content of an object that exists: open(2) with `O_TRUNC`, then write(2).
+///
+/// E2 (EISDIR), E6 (EFBIG), E9 (ENXIO), F1 (EROFS), C1 (EACCES).
+pub fn rewrite_permit<L: Look>(
+    world: &L,
+    who: &Task,
+    file: Location,
+    bytes: Vec<u8>,
+) -> Result<Permit, Deny>
+    ensures { (place : PlaceMeant ℕ) → JudgesAlike (task_of who.now)
+        (written_permit nat_eq (L.looks world.now) (task_of who.now) place bytes.items (Some (location_of file))) result }
+{
+    world.has_no_overlays();
+    if is_directory(world, file) {
+        return Err(Rule::E2.denial());
+    }
+    if bytes.len() > LARGEST_FILE {
+        return Err(Rule::E6.denial());
+    }
+    if is_kind(world, file, Kind::White) {
+        return Err(Rule::E9.denial());
+    }
+    if is_read_only(world, file) {
+        return Err(Rule::F1.denial());
+    }
+    if !may(world, who, file, Rights::WRITE) {
+        return Err(Rule::C1.denial());
+    }
+    Ok(Permit::ToWrite { file, bytes })
+}
+
+/// The permit to make a file with this content at a place: open(2) with `O_CREAT`, then write(2).
+///
+/// E6 (EFBIG), F1 (EROFS), C1 (EACCES). S5 (ENOMEM): the allocation of the name failed.
+pub fn new_file_permit<L: Look>(
+    alloc: Global,
+    world: &L,
+    who: &Task,
+    place: &Place,
+    bytes: Vec<u8>,
+) -> Result<Permit, Deny>
+    ensures { (meant : PlaceMeant ℕ) → IsPlaceOf place.now meant → Judges (task_of who.now)
+        (written_permit nat_eq (L.looks world.now) (task_of who.now) meant bytes.items None) result }
+{
+    if bytes.len() > LARGEST_FILE {
+        return Err(Rule::E6.denial());
+    }
+    may_make(world, who, place.parent)?;
+    let attr = new_attr(who, Mode::new(FILE_MODE).unwrap());
+    Ok(Permit::ToMake {
+        directory: place.parent,
+        name: name_at(alloc, place)?,
+        node: Node::new_file(attr, bytes),
+    })
+}

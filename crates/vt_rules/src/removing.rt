@@ -1,0 +1,195 @@
+//! What may lose its name, and what may have another: unlink(2), rmdir(2), rename(2).
+ghost use Rattle.std.specs.Prelude.{◌≡◌, ◌||◌, nat_eq, option_map, Ok, ℕ};
+ghost use Rattle.vt_spec.specs.Errors.{unless};
+ghost use Rattle.vt_spec.specs.Lists.{holds_of};
+ghost use Rattle.vt_spec.specs.Machine.Rules.Conditions.{is_kept, is_point_anywhere, is_point_in};
+ghost use Rattle.vt_spec.specs.Machine.Rules.Removing.{changes_parent, is_one_object, rename_rules, same_object_rules};
+ghost use Rattle.vt_spec.specs.Machine.Walking.{Place as PlaceMeant};
+ghost use Rattle.vt_location.specs.Locations.{location_of};
+ghost use Rattle.vt_tasks.specs.TaskValue.{task_of};
+ghost use Rattle.vt_rules.specs.Places.{IsPlaceOf};
+ghost use Rattle.vt_rules.specs.Tables.{kind_rules, remove_rules, right_rules, way_rules};
+
+use crate::rights::{
+    is_directory, is_filled, is_kept, is_read_only, is_same_filesystem, is_same_inode,
+    is_same_location, may,
+};
+use vt_cred::Rights;
+use vt_location::Location;
+use vt_looks::{Look, Place};
+use vt_spec::errors::{Deny, Rule};
+use vt_tasks::Task;
+
+/// The caller may take a name of an object from a directory: unlink(2), rmdir(2).
+///
+/// C1 (EACCES), C3 (EPERM).
+pub fn may_remove<L: Look>(
+    world: &L,
+    who: &Task,
+    directory: Location,
+    object: Location,
+) -> Result<(), Deny>
+    ensures { result ≡ unless (remove_rules (L.looks world.now) (task_of who.now) (location_of directory) (location_of object)) (Ok tt) }
+{
+    if !may(world, who, directory, Rights::WRITE) {
+        return Err(Rule::C1.denial());
+    }
+    if is_kept(world, who, directory, object) {
+        return Err(Rule::C3.denial());
+    }
+    Ok(())
+}
+
+/// Whether a place is a name of this object: rename(2) then has no effect.
+pub fn is_name_of<L: Look>(world: &L, object: Location, place: &Place) -> bool
+    ensures { result ≡ is_one_object nat_eq (L.looks world.now) (location_of object) (option_map location_of place.now.object) }
+{
+    match place.object {
+        Some(there) => {
+            is_same_filesystem(world, object, there) && is_same_inode(object.node, there.node)
+        }
+        None => false,
+    }
+}
+
+/// Two names of one object may stay as they are: rename(2).
+///
+/// F1 (EROFS), P2 (EXDEV).
+pub fn may_stay<L: Look>(world: &L, from: &Place, to: &Place) -> Result<(), Deny>
+    ensures { (old new : PlaceMeant ℕ) → IsPlaceOf from.now old → IsPlaceOf to.now new
+        → result ≡ unless (same_object_rules nat_eq (L.looks world.now) old new) (Ok tt) }
+{
+    world.has_no_overlays();
+    if is_read_only(world, from.parent) || is_read_only(world, to.parent) {
+        return Err(Rule::F1.denial());
+    }
+    if from.parent.mount != to.parent.mount {
+        return Err(Rule::P2.denial());
+    }
+    Ok(())
+}
+
+// What has the new name may give it to the object: E2 (EISDIR), E3 (ENOTDIR), E4 (ENOTEMPTY); and a directory does not go
+// under itself: E5 (EINVAL).
+fn may_replace<L: Look>(world: &L, to: &Place, object: Location) -> Result<(), Deny>
+    ensures { (new : PlaceMeant ℕ) → IsPlaceOf to.now new
+        → result ≡ unless (kind_rules nat_eq (L.looks world.now) new (location_of object)) (Ok tt) }
+{
+    let moves_directory = is_directory(world, object);
+    if let Some(replaced) = to.object {
+        if !moves_directory && is_directory(world, replaced) {
+            return Err(Rule::E2.denial());
+        }
+        if moves_directory && !is_directory(world, replaced) {
+            return Err(Rule::E3.denial());
+        }
+        if moves_directory && is_filled(world, replaced) {
+            return Err(Rule::E4.denial());
+        }
+    }
+    if moves_directory
+        && is_same_filesystem(world, object, to.parent)
+        && world.is_under(object, to.parent.node)
+    {
+        return Err(Rule::E5.denial());
+    }
+    Ok(())
+}
+
+// Whether a mount stands in the way of a rename: on the old object in any namespace, or on the new one in the caller's.
+fn is_point<L: Look>(world: &L, who: &Task, object: Location, replaced: Option<Location>) -> bool
+    ensures { result ≡ (is_point_anywhere (L.looks world.now) (location_of object)
+        || holds_of (is_point_in nat_eq (L.looks world.now) (task_of who.now).namespace) (option_map location_of replaced)) }
+{
+    if world.is_point_anywhere(object) {
+        return true;
+    }
+    match replaced {
+        Some(replaced) => world.is_point_in(who.namespace, replaced),
+        None => false,
+    }
+}
+
+// Whether a rename leaves a directory in another parent, which its `..` then names.
+fn changes_parent<L: Look>(world: &L, from: &Place, to: &Place, object: Location) -> bool
+    ensures { (old new : PlaceMeant ℕ) → IsPlaceOf from.now old → IsPlaceOf to.now new
+        → result ≡ changes_parent nat_eq (L.looks world.now) old new (location_of object) }
+{
+    is_directory(world, object) && !is_same_location(from.parent, to.parent)
+}
+
+// Whether a sticky directory keeps what has the new name.
+fn is_replaced_kept<L: Look>(world: &L, who: &Task, to: &Place) -> bool
+    ensures { (new : PlaceMeant ℕ) → IsPlaceOf to.now new
+        → result ≡ holds_of (is_kept (L.looks world.now) (task_of who.now) new.parent) new.object }
+{
+    match to.object {
+        Some(replaced) => is_kept(world, who, to.parent, replaced),
+        None => false,
+    }
+}
+
+// Nothing stands between the two names: F1 (EROFS), P1 (EBUSY), P2 (EXDEV).
+fn may_cross<L: Look>(
+    world: &L,
+    who: &Task,
+    from: &Place,
+    to: &Place,
+    object: Location,
+) -> Result<(), Deny>
+    ensures { (old new : PlaceMeant ℕ) → IsPlaceOf from.now old → IsPlaceOf to.now new
+        → result ≡ unless (way_rules nat_eq (L.looks world.now) (task_of who.now) old new (location_of object)) (Ok tt) }
+{
+    if is_read_only(world, from.parent) || is_read_only(world, to.parent) {
+        return Err(Rule::F1.denial());
+    }
+    if is_point(world, who, object, to.object) {
+        return Err(Rule::P1.denial());
+    }
+    if from.parent.mount != to.parent.mount {
+        return Err(Rule::P2.denial());
+    }
+    Ok(())
+}
+
+// The caller may change both directories: C1 (EACCES), C3 (EPERM).
+fn may_change_both<L: Look>(
+    world: &L,
+    who: &Task,
+    from: &Place,
+    to: &Place,
+    object: Location,
+) -> Result<(), Deny>
+    ensures { (old new : PlaceMeant ℕ) → IsPlaceOf from.now old → IsPlaceOf to.now new
+        → result ≡ unless (right_rules nat_eq (L.looks world.now) (task_of who.now) old new (location_of object)) (Ok tt) }
+{
+    if !may(world, who, from.parent, Rights::WRITE) || !may(world, who, to.parent, Rights::WRITE) {
+        return Err(Rule::C1.denial());
+    }
+    if changes_parent(world, from, to, object) && !may(world, who, object, Rights::WRITE) {
+        return Err(Rule::C1.denial());
+    }
+    if is_kept(world, who, from.parent, object) || is_replaced_kept(world, who, to) {
+        return Err(Rule::C3.denial());
+    }
+    Ok(())
+}
+
+/// An object may leave one name for another: rename(2).
+///
+/// E2 (EISDIR), E3 (ENOTDIR), E4 (ENOTEMPTY), E5 (EINVAL), F1 (EROFS), P1 (EBUSY), P2 (EXDEV), C1 (EACCES), C3 (EPERM).
+pub fn may_rename<L: Look>(
+    world: &L,
+    who: &Task,
+    from: &Place,
+    to: &Place,
+    object: Location,
+) -> Result<(), Deny>
+    ensures { (old new : PlaceMeant ℕ) → IsPlaceOf from.now old → IsPlaceOf to.now new
+        → result ≡ unless (rename_rules nat_eq (L.looks world.now) (task_of who.now) old new (location_of object)) (Ok tt) }
+{
+    world.has_no_overlays();
+    may_replace(world, to, object)?;
+    may_cross(world, who, from, to, object)?;
+    may_change_both(world, who, from, to, object)
+}
