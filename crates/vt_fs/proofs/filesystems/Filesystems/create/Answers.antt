@@ -14,21 +14,27 @@ unwrap-tree-requires c =
 pub create-requires-clause-directory : goal.create-requires-clause-directory
 create-requires-clause-directory c =
     let f = c.args.directory.filesystem.count in
-    let standing = standing_of c.args.self.now f c.get_mut.result c.unwrap-tree.result c.get_mut.ensures.value c.get_mut.ensures.apart c.unwrap-tree.ensures in
+    let standing =
+    standing_of c.args.self.now f c.get_mut.result c.unwrap-tree.result c.get_mut.ensures.value c.get_mut.ensures.apart
+    c.unwrap-tree.ensures in
     sym (directory_there c.args.self.now f c.unwrap-tree.result.now standing.found c.slot_of.result _ c.slot_of.ensures.number)
     ∙ c.requires.directory
 
 pub create-requires-clause-free : goal.create-requires-clause-free
 create-requires-clause-free c =
     let f = c.args.directory.filesystem.count in
-    let standing = standing_of c.args.self.now f c.get_mut.result c.unwrap-tree.result c.get_mut.ensures.value c.get_mut.ensures.apart c.unwrap-tree.ensures in
+    let standing =
+    standing_of c.args.self.now f c.get_mut.result c.unwrap-tree.result c.get_mut.ensures.value c.get_mut.ensures.apart
+    c.unwrap-tree.ensures in
     free_there c.args.self.now f c.unwrap-tree.result.now standing.found c.slot_of.result _ c.args.name.items
     c.slot_of.ensures.number c.requires.free
 
 pub returns-in_err-slot-clause-err : goal.returns-in_err-slot-clause-err
 returns-in_err-slot-clause-err c =
     let f = c.args.directory.filesystem.count in
-    let standing = standing_of c.args.self.now f c.get_mut.result c.unwrap-tree.result c.get_mut.ensures.value c.get_mut.ensures.apart c.unwrap-tree.ensures in
+    let standing =
+    standing_of c.args.self.now f c.get_mut.result c.unwrap-tree.result c.get_mut.ensures.value c.get_mut.ensures.apart
+    c.unwrap-tree.ensures in
     let error : c.from_residual.result ≡ Err c.in_err-slot.field-0.0 = search rules in
     subst (λ result. OnErr result (with_tree f c.create.new.self c.args.self.now ≡ c.args.self.now)) (sym error)
     (kept c.args.self.now f c.create.new.self c.unwrap-tree.result.now standing c.in_err-slot.ensures.err)
@@ -36,7 +42,9 @@ returns-in_err-slot-clause-err c =
 pub returns-clause-ok : goal.returns-clause-ok
 returns-clause-ok c =
     let f = c.args.directory.filesystem.count in
-    let standing = standing_of c.args.self.now f c.get_mut.result c.unwrap-tree.result c.get_mut.ensures.value c.get_mut.ensures.apart c.unwrap-tree.ensures in
+    let standing =
+    standing_of c.args.self.now f c.get_mut.result c.unwrap-tree.result c.get_mut.ensures.value c.get_mut.ensures.apart
+    c.unwrap-tree.ensures in
     changes c.args.self.now f c.create.new.self c.unwrap-tree.result.now standing
     (Make c.slot_of.result c.args.name.items c.in_ok-slot.slot c.args.node) _
     (λ i. Make (c.slot_of.ensures.number i) c.args.name.items (sym c.in_slot.ensures.number i) (node_seen f c.args.node))
@@ -45,6 +53,8 @@ returns-clause-ok c =
 pub returns-clause-number : goal.returns-clause-number
 returns-clause-number c =
     let f = c.args.directory.filesystem.count in
-    let standing = standing_of c.args.self.now f c.get_mut.result c.unwrap-tree.result c.get_mut.ensures.value c.get_mut.ensures.apart c.unwrap-tree.ensures in
+    let standing =
+    standing_of c.args.self.now f c.get_mut.result c.unwrap-tree.result c.get_mut.ensures.value c.get_mut.ensures.apart
+    c.unwrap-tree.ensures in
     c.in_slot.ensures.number ∙ ap (exchanged f) c.in_ok-slot.ensures.number
     ∙ sym (at_look c.args.self.now f c.unwrap-tree.result.now standing.found (λ count tree. exchanged count tree.next))

@@ -14,30 +14,40 @@ unwrap-tree-requires c =
 pub link-requires-clause-directory : goal.link-requires-clause-directory
 link-requires-clause-directory c =
     let f = c.args.directory.filesystem.count in
-    let standing = standing_of c.args.self.now f c.get_mut.result c.unwrap-tree.result c.get_mut.ensures.value c.get_mut.ensures.apart c.unwrap-tree.ensures in
+    let standing =
+    standing_of c.args.self.now f c.get_mut.result c.unwrap-tree.result c.get_mut.ensures.value c.get_mut.ensures.apart
+    c.unwrap-tree.ensures in
     sym (directory_there c.args.self.now f c.unwrap-tree.result.now standing.found c.slot_of.result _ c.slot_of.ensures.number)
     ∙ c.requires.directory
 
 pub link-requires-clause-free : goal.link-requires-clause-free
 link-requires-clause-free c =
     let f = c.args.directory.filesystem.count in
-    let standing = standing_of c.args.self.now f c.get_mut.result c.unwrap-tree.result c.get_mut.ensures.value c.get_mut.ensures.apart c.unwrap-tree.ensures in
+    let standing =
+    standing_of c.args.self.now f c.get_mut.result c.unwrap-tree.result c.get_mut.ensures.value c.get_mut.ensures.apart
+    c.unwrap-tree.ensures in
     free_there c.args.self.now f c.unwrap-tree.result.now standing.found c.slot_of.result _ c.args.name.items
     c.slot_of.ensures.number c.requires.free
 
 pub link-requires-clause-object : goal.link-requires-clause-object
 link-requires-clause-object c =
     let f = c.args.directory.filesystem.count in
-    let standing = standing_of c.args.self.now f c.get_mut.result c.unwrap-tree.result c.get_mut.ensures.value c.get_mut.ensures.apart c.unwrap-tree.ensures in
-    let object = ap (λ id. exchanged id.count c.slot_of-2.result) (sym c.requires.one_filesystem) ∙ c.slot_of-2.ensures.number in
+    let standing =
+    standing_of c.args.self.now f c.get_mut.result c.unwrap-tree.result c.get_mut.ensures.value c.get_mut.ensures.apart
+    c.unwrap-tree.ensures in
+    let object =
+    ap (λ id. exchanged id.count c.slot_of-2.result) (sym c.requires.one_filesystem) ∙ c.slot_of-2.ensures.number in
     sym (directory_there c.args.self.now f c.unwrap-tree.result.now standing.found c.slot_of-2.result _ object)
     ∙ c.requires.object
 
 pub returns-clause-ok : goal.returns-clause-ok
 returns-clause-ok c =
     let f = c.args.directory.filesystem.count in
-    let standing = standing_of c.args.self.now f c.get_mut.result c.unwrap-tree.result c.get_mut.ensures.value c.get_mut.ensures.apart c.unwrap-tree.ensures in
-    let object = ap (λ id. exchanged id.count c.slot_of-2.result) (sym c.requires.one_filesystem) ∙ c.slot_of-2.ensures.number in
+    let standing =
+    standing_of c.args.self.now f c.get_mut.result c.unwrap-tree.result c.get_mut.ensures.value c.get_mut.ensures.apart
+    c.unwrap-tree.ensures in
+    let object =
+    ap (λ id. exchanged id.count c.slot_of-2.result) (sym c.requires.one_filesystem) ∙ c.slot_of-2.ensures.number in
     on_ok_weaker c.link.result
     (changes c.args.self.now f c.link.new.self c.unwrap-tree.result.now standing
     (AddName c.slot_of.result c.args.name.items c.slot_of-2.result) _
@@ -47,5 +57,7 @@ returns-clause-ok c =
 pub returns-clause-err : goal.returns-clause-err
 returns-clause-err c =
     let f = c.args.directory.filesystem.count in
-    let standing = standing_of c.args.self.now f c.get_mut.result c.unwrap-tree.result c.get_mut.ensures.value c.get_mut.ensures.apart c.unwrap-tree.ensures in
+    let standing =
+    standing_of c.args.self.now f c.get_mut.result c.unwrap-tree.result c.get_mut.ensures.value c.get_mut.ensures.apart
+    c.unwrap-tree.ensures in
     on_err_weaker c.link.result (kept c.args.self.now f c.link.new.self c.unwrap-tree.result.now standing) c.link.ensures.err

@@ -15,43 +15,61 @@ unwrap-tree-requires c =
 pub rename-requires-clause-named : goal.rename-requires-clause-named
 rename-requires-clause-named c =
     let f = c.args.from.filesystem.count in
-    let standing = standing_of c.args.self.now f c.get_mut.result c.unwrap-tree.result c.get_mut.ensures.value c.get_mut.ensures.apart c.unwrap-tree.ensures in
-    let object = ap (λ id. exchanged id.count c.slot_of-3.result) (sym c.requires.of_object) ∙ c.slot_of-3.ensures.number in
+    let standing =
+    standing_of c.args.self.now f c.get_mut.result c.unwrap-tree.result c.get_mut.ensures.value c.get_mut.ensures.apart
+    c.unwrap-tree.ensures in
+    let object =
+    ap (λ id. exchanged id.count c.slot_of-3.result) (sym c.requires.of_object) ∙ c.slot_of-3.ensures.number in
     slot_named c.args.self.now f c.unwrap-tree.result.now standing.found c.slot_of.result _ c.args.old.now
     c.slot_of-3.result _ c.slot_of.ensures.number object c.requires.named
 
 pub rename-requires-clause-directory : goal.rename-requires-clause-directory
 rename-requires-clause-directory c =
     let f = c.args.from.filesystem.count in
-    let standing = standing_of c.args.self.now f c.get_mut.result c.unwrap-tree.result c.get_mut.ensures.value c.get_mut.ensures.apart c.unwrap-tree.ensures in
-    let to = ap (λ id. exchanged id.count c.slot_of-2.result) (sym c.requires.one_filesystem) ∙ c.slot_of-2.ensures.number in
+    let standing =
+    standing_of c.args.self.now f c.get_mut.result c.unwrap-tree.result c.get_mut.ensures.value c.get_mut.ensures.apart
+    c.unwrap-tree.ensures in
+    let to =
+    ap (λ id. exchanged id.count c.slot_of-2.result) (sym c.requires.one_filesystem) ∙ c.slot_of-2.ensures.number in
     sym (directory_there c.args.self.now f c.unwrap-tree.result.now standing.found c.slot_of-2.result _ to)
     ∙ c.requires.directory
 
 pub rename-requires-clause-replaced : goal.rename-requires-clause-replaced
 rename-requires-clause-replaced c =
     let f = c.args.from.filesystem.count in
-    let standing = standing_of c.args.self.now f c.get_mut.result c.unwrap-tree.result c.get_mut.ensures.value c.get_mut.ensures.apart c.unwrap-tree.ensures in
-    let to = ap (λ id. exchanged id.count c.slot_of-2.result) (sym c.requires.one_filesystem) ∙ c.slot_of-2.ensures.number in
-    let object = ap (λ id. exchanged id.count c.slot_of-3.result) (sym c.requires.of_object) ∙ c.slot_of-3.ensures.number in
+    let standing =
+    standing_of c.args.self.now f c.get_mut.result c.unwrap-tree.result c.get_mut.ensures.value c.get_mut.ensures.apart
+    c.unwrap-tree.ensures in
+    let to =
+    ap (λ id. exchanged id.count c.slot_of-2.result) (sym c.requires.one_filesystem) ∙ c.slot_of-2.ensures.number in
+    let object =
+    ap (λ id. exchanged id.count c.slot_of-3.result) (sym c.requires.of_object) ∙ c.slot_of-3.ensures.number in
     replaced_there c.args.self.now f c.unwrap-tree.result.now standing.found c.slot_of-2.result _ c.args.new.items
     c.slot_of-3.result _ to object c.requires.replaced
 
 pub rename-requires-clause-outside : goal.rename-requires-clause-outside
 rename-requires-clause-outside c =
     let f = c.args.from.filesystem.count in
-    let standing = standing_of c.args.self.now f c.get_mut.result c.unwrap-tree.result c.get_mut.ensures.value c.get_mut.ensures.apart c.unwrap-tree.ensures in
-    let to = ap (λ id. exchanged id.count c.slot_of-2.result) (sym c.requires.one_filesystem) ∙ c.slot_of-2.ensures.number in
-    let object = ap (λ id. exchanged id.count c.slot_of-3.result) (sym c.requires.of_object) ∙ c.slot_of-3.ensures.number in
+    let standing =
+    standing_of c.args.self.now f c.get_mut.result c.unwrap-tree.result c.get_mut.ensures.value c.get_mut.ensures.apart
+    c.unwrap-tree.ensures in
+    let to =
+    ap (λ id. exchanged id.count c.slot_of-2.result) (sym c.requires.one_filesystem) ∙ c.slot_of-2.ensures.number in
+    let object =
+    ap (λ id. exchanged id.count c.slot_of-3.result) (sym c.requires.of_object) ∙ c.slot_of-3.ensures.number in
     outside_there c.args.self.now f c.unwrap-tree.result.now standing.found c.slot_of-2.result _
     c.slot_of-3.result _ to object c.requires.outside
 
 pub returns-clause-ok : goal.returns-clause-ok
 returns-clause-ok c =
     let f = c.args.from.filesystem.count in
-    let standing = standing_of c.args.self.now f c.get_mut.result c.unwrap-tree.result c.get_mut.ensures.value c.get_mut.ensures.apart c.unwrap-tree.ensures in
-    let to = ap (λ id. exchanged id.count c.slot_of-2.result) (sym c.requires.one_filesystem) ∙ c.slot_of-2.ensures.number in
-    let object = ap (λ id. exchanged id.count c.slot_of-3.result) (sym c.requires.of_object) ∙ c.slot_of-3.ensures.number in
+    let standing =
+    standing_of c.args.self.now f c.get_mut.result c.unwrap-tree.result c.get_mut.ensures.value c.get_mut.ensures.apart
+    c.unwrap-tree.ensures in
+    let to =
+    ap (λ id. exchanged id.count c.slot_of-2.result) (sym c.requires.one_filesystem) ∙ c.slot_of-2.ensures.number in
+    let object =
+    ap (λ id. exchanged id.count c.slot_of-3.result) (sym c.requires.of_object) ∙ c.slot_of-3.ensures.number in
     on_ok_weaker c.rename.result
     (changes c.args.self.now f c.rename.new.self c.unwrap-tree.result.now standing
     (Move c.slot_of.result c.args.old.now c.slot_of-2.result c.args.new.items c.slot_of-3.result) _
@@ -61,13 +79,18 @@ returns-clause-ok c =
 pub returns-clause-new_name : goal.returns-clause-new_name
 returns-clause-new_name c = λ refused.
     let f = c.args.from.filesystem.count in
-    let standing = standing_of c.args.self.now f c.get_mut.result c.unwrap-tree.result c.get_mut.ensures.value c.get_mut.ensures.apart c.unwrap-tree.ensures in
-    let to = ap (λ id. exchanged id.count c.slot_of-2.result) (sym c.requires.one_filesystem) ∙ c.slot_of-2.ensures.number in
+    let standing =
+    standing_of c.args.self.now f c.get_mut.result c.unwrap-tree.result c.get_mut.ensures.value c.get_mut.ensures.apart
+    c.unwrap-tree.ensures in
+    let to =
+    ap (λ id. exchanged id.count c.slot_of-2.result) (sym c.requires.one_filesystem) ∙ c.slot_of-2.ensures.number in
     entry_there c.args.self.now f c.unwrap-tree.result.now standing.found c.slot_of-2.result _ c.args.new.items to
     ∙ ap (option_map (exchanged f)) (c.rename.ensures.new_name refused)
 
 pub returns-clause-err : goal.returns-clause-err
 returns-clause-err c =
     let f = c.args.from.filesystem.count in
-    let standing = standing_of c.args.self.now f c.get_mut.result c.unwrap-tree.result c.get_mut.ensures.value c.get_mut.ensures.apart c.unwrap-tree.ensures in
+    let standing =
+    standing_of c.args.self.now f c.get_mut.result c.unwrap-tree.result c.get_mut.ensures.value c.get_mut.ensures.apart
+    c.unwrap-tree.ensures in
     on_err_weaker c.rename.result (kept c.args.self.now f c.rename.new.self c.unwrap-tree.result.now standing) c.rename.ensures.err

@@ -13,23 +13,32 @@ unwrap-tree-requires c =
 pub unlink-requires-clause-named : goal.unlink-requires-clause-named
 unlink-requires-clause-named c =
     let f = c.args.directory.filesystem.count in
-    let standing = standing_of c.args.self.now f c.get_mut.result c.unwrap-tree.result c.get_mut.ensures.value c.get_mut.ensures.apart c.unwrap-tree.ensures in
-    let object = ap (λ id. exchanged id.count c.slot_of-2.result) (sym c.requires.one_filesystem) ∙ c.slot_of-2.ensures.number in
+    let standing =
+    standing_of c.args.self.now f c.get_mut.result c.unwrap-tree.result c.get_mut.ensures.value c.get_mut.ensures.apart
+    c.unwrap-tree.ensures in
+    let object =
+    ap (λ id. exchanged id.count c.slot_of-2.result) (sym c.requires.one_filesystem) ∙ c.slot_of-2.ensures.number in
     slot_named c.args.self.now f c.unwrap-tree.result.now standing.found c.slot_of.result _ c.args.name.now
     c.slot_of-2.result _ c.slot_of.ensures.number object c.requires.named
 
 pub unlink-requires-clause-empty : goal.unlink-requires-clause-empty
 unlink-requires-clause-empty c =
     let f = c.args.directory.filesystem.count in
-    let standing = standing_of c.args.self.now f c.get_mut.result c.unwrap-tree.result c.get_mut.ensures.value c.get_mut.ensures.apart c.unwrap-tree.ensures in
-    let object = ap (λ id. exchanged id.count c.slot_of-2.result) (sym c.requires.one_filesystem) ∙ c.slot_of-2.ensures.number in
+    let standing =
+    standing_of c.args.self.now f c.get_mut.result c.unwrap-tree.result c.get_mut.ensures.value c.get_mut.ensures.apart
+    c.unwrap-tree.ensures in
+    let object =
+    ap (λ id. exchanged id.count c.slot_of-2.result) (sym c.requires.one_filesystem) ∙ c.slot_of-2.ensures.number in
     empty_there c.args.self.now f c.unwrap-tree.result.now standing.found c.slot_of-2.result _ object c.requires.empty
 
 pub returns : goal.returns
 returns c =
     let f = c.args.directory.filesystem.count in
-    let standing = standing_of c.args.self.now f c.get_mut.result c.unwrap-tree.result c.get_mut.ensures.value c.get_mut.ensures.apart c.unwrap-tree.ensures in
-    let object = ap (λ id. exchanged id.count c.slot_of-2.result) (sym c.requires.one_filesystem) ∙ c.slot_of-2.ensures.number in
+    let standing =
+    standing_of c.args.self.now f c.get_mut.result c.unwrap-tree.result c.get_mut.ensures.value c.get_mut.ensures.apart
+    c.unwrap-tree.ensures in
+    let object =
+    ap (λ id. exchanged id.count c.slot_of-2.result) (sym c.requires.one_filesystem) ∙ c.slot_of-2.ensures.number in
     changes c.args.self.now f c.unlink.new.self c.unwrap-tree.result.now standing
     (Remove c.slot_of.result c.args.name.now c.slot_of-2.result) _
     (λ i. Remove (c.slot_of.ensures.number i) c.args.name.now (object i))
