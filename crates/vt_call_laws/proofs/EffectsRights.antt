@@ -9,7 +9,7 @@ use Rattle.vt_call_laws.proofs.InodesEntries.{other_entries_stay}
 use Rattle.vt_call_laws.proofs.InodesOwn.{calls_change_their_own}
 use Rattle.vt_call_laws.proofs.InodesPartLaws.{only_chmod_changes_modes, only_chown_changes_owners, only_naming_changes_entries, only_opaque_changes_marks, only_writes_change_bytes}
 use Rattle.vt_call_laws.specs.Effects.{ChangesAreByRight, HasOpenFor, MayDo}
-use Rattle.vt_call_laws.specs.Given.{NoneFails}
+use Rattle.vt_laws.specs.Given.{NoneFails}
 use Rattle.vt_call_laws.specs.Inodes.{IsNotHanded, StaysIfThere, change_of, changes_names, entries_named_by, inode_in, is_own, is_own_entry, owner_of, same_entry, sets_mark, sets_mode, sets_owner, writes_bytes}
 use Rattle.vt_spec.specs.declared.attributes.Attr.{Attr}
 use Rattle.vt_spec.specs.declared.errors.Deny.{Deny}
@@ -49,7 +49,7 @@ first_false true b e = cc
 first_false false b e = (refl, e)
 
 -- a word that is no word that stands for a directory is a name
-no_special : (last : LastWord) → is_dot_dot last ≡ false → is_dot last ≡ false → is_no_word last ≡ false → is_special last ≡ false
+pub no_special : (last : LastWord) → is_dot_dot last ≡ false → is_dot last ≡ false → is_no_word last ≡ false → is_special last ≡ false
 no_special NoWord a b c = c
 no_special Dot a b c = b
 no_special DotDot a b c = a

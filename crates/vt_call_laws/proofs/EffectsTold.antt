@@ -2,9 +2,9 @@
 use Rattle.std.proofs.Common.{◌≡◌, refl, sym, ap, ◌∙◌, inl, inr, ◌⊎◌, true≢false, ℕ, nat_eq, Bool, true, false, List, [], Option, None, take, drop, Some, Result, Ok, IfOk, ok_or, find, option_to_list}
 use Rattle.std.specs.Prelude.{⊤}
 use Rattle.vt_call_laws.proofs.EffectsRights.{anyhow, given, open_found, ruled}
-use Rattle.vt_call_laws.proofs.GivenPermits.{permits_are_for_their_calls}
+use Rattle.vt_laws.proofs.GivenPermits.{permits_are_for_their_calls}
 use Rattle.vt_call_laws.specs.Effects.{BytesAreToldByRight, NamesAreToldByRight, OpensAreByRight}
-use Rattle.vt_call_laws.specs.Given.{IsFor}
+use Rattle.vt_laws.specs.Given.{IsFor}
 use Rattle.vt_spec.specs.declared.attributes.Kind.TheVariants.{Symlink}
 use Rattle.vt_spec.specs.declared.errors.Deny.{Deny}
 use Rattle.vt_spec.specs.declared.errors.Rule.TheVariants.{S4}

@@ -3,12 +3,12 @@ use Rattle.std.proofs.Common.{◌≡◌, refl, sym, ap, ◌∙◌, true≢false,
 use Rattle.std.specs.Cmp.Lexicographic.{bytes_decides}
 use Rattle.std.specs.Ordering.{eq_by_cmp}
 use Rattle.std.specs.Str.{bytes_eq}
-use Rattle.vt_call_laws.proofs.GivenPermits.{permits_are_for_their_calls}
+use Rattle.vt_laws.proofs.GivenPermits.{permits_are_for_their_calls}
 use Rattle.vt_call_laws.proofs.InodesLeft.{LeftBy, MadeBy, inode_left}
 use Rattle.vt_call_laws.proofs.InodesOwn.{neither}
 use Rattle.vt_call_laws.proofs.InodesParts.{KeptByParents, KeptIn, Stays, at_node, here, itself, kept_at, made_kept, moved_kept, removed_kept}
 use Rattle.vt_call_laws.proofs.InodesSettled.{inode_after_call}
-use Rattle.vt_call_laws.specs.Given.{IsFor}
+use Rattle.vt_laws.specs.Given.{IsFor}
 use Rattle.vt_call_laws.specs.Inodes.{HasNoOverlays, IsNotHanded, OtherEntriesStay, change_of, entries_named_by, inode_in, is_own_entry, mounts_overlay, same_entry}
 use Rattle.vt_spec.specs.declared.attributes.Attr.{Attr}
 use Rattle.vt_spec.specs.Language.Calls.{Call}

@@ -20,7 +20,7 @@ use Rattle.vt_spec.specs.Machine.World.{Filesystem, Overlay, Task, World, files_
 use Rattle.vt_spec.specs.Tree.{Node, new_directory}
 use Rattle.vt_tree_laws.proofs.TreesOfWorlds.{number_numbered, numbered, numbered_anyhow, regrouped_filesystems, taken_files, taken_filesystems, taken_shows}
 
-lazily_filesystems : (mounts : List (Mount ℕ)) (world : World ℕ)
+pub lazily_filesystems : (mounts : List (Mount ℕ)) (world : World ℕ)
     → (folded (unmounted_if_there nat_eq) world mounts).filesystems ≡ world.filesystems
 lazily_filesystems [] world = refl
 lazily_filesystems (mount ∷ mounts) world = lazily_filesystems mounts (unmounted_if_there nat_eq world mount) ∙ by _
@@ -29,7 +29,7 @@ lazily_filesystems (mount ∷ mounts) world = lazily_filesystems mounts (unmount
     by true = taken_filesystems world _
     by false = refl
 
-typed_filesystems : (fresh : Fresh ℕ) (world : World ℕ) (number : ℕ) (word : TypeWord) (recursive : Bool)
+pub typed_filesystems : (fresh : Fresh ℕ) (world : World ℕ) (number : ℕ) (word : TypeWord) (recursive : Bool)
     → (with_type nat_eq fresh world number word recursive).filesystems ≡ world.filesystems
 typed_filesystems fresh world number word recursive = regrouped_filesystems (record world {
   mounts = map (retyped_mount nat_eq group word named) world.mounts;
@@ -43,7 +43,7 @@ typed_filesystems fresh world number word recursive = regrouped_filesystems (rec
     group = numbers_by nat_eq fresh named
 
 -- what is seen at a location stays where mounts are taken away for what is replaced
-replaced_filesystems : (world : World ℕ) (replaced : Option (Location ℕ))
+pub replaced_filesystems : (world : World ℕ) (replaced : Option (Location ℕ))
     → (without_replaced nat_eq world replaced).filesystems ≡ world.filesystems
 replaced_filesystems world None = refl
 replaced_filesystems world (Some location) = taken_filesystems world _

@@ -1,10 +1,10 @@
 -- A granted call changes no inode but those that its permit names.
 use Rattle.std.proofs.Common.{◌≡◌, refl, sym, ap, ◌∙◌, true≢false, inl, inr, ◌⊎◌, ℕ, nat_eq, eq-eqb, Bool, true, false, cond, ◌&&◌, ◌||◌, [], ◌∷◌, Option, Some, None}
 use Rattle.std.specs.Prelude.{option_to_list}
-use Rattle.vt_call_laws.proofs.GivenPermits.{permits_are_for_their_calls}
+use Rattle.vt_laws.proofs.GivenPermits.{permits_are_for_their_calls}
 use Rattle.vt_call_laws.proofs.InodesLeft.{LeftBy, MadeBy, inode_left}
 use Rattle.vt_call_laws.proofs.InodesSettled.{inode_after_call}
-use Rattle.vt_call_laws.specs.Given.{IsFor}
+use Rattle.vt_laws.specs.Given.{IsFor}
 use Rattle.vt_call_laws.specs.Inodes.{CallsChangeTheirOwn, HasNoOverlays, change_of, inode_in, is_own, mounts_overlay, named_by, own_by}
 use Rattle.vt_spec.specs.Language.Calls.{Call}
 use Rattle.vt_spec.specs.Language.Changes.{Change, changed, with_name, without_name, without_parent}

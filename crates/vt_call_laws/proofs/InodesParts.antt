@@ -1,9 +1,9 @@
 -- What calls change of an inode, part by part.
 use Rattle.std.proofs.Common.{◌≡◌, refl, sym, ap, subst, ◌∙◌, true≢false, inl, inr, ℕ, nat_eq, eqb-true, eq-eqb, Bool, true, false, cond, List, [], ◌∷◌, Option, Some, None}
-use Rattle.vt_call_laws.proofs.GivenPermits.{permits_are_for_their_calls}
+use Rattle.vt_laws.proofs.GivenPermits.{permits_are_for_their_calls}
 use Rattle.vt_call_laws.proofs.InodesLeft.{ChangeHolds, LeftBy, MadeBy, inode_left}
 use Rattle.vt_call_laws.proofs.InodesSettled.{inode_after_call}
-use Rattle.vt_call_laws.specs.Given.{IsFor, IsForAttr, makes_a_name}
+use Rattle.vt_laws.specs.Given.{IsFor, IsForAttr, makes_a_name}
 use Rattle.vt_call_laws.specs.Inodes.{HasNoOverlays, IsNotHanded, StaysIfThere, change_of, changes_names, inode_in, mounts_overlay, sets_mark, sets_mode, sets_owner, writes_bytes}
 use Rattle.vt_spec.specs.declared.attributes.Attr.{Attr}
 use Rattle.vt_spec.specs.Language.Calls.{Call, TaskName}

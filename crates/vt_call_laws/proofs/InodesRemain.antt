@@ -1,8 +1,8 @@
 -- A granted call takes no inode away itself.
 use Rattle.std.proofs.Common.{◌≡◌, refl, sym, ap, ◌∙◌, true≢false, ℕ, nat_eq, eqb-true, Bool, true, false, cond, List, Option, Some, None, is_some}
-use Rattle.vt_call_laws.proofs.GivenPermits.{permits_are_for_their_calls}
+use Rattle.vt_laws.proofs.GivenPermits.{permits_are_for_their_calls}
 use Rattle.vt_call_laws.proofs.InodesLeft.{LeftBy, MadeBy, inode_left}
-use Rattle.vt_call_laws.specs.Given.{IsFor}
+use Rattle.vt_laws.specs.Given.{IsFor}
 use Rattle.vt_call_laws.specs.Inodes.{HasNoOverlays, OnlyUnusedInodesEnd, change_of, inode_in, mounts_overlay}
 use Rattle.vt_spec.specs.Language.Calls.{Call}
 use Rattle.vt_spec.specs.Language.Changes.{Change, changed, changed_node, node_with_attr, node_with_mark, node_with_parent, node_without_entry, with_inode, with_name, without_name, without_parent}

@@ -1,7 +1,6 @@
 pub mod EffectsRights
 pub mod EffectsSearched
 pub mod EffectsTold
-pub mod GivenPermits
 pub mod InodesEntries
 pub mod InodesLeft
 pub mod InodesOwn
@@ -9,6 +8,9 @@ pub mod InodesPartLaws
 pub mod InodesParts
 pub mod InodesRemain
 pub mod InodesSettled
+pub mod ReachedLaws
+pub mod ReachedWalks
+pub mod RootsStay
 pub mod TasksFound
 pub mod TasksLaws
 pub mod TasksLeft

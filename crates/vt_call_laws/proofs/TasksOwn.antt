@@ -3,10 +3,10 @@ use Rattle.std.proofs.Common.{◌≡◌, refl, sym, ap, subst, ◌∙◌, inl, i
 use Rattle.std.proofs.lemmas.Nat.{and_assoc}
 use Rattle.std.specs.Cmp.Lexicographic.{bytes_decides}
 use Rattle.std.specs.Int.Bits.{and_self}
-use Rattle.vt_call_laws.proofs.GivenPermits.{permits_are_for_their_calls}
+use Rattle.vt_laws.proofs.GivenPermits.{permits_are_for_their_calls}
 use Rattle.vt_call_laws.proofs.TasksFound.{Found, called, find_appended, find_mapped, found_name, none_left, others_left, pivoted_keeps_name, raised_is, replaced_keeps_name, same_is}
 use Rattle.vt_call_laws.proofs.TasksLeft.{alone, entered, left_tasks, tasks_after_call, with_new}
-use Rattle.vt_call_laws.specs.Given.{IsFor, NoneFails}
+use Rattle.vt_laws.specs.Given.{IsFor, NoneFails}
 use Rattle.vt_call_laws.specs.Tasks.{IsForked, IsNoMore, MayGive, Opens, Pivots, moves_directory, moves_namespace, moves_root, task_after}
 use Rattle.vt_spec.specs.Language.Calls.{Access, Call, CapabilityWord, Creation, ForkWords, TaskName, same_name}
 use Rattle.vt_spec.specs.Language.Calls.Call.{Drop, Exit, Fork, OpenFile, PivotRoot, Umask}

@@ -2,7 +2,7 @@
 use Rattle.std.specs.Prelude.{Bool, List, None, Ok, Option, Some, [], false, is_some, nat_eq, option_to_list, true, ℕ, ⊤, ◌&&◌, ◌∷◌, ◌≡◌, ◌⊎◌}
 use Rattle.std.specs.List.{All}
 use Rattle.std.specs.Str.{bytes_eq}
-use Rattle.vt_call_laws.specs.Given.{may_create}
+use Rattle.vt_laws.specs.Given.{may_create}
 use Rattle.vt_spec.specs.Machine.Apply.{apply}
 use Rattle.vt_spec.specs.Language.Calls.{Call, TaskName}
 use Rattle.vt_spec.specs.Language.Calls.Call.{Chmod, Chown, LinkTo, MakeWhiteout, Mkdir, MountOverlay, Opaque, OpenFile, Pwrite, Rename, Rmdir, SymlinkAt, Unlink, Write}

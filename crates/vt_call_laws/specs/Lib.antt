@@ -1,4 +1,4 @@
-pub mod Given
+pub mod Effects
 pub mod Inodes
 pub mod Tasks
-pub mod Effects
+pub mod Reached

@@ -1,5 +1,6 @@
 //! What calls leave of inodes, in worlds without overlays.
 ghost use Rattle.vt_call_laws.specs.Inodes.{CallsChangeTheirOwn, KindsStay, LinkTextsStay, OnlyChmodChangesModes, OnlyChownChangesOwners, OnlyNamingChangesEntries, OnlyOpaqueChangesMarks, OnlyUnusedInodesEnd, OnlyWritesChangeBytes, OtherEntriesStay};
+ghost use Rattle.vt_call_laws.specs.Reached.{CallsKeepToTheirPaths, RootsStay};
 
 /// A granted call changes no inode but those that its permit names, in the filesystem of its location: for a new
 /// object it and its directory, mkdir(2), symlink(2), mknod(2), open(2); for a link or a removal the object and its
@@ -14,6 +15,16 @@ pub fn calls_change_their_own()
     ensures own { CallsChangeTheirOwn }
     ensures entries { OtherEntriesStay }
     ensures ends { OnlyUnusedInodesEnd }
+{}
+
+/// A call, granted or refused, changes no inode but those that its paths and descriptors lead it to, through mounts
+/// and symlinks, path_resolution(7), and one that it makes: the object of a path, the directory of a name, and the
+/// object that has the name where that is removed, moved or replaced. Each other inode is as it was, or is gone.
+///
+/// A filesystem that is still there has the root that it had.
+pub fn calls_keep_to_their_paths()
+    ensures paths { CallsKeepToTheirPaths }
+    ensures roots { RootsStay }
 {}
 
 /// Each part of an inode is changed by its own calls alone: bytes by write(2) and pwrite(2), the mode by chmod(2),

@@ -4,6 +4,5 @@
 #![tactic(auto)]
 
 pub mod effects;
-pub mod given;
 pub mod inodes;
 pub mod tasks;

@@ -15,7 +15,7 @@ ghost use Rattle.vt_spec.specs.Lists.{any_pair};
 ghost use Rattle.vt_spec.specs.Machine.Outcome.Descriptors.{overwritten};
 ghost use Rattle.vt_spec.specs.Tree.{bytes_in, entries_in, is_directory_node, names_in};
 ghost use Rattle.vt_spec.specs.TreeLaws.{IsDirectory, entry_at as number_at};
-ghost use Rattle.vt_slots.specs.Slots.{most_uses};
+ghost use Rattle.vt_tree.specs.Slots.{most_uses};
 ghost use Rattle.vt_location.specs.Locations.{number_of};
 ghost use Rattle.vt_location.specs.Numbers.{exchanged, is_inode_of};
 

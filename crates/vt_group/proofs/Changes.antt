@@ -22,7 +22,7 @@ use Rattle.vt_group.specs.Steps.{ended_if_lost, retyped}
 use Rattle.vt_group.proofs.Peers.{lookup-among, lookup-peer, numbers-retyped, peers-left, peers-set, retyped_other, retyped_same}
 use Rattle.vt_group.proofs.Regrouping.{member_shared, regrouped-has, shared_member}
 
-group_shared : (kind : Propagation ℕ) (group : ℕ) → group_of kind ≡ Some group → kind ≡ Shared group
+pub group_shared : (kind : Propagation ℕ) (group : ℕ) → group_of kind ≡ Some group → kind ≡ Shared group
 group_shared (Shared own) group e = ap Shared (same_Some own group e)
 group_shared (Slave above) group e = absurd (true≢false (sym (ap is_some e)))
 group_shared Private group e = absurd (true≢false (sym (ap is_some e)))
@@ -263,7 +263,7 @@ join_regroups world groups has live number group there fresh =
 
 -- Entries of masters, with one more
 
-lookup-inserted : (other group master : ℕ) (masters : List (ℕ × ℕ))
+pub lookup-inserted : (other group master : ℕ) (masters : List (ℕ × ℕ))
     → lookup (nat_eq other) (insert_entry nat_cmp masters group master) ≡ cond (nat_eq other group) (Some master) (lookup (nat_eq other) masters)
 lookup-inserted other group master [] = refl
 lookup-inserted other group master (e ∷ masters) =
@@ -315,7 +315,7 @@ module _ (group master : ℕ) where
       and_from _ _ (lt-ltb group e.0 (omega (arith, ltb-true group high less, ltb-true high e.0 (and_parts _ _ all).0)))
       (further_low high masters less (and_parts _ _ all).1)
 
-  rising-inserted : (masters : List (ℕ × ℕ)) → are_rising (keys masters) ≡ true → are_rising (keys (insert_entry nat_cmp masters group master)) ≡ true
+  pub rising-inserted : (masters : List (ℕ × ℕ)) → are_rising (keys masters) ≡ true → are_rising (keys (insert_entry nat_cmp masters group master)) ≡ true
   rising-inserted [] rising = refl
   rising-inserted (e ∷ masters) rising =
       by (nat_lt group e.0) refl (nat_eq group e.0) refl (rising-inserted masters parts.1)

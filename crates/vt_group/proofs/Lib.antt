@@ -7,3 +7,10 @@ pub mod Receiving
 pub mod Answering
 pub mod Living
 pub mod Showing
+pub mod Heirs
+pub mod Alike
+pub mod Stepping
+pub mod Together
+pub mod Adding
+pub mod Sharing
+pub mod Typed

@@ -59,7 +59,7 @@ lives_weaker p q master more group (has_no_master it has e) = has_no_master it (
 lives_weaker p q master more group (has_master it next has e later) = has_master it next (more it has) e (lives_weaker p q master more next later)
 
 -- the masters of a living group end, also by another function that agrees on groups with members
-lives_end : (p : ℕ → Bool) (master other : ℕ → Option ℕ) → ((group : ℕ) → p group ≡ true → other group ≡ master group) → (group : ℕ)
+pub lives_end : (p : ℕ → Bool) (master other : ℕ → Option ℕ) → ((group : ℕ) → p group ≡ true → other group ≡ master group) → (group : ℕ)
     → Lives p master group → EndsUp other group
 lives_end p master other same group (has_no_master it has e) = at_top it (same it has ∙ e)
 lives_end p master other same group (has_master it next has e later) = goes_up it next (same it has ∙ e) (lives_end p master other same next later)
@@ -156,7 +156,7 @@ module _ (world : World ℕ) (live : GroupsLive world) (number : ℕ) (kind : Pr
           (among_from_all (HasLivingGroups nat_eq world) world.mounts live old m source
           (sym (ap (λ x. source_of x.propagation) (retyped_other number kind old is)) ∙ e))
 
-group_lives : (world : World ℕ) → GroupsLive world → (group : ℕ) → has_members nat_eq world.mounts group ≡ true → Lives (has_members nat_eq world.mounts) world.master group
+pub group_lives : (world : World ℕ) → GroupsLive world → (group : ℕ) → has_members nat_eq world.mounts group ≡ true → Lives (has_members nat_eq world.mounts) world.master group
 group_lives world live group h =
     let member = any_among (is_member_of nat_eq group) world.mounts h in
     among_from_all (HasLivingGroups nat_eq world) world.mounts live member.0 member.1 group (ap source_of (member_shared group member.0 member.2))

@@ -18,7 +18,7 @@ use Rattle.vt_group.proofs.Peers.{members-peers}
 
 module _ (master : ℕ → Option ℕ) where
   -- the end of a chain has no master
-  abbrev Ends : ℕ → ℕ → Type 0
+  abbrev pub Ends : ℕ → ℕ → Type 0
   Ends n source = is_some (master (last_or source (chain n master source))) ≡ false
 
   no_master : (source : ℕ) → is_some (master source) ≡ false → master source ≡ None
@@ -29,7 +29,7 @@ module _ (master : ℕ → Option ℕ) where
       by (Some above) f e = absurd (true≢false e)
 
   -- a chain that came to its end goes no further
-  chain_same : (n m source : ℕ) → n ≤ m → Ends n source → chain m master source ≡ chain n master source
+  pub chain_same : (n m source : ℕ) → n ≤ m → Ends n source → chain m master source ≡ chain n master source
   chain_same zero zero source le ends = refl
   chain_same zero (suc m) source le ends = chain_ends master m source (no_master source ends)
   chain_same (suc n) zero source le ends = absurd (omega (arith, le))
@@ -44,7 +44,7 @@ module _ (master : ℕ → Option ℕ) where
           ∙ sym (chain_goes_on master n source next e)
 
   -- another function that agrees along a chain has that chain
-  chain_alike : (other : ℕ → Option ℕ) (p : ℕ → Bool) → ((group : ℕ) → p group ≡ true → other group ≡ master group)
+  pub chain_alike : (other : ℕ → Option ℕ) (p : ℕ → Bool) → ((group : ℕ) → p group ≡ true → other group ≡ master group)
       → (n source : ℕ) → list_all p (chain n master source) ≡ true → chain n other source ≡ chain n master source
   chain_alike other p same zero source all = refl
   chain_alike other p same (suc n) source all = by (master source) refl (chain_alike other p same n)
@@ -64,7 +64,7 @@ module _ (master : ℕ → Option ℕ) where
     way group (has_no_master it has f) = it ∷ []
     way group (has_master it next has f later) = it ∷ way next later
 
-    all_on_way : (n group : ℕ) → Lives members master group → list_all members (chain n master group) ≡ true
+    pub all_on_way : (n group : ℕ) → Lives members master group → list_all members (chain n master group) ≡ true
     all_on_way zero group life = ap (λ b. b && true) (live_members members master group life)
     all_on_way (suc n) group (has_no_master it has f) = ap (list_all members) (chain_ends master n it f) ∙ ap (λ b. b && true) has
     all_on_way (suc n) group (has_master it next has f later) =
@@ -194,6 +194,22 @@ fewer_peers (mount ∷ rest) = by (peer_of mount) (fewer_peers rest)
 abbrev pub is_up : Grouping → ℕ → ℕ → Bool
 is_up groups group source = is_among nat_eq group (chain (length groups.peers) (master_in groups) source)
 
+few_on_way : (world : World ℕ) (source : ℕ) (life : Lives (has_members nat_eq world.mounts) world.master source)
+    → length (way world.master (has_members nat_eq world.mounts) source life) ≤ length (peers_of world.mounts)
+few_on_way world source life =
+    let members : ℕ → Bool = has_members nat_eq world.mounts in
+    fewer_groups (way world.master members source life) (peers_of world.mounts) (way_apart world.master members source life)
+    (list_all_from_among (λ g. list_any (is_member g) (peers_of world.mounts)) (way world.master members source life) (λ g m.
+    members-peers g world.mounts ∙ among_from_list_all members (way world.master members source life) (way_members world.master members source life) g m))
+
+-- the masters of a living group end within as many steps as there are mounts
+pub living_ends : (world : World ℕ) (source : ℕ) → Lives (has_members nat_eq world.mounts) world.master source
+    → Ends world.master (length world.mounts) source
+living_ends world source life =
+    let few : length (way world.master (has_members nat_eq world.mounts) source life) ≤ length (peers_of world.mounts) =
+    few_on_way world source life in
+    ends_within world.master (has_members nat_eq world.mounts) (length world.mounts) source life (omega (arith, few, fewer_peers world.mounts))
+
 module _ (world : World ℕ) (groups : Grouping) (has : Has world groups) (live : GroupsLive world) where
   abbrev members : ℕ → Bool
   members = has_members nat_eq world.mounts
@@ -204,10 +220,7 @@ module _ (world : World ℕ) (groups : Grouping) (has : Has world groups) (live 
   up_alike : (group source : ℕ) → Lives members world.master source → is_up groups group source ≡ is_among nat_eq group (groups_up world source)
   up_alike group source life =
       let on_way : (n : ℕ) → list_all members (chain n world.master source) ≡ true = λ n. all_on_way world.master members n source life in
-      let few : length (way world.master members source life) ≤ length (peers_of world.mounts) =
-      fewer_groups (way world.master members source life) (peers_of world.mounts) (way_apart world.master members source life)
-      (list_all_from_among (λ g. list_any (is_member g) (peers_of world.mounts)) (way world.master members source life) (λ g m.
-      members-peers g world.mounts ∙ among_from_list_all members (way world.master members source life) (way_members world.master members source life) g m)) in
+      let few : length (way world.master members source life) ≤ length (peers_of world.mounts) = few_on_way world source life in
       let ends = ends_within world.master members (length (peers_of world.mounts)) source life (omega (arith, few)) in
       ap (is_among nat_eq group) (
       ap (λ peers. chain (length peers) (master_in groups) source) has.peers

@@ -1,9 +1,10 @@
 -- What a world's groups say of the world, and what the changes of this crate keep.
-use Rattle.std.specs.Prelude.{All, IfSome, None, Option, ℕ, nat_eq, ◌≡◌}
+use Rattle.std.specs.Prelude.{All, IfSome, None, Option, if◌then◌else◌, map, nat_eq, ℕ, ◌≡◌}
 use Rattle.vt_spec.specs.Lists.{Fresh}
-use Rattle.vt_spec.specs.Machine.Mounts.{Propagation}
+use Rattle.vt_spec.specs.Machine.Mounts.{Mount, Propagation, is_unbindable}
 use Rattle.vt_spec.specs.Machine.Mounts.Propagation.{Private, Shared, Slave, Unbindable}
 use Rattle.vt_spec.specs.Machine.Receives.{regrouped}
+use Rattle.vt_spec.specs.Machine.Settled.{without_dead_groups}
 use Rattle.vt_spec.specs.Machine.World.{World, opening}
 use Rattle.vt_group.specs.Grouping.{Grouping, GroupsLive, Has, HasGroup, LacksGroup, below, master_in, no_groups, propagation_in, with_propagation}
 
@@ -30,6 +31,17 @@ abbrev pub ShowsMasters : Type 0
 ShowsMasters =
     (world : World ℕ) (groups : Grouping) (group : ℕ) → Has world groups → HasGroup world group
     → master_in groups group ≡ world.master group
+
+-- A regrouped world has just the types and masters of its groups: the type of each mount is that of the groups, or it is private
+-- or unbindable as it was.
+abbrev pub typed_by : Grouping → Mount ℕ → Mount ℕ
+typed_by groups mount =
+    record mount { propagation = if is_unbindable mount.propagation then Unbindable else propagation_in groups mount.number }
+
+abbrev pub RegroupedIsTyped : Type 0
+RegroupedIsTyped =
+    (world : World ℕ) (groups : Grouping) → Has (regrouped nat_eq world) groups
+    → without_dead_groups nat_eq (regrouped nat_eq world) ≡ record world { mounts = map (typed_by groups) world.mounts; master = master_in groups }
 
 -- Groups live on where a mount leaves,
 abbrev pub LeavingKeepsGroups : Type 0

@@ -1,3 +1,4 @@
 pub mod Grouping
 pub mod Steps
+pub mod Together
 pub mod Laws

@@ -10,14 +10,24 @@ ghost use Rattle.vt_spec.specs.declared.errors.Rule.TheVariants.{S5};
 ghost use Rattle.vt_location.specs.MountValue.{propagation_of};
 ghost use Rattle.vt_location.specs.Numbers.{counted};
 ghost use Rattle.vt_group.specs.Grouping.{Follows, GroupsLive, Has, HasGroup, HasMount, LacksGroup, below, master_in, no_groups, numbers_of, propagation_in, with_propagation};
+ghost use Rattle.vt_spec.specs.Language.Calls.TypeWord.{ToPrivate, ToSlave, ToUnbindable};
+ghost use Rattle.vt_group.specs.Together.{GrowsTo, Retypes, Shares, TakesAway, all_added, new_group, pair_of};
+ghost use Rattle.vt_group.specs.Together.{shared_group, shared_type, typed, with_master_of, with_type_of};
 ghost use Rattle.vt_group.specs.Steps.{ended, ended_if_lost, group_number, handed, handed_type, has_peers, retyped, type_or_private};
 
 use crate::propagation::{hand_over, is_in, own_group, replace_master, source};
-use std::alloc::Global;
+use std::alloc::{AllocError, Global};
 use std::collections::BTreeMap;
 use std::marker::Model;
-use vt_location::{GroupId, MountId, Propagation};
+use vt_location::{GroupId, Mount, MountId, Propagation};
 use vt_spec::errors::{Deny, Rule};
+
+/// A new group, and its master.
+#[derive(Clone, Copy, Debug, PartialEq, Eq)]
+pub struct NewGroup {
+    pub group: GroupId,
+    pub master: Option<GroupId>,
+}
 
 /// The peer groups: their members and slaves, and their masters.
 #[derive(Debug, Drop)]
@@ -152,6 +162,165 @@ impl Groups {
     {
         let old = self.mounts.remove(&mount.count);
         self.end_if_lost(old);
+    }
+
+    /// All these mounts become private at once, or unbindable, or are detached; then the groups without members end. It does not
+    /// allocate.
+    pub fn leave_all(&mut self, mounts: &[MountId])
+        ensures private { Retypes self.old self.new ToPrivate (map (λ mount. counted mount.count) mounts.now) }
+        ensures unbindable { Retypes self.old self.new ToUnbindable (map (λ mount. counted mount.count) mounts.now) }
+        ensures detached { TakesAway self.old self.new (map (λ mount. counted mount.count) mounts.now) }
+    {
+        for mount in mounts {
+            self.leave(*mount);
+        }
+    }
+
+    /// Those of these mounts that are members of a group become slaves of it at once; then the groups without members end. It does
+    /// not allocate.
+    pub fn make_slaves(&mut self, mounts: &[MountId])
+        ensures { Retypes self.old self.new ToSlave (map (λ mount. counted mount.count) mounts.now) }
+    {
+        for mount in mounts {
+            self.make_slave_of_own(*mount);
+        }
+    }
+
+    // A mount becomes a slave of the group that it is in, if it is in one.
+    fn make_slave_of_own(&mut self, mount: MountId)
+        ensures member { (group : ℕ) → propagation_in self.old (counted mount.count) ≡ SharedIn group
+            → self.new ≡ retyped (counted mount.count) (SlaveOf group) self.old }
+        ensures other { group_of (propagation_in self.old (counted mount.count)) ≡ None → self.new ≡ self.old }
+    {
+        let Some(kind) = self.propagation_of(mount) else {
+            return;
+        };
+        let Some(group) = own_group(kind) else {
+            return;
+        };
+        // It cannot fail: the mount has a type.
+        let _ = self.set(mount, Propagation::Slave(group));
+    }
+
+    /// Mounts get the types that they have here, and new groups their masters, in whatever order they come: an attachment. No
+    /// group that was there may lose its last member by it.
+    ///
+    /// S5 (ENOMEM): memory was refused.
+    pub fn add(&mut self, mounts: &[Mount], new: &[NewGroup]) -> Result<(), Deny>
+        ensures ok { OnOk result (GrowsTo self.old self.new (map typed mounts.now) (map new_group new.now)) }
+        ensures memory { IfErr result (λ deny. deny ≡ denial S5) }
+        ensures err { OnErr result (self.new ≡ self.old) }
+    {
+        let Ok(grown) = self.with_all(mounts, new) else {
+            return Err(Rule::S5.denial());
+        };
+        *self = grown;
+        Ok(())
+    }
+
+    /// All these mounts become shared at once. One that is not shared yet is the first member of a new group, which is given beside
+    /// it; if it was a slave, its master is the master of that group.
+    ///
+    /// S5 (ENOMEM): memory was refused.
+    pub fn share(&mut self, named: &[(MountId, GroupId)]) -> Result<(), Deny>
+        ensures ok { OnOk result (Shares self.old self.new (map pair_of named.now)) }
+        ensures memory { IfErr result (λ deny. deny ≡ denial S5) }
+        ensures err { OnErr result (self.new ≡ self.old) }
+    {
+        let Ok(grown) = self.with_shared(named) else {
+            return Err(Rule::S5.denial());
+        };
+        *self = grown;
+        Ok(())
+    }
+
+    // The groups with these mounts shared.
+    fn with_shared(&self, named: &[(MountId, GroupId)]) -> Result<Groups, AllocError>
+        ensures { IfOk result (λ grown. grown
+            ≡ all_added self.now (map (λ pair. shared_type self.now (pair_of pair)) named.now)
+            (map (λ pair. shared_group self.now (pair_of pair)) named.now)) }
+    {
+        let mut grown = self.copied()?;
+        for pair in named {
+            grown.put_type(pair.0, self.when_shared(pair.0, pair.1))?;
+            grown.put_master(self.group_when_shared(pair.0, pair.1))?;
+        }
+        Ok(grown)
+    }
+
+    // The type of a mount that becomes shared.
+    fn when_shared(&self, mount: MountId, group: GroupId) -> Propagation
+        ensures { (counted mount.count, propagation_of result) ≡ shared_type self.now (counted mount.count, counted group.count) }
+    {
+        match self.propagation_of(mount) {
+            Some(Propagation::Shared(own)) => Propagation::Shared(own),
+            _ => Propagation::Shared(group),
+        }
+    }
+
+    // The group of a mount that becomes shared: a slave's master is its master.
+    fn group_when_shared(&self, mount: MountId, group: GroupId) -> NewGroup
+        ensures { new_group result ≡ shared_group self.now (counted mount.count, counted group.count) }
+    {
+        match self.propagation_of(mount) {
+            Some(Propagation::Slave(master)) => NewGroup {
+                group,
+                master: Some(master),
+            },
+            _ => NewGroup {
+                group,
+                master: None,
+            },
+        }
+    }
+
+    // The groups with these types of mounts, and these groups.
+    fn with_all(&self, mounts: &[Mount], new: &[NewGroup]) -> Result<Groups, AllocError>
+        ensures { IfOk result (λ grown. grown ≡ all_added self.now (map typed mounts.now) (map new_group new.now)) }
+    {
+        let mut grown = self.copied()?;
+        for mount in mounts {
+            grown.put_type(mount.number, mount.propagation)?;
+        }
+        for group in new {
+            grown.put_master(*group)?;
+        }
+        Ok(grown)
+    }
+
+    fn copied(&self) -> Result<Groups, AllocError>
+        ensures { IfOk result (λ copy. copy ≡ self.now) }
+    {
+        Ok(Groups {
+            mounts: self.mounts.clone()?,
+            above: self.above.clone()?,
+        })
+    }
+
+    // A mount gets a type.
+    fn put_type(&mut self, mount: MountId, kind: Propagation) -> Result<(), AllocError>
+        ensures { OnOk result (self.new
+            ≡ record self.old { peers = with_type_of self.old.peers (counted mount.count, propagation_of kind) }) }
+    {
+        if source(kind).is_some() {
+            self.mounts.insert(mount.count, kind)?;
+        }
+        Ok(())
+    }
+
+    // A group gets a master, or none.
+    fn put_master(&mut self, new: NewGroup) -> Result<(), AllocError>
+        ensures { OnOk result (self.new ≡ record self.old { masters = with_master_of self.old.masters (new_group new) }) }
+    {
+        match new.master {
+            Some(master) => {
+                self.above.insert(new.group.count, master)?;
+            }
+            None => {
+                self.above.remove(&new.group.count);
+            }
+        }
+        Ok(())
     }
 
     /// A mount becomes the first member of a new group, which has this master, if any. A group that has a master keeps it.

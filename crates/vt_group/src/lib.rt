@@ -5,4 +5,4 @@ mod groups;
 pub mod laws;
 mod propagation;
 
-pub use groups::Groups;
+pub use groups::{Groups, NewGroup};

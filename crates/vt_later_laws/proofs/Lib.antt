@@ -22,3 +22,4 @@ pub mod WaysFiles
 pub mod WrittenSeen
 pub mod RenamedSeen
 pub mod CreatedSeen
+pub mod EndedBy

@@ -1,2 +1,3 @@
 pub mod Later
 pub mod LaterPaths
+pub mod Ends

@@ -4,7 +4,7 @@ use std.Equiv.{◌≃◌, id_equiv, iso_to_equiv}
 use std.Univalence.{equiv_j}
 use Rattle.vt_spec.specs.Machine.Renaming.{renamed}
 use Rattle.vt_spec.specs.Machine.World.{World}
-use Rattle.vt_one_text.specs.Renaming.{Renaming}
+use Rattle.vt_laws.specs.Renaming.{Renaming}
 use Rattle.vt_laws.specs.Numbers.{KeepsTo, Lot, Allotment, is_kept, is_kept_lot}
 use Rattle.vt_laws.specs.Numbers.Lot.{Kept, LeftOver, New}
 use Rattle.vt_laws.proofs.Renamings.{renamed_itself}

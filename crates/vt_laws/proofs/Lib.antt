@@ -2,6 +2,9 @@ pub mod Allotments
 pub mod AskedRules
 pub mod CallsJudged
 pub mod Cells
+pub mod Commuting
+pub mod Exchanges
+pub mod GivenPermits
 pub mod LeastAnswers
 pub mod LeastRule
 pub mod LooksAlike
@@ -16,7 +19,6 @@ pub mod SameFiles
 pub mod SameJudged
 pub mod SameLooks
 pub mod SameMany
-pub mod SameTexts
 pub mod Stages
 pub mod Supports
 pub mod TableOrder

@@ -13,8 +13,8 @@ use Rattle.vt_spec.specs.Machine.Run.Step.{Answered, Silent}
 use Rattle.vt_spec.specs.Machine.Turns.{Progress, Sched, Turned}
 use Rattle.vt_spec.specs.Machine.World.{Filesystem, Layer, Overlay, Real, Task, World}
 use Rattle.vt_spec.specs.Machine.World.Real.{Below, Upper}
-use Rattle.vt_one_text.specs.Renaming.{Renaming}
-use Rattle.vt_one_text.proofs.Commuting.{Named, commutes_nat, map_itself, node_itself, option_itself}
+use Rattle.vt_laws.specs.Renaming.{Renaming}
+use Rattle.vt_laws.proofs.Commuting.{Named, commutes_nat, map_itself, node_itself, option_itself}
 use Rattle.vt_laws.specs.Numbers.{CallsDoNotSeeNumbers, LinesDoNotSeeNumbers, renamed_held, renamed_outcome, renamed_progress, renamed_sched, renamed_step, renamed_supply, renamed_turned, SameWorldsAnswerAlike}
 
 -- With each number for itself nothing is renamed.

@@ -9,9 +9,9 @@ use Rattle.vt_spec.specs.Machine.Run.{Step, line_step, numbers_in_use, step_worl
 use Rattle.vt_spec.specs.Machine.Run.Step.{Answered, Silent}
 use Rattle.vt_spec.specs.Machine.World.{World, opening}
 use Rattle.vt_laws.specs.Numbers.{CallsKeepToNumbers, LeavesOutTwo, LinesKeepToNumbers, OpeningKeepsToFour, UsedNumbersAreNamed, renamed_step}
-use Rattle.vt_one_text.specs.Renaming.{Renaming}
-use Rattle.vt_one_text.proofs.Commuting.{Named, commutes_nat, map_itself}
-use Rattle.vt_one_text.proofs.Exchanges.{exchange, exchange_leaves, swapped, swapped_first}
+use Rattle.vt_laws.specs.Renaming.{Renaming}
+use Rattle.vt_laws.proofs.Commuting.{Named, commutes_nat, map_itself}
+use Rattle.vt_laws.proofs.Exchanges.{exchange, exchange_leaves, swapped, swapped_first}
 use Rattle.vt_laws.proofs.Renamings.{calls_renamed, lines_renamed, named_world}
 
 -- The world after a call, and after a line

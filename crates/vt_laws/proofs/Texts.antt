@@ -7,7 +7,7 @@ use Rattle.vt_spec.specs.Machine.Run.{Step, line_step, step_text, step_world, fi
 use Rattle.vt_spec.specs.Machine.Run.Step.{Answered, Silent}
 use Rattle.vt_spec.specs.Language.Script.{Grammar, lines_of}
 use Rattle.vt_spec.specs.Machine.World.{World}
-use Rattle.vt_one_text.specs.Renaming.{Renaming}
+use Rattle.vt_laws.specs.Renaming.{Renaming}
 use Rattle.vt_laws.specs.Numbers.{KeepsTo, ServesWithRoom, Lot, Allotment, TellsWithRoom, WorldsKeepToHand, is_in_hand, is_in_hand_lot, is_kept, is_kept_lot, renamed_step, first_four, AnyTwoTextsAreOne, SomeTextIsThere, SuppliesDoNotMatter, MayBeText, WholeMachineHasOneText, RoomServes, TextsAreTold, LeavesOutTwo}
 use Rattle.vt_laws.specs.Numbers.Lot.{Kept, LeftOver, New}
 use Rattle.vt_laws.proofs.Renamings.{lines_renamed, renamed_itself, same_worlds_answer_alike}

@@ -1,8 +1,9 @@
 pub mod Asked
 pub mod Denials
+pub mod Given
 pub mod Judged
 pub mod Numbers
+pub mod Renaming
 pub mod RuleOrder
 pub mod RuleRanks
 pub mod Same
-pub mod SameTexts

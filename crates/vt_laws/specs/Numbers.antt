@@ -17,7 +17,7 @@ use Rattle.vt_spec.specs.Machine.Turns.{Progress, Sched, Turned, turn}
 use Rattle.vt_spec.specs.Machine.World.{Descriptor, Filesystem, Layer, Namespace, Overlay, Real, Task, World, opening}
 use Rattle.vt_spec.specs.Machine.World.Real.{Below, Upper}
 use Rattle.vt_spec.specs.Tree.{Content, Node}
-use Rattle.vt_one_text.specs.Renaming.{Leaves, Renaming}
+use Rattle.vt_laws.specs.Renaming.{Leaves, Renaming}
 use Rattle.vt_spec.specs.Tree.Content.{Directory, Regular, Symlink, Whiteout}
 
 module _ {N M : Type 0} (there : N → M) (back : M → N) where

@@ -1,11 +1,11 @@
-//! Laws of the whole machine: refusals, rules, and numbers, which do not matter.
+//! Laws of the whole machine: refusals, rules, which calls a permit is given to, and numbers, which do not matter.
 //!
 //! Each public function is a theorem of the written policy, and does nothing.
 #![tactic(auto)]
 
 pub mod denials;
+pub mod given;
 pub mod judged;
 pub mod numbers;
 pub mod rules;
 pub mod same;
-pub mod same_texts;

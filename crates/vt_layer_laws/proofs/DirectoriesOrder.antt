@@ -43,7 +43,7 @@ module _ {A : Type 0} where
       by true (inr among) rest = inr (rest among)
       by false among rest = inr (rest among)
 
-  pairwise_filter : (R : A → A → Type 0) (test : A → Bool) (list : List A) → Pairwise R list → Pairwise R (filter test list)
+  pub pairwise_filter : (R : A → A → Type 0) (test : A → Bool) (list : List A) → Pairwise R list → Pairwise R (filter test list)
   pairwise_filter R test [] p = tt
   pairwise_filter R test (first ∷ list) p = by (test first) (pairwise_filter R test list p.1)
     where
@@ -59,7 +59,7 @@ module _ {A B : Type 0} where
       (λ r. let found = from_flat_map f list b r in (found.0, inr found.1, found.2))
       (from_append (f first) (flat_map f list) b among)
 
-  pairwise_filter_map : (R : A → A → Type 0) (S : B → B → Type 0) (f : A → Option B) → ((a b : A) (x y : B) → f a ≡ Some x → f b ≡ Some y → R a b → S x y) → (list : List A) → Pairwise R list → Pairwise S (filter_map f list)
+  pub pairwise_filter_map : (R : A → A → Type 0) (S : B → B → Type 0) (f : A → Option B) → ((a b : A) (x y : B) → f a ≡ Some x → f b ≡ Some y → R a b → S x y) → (list : List A) → Pairwise R list → Pairwise S (filter_map f list)
   pairwise_filter_map R S f kept [] p = tt
   pairwise_filter_map R S f kept (first ∷ list) p = by (f first) refl (pairwise_filter_map R S f kept list p.1)
     where
@@ -68,7 +68,7 @@ module _ {A B : Type 0} where
       by (Some x) e rest = (λ y among. let from = from_filter_map f list y among in kept first from.0 x y e from.2 (p.0 from.0 from.1), rest)
 
 -- Names in their order
-abbrev NameBelow : List ℕ → List ℕ → Type 0
+abbrev pub NameBelow : List ℕ → List ℕ → Type 0
 NameBelow a b = T (is_lt (name_cmp a b))
 
 not_below_itself : {P : Type 0} (name : List ℕ) → NameBelow name name → P
@@ -96,7 +96,7 @@ module _ {X : Type 0} where
   all_below name (entry ∷ entries) h other (inl e) = subst (NameBelow name) e (first_true _ _ h)
   all_below name (entry ∷ entries) h other (inr among) = all_below name entries (second_true (is_lt (name_cmp name entry.0)) _ h) other among
 
-  names_rise : (entries : Entries X) → T (is_sorted name_cmp entries) → Pairwise NameBelow (map (λ e. e.0) entries)
+  pub names_rise : (entries : Entries X) → T (is_sorted name_cmp entries) → Pairwise NameBelow (map (λ e. e.0) entries)
   names_rise [] h = tt
   names_rise (entry ∷ entries) h =
       (all_below entry.0 entries (first_true _ _ h), names_rise entries (second_true (below_all name_cmp entry.0 entries) _ h))
@@ -105,7 +105,7 @@ module _ {X : Type 0} where
   below_each name [] h = tt
   below_each name (entry ∷ entries) h = both_true _ _ (h entry (inl refl)) (below_each name entries (λ e a. h e (inr a)))
 
-  rising_sorted : (entries : Entries X) → Pairwise (λ a b. NameBelow a.0 b.0) entries → T (is_sorted name_cmp entries)
+  pub rising_sorted : (entries : Entries X) → Pairwise (λ a b. NameBelow a.0 b.0) entries → T (is_sorted name_cmp entries)
   rising_sorted [] p = tt
   rising_sorted (entry ∷ entries) p = both_true _ _ (below_each entry.0 entries p.0) (rising_sorted entries p.1)
 
@@ -113,7 +113,7 @@ put_each : (entries : Entries ℕ) (names : Entries (Unit {0})) → T (is_sorted
 put_each [] names h = h
 put_each (entry ∷ entries) names h = put_each entries (with_entry entry.0 tt names) (is_sorted-put name_cmp nat_list_cmp_total entry.0 tt names h)
 
-names_sorted : (views : List (View ℕ)) (path : List (List ℕ)) → T (is_sorted name_cmp (names_at views path))
+pub names_sorted : (views : List (View ℕ)) (path : List (List ℕ)) → T (is_sorted name_cmp (names_at views path))
 names_sorted [] path = tt
 names_sorted (view ∷ lower) path = put_each (entries_in (node_led view path)) (names_at lower path) (names_sorted lower path)
 

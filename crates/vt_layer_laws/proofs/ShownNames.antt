@@ -13,7 +13,7 @@ use Rattle.vt_spec.proofs.Nodes.{same_name}
 use Rattle.vt_layer_laws.specs.Layers.Shown.{IsShown}
 use Rattle.vt_layer_laws.proofs.ShownAtPath.{computed, none_is_some, some_is_one}
 
-abbrev is_name : List ℕ → List ℕ → Bool
+abbrev pub is_name : List ℕ → List ℕ → Bool
 is_name name other = eq_by_cmp name_cmp name other
 
 is_itself : (name : List ℕ) → is_name name name ≡ true
@@ -31,7 +31,7 @@ contains_name name (other ∷ names) e = by (is_name name other) refl (contains_
     by true t rest e = (0, omega arith, sym (same_name name other t))
     by false t rest e = contains_cons name other names (rest e)
 
-name_found : (name : List ℕ) (names : List (List ℕ)) (k : ℕ) → k < length names → get_or names k name ≡ name → list_any (is_name name) names ≡ true
+pub name_found : (name : List ℕ) (names : List (List ℕ)) (k : ℕ) → k < length names → get_or names k name ≡ name → list_any (is_name name) names ≡ true
 name_found name [] k h e = absurd (let l : k < 0 = h in omega arith)
 name_found name (other ∷ names) zero h e = ap (λ n. is_name name n || list_any (is_name name) names) e ∙ ap (λ b. b || list_any (is_name name) names) (is_itself name)
 name_found name (other ∷ names) (suc k) h e = right (is_name name other) (list_any (is_name name) names) (name_found name names k (omega arith) e)

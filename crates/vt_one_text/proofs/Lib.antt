@@ -1,5 +1,3 @@
-pub mod Commuting
-pub mod Exchanges
 pub mod OneTreeChanges
 pub mod OneTreeCounts
 pub mod OneTreeDescriptors
@@ -26,3 +24,4 @@ pub mod OneTreeTasks
 pub mod OneTreeTexts
 pub mod OneTreeTrees
 pub mod OneTreeWalks
+pub mod SameTexts

@@ -6,7 +6,7 @@ use Rattle.vt_spec.specs.Inodes.{Inode, renamed_inode}
 use Rattle.vt_spec.specs.OneTree.Policy.{policy}
 use Rattle.vt_spec.specs.OneTree.World.{Outcome, Task, World}
 use Rattle.vt_one_text.specs.OneTreeNumbers.{OneTreeDoesNotSeeNumbers, renamed_descriptor, renamed_outcome, renamed_task, renamed_world}
-use Rattle.vt_one_text.proofs.Commuting.{Named, commutes_nat, map_itself, node_itself}
+use Rattle.vt_laws.proofs.Commuting.{Named, commutes_nat, map_itself, node_itself}
 
 -- With each number for itself nothing is renamed.
 module _ {N : Type 0} where

@@ -8,7 +8,7 @@ use Rattle.vt_spec.specs.OneTree.Policy.{policy}
 use Rattle.vt_spec.specs.OneTree.Run.{Step, Tells, line_step, line_step_by, requested, script_text, step_text, step_world, text_from}
 use Rattle.vt_spec.specs.OneTree.Run.Step.{Answered, Silent}
 use Rattle.vt_spec.specs.OneTree.World.{World, opening}
-use Rattle.vt_one_text.specs.Renaming.{Leaves, Renaming}
+use Rattle.vt_laws.specs.Renaming.{Leaves, Renaming}
 use Rattle.vt_one_text.specs.OneTree.{IsAnsweredAlike, IsFit, IsImage}
 use Rattle.vt_one_text.specs.OneTreeNumbers.{renamed_outcome, renamed_world}
 use Rattle.vt_one_text.specs.OneTreeTexts.{LanguageTextIsTheText, LinesKeepFit, OneTreeHasOneText, OneTreeHasSomeText, RefusedLinesKeepFit, WholeTextIsTheText}
@@ -16,8 +16,8 @@ use Rattle.vt_one_text.proofs.OneTreeNumbers.{outcome_itself, world_itself}
 use Rattle.vt_one_text.proofs.OneTreeOpening.{opening_is_fit}
 use Rattle.vt_one_text.proofs.OneTreeRenamed.{renamed_alike}
 use Rattle.vt_one_text.proofs.OneTreeRuns.{RequestAnswered, files_are_told, language_is_told, not_above, request_answered, sum_of, vacant_if}
-use Rattle.vt_one_text.proofs.Commuting.{Named, commutes_nat, stay_apart}
-use Rattle.vt_one_text.proofs.Exchanges.{exchange, exchange_leaves, swapped, swapped_first, swapped_other, swapped_twice}
+use Rattle.vt_laws.proofs.Commuting.{Named, commutes_nat, stay_apart}
+use Rattle.vt_laws.proofs.Exchanges.{exchange, exchange_leaves, swapped, swapped_first, swapped_other, swapped_twice}
 
 -- Lines do not see numbers
 

@@ -1,4 +1,4 @@
 pub mod OneTree
 pub mod OneTreeNumbers
 pub mod OneTreeTexts
-pub mod Renaming
+pub mod SameTexts

@@ -4,7 +4,7 @@ use Rattle.vt_spec.specs.Language.Calls.{Call, TaskName}
 use Rattle.vt_spec.specs.Inodes.{renamed_inodes}
 use Rattle.vt_spec.specs.OneTree.Policy.{policy}
 use Rattle.vt_spec.specs.OneTree.World.{Descriptor, Outcome, Task, World}
-use Rattle.vt_one_text.specs.Renaming.{Renaming}
+use Rattle.vt_laws.specs.Renaming.{Renaming}
 
 module _ {N M : Type 0} (there : N → M) (back : M → N) where
   abbrev pub renamed_descriptor : Descriptor N → Descriptor M

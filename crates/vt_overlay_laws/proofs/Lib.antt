@@ -1,3 +1,13 @@
+pub mod ApartLater
+pub mod ApartPaths
+pub mod UpperOwn
+pub mod UpperTold
+pub mod UpperWhole
+pub mod UpperMoved
+pub mod UpperRemoved
+pub mod UpperMade
+pub mod UpperNames
+pub mod UpperGoes
 pub mod WholeAttributes
 pub mod WholeCopied
 pub mod WholeGrown

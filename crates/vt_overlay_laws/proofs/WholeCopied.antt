@@ -16,10 +16,11 @@ use Rattle.vt_spec.specs.Machine.Invariants.{SameObject, number_at_path, same_co
 use Rattle.vt_spec.specs.Rights.{is_directory}
 use Rattle.vt_spec.specs.Tree.{Content, Node, entries_in, entries_of, entry_named, is_directory_node, kind_of, name_cmp, parent_in, parent_of}
 use Rattle.vt_spec.specs.Tree.Content.{Directory, Regular, Symlink, Whiteout}
-use Rattle.vt_spec.specs.TreeLaws.{IsDirectory, IsReached, IsTree, entry_at, led}
+use Rattle.vt_spec.specs.TreeLaws.{HasOwnParents, IsDirectory, IsReached, IsTree, entry_at, led}
 use Rattle.vt_spec.proofs.Nodes.{directory_used, node_other, node_set}
 use Rattle.vt_spec.proofs.Trees.{led-append}
-use Rattle.vt_tree_laws.proofs.ChangesKeepTrees.{changes_keep_trees}
+use Rattle.vt_tree_laws.specs.Trees.{MayMake}
+use Rattle.vt_tree_laws.proofs.ChangesKeepTrees.{changes_keep_trees, numbers_with_inode}
 use Rattle.vt_layer_laws.specs.Layers.ChangesUpper.{StandsInUpper}
 use Rattle.vt_layer_laws.specs.Layers.Mounted.{IsAlike}
 use Rattle.vt_layer_laws.specs.Layers.Views.{TakesName, goes_through, names_entry, view_in}
@@ -37,9 +38,10 @@ use Rattle.vt_layer_laws.proofs.ViewsMoves.{led_parts}
 use Rattle.vt_layer_laws.proofs.ShownPaths.{not_empty}
 use Rattle.vt_layer_laws.proofs.ViewsNames.{alike_same, file_is_empty, inode_entries, make_adds_inode, make_adds_path, make_is_seen, no_entries}
 use Rattle.vt_layer_laws.proofs.ViewsStay.{inode_moves_no_path}
+use Rattle.vt_overlay_laws.proofs.UpperGoes.{Goes, goes_by}
 use Rattle.vt_overlay_laws.proofs.WholeAttributes.{bytes_same, top_open, upper_real}
 use Rattle.vt_overlay_laws.proofs.WholeGrown.{directory_alike, grown_is_fine}
-use Rattle.vt_overlay_laws.proofs.WholeNames.{above_named, cut_shows_none, named_led, through_bare, through_free, whole_again, directory_above, entry_named_so, is_fine, named_above, over_same, same_entry, same_through}
+use Rattle.vt_overlay_laws.proofs.WholeNames.{above_named, cut_shows_none, named_led, through_bare, through_free, whole_again, directory_above, entry_named_so, is_fine, named_above, over_same, same_entry, same_through, top_good}
 use Rattle.vt_overlay_laws.proofs.WholeParts.{IsFine, real_by, real_by_none}
 
 -- the content of a copy
@@ -55,7 +57,7 @@ copy_kind parent (Regular bytes) = refl
 copy_kind parent (Symlink text) = refl
 copy_kind parent Whiteout = refl
 
-copy_bare : (parent : ℕ) (content : Content ℕ) → entries_of (copied_content parent content) ≡ []
+pub copy_bare : (parent : ℕ) (content : Content ℕ) → entries_of (copied_content parent content) ≡ []
 copy_bare parent (Directory old entries opaque) = refl
 copy_bare parent (Regular bytes) = refl
 copy_bare parent (Symlink text) = refl
@@ -241,6 +243,25 @@ module _ (stack : Stack ℕ) (merge : Merge ℕ) (whole : IsWhole stack merge) (
         by None e = refl
         by (Some n) e = ap (λ b. cond b (Some (Upper copy)) (merge.real n)) (ne_eqb n object (λ same. no_path path (e ∙ ap Some same)))
 
+    own_parent_beside : HasOwnParents merge.upper.tree → HasOwnParents apart.tree
+    own_parent_beside own k is none =
+        ⊎_elim
+        (λ same. ap (λ n. parent_in n (apart.tree.node n)) same
+        ∙ ap (parent_in copy) (node_set merge.upper.tree copy (Some (copy_node copy))) ∙ copy_parent_itself node.content ∙ sym same)
+        (λ old. apart_parent k old ∙ own k old (λ named. none (named.0, named.1, apart_entry named.0 named.1 ∙ named.2)))
+        (was_directory k is)
+
+    beside_goes : Goes stack.directory merge.upper apart
+    beside_goes = record {
+      good = record {
+        tree = apart_is_tree;
+        directory = still_directory stack.directory top_directory;
+        reached = (whole.reached.0, apart_led merge.upper.tree.root whole.reached.0 ∙ whole.reached.1);
+      };
+      numbers = numbers_with_inode merge.upper copy (copy_node copy);
+      own_parents = own_parent_beside;
+    }
+
     beside_is_whole : IsWhole stack beside
     beside_is_whole =
         whole_again stack merge beside whole whole.tree whole.numbers apart_is_tree (still_directory stack.directory top_directory)
@@ -399,18 +420,24 @@ module _ (stack : Stack ℕ) (merge : Merge ℕ) (whole : IsWhole stack merge) (
     new_object : with_copy.tree.node copy ≡ Some (copy_node ud)
     new_object = (make_adds_inode merge.upper stack.directory ud copy w (copy_node ud) ud_directory vacant).0
 
+    may_copy : MayMake merge.upper.tree ud w copy (copy_node ud)
+    may_copy = record {
+      name_is_free = record {
+        in_directory = ud_directory;
+        reached = (whole.reached.0 ++ way.0, led_parts merge.upper.tree whole.reached.0 way.0 merge.upper.tree.root stack.directory whole.reached.1 ∙ up_way);
+        free = free;
+      };
+      number_is_new = vacant;
+      fits = copy_fits ud node node.content;
+    }
+
+    above_goes : Goes stack.directory merge.upper with_copy
+    above_goes = goes_by stack.directory merge.upper (Make ud w copy (copy_node ud)) (top_good stack merge whole) may_copy tt
+
     above_is_whole : IsWhole stack above
     above_is_whole =
         whole_again stack merge above whole whole.tree whole.numbers
-        (changes_keep_trees merge.upper (Make ud w copy (copy_node ud)) top_tree (record {
-          name_is_free = record {
-            in_directory = ud_directory;
-            reached = (whole.reached.0 ++ way.0, led_parts merge.upper.tree whole.reached.0 way.0 merge.upper.tree.root stack.directory whole.reached.1 ∙ up_way);
-            free = free;
-          };
-          number_is_new = vacant;
-          fits = copy_fits ud node node.content;
-        }))
+        (changes_keep_trees merge.upper (Make ud w copy (copy_node ud)) top_tree may_copy)
         (directory_alike (merge.upper.tree.node stack.directory) (with_copy.tree.node stack.directory) (others_alike stack.directory (is_old [] stack.directory refl)) ∙ top_directory)
         (still_reached (names_entry (view_in merge.upper merge.upper.tree.root) ud w whole.reached.0) refl)
         (grown_is_fine stack merge fine_before merge.files with_copy object copy vacant (λ n differ. alike_same (merge.files.tree.node n) (merge.files.tree.node n) refl)
@@ -437,6 +464,19 @@ copy_keeps_whole stack merge object copy node whole is low vacant parents = by (
         })
     by None e = beside_is_whole stack merge whole object copy node is low vacant e
     by (Some name) e = above_is_whole stack merge whole object copy node is low vacant name.0 name.1 (named_so merge.files whole.tree object name e) (parents name e)
+
+-- the upper layer goes on to be a tree
+pub copy_goes : (stack : Stack ℕ) (merge : Merge ℕ) (object copy : ℕ) (node : Node ℕ)
+    → IsWhole stack merge → merge.files.tree.node object ≡ Some node → upper_object (merge.real object) ≡ None → merge.upper.tree.node copy ≡ None
+    → ((name : ℕ × List ℕ) → a_name nat_eq merge.files object ≡ Some name → StandsInUpper merge name.0)
+    → Goes stack.directory merge.upper (copy_of_node nat_eq merge object copy node).upper
+copy_goes stack merge object copy node whole is low vacant parents = by (a_name nat_eq merge.files object) refl
+  where
+    by : (o : Option (ℕ × List ℕ)) → a_name nat_eq merge.files object ≡ o
+        → Goes stack.directory merge.upper (copy_named nat_eq merge copy o
+        (with_inode nat_eq merge.upper copy (record { attr = node.attr; content = copied_content (copy_parent merge copy o) node.content })))
+    by None e = beside_goes stack merge whole object copy node is low vacant e
+    by (Some name) e = above_goes stack merge whole object copy node is low vacant name.0 name.1 (named_so merge.files whole.tree object name e) (parents name e)
 
 -- a copy of a directory cuts no path
 pub copy_cuts : (stack : Stack ℕ) (merge : Merge ℕ) (object copy : ℕ) (node : Node ℕ)

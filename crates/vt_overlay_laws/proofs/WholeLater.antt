@@ -33,7 +33,7 @@ use Rattle.vt_overlay_laws.proofs.WholeTogether.{changes_keep_shown}
 use Rattle.vt_overlay_laws.proofs.WholeWorlds.{overlays_are_whole, shown_is_merged}
 
 -- what is asked well speaks of what is there
-spoken : (stack : Stack ℕ) (merge : Merge ℕ) (change : Change ℕ) → Rattle.vt_spec.specs.TreeLaws.IsTree merge.files.tree → IsAskedWell stack merge change → SpeaksOfWhatIsThere merge.files change
+pub spoken : (stack : Stack ℕ) (merge : Merge ℕ) (change : Change ℕ) → Rattle.vt_spec.specs.TreeLaws.IsTree merge.files.tree → IsAskedWell stack merge change → SpeaksOfWhatIsThere merge.files change
 spoken stack merge (Make d w number node) tree asked = directory_used merge.files.tree d asked.0.name_is_free.in_directory
 spoken stack merge (AddName d w o) tree may = (directory_used merge.files.tree d may.name_is_free.in_directory, may.is_there)
 spoken stack merge (Remove d w o) tree may = directory_used merge.files.tree d (has_entries merge.files.tree d w o may.named)
@@ -53,46 +53,46 @@ module _ (fresh : Fresh ℕ) (world : World ℕ) (location : Location ℕ) (chan
     (reached : IsReached (filesystem_numbered nat_eq world upper.filesystem).files.tree upper.directory)
     (distinct : (j k : ℕ) → fresh j ≡ fresh k → j ≡ k) (none : (filesystem : ℕ) → AreNoInodes fresh world filesystem)
     (asked : IsAskedWell (stack_of nat_eq world overlay upper) (merge_of nat_eq world (filesystem_at nat_eq world location) overlay upper) change) where
-  abbrev number : ℕ
+  abbrev pub number : ℕ
   number = (mount_at nat_eq world location).filesystem
 
-  abbrev merged : Filesystem ℕ
+  abbrev pub merged : Filesystem ℕ
   merged = filesystem_numbered nat_eq world number
 
-  abbrev before : Merge ℕ
+  abbrev pub before : Merge ℕ
   before = merge_of nat_eq world merged overlay upper
 
-  abbrev merge : Merge ℕ
+  abbrev pub merge : Merge ℕ
   merge = merge_changed nat_eq fresh (stack_of nat_eq world overlay upper) before change
 
-  abbrev changed_overlay : Overlay ℕ
+  abbrev pub changed_overlay : Overlay ℕ
   changed_overlay = record overlay { real = merge.real }
 
-  abbrev changed_filesystem : Filesystem ℕ
+  abbrev pub changed_filesystem : Filesystem ℕ
   changed_filesystem = record merged { files = merge.files; overlay = Some changed_overlay }
 
-  abbrev changed_upper : Filesystem ℕ
+  abbrev pub changed_upper : Filesystem ℕ
   changed_upper = with_files (filesystem_numbered nat_eq world upper.filesystem) merge.upper
 
-  abbrev later : World ℕ
+  abbrev pub later : World ℕ
   later = with_merge nat_eq world merged overlay upper merge
 
-  later_is : with_change nat_eq fresh world location change ≡ later
+  pub later_is : with_change nat_eq fresh world location change ≡ later
   later_is = ap (λ o. filesystem_changed nat_eq fresh world merged o change) is ∙ ap (λ o. overlay_changed nat_eq fresh world merged overlay o change) has
 
-  plain : (layer : Layer ℕ) → Among (layers_of overlay) layer → is_plain_layer nat_eq world layer ≡ true
+  pub plain : (layer : Layer ℕ) → Among (layers_of overlay) layer → is_plain_layer nat_eq world layer ≡ true
   plain layer m = layer_plain world conditions number overlay is layer (in_list (layers_of overlay) layer m)
 
-  apart : upper.filesystem ≢ number
+  pub apart : upper.filesystem ≢ number
   apart = upper_elsewhere world conditions number overlay is upper has
 
-  overlay_later : filesystem_numbered nat_eq later number ≡ changed_filesystem
+  pub overlay_later : filesystem_numbered nat_eq later number ≡ changed_filesystem
   overlay_later =
       filesystem_elsewhere (with_filesystem nat_eq world changed_filesystem) changed_upper number (λ e. apart (sym (e ∙ number_of_filesystem world upper.filesystem)))
       ∙ filesystem_there (λ f. f ≡ changed_filesystem) world changed_filesystem number (sym (number_of_filesystem world number)) refl
       (λ no. none_is_some overlay (sym (ap (λ f. f.overlay) no) ∙ is))
 
-  upper_later : filesystem_numbered nat_eq later upper.filesystem ≡ changed_upper
+  pub upper_later : filesystem_numbered nat_eq later upper.filesystem ≡ changed_upper
   upper_later =
       filesystem_there (λ f. f ≡ changed_upper) (with_filesystem nat_eq world changed_filesystem) changed_upper upper.filesystem
       (sym (number_of_filesystem world upper.filesystem)) refl

@@ -9,7 +9,7 @@ use Rattle.vt_spec.specs.Machine.CopyUp.{Merge, Stack, copied_content, copied_ea
 use Rattle.vt_spec.specs.Machine.World.{upper_object}
 use Rattle.vt_spec.specs.Machine.World.Real.{Below, Upper}
 use Rattle.vt_spec.specs.Machine.Invariants.{ListsNumbers}
-use Rattle.vt_spec.specs.Tree.{Node, is_directory_node, node_with_entry}
+use Rattle.vt_spec.specs.Tree.{entries_of, Node, is_directory_node, node_with_entry}
 use Rattle.vt_spec.specs.TreeLaws.{IsDirectory, IsTree}
 use Rattle.vt_spec.proofs.Nodes.{directory_used, is_some-node_with_entry, node_other}
 use Rattle.vt_tree_laws.proofs.TreesWalked.{no_some}
@@ -23,7 +23,11 @@ use Rattle.vt_layer_laws.proofs.ShownAtPath.{none_is_some, some_is_one}
 use Rattle.vt_layer_laws.proofs.ShownObjects.{Among}
 use Rattle.vt_layer_laws.proofs.UpperChain.{depth_bound, up_at_root, up_from}
 use Rattle.vt_layer_laws.proofs.UpperLine.{ReachedIn, has_entries, is_reached_in, named_so, reached_directory}
-use Rattle.vt_overlay_laws.proofs.WholeCopied.{copy_cuts, copy_keeps_whole}
+use Rattle.vt_overlay_laws.proofs.UpperGoes.{Goes, goes_both, goes_none}
+use Rattle.vt_overlay_laws.proofs.UpperTold.{Told, told_both, told_inode, told_name, told_none}
+use Rattle.vt_overlay_laws.specs.WholeStays.{IsNewBy}
+use Rattle.vt_overlay_laws.proofs.WholeCopied.{copy_bare, copy_cuts, copy_goes, copy_keeps_whole}
+use Rattle.vt_overlay_laws.proofs.WholeNames.{top_good}
 
 -- each object of a list comes after the directory of its name
 abbrev pub IsLine : FileTree ℕ → List ℕ → List ℕ → Type 0
@@ -117,6 +121,9 @@ pub record IsCopied (stack : Stack ℕ) (fresh : Fresh ℕ) (merge later : Merge
   pub grows : (n : ℕ) → StandsInUpper merge n → StandsInUpper later n
   pub vacant : (x : ℕ) → merge.upper.tree.node x ≡ None → ((j : ℕ) → x ≢ fresh j) → later.upper.tree.node x ≡ None
   pub lower : (n layer : ℕ) (path : List (List ℕ)) → later.real n ≡ Some (Below layer path) → merge.real n ≡ Some (Below layer path)
+  pub upper : Goes stack.directory merge.upper later.upper
+  pub names : Told (IsNewBy fresh) merge.upper later.upper
+  pub objects : (n object : ℕ) → later.real n ≡ Some (Upper object) → (merge.real n ≡ Some (Upper object)) ⊎ IsNewBy fresh object
 
 pub record IsLineCopied (stack : Stack ℕ) (fresh : Fresh ℕ) (merge later : Merge ℕ) (list : List ℕ) : Type 0 where
   pub copied : IsCopied stack fresh merge later
@@ -143,6 +150,25 @@ module _ (stack : Stack ℕ) (fresh : Fresh ℕ) (distinct : (j k : ℕ) → fre
       by true e = none_is_some copy (sym (ap upper_object e))
       by false e = e
 
+  -- an upper object after a copy was one before, or is the copy
+  own_before : (merge : Merge ℕ) (object k n y : ℕ) → with_real nat_eq merge.real object (Upper (fresh k)) n ≡ Some (Upper y)
+      → (merge.real n ≡ Some (Upper y)) ⊎ IsNewBy fresh y
+  own_before merge object k n y e = by (nat_eq n object) e
+    where
+      by : (b : Bool) → cond b (Some (Upper (fresh k))) (merge.real n) ≡ Some (Upper y) → (merge.real n ≡ Some (Upper y)) ⊎ IsNewBy fresh y
+      by true e = inr (k, some_is_one y (fresh k) (sym (ap upper_object e)))
+      by false e = inl e
+
+  -- names lead where they led after a copy, or to the copy
+  copy_told : (merge : Merge ℕ) (copy : ℕ) (node : Node ℕ) → entries_of node.content ≡ [] → (o : Option (ℕ × List ℕ)) → IsNewBy fresh copy
+      → Told (IsNewBy fresh) merge.upper (copy_named nat_eq merge copy o (with_inode nat_eq merge.upper copy node))
+  copy_told merge copy node bare None own = told_inode (IsNewBy fresh) merge.upper copy node bare
+  copy_told merge copy node bare (Some name) own =
+      told_both (IsNewBy fresh) merge.upper (with_inode nat_eq merge.upper copy node)
+      (copy_named nat_eq merge copy (Some name) (with_inode nat_eq merge.upper copy node))
+      (told_inode (IsNewBy fresh) merge.upper copy node bare)
+      (told_name (IsNewBy fresh) (with_inode nat_eq merge.upper copy node) (upper_of merge name.0) name.1 copy own)
+
   grown_still : (merge : Merge ℕ) (object copy n : ℕ) → StandsInUpper merge n → is_some (upper_object (with_real nat_eq merge.real object (Upper copy) n)) ≡ true
   grown_still merge object copy n h = by (nat_eq n object)
     where
@@ -161,7 +187,16 @@ module _ (stack : Stack ℕ) (fresh : Fresh ℕ) (distinct : (j k : ℕ) → fre
       → ((j : ℕ) → k ≤ j → merge.upper.tree.node (fresh j) ≡ None)
       → IsLineCopied stack fresh merge (copied_each nat_eq fresh k merge list) list
   line_copied [] k merge done whole line up there unused = record {
-    copied = record { whole = whole; files = refl; grows = λ n h. h; vacant = λ x none out. none; lower = λ n layer path e. e };
+    copied = record {
+      whole = whole;
+      files = refl;
+      grows = λ n h. h;
+      vacant = λ x none out. none;
+      lower = λ n layer path e. e;
+      upper = goes_none stack.directory merge.upper (top_good stack merge whole);
+      names = told_none (IsNewBy fresh) merge.upper;
+      objects = λ n o e. inl e;
+    };
     all = λ n m. absurd m;
     cut = λ d path. refl;
   }
@@ -201,6 +236,14 @@ module _ (stack : Stack ℕ) (fresh : Fresh ℕ) (distinct : (j k : ℕ) → fre
               grows = λ n h. next.copied.grows n (grows n h);
               vacant = λ x none out. next.copied.vacant x (still x none (out k)) out;
               lower = λ n layer path e. below_before merge object (fresh k) n layer path (next.copied.lower n layer path e);
+              upper = goes_both stack.directory merge.upper one.upper (copied_each nat_eq fresh (k + 1) one rest).upper
+                  (copy_goes stack merge object (fresh k) node whole is (no_some (upper_object (merge.real object)) low) (unused k (omega arith)) (λ name e. up name.0 (line.0 name e)))
+                  next.copied.upper;
+              names = told_both (IsNewBy fresh) merge.upper one.upper (copied_each nat_eq fresh (k + 1) one rest).upper
+                  (copy_told merge (fresh k) (record { attr = node.attr; content = copied_content (copy_parent merge (fresh k) (a_name nat_eq merge.files object)) node.content })
+                  (copy_bare (copy_parent merge (fresh k) (a_name nat_eq merge.files object)) node.content) (a_name nat_eq merge.files object) (k, refl))
+                  next.copied.names;
+              objects = λ n o e. ⊎_elim (λ f. own_before merge object k n o f) inr (next.copied.objects n o e);
             };
             all = λ n m. ⊎_elim (λ e. subst (StandsInUpper (copied_each nat_eq fresh (k + 1) one rest)) e (next.copied.grows object stands)) (λ l. next.all n l) m;
             cut = λ d path.

@@ -100,16 +100,16 @@ module _ (fresh : Fresh ℕ) (stack : Stack ℕ) (merge : Merge ℕ) (whole : Is
       led_parts merge.upper.tree from_way (old ∷ rest) stack.directory uf up_from
       ∙ ap (option_and_then (λ n. led merge.upper.tree n rest)) named_up
 
-  not_up : (names : List (List ℕ)) → led merge.upper.tree uo names ≢ Some uf
+  pub not_up : (names : List (List ℕ)) → led merge.upper.tree uo names ≢ Some uf
   not_up names = no_way_up merge.upper top_tree uf old uo named_up names
 
-  not_under : (names : List (List ℕ)) → led merge.upper.tree uo names ≢ Some ut
+  pub not_under : (names : List (List ℕ)) → led merge.upper.tree uo names ≢ Some ut
   not_under names e =
       let found = above_named stack merge whole (from_way ++ old ∷ names) ut (led_behind names ∙ e) (no_white_directory (merge.upper.tree.node ut) ut_directory) in
       may.not_under names (sym (number_behind names) ∙ found.1 ∙ ap Some (fine_before.one found.0 t (ap is_some found.2) (found.2 ∙ sym real_t)))
 
   -- the two names are two
-  two_names : (other : ℕ) (word : List ℕ) → is_entry ut new other word ≡ true → is_entry uf old other word ≡ true → ⊥
+  pub two_names : (other : ℕ) (word : List ℕ) → is_entry ut new other word ≡ true → is_entry uf old other word ≡ true → ⊥
   two_names other word a b =
       let one = is_that_entry ut new other word a in
       let two = is_that_entry uf old other word b in

@@ -26,7 +26,8 @@ use Rattle.vt_layer_laws.proofs.ShownNames.{last_name}
 use Rattle.vt_layer_laws.proofs.ViewsBelow.{is_named}
 use Rattle.vt_layer_laws.proofs.ViewsFronts.{fronts_agree}
 use Rattle.vt_layer_laws.proofs.ViewsMoves.{led_parts, through_is_split}
-use Rattle.vt_overlay_laws.proofs.WholeAttributes.{bytes_same}
+use Rattle.vt_overlay_laws.proofs.UpperGoes.{IsGood}
+use Rattle.vt_overlay_laws.proofs.WholeAttributes.{bytes_same, top_open}
 use Rattle.vt_overlay_laws.proofs.WholeParts.{IsFine, fine, real_by, what_is_shown}
 
 pub same_is : (o : Option ℕ) (n : ℕ) → same_option nat_eq o (Some n) ≡ true → o ≡ Some n
@@ -97,6 +98,11 @@ pub cut_shows_none : (view : View ℕ) (lowers : List (View ℕ)) (path : List (
 cut_shows_none view lowers path leads cut =
     ap (λ o. shown_over view 0 o (cuts view path) (shown_from 1 lowers path)) leads
     ∙ ap (λ b. shown_over view 0 None b (shown_from 1 lowers path)) cut
+
+-- names lead to the upper layer's directory in its tree
+pub top_good : (stack : Stack ℕ) (merge : Merge ℕ) → IsWhole stack merge → IsGood stack.directory merge.upper
+top_good stack merge whole =
+    let top = top_open stack merge whole in record { tree = top.0; directory = top.1; reached = whole.reached }
 
 module _ (stack : Stack ℕ) (merge : Merge ℕ) (whole : IsWhole stack merge) where
   pub is_fine : IsFine stack merge

@@ -126,7 +126,7 @@ module _ (fresh : Fresh ℕ) (world : World ℕ) (location : Location ℕ) (chan
   abbrev later : World ℕ
   later = with_change nat_eq fresh world location change
 
-  inode_kept : (layer : Layer ℕ) → is_plain_layer nat_eq world layer ≡ true → (inode : ℕ) → is_some (inode_in world layer.filesystem inode) ≡ true
+  pub inode_kept : (layer : Layer ℕ) → is_plain_layer nat_eq world layer ≡ true → (inode : ℕ) → is_some (inode_in world layer.filesystem inode) ≡ true
       → (upper.filesystem ≡ layer.filesystem → ¬ (IsUpperObject overlay inode)) → IsKept (inode_in world layer.filesystem inode) (inode_in later layer.filesystem inode)
   inode_kept layer plain inode there apart = by (nat_eq layer.filesystem upper.filesystem) refl
     where

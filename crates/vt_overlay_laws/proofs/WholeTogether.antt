@@ -1,5 +1,5 @@
 -- A whole change of an overlay: copies first, and then what is asked.
-use Rattle.std.proofs.Common.{arith, ◌*◌, ◌+◌, ◌≡◌, ◌≢◌, sym, subst, ◌∙◌, ℕ, nat_eq, None, refl, ap, List, [], ◌∷◌, ◌++◌, ◌&&◌, ◌||◌, map, not, false, Option, Some, is_some, option_and_then, unwrap_or}
+use Rattle.std.proofs.Common.{arith, ◌⊎◌, ⊎_elim, inl, inr, ◌*◌, ◌+◌, ◌≡◌, ◌≢◌, sym, subst, ◌∙◌, ℕ, nat_eq, None, refl, ap, List, [], ◌∷◌, ◌++◌, ◌&&◌, ◌||◌, map, not, false, Option, Some, is_some, option_and_then, unwrap_or}
 use Rattle.vt_spec.specs.Language.Changes.Change.{AddName, CopyUp, Make, Move, Remove, SetAttr, SetBytes, SetMark}
 use Rattle.vt_spec.specs.Lists.{Fresh, evens, odds}
 use Rattle.vt_spec.specs.Machine.CopyUp.{Merge, Stack, copied_up, path_to, upper_of}
@@ -17,11 +17,14 @@ use Rattle.vt_spec.specs.FileTree.{path_down}
 use Rattle.vt_spec.specs.Machine.Layers.{has_lower_directory, view_of}
 use Rattle.vt_spec.specs.Machine.Views
 use Rattle.vt_spec.specs.Machine.World.{upper_object}
-use Rattle.vt_spec.specs.Machine.World.Real.{Below}
+use Rattle.vt_spec.specs.Machine.World.Real.{Below, Upper}
 use Rattle.vt_spec.specs.Machine.Invariants.{number_at_path}
 use Rattle.vt_spec.specs.TreeLaws.{IsDirectory, entry_at, led}
 use Rattle.vt_overlay_laws.specs.WhatIsShown.{IsWhole}
 use Rattle.vt_overlay_laws.specs.WholeChanges.{ChangesKeepShown}
+use Rattle.vt_overlay_laws.proofs.UpperGoes.{Goes, goes_both}
+use Rattle.vt_overlay_laws.proofs.UpperTold.{Told, told_both, told_wider}
+use Rattle.vt_overlay_laws.specs.WholeStays.{IsNewBy}
 use Rattle.vt_overlay_laws.proofs.WholeAttributes.{attr_keeps_whole, bytes_keep_whole, upper_real}
 use Rattle.vt_overlay_laws.proofs.WholeLines.{IsCopied, object_copied, stands_copied, to_object}
 use Rattle.vt_overlay_laws.proofs.WholeMoved.{move_keeps_shown}
@@ -73,6 +76,13 @@ stands_above stack merge whole d w object named stands =
         let found = above_named stack merge whole way.0 u l (no_white_directory (merge.upper.tree.node u) (has_entries merge.upper.tree u w (upper_of merge object) e)) in
         subst (StandsInUpper merge) (some_is_one found.0 d (sym found.1 ∙ way.1)) (ap (λ r. is_some (upper_object r)) found.2)
 
+-- what is new by some of the numbers is so by all
+pub new_of_evens : (fresh : Fresh ℕ) (y : ℕ) → IsNewBy (evens fresh) y → IsNewBy fresh y
+new_of_evens fresh y new = (2 * new.0, new.1)
+
+pub new_of_odds : (fresh : Fresh ℕ) (y : ℕ) → IsNewBy (odds fresh) y → IsNewBy fresh y
+new_of_odds fresh y new = (2 * new.0 + 1, new.1)
+
 -- what a move asks for is copied, the object and then the new directory
 abbrev pub both_copied : Fresh ℕ → Stack ℕ → Merge ℕ → ℕ → List ℕ → ℕ → List ℕ → ℕ → Merge ℕ
 both_copied fresh stack merge f old t new o = copied_up nat_eq (evens (odds fresh)) (copied_up nat_eq (evens fresh) merge o) t
@@ -90,6 +100,9 @@ pub record IsReadyToMove (fresh : Fresh ℕ) (stack : Stack ℕ) (merge : Merge 
       ≡ has_lower_directory (record { tree = merge.upper.tree; directory = stack.directory } ∷ []) stack.lowers (path_to nat_eq merge f old)
   pub lower : (n layer : ℕ) (path : List (List ℕ)) → two.real n ≡ Some (Below layer path) → merge.real n ≡ Some (Below layer path)
   pub files : two.files ≡ merge.files
+  pub upper : Goes stack.directory merge.upper two.upper
+  pub names : Told (IsNewBy fresh) merge.upper two.upper
+  pub objects : (n object : ℕ) → two.real n ≡ Some (Upper object) → (merge.real n ≡ Some (Upper object)) ⊎ IsNewBy fresh object
 
 pub twice : (fresh : Fresh ℕ) (stack : Stack ℕ) (merge : Merge ℕ) → IsWhole stack merge → ((j k : ℕ) → fresh j ≡ fresh k → j ≡ k)
     → ((k : ℕ) → merge.upper.tree.node (fresh k) ≡ None) → (f : ℕ) (old : List ℕ) (t : ℕ) (new : List ℕ) (o : ℕ) → MayMove merge.files.tree f old t new o
@@ -123,6 +136,16 @@ twice fresh stack merge whole distinct unused f old t new o may =
           ∙ first.cut ((to_object merge.files whole.tree whole.numbers o o_there).directories (subst (λ files. IsDirectory files.tree o) both d)) (path_to nat_eq merge f old));
       lower = λ n layer path e. first.copied.lower n layer path (second.copied.lower n layer path e);
       files = both;
+      upper = goes_both stack.directory merge.upper one.upper two.upper first.copied.upper second.copied.upper;
+      names = told_both (IsNewBy fresh) merge.upper one.upper two.upper
+          (told_wider (IsNewBy (evens fresh)) (IsNewBy fresh) merge.upper one.upper (new_of_evens fresh) first.copied.names)
+          (told_wider (IsNewBy (evens (odds fresh))) (IsNewBy fresh) one.upper two.upper
+          (λ y n. new_of_odds fresh y (new_of_evens (odds fresh) y n)) second.copied.names);
+      objects = λ n object e.
+          ⊎_elim
+          (λ f. ⊎_elim inl (λ g. inr (new_of_evens fresh object g)) (first.copied.objects n object f))
+          (λ g. inr (new_of_odds fresh object (new_of_evens (odds fresh) object g)))
+          (second.copied.objects n object e);
     }
 
 pub changes_keep_shown : ChangesKeepShown

@@ -1,2 +1,4 @@
+pub mod LayersApart
 pub mod WhatIsShown
 pub mod WholeChanges
+pub mod WholeStays

@@ -3,8 +3,8 @@ use Rattle.std.proofs.Common.{◌≡◌, refl, ap, sym, true≢false, ℕ, Bool,
 use Rattle.std.specs.Prelude.{map, option_map}
 use Rattle.std.specs.List.{list_all}
 use Rattle.vt_laws.specs.Numbers.{content_named, location_named, node_named, none_or}
-use Rattle.vt_one_text.proofs.Commuting.{Named, map_itself, node_itself, option_itself}
-use Rattle.vt_one_text.specs.Renaming.{Leaves, Renaming}
+use Rattle.vt_laws.proofs.Commuting.{Named, map_itself, node_itself, option_itself}
+use Rattle.vt_laws.specs.Renaming.{Leaves, Renaming}
 use Rattle.vt_permit_laws.specs.Named.{change_named, permit_named, renamed_change, renamed_permit}
 use Rattle.vt_spec.specs.Language.Changes.{Change}
 use Rattle.vt_spec.specs.Language.Changes.Change.{AddName, CopyUp, Make, Move, Remove, SetAttr, SetBytes, SetMark}

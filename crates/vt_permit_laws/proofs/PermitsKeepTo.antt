@@ -1,8 +1,8 @@
 -- What a permit leaves has no other numbers than the world before, the permit and the supply.
 use Rattle.std.proofs.Common.{◌≡◌, sym, ap, ◌∙◌, ℕ, nat_eq, Bool, Option, Some, None}
 use Rattle.vt_laws.proofs.Renamings.{named_world, renamed_itself}
-use Rattle.vt_one_text.proofs.Commuting.{Named, commutes_nat}
-use Rattle.vt_one_text.specs.Renaming.{Renaming}
+use Rattle.vt_laws.proofs.Commuting.{Named, commutes_nat}
+use Rattle.vt_laws.specs.Renaming.{Renaming}
 use Rattle.vt_permit_laws.proofs.NamedPermits.{named_permit, permit_left}
 use Rattle.vt_permit_laws.proofs.SameNumbers.{same_worlds_keep_to_numbers}
 use Rattle.vt_permit_laws.specs.Left.{left_by}

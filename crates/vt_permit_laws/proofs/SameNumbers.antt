@@ -3,7 +3,7 @@ use Rattle.std.proofs.Common.{◌≡◌, refl, sym, ap, ◌∙◌, ℕ, nat_eq, 
 use Rattle.std.proofs.lemmas.List.Sorted.{list_any-IsPermutation}
 use Rattle.vt_letting_go.proofs.Lists.{Among, among_numbers, is_among_numbers, map_same}
 use Rattle.vt_laws.specs.Numbers.{KeepsTo}
-use Rattle.vt_one_text.specs.Renaming.{Renaming}
+use Rattle.vt_laws.specs.Renaming.{Renaming}
 use Rattle.vt_permit_laws.specs.Same.{SameWorldsKeepToNumbers}
 use Rattle.vt_run_laws.proofs.AlikeWorlds.{Alike, AlikeFilesystem, SameNamespace, SameTask, alike_from_same, bare_task}
 use Rattle.vt_run_laws.proofs.Each.{Each}

@@ -1,7 +1,7 @@
 -- A permit that a call is given names only numbers to which the world keeps.
 use Rattle.std.proofs.Common.{◌≡◌, refl, sym, ap, subst, ◌∙◌, ℕ, nat_eq, Bool, Option, Some, None, Ok, Err, ◌+◌, arith}
 use Rattle.vt_laws.proofs.Renamings.{Handed, named_handed}
-use Rattle.vt_one_text.proofs.Commuting.{Named, commutes_nat}
+use Rattle.vt_laws.proofs.Commuting.{Named, commutes_nat}
 use Rattle.vt_permit_laws.proofs.NamedPermits.{permit_itself}
 use Rattle.vt_permit_laws.proofs.PermitsKeepTo.{left_renamed}
 use Rattle.vt_permit_laws.proofs.TakenFirst.{IsNoOverlay, applied_same}

@@ -3,7 +3,7 @@ use Rattle.std.specs.Prelude.{Bool, Some, false, length, nat_eq, true, ℕ, ◌%
 use Rattle.std.specs.List.{list_all}
 use Rattle.vt_laws.specs.Numbers.{KeepsTo}
 use Rattle.vt_permit_laws.specs.Left.{IsGiven, left_by}
-use Rattle.vt_one_text.specs.Renaming.{Leaves, Renaming}
+use Rattle.vt_laws.specs.Renaming.{Leaves, Renaming}
 use Rattle.vt_permit_laws.specs.Named.{permit_named, renamed_permit}
 use Rattle.vt_run_laws.specs.Handed.{counts_from, handed_from, is_counted_before}
 use Rattle.vt_spec.specs.Language.Calls.{Call}

@@ -62,7 +62,7 @@ at_on place mount h = by mount.mount_point h
     by None h = absurd (true≢false (sym h))
     by (Some at) h = (and_parts _ _ h).0
 
-numbered-number : (mounts : List (Mount ℕ)) (number : ℕ) (mount : Mount ℕ) → Some mount ≡ numbered mounts number → number ≡ mount.number
+pub numbered-number : (mounts : List (Mount ℕ)) (number : ℕ) (mount : Mount ℕ) → Some mount ≡ numbered mounts number → number ≡ mount.number
 numbered-number mounts number mount found =
     eqb-true number mount.number (found_one (λ (m : Mount ℕ). nat_eq number m.number) mounts mount (sym found)).1
 

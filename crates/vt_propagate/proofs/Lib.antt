@@ -4,3 +4,4 @@ pub mod Leaving
 pub mod Counting
 pub mod Indexing
 pub mod Planning
+pub mod Fallen

@@ -2,6 +2,7 @@
 #![tactic(auto)]
 
 mod copying;
+mod falling;
 mod filling;
 mod groups;
 mod numbering;
@@ -10,6 +11,7 @@ mod receiving;
 mod unmounting;
 
 pub use copying::{Counts, Graft, NewGroup, copies, new_groups};
+pub use falling::{NewPoint, points_left};
 pub use filling::{Load, overfills};
 pub use reach::Reach;
 pub use receiving::parts;

@@ -18,7 +18,8 @@ pub without_memory : (task : Task ℕ) (judged : Judgement ℕ) (permit : meant.
 without_memory task (Ok other) permit deny e memory = memory
 without_memory task (Err refusal) permit deny e memory = absurd cc
 
-pub refused_before : (task : Task ℕ) (judged : Judgement ℕ) (deny : Deny) → judged ≡ Err deny → JudgesByReceivers task judged (Err deny)
+pub refused_before : (task : Task ℕ) (judged : Judgement ℕ) (deny : Deny) → judged ≡ Err deny
+    → JudgesByReceivers task judged (Err deny)
 refused_before task (Ok permit) deny e = absurd cc
 refused_before task (Err refusal) deny e = inl cc
 
@@ -30,21 +31,26 @@ no_receivers task (Err refusal) true permit deny e memory = inr (memory, inr (in
 no_receivers task (Err refusal) false permit deny e memory = absurd cc
 
 -- the same of a move, with its last rule: EINVAL
-pub no_receivers_of_move : (task : Task ℕ) (judged : Judgement ℕ) (overfull rootless : Bool) (permit : meant.Permit ℕ) (deny : Deny)
-    → judged ≡ unless ((overfull, M9) ∷ (rootless, M10) ∷ []) (Ok permit) → deny ≡ denial S5 → JudgesByReceivers task judged (Err deny)
+pub no_receivers_of_move : (task : Task ℕ) (judged : Judgement ℕ) (overfull rootless : Bool)
+    (permit : meant.Permit ℕ) (deny : Deny)
+    → judged ≡ unless ((overfull, M9) ∷ (rootless, M10) ∷ []) (Ok permit) → deny ≡ denial S5
+    → JudgesByReceivers task judged (Err deny)
 no_receivers_of_move task (Ok other) overfull rootless permit deny e memory = memory
 no_receivers_of_move task (Err refusal) true rootless permit deny e memory = inr (memory, inr (inl cc))
 no_receivers_of_move task (Err refusal) false true permit deny e memory = inr (memory, inr (inr cc))
 no_receivers_of_move task (Err refusal) false false permit deny e memory = absurd cc
 
 -- of one judgement code answers as of the same one, written otherwise
-pub answers_alike : (task : Task ℕ) (judged other : Judgement ℕ) (result : Result Permit Deny) → judged ≡ other → JudgesAlike task other result → JudgesAlike task judged result
+pub answers_alike : (task : Task ℕ) (judged other : Judgement ℕ) (result : Result Permit Deny) → judged ≡ other
+    → JudgesAlike task other result → JudgesAlike task judged result
 answers_alike task judged other result e h = rw e h
 
-pub answers : (task : Task ℕ) (judged other : Judgement ℕ) (result : Result Permit Deny) → judged ≡ other → Judges task other result → Judges task judged result
+pub answers : (task : Task ℕ) (judged other : Judgement ℕ) (result : Result Permit Deny) → judged ≡ other
+    → Judges task other result → Judges task judged result
 answers task judged other result e h = rw e h
 
 -- what is judged without want of memory is judged
-pub answers_without : (task : Task ℕ) (judged other : Judgement ℕ) (result : Result Permit Deny) → judged ≡ other → JudgesAlike task other result → Judges task judged result
+pub answers_without : (task : Task ℕ) (judged other : Judgement ℕ) (result : Result Permit Deny) → judged ≡ other
+    → JudgesAlike task other result → Judges task judged result
 answers_without task judged other (Ok permit) e h = e ∙ h
 answers_without task judged other (Err deny) e h = refused task judged deny (e ∙ h)

@@ -11,12 +11,16 @@ use Rattle.vt_looks.specs.Looking.{HasNoOverlays}
 pub has_an_upper : (looks : Looks ℕ) → HasNoOverlays looks → (at : Location ℕ) → has_no_upper looks at ≡ false
 has_an_upper looks plain at = ap (overlay_or false (λ overlay. not (is_some overlay.upper))) (plain.overlay at)
 
-pub mounter_may : (looks : Looks ℕ) → HasNoOverlays looks → (at : Location ℕ) (wanted : ℕ) → mounter_may_not looks at wanted ≡ false
-mounter_may looks plain at wanted = ap (λ overlay. not (mounter_allows overlay wanted (looks.node at))) (plain.overlay at)
+pub mounter_may : (looks : Looks ℕ) → HasNoOverlays looks → (at : Location ℕ) (wanted : ℕ)
+    → mounter_may_not looks at wanted ≡ false
+mounter_may looks plain at wanted =
+    ap (λ overlay. not (mounter_allows overlay wanted (looks.node at))) (plain.overlay at)
 
-pub none_locked : (looks : Looks ℕ) → HasNoOverlays looks → (places : List (Location ℕ)) → list_any looks.is_locked places ≡ false
+pub none_locked : (looks : Looks ℕ) → HasNoOverlays looks → (places : List (Location ℕ))
+    → list_any looks.is_locked places ≡ false
 none_locked looks plain [] = refl
-none_locked looks plain (place ∷ places) = ap (λ locked. locked || list_any looks.is_locked places) (plain.unlocked place) ∙ none_locked looks plain places
+none_locked looks plain (place ∷ places) =
+    ap (λ locked. locked || list_any looks.is_locked places) (plain.unlocked place) ∙ none_locked looks plain places
 
 pub neither : (one other : Bool) → one ≡ false → other ≡ false → (one || other) ≡ false
 neither true other e f = e

@@ -1,5 +1,5 @@
--- Where no location is in an overlay, the rules of a rename are three tables: what has the new name, where the names are,
--- and the caller's rights.
+-- Where no location is in an overlay, the rules of a rename are three tables: what has the new name, where the names
+-- are, and the caller's rights.
 use Rattle.std.proofs.Common.{◌≡◌, ℕ, Bool, false, [], ◌∷◌, Result, Ok, Err, nat_eq, ap, ◌∙◌}
 use Rattle.std.specs.Prelude.{option_to_list, ◌&&◌, ◌||◌}
 use Rattle.vt_spec.specs.declared.errors.Deny.{Deny}
@@ -20,15 +20,18 @@ use Rattle.vt_rules.proofs.Refusals.{unless-let_through, unless-stopped}
 use Rattle.vt_rules.proofs.Rows.{kept, skipped}
 
 -- the caller's rights, and then what does not fail
-rights : {A : Type 0} (may_not moved kept_by stuck mounter mounter_of_moved : Bool) (more : Rules) (answer : Result A Deny)
+rights : {A : Type 0} (may_not moved kept_by stuck mounter mounter_of_moved : Bool)
+    (more : Rules) (answer : Result A Deny)
     → stuck ≡ false → mounter ≡ false → mounter_of_moved ≡ false → more ≡ []
-    → unless ((may_not, C1) ∷ (moved, C1) ∷ (kept_by, C3) ∷ (stuck, O1) ∷ (mounter, B1) ∷ (mounter_of_moved, B1) ∷ more) answer
+    → unless ((may_not, C1) ∷ (moved, C1) ∷ (kept_by, C3)
+    ∷ (stuck, O1) ∷ (mounter, B1) ∷ (mounter_of_moved, B1) ∷ more) answer
     ≡ unless ((may_not, C1) ∷ (moved, C1) ∷ (kept_by, C3) ∷ []) answer
 rights may_not moved kept_by stuck mounter mounter_of_moved more answer e f h m =
     kept may_not C1 _ _ answer answer
     (kept moved C1 _ _ answer answer
     (kept kept_by C3 _ _ answer answer
-    (skipped stuck O1 _ answer e ∙ skipped mounter B1 _ answer f ∙ skipped mounter_of_moved B1 more answer h ∙ ap (λ rows. unless rows answer) m)))
+    (skipped stuck O1 _ answer e ∙ skipped mounter B1 _ answer f ∙ skipped mounter_of_moved B1 more answer h
+    ∙ ap (λ rows. unless rows answer) m)))
 
 -- where the names are, with what does not fail between
 way : {A : Type 0} (read_only no_upper locked point apart : Bool) (rows others : Rules) (answer : Result A Deny)
@@ -41,13 +44,17 @@ way read_only no_upper locked point apart rows others answer e f same =
     ∙ kept point P1 _ _ answer (unless others answer) (kept apart P2 rows [] answer (unless others answer) same))
 
 kinds : {A : Type 0} (a b c d : Bool) (rows : Rules) (answer other : Result A Deny) → unless rows answer ≡ other
-    → unless ((a, E2) ∷ (b, E3) ∷ (c, E4) ∷ (d, E5) ∷ rows) answer ≡ unless ((a, E2) ∷ (b, E3) ∷ (c, E4) ∷ (d, E5) ∷ []) other
+    → unless ((a, E2) ∷ (b, E3) ∷ (c, E4) ∷ (d, E5) ∷ rows) answer
+    ≡ unless ((a, E2) ∷ (b, E3) ∷ (c, E4) ∷ (d, E5) ∷ []) other
 kinds a b c d rows answer other same =
-    kept a E2 _ _ answer other (kept b E3 _ _ answer other (kept c E4 _ _ answer other (kept d E5 rows [] answer other same)))
+    kept a E2 _ _ answer other (kept b E3 _ _ answer other
+    (kept c E4 _ _ answer other (kept d E5 rows [] answer other same)))
 
-pub rename_parts : {A : Type 0} (looks : Looks ℕ) → HasNoOverlays looks → (task : Task ℕ) (from to : Place ℕ) (old : Location ℕ) (answer : Result A Deny)
+pub rename_parts : {A : Type 0} (looks : Looks ℕ) → HasNoOverlays looks
+    → (task : Task ℕ) (from to : Place ℕ) (old : Location ℕ) (answer : Result A Deny)
     → unless (rename_rules nat_eq looks task from to old) answer
-    ≡ unless (kind_rules nat_eq looks to old) (unless (way_rules nat_eq looks task from to old) (unless (right_rules nat_eq looks task from to old) answer))
+    ≡ unless (kind_rules nat_eq looks to old) (unless (way_rules nat_eq looks task from to old)
+    (unless (right_rules nat_eq looks task from to old) answer))
 rename_parts looks plain task from to old answer =
     kinds _ _ _ _ _ answer _
     (way _ _ _ _ _ _ (right_rules nat_eq looks task from to old) answer
@@ -62,13 +69,15 @@ rename_parts looks plain task from to old answer =
     (plain.mounter from.parent (moving from to old))))
 
 -- each table in turn
-pub kind_refused : (looks : Looks ℕ) → HasNoOverlays looks → (task : Task ℕ) (from to : Place ℕ) (old : Location ℕ) (deny : Deny)
+pub kind_refused : (looks : Looks ℕ) → HasNoOverlays looks
+    → (task : Task ℕ) (from to : Place ℕ) (old : Location ℕ) (deny : Deny)
     → Err deny ≡ unless {A = Unit {0}} (kind_rules nat_eq looks to old) (Ok tt)
     → unless {A = Unit {0}} (rename_rules nat_eq looks task from to old) (Ok tt) ≡ Err deny
 kind_refused looks plain task from to old deny kind =
     rename_parts looks plain task from to old (Ok tt) ∙ unless-stopped (kind_rules nat_eq looks to old) _ deny kind
 
-pub way_refused : (looks : Looks ℕ) → HasNoOverlays looks → (task : Task ℕ) (from to : Place ℕ) (old : Location ℕ) (deny : Deny)
+pub way_refused : (looks : Looks ℕ) → HasNoOverlays looks
+    → (task : Task ℕ) (from to : Place ℕ) (old : Location ℕ) (deny : Deny)
     → Ok tt ≡ unless {A = Unit {0}} (kind_rules nat_eq looks to old) (Ok tt)
     → Err deny ≡ unless {A = Unit {0}} (way_rules nat_eq looks task from to old) (Ok tt)
     → unless {A = Unit {0}} (rename_rules nat_eq looks task from to old) (Ok tt) ≡ Err deny
@@ -80,7 +89,8 @@ way_refused looks plain task from to old deny kind way_stops =
 pub rights_left : (looks : Looks ℕ) → HasNoOverlays looks → (task : Task ℕ) (from to : Place ℕ) (old : Location ℕ)
     → Ok tt ≡ unless {A = Unit {0}} (kind_rules nat_eq looks to old) (Ok tt)
     → Ok tt ≡ unless {A = Unit {0}} (way_rules nat_eq looks task from to old) (Ok tt)
-    → unless {A = Unit {0}} (rename_rules nat_eq looks task from to old) (Ok tt) ≡ unless (right_rules nat_eq looks task from to old) (Ok tt)
+    → unless {A = Unit {0}} (rename_rules nat_eq looks task from to old) (Ok tt)
+    ≡ unless (right_rules nat_eq looks task from to old) (Ok tt)
 rights_left looks plain task from to old kind way_passes =
     rename_parts looks plain task from to old (Ok tt)
     ∙ unless-let_through (kind_rules nat_eq looks to old) _ kind

@@ -18,12 +18,14 @@ stopped false rule rows answer e = absurd cc
 
 -- a row that stays, before others that come to the same
 pub kept : {A : Type 0} (fails : Bool) (rule : Rule) (rows others : Rules) (answer other : Result A Deny)
-    → unless rows answer ≡ unless others other → unless ((fails, rule) ∷ rows) answer ≡ unless ((fails, rule) ∷ others) other
+    → unless rows answer ≡ unless others other
+    → unless ((fails, rule) ∷ rows) answer ≡ unless ((fails, rule) ∷ others) other
 kept true rule rows others answer other e = refl
 kept false rule rows others answer other e = e
 
 -- rows after rows
-pub one_by_one : {A : Type 0} (rows others : Rules) (answer : Result A Deny) → unless (rows ++ others) answer ≡ unless rows (unless others answer)
+pub one_by_one : {A : Type 0} (rows others : Rules) (answer : Result A Deny)
+    → unless (rows ++ others) answer ≡ unless rows (unless others answer)
 one_by_one [] others answer = refl
 one_by_one ((true, rule) ∷ rows) others answer = refl
 one_by_one ((false, rule) ∷ rows) others answer = one_by_one rows others answer

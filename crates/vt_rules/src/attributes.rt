@@ -25,7 +25,8 @@ pub fn attr_permit<L: Look>(
     allowed: bool,
     attr: Attr,
 ) -> Result<Permit, Deny>
-    ensures { JudgesAlike (task_of who.now) (attr_permit nat_eq (L.looks world.now) (location_of object) allowed attr) result }
+    ensures { JudgesAlike (task_of who.now)
+        (attr_permit nat_eq (L.looks world.now) (location_of object) allowed attr) result }
 {
     world.has_no_overlays();
     if is_read_only(world, object) {

@@ -43,7 +43,9 @@ pub fn open_file_permit<L: Look>(
     file: Location,
     access: Access,
 ) -> Result<Permit, Deny>
-    ensures { JudgesAlike (task_of who.now) (open_file_permit nat_eq (L.looks world.now) (task_of who.now) (location_of file) (access_of access)) result }
+    ensures { JudgesAlike (task_of who.now)
+        (open_file_permit nat_eq (L.looks world.now) (task_of who.now) (location_of file) (access_of access))
+        result }
 {
     world.has_no_overlays();
     if is_directory(world, file) {
@@ -73,7 +75,8 @@ pub fn create_file_permit<L: Look>(
     mode: Mode,
 ) -> Result<Permit, Deny>
     ensures { (meant : PlaceMeant ℕ) → IsPlaceOf place.now meant → Judges (task_of who.now)
-        (create_file_permit nat_eq (L.looks world.now) (task_of who.now) meant (access_of access) mode) result }
+        (create_file_permit nat_eq (L.looks world.now) (task_of who.now) meant (access_of access) mode)
+        result }
 {
     may_make(world, who, place.parent)?;
     Ok(Permit::ToOpenNew {
@@ -88,7 +91,8 @@ pub fn create_file_permit<L: Look>(
 ///
 /// S4 (EBADF).
 pub fn readable_file(who: &Task, descriptor: u8) -> Result<Location, Deny>
-    ensures { location_result result ≡ file_of (descriptor_at (task_of who.now) descriptor (λ d. d.reads)) }
+    ensures { location_result result
+        ≡ file_of (descriptor_at (task_of who.now) descriptor (λ d. d.reads)) }
 {
     match who.descriptors.get(descriptor) {
         Some(opened) if opened.access.reads() => Ok(opened.location),
@@ -100,7 +104,8 @@ pub fn readable_file(who: &Task, descriptor: u8) -> Result<Location, Deny>
 ///
 /// S4 (EBADF).
 pub fn writable_file(who: &Task, descriptor: u8) -> Result<Location, Deny>
-    ensures { location_result result ≡ file_of (descriptor_at (task_of who.now) descriptor (λ d. d.writes)) }
+    ensures { location_result result
+        ≡ file_of (descriptor_at (task_of who.now) descriptor (λ d. d.writes)) }
 {
     match who.descriptors.get(descriptor) {
         Some(opened) if opened.access.writes() => Ok(opened.location),

@@ -1,4 +1,4 @@
-//! The rules of calls, each over what a world shows: the rights, kinds, places and sizes that a call asks for.
+//! The rules of calls, each over what a world shows: the rights, kinds, places and sizes that calls need.
 #![tactic(auto)]
 
 mod attributes;

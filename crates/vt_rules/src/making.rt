@@ -44,12 +44,13 @@ pub fn may_make<L: Look>(world: &L, who: &Task, directory: Location) -> Result<(
 
 /// An empty directory whose parent is the one at a location: mkdir(2). It does not allocate.
 pub fn empty_directory(alloc: Global, attr: Attr, parent: Location) -> Node
-    ensures { node_in parent result ≡ record { attr = attr; content = new_directory (number_of parent.node) } }
+    ensures { node_in parent result
+        ≡ record { attr = attr; content = new_directory (number_of parent.node) } }
 {
     Node::new_directory(alloc, attr, parent.node.node())
 }
 
-/// The permit to write the whole content of an object that exists: open(2) with `O_TRUNC`, then write(2).
+/// The permit to write the whole content of an object that exists: open(2) with `O_TRUNC`, write(2).
 ///
 /// E2 (EISDIR), E6 (EFBIG), E9 (ENXIO), F1 (EROFS), C1 (EACCES).
 pub fn rewrite_permit<L: Look>(
@@ -59,7 +60,9 @@ pub fn rewrite_permit<L: Look>(
     bytes: Vec<u8>,
 ) -> Result<Permit, Deny>
     ensures { (place : PlaceMeant ℕ) → JudgesAlike (task_of who.now)
-        (written_permit nat_eq (L.looks world.now) (task_of who.now) place bytes.items (Some (location_of file))) result }
+        (written_permit nat_eq (L.looks world.now) (task_of who.now) place bytes.items
+        (Some (location_of file)))
+        result }
 {
     world.has_no_overlays();
     if is_directory(world, file) {
@@ -91,7 +94,8 @@ pub fn new_file_permit<L: Look>(
     bytes: Vec<u8>,
 ) -> Result<Permit, Deny>
     ensures { (meant : PlaceMeant ℕ) → IsPlaceOf place.now meant → Judges (task_of who.now)
-        (written_permit nat_eq (L.looks world.now) (task_of who.now) meant bytes.items None) result }
+        (written_permit nat_eq (L.looks world.now) (task_of who.now) meant bytes.items None)
+        result }
 {
     if bytes.len() > LARGEST_FILE {
         return Err(Rule::E6.denial());

@@ -13,8 +13,8 @@ use vt_looks::{Look, LookAtMounts};
 use vt_spec::errors::{Deny, Rule};
 use vt_tasks::Task;
 
-/// Whether a mount has a mount point: EINVAL of mount(2) with `MS_MOVE` and of umount(2). The root mount of a namespace has
-/// none.
+/// Whether a mount has a mount point: EINVAL of mount(2) with `MS_MOVE` and of umount(2). The root mount of a
+/// namespace has none.
 pub fn is_attached_somewhere<L: Look>(world: &L, mount: MountId) -> bool
     ensures { result ≡ is_some ((L.looks world.now).mount (counted mount.count)).mount_point }
 {
@@ -39,7 +39,8 @@ fn has_shared_parent<L: Look>(world: &L, at: Location) -> bool
     }
 }
 
-/// The mount of a source may move to a place: mount(2) with `MS_MOVE`. The mounts that this adds elsewhere are not counted.
+/// The mount of a source may move to a place: mount(2) with `MS_MOVE`. It is not checked how many mounts the
+/// namespaces then have.
 ///
 /// M2 (EINVAL), M4 (EINVAL), M5 (EINVAL), M6 (ELOOP), M7 (EINVAL).
 pub fn may_move<L: LookAtMounts>(
@@ -48,7 +49,8 @@ pub fn may_move<L: LookAtMounts>(
     source: Location,
     place: Location,
 ) -> Result<(), Deny>
-    ensures { result ≡ unless (move_table (L.looks world.now) (task_of who.now) (location_of source) (location_of place)) (Ok tt) }
+    ensures { result ≡ unless
+        (move_table (L.looks world.now) (task_of who.now) (location_of source) (location_of place)) (Ok tt) }
 {
     if is_elsewhere(world, who, source) || is_elsewhere(world, who, place) {
         return Err(Rule::M2.denial());

@@ -29,7 +29,9 @@ pub fn may_remove<L: Look>(
     directory: Location,
     object: Location,
 ) -> Result<(), Deny>
-    ensures { result ≡ unless (remove_rules (L.looks world.now) (task_of who.now) (location_of directory) (location_of object)) (Ok tt) }
+    ensures { result ≡ unless
+        (remove_rules (L.looks world.now) (task_of who.now) (location_of directory) (location_of object))
+        (Ok tt) }
 {
     if !may(world, who, directory, Rights::WRITE) {
         return Err(Rule::C1.denial());
@@ -42,7 +44,8 @@ pub fn may_remove<L: Look>(
 
 /// Whether a place is a name of this object: rename(2) then has no effect.
 pub fn is_name_of<L: Look>(world: &L, object: Location, place: &Place) -> bool
-    ensures { result ≡ is_one_object nat_eq (L.looks world.now) (location_of object) (option_map location_of place.now.object) }
+    ensures { result ≡ is_one_object nat_eq (L.looks world.now) (location_of object)
+        (option_map location_of place.now.object) }
 {
     match place.object {
         Some(there) => {
@@ -99,7 +102,8 @@ fn may_replace<L: Look>(world: &L, to: &Place, object: Location) -> Result<(), D
 // Whether a mount stands in the way of a rename: on the old object in any namespace, or on the new one in the caller's.
 fn is_point<L: Look>(world: &L, who: &Task, object: Location, replaced: Option<Location>) -> bool
     ensures { result ≡ (is_point_anywhere (L.looks world.now) (location_of object)
-        || holds_of (is_point_in nat_eq (L.looks world.now) (task_of who.now).namespace) (option_map location_of replaced)) }
+        || holds_of (is_point_in nat_eq (L.looks world.now) (task_of who.now).namespace)
+        (option_map location_of replaced)) }
 {
     if world.is_point_anywhere(object) {
         return true;
@@ -138,7 +142,8 @@ fn may_cross<L: Look>(
     object: Location,
 ) -> Result<(), Deny>
     ensures { (old new : PlaceMeant ℕ) → IsPlaceOf from.now old → IsPlaceOf to.now new
-        → result ≡ unless (way_rules nat_eq (L.looks world.now) (task_of who.now) old new (location_of object)) (Ok tt) }
+        → result ≡ unless
+        (way_rules nat_eq (L.looks world.now) (task_of who.now) old new (location_of object)) (Ok tt) }
 {
     if is_read_only(world, from.parent) || is_read_only(world, to.parent) {
         return Err(Rule::F1.denial());
@@ -161,7 +166,8 @@ fn may_change_both<L: Look>(
     object: Location,
 ) -> Result<(), Deny>
     ensures { (old new : PlaceMeant ℕ) → IsPlaceOf from.now old → IsPlaceOf to.now new
-        → result ≡ unless (right_rules nat_eq (L.looks world.now) (task_of who.now) old new (location_of object)) (Ok tt) }
+        → result ≡ unless
+        (right_rules nat_eq (L.looks world.now) (task_of who.now) old new (location_of object)) (Ok tt) }
 {
     if !may(world, who, from.parent, Rights::WRITE) || !may(world, who, to.parent, Rights::WRITE) {
         return Err(Rule::C1.denial());
@@ -177,7 +183,8 @@ fn may_change_both<L: Look>(
 
 /// An object may leave one name for another: rename(2).
 ///
-/// E2 (EISDIR), E3 (ENOTDIR), E4 (ENOTEMPTY), E5 (EINVAL), F1 (EROFS), P1 (EBUSY), P2 (EXDEV), C1 (EACCES), C3 (EPERM).
+/// E2 (EISDIR), E3 (ENOTDIR), E4 (ENOTEMPTY), E5 (EINVAL), F1 (EROFS), P1 (EBUSY), P2 (EXDEV), C1 (EACCES),
+/// C3 (EPERM).
 pub fn may_rename<L: Look>(
     world: &L,
     who: &Task,
@@ -186,7 +193,8 @@ pub fn may_rename<L: Look>(
     object: Location,
 ) -> Result<(), Deny>
     ensures { (old new : PlaceMeant ℕ) → IsPlaceOf from.now old → IsPlaceOf to.now new
-        → result ≡ unless (rename_rules nat_eq (L.looks world.now) (task_of who.now) old new (location_of object)) (Ok tt) }
+        → result ≡ unless
+        (rename_rules nat_eq (L.looks world.now) (task_of who.now) old new (location_of object)) (Ok tt) }
 {
     world.has_no_overlays();
     may_replace(world, to, object)?;

@@ -24,9 +24,11 @@ use vt_node::{Attr, Kind};
 use vt_spec::errors::{Deny, Rule};
 use vt_tasks::Task;
 
-/// Whether the caller has these rights at a location, asked as one request. Nobody has any where no inode is.
+/// Whether the caller has these rights at a location, asked as one request. Nobody has any where there is no
+/// inode.
 pub fn may<L: Look>(world: &L, who: &Task, at: Location, wanted: Rights) -> bool
-    ensures { result ≡ may (L.looks world.now) (task_of who.now) (location_of at) (right_bits wanted) }
+    ensures { result
+        ≡ may (L.looks world.now) (task_of who.now) (location_of at) (right_bits wanted) }
 {
     match world.node(at) {
         Some(node) => allows(&who.cred, &node.attr(), node.kind(), wanted),
@@ -80,7 +82,8 @@ pub fn attr_at<L: Look>(world: &L, at: Location) -> Attr
 
 /// Whether a sticky directory keeps an object from the caller.
 pub(crate) fn is_kept<L: Look>(world: &L, who: &Task, directory: Location, object: Location) -> bool
-    ensures { result ≡ is_kept (L.looks world.now) (task_of who.now) (location_of directory) (location_of object) }
+    ensures { result
+        ≡ is_kept (L.looks world.now) (task_of who.now) (location_of directory) (location_of object) }
 {
     !may_delete_sticky(
         &who.cred,
@@ -132,7 +135,8 @@ fn filesystem_at<L: Look>(world: &L, at: Location) -> FilesystemId
 
 /// Whether two locations are in one filesystem.
 pub(crate) fn is_same_filesystem<L: Look>(world: &L, one: Location, other: Location) -> bool
-    ensures { result ≡ same_filesystem nat_eq (L.looks world.now) (location_of one) (location_of other) }
+    ensures { result
+        ≡ same_filesystem nat_eq (L.looks world.now) (location_of one) (location_of other) }
 {
     filesystem_at(world, one) == filesystem_at(world, other)
 }

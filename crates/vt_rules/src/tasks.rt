@@ -1,4 +1,5 @@
-//! Where a task may go, and which children it may have: chdir(2), chroot(2), fork(2), setuid(2), setgroups(2), capset(2).
+//! Where a task may go, and which children it may have: chdir(2), chroot(2), fork(2), setuid(2), setgroups(2),
+//! capset(2).
 ghost use Rattle.std.specs.Prelude.{◌≡◌, ◌||◌, length, nat_le, Ok, Some};
 ghost use Rattle.vt_spec.specs.Language.Limits.{deepest_name, most_forks};
 ghost use Rattle.vt_spec.specs.Errors.{unless};
@@ -21,7 +22,8 @@ use vt_tasks::{MAX_DEPTH, MAX_FORKS, Task};
 ///
 /// C1 (EACCES).
 pub fn may_enter<L: Look>(world: &L, who: &Task, directory: Location) -> Result<(), Deny>
-    ensures { result ≡ unless (enter_rules (L.looks world.now) (task_of who.now) (location_of directory)) (Ok tt) }
+    ensures { result ≡ unless
+        (enter_rules (L.looks world.now) (task_of who.now) (location_of directory)) (Ok tt) }
 {
     world.has_no_overlays();
     if !may(world, who, directory, Rights::SEARCH) {
@@ -42,12 +44,14 @@ pub fn named(who: &Cred, caps: CapsWord) -> Caps
 
 /// Whether the task has no more forks, or its name can have no more numbers: fork(2).
 pub fn is_barren(who: &Task) -> bool
-    ensures { result ≡ (nat_le most_forks (task_of who.now).forks || nat_le deepest_name (length (task_of who.now).name)) }
+    ensures { result ≡ (nat_le most_forks (task_of who.now).forks
+        || nat_le deepest_name (length (task_of who.now).name)) }
 {
     who.forks >= MAX_FORKS || who.name.numbers().len() >= MAX_DEPTH
 }
 
-/// The task may fork a child with these credentials: fork(2), then setgroups(2), setgid(2), setuid(2) and capset(2) of the child.
+/// The task may fork a child with these credentials: fork(2), then setgroups(2), setgid(2), setuid(2) and
+/// capset(2) of the child.
 ///
 /// S6 (ENOSPC), K1 (EPERM).
 pub fn may_fork(who: &Task, child: &ForkWords) -> Result<(), Deny>

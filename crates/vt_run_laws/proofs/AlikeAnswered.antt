@@ -1,7 +1,7 @@
 -- Each call is answered alike in two worlds that are alike.
 use Rattle.std.proofs.Common.{◌≡◌, refl, sym, ap, subst, ◌∙◌, ℕ, nat_eq, Bool, true, false, not, ◌||◌, List, Option, Some, None, Ok, Err, is_ok, ok_or}
-use Rattle.vt_call_laws.proofs.GivenPermits.{permits_are_for_their_calls}
-use Rattle.vt_call_laws.specs.Given.{IsFor}
+use Rattle.vt_laws.proofs.GivenPermits.{permits_are_for_their_calls}
+use Rattle.vt_laws.specs.Given.{IsFor}
 use Rattle.vt_laws.proofs.CallsJudged.{policy_judges_then_applies}
 use Rattle.vt_laws.proofs.SameJudged.{plain_has_one_name}
 use Rattle.vt_laws.proofs.SameMany.{same_worlds_judge_alike}

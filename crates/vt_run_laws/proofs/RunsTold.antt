@@ -10,8 +10,8 @@ use Rattle.vt_laws.proofs.Supports.{opening_keeps_to_four}
 use Rattle.vt_laws.proofs.Texts.{line_alike, line_leads, refused_alike, refused_leads, whole_machine_has_one_text, worlds_keep_to_hand}
 use Rattle.vt_laws.specs.Numbers.{Allotment, KeepsTo, Lot, ServesWithRoom, TellsWithRoom, first_four, is_in_hand, is_in_hand_lot, is_kept, is_kept_lot}
 use Rattle.vt_laws.specs.Numbers.Lot.{Kept, LeftOver, New}
-use Rattle.vt_one_text.proofs.Commuting.{Named, commutes_nat}
-use Rattle.vt_one_text.specs.Renaming.{Renaming}
+use Rattle.vt_laws.proofs.Commuting.{Named, commutes_nat}
+use Rattle.vt_laws.specs.Renaming.{Renaming}
 use Rattle.vt_run_laws.proofs.AlikeLines.{line_step_alike}
 use Rattle.vt_run_laws.proofs.AlikeRenamed.{same_renamed}
 use Rattle.vt_run_laws.proofs.AlikeWorlds.{Alike, alike_back, alike_from_same, alike_onward, plain_from_alike, sameness_is_an_equivalence}

@@ -3,9 +3,9 @@ use Rattle.std.proofs.Common.{◌≡◌, ◌≢◌, refl, sym, ap, ◌∙◌, �
 use Rattle.std.proofs.lemmas.Bool.{eqb-false}
 use Rattle.vt_laws.proofs.Cells.{cell, cell-number_in_row, number_in_row, number_in_row-cell}
 use Rattle.vt_laws.proofs.Rows.{col, col-spread, row, row-spread, row_first, spread, spread-row}
-use Rattle.vt_one_text.proofs.Commuting.{stay_apart}
-use Rattle.vt_one_text.proofs.Exchanges.{swapped, swapped_first, swapped_other, swapped_twice}
-use Rattle.vt_one_text.specs.Renaming.{Renaming}
+use Rattle.vt_laws.proofs.Commuting.{stay_apart}
+use Rattle.vt_laws.proofs.Exchanges.{swapped, swapped_first, swapped_other, swapped_twice}
+use Rattle.vt_laws.specs.Renaming.{Renaming}
 use Rattle.vt_run_laws.specs.Runs.{LeavesEndless, OpensInHand}
 use Rattle.vt_spec.specs.Lists.{Fresh}
 

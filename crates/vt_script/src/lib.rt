@@ -12,8 +12,8 @@ pub use vt_io::output::{Sink, SinkFailed};
 pub use vt_line::fault::RunFault;
 pub use vt_line::line::Line;
 pub use vt_line::print::write_reply;
+pub use vt_ns::World;
 pub use vt_request::{
     Access, Answer, Call, CapsWord, Creation, ForkWords, MountLine, Spot, StatLine, TaskName,
     TypeLine, TypeWord,
 };
-pub use vt_ns::World;

@@ -1,6 +1,9 @@
 //! A script is answered line by line, in whatever pieces its bytes come.
-ghost use Rattle.std.specs.Prelude.{◌≡◌, ◌⊎◌, ◌+◌, ◌<◌, ◌^◌, [], OnOk, IsErrOf};
+ghost use Rattle.std.specs.Prelude.{◌≡◌, ◌⊎◌, ◌+◌, ◌<◌, ◌^◌, [], IfErr, IsErrOf, OnOk};
+ghost use Rattle.vt_script.specs.Progress.{opening_moment};
 ghost use Rattle.vt_script.specs.Session.{AnswersScript, AnswersWholeLines, BeginsToAnswer};
+ghost use Rattle.vt_script.specs.Session.{IsReading, lines_begun, moment};
+ghost use Rattle.vt_script.specs.SessionValue.{state_of};
 
 use crate::session::Session;
 use std::alloc::Global;
@@ -10,6 +13,47 @@ use vt_line::fault::RunFault;
 
 /// How many bytes are asked for at a time.
 const CHUNK: usize = 8192;
+
+// Answers a script in a new session. `Read` and `Write`: that device failed.
+fn answer_all<R: Source, W: Sink>(
+    session: &mut Session,
+    source: &mut R,
+    sink: &mut W,
+) -> Result<(), RunFault>
+    requires source_countable { R.failures source.old + 1 < 2 ^ 64 }
+    requires sink_countable { W.failures sink.old + 1 < 2 ^ 64 }
+    requires opening { moment (state_of session.old) [] ≡ opening_moment }
+    requires reading { IsReading (state_of session.old) [] }
+    requires begun { lines_begun (state_of session.old) ≡ 0 }
+
+    ensures ok { OnOk result (R.tells source.old → W.tells sink.old
+        → AnswersScript W.Sink (R.rest source.old) sink.old sink.new) }
+    ensures all_read { OnOk result (R.tells source.old → R.rest source.new ≡ []) }
+    ensures after_read { IsErrOf result RunFault.Read → R.tells source.old → W.tells sink.old
+        → AnswersWholeLines W.Sink (R.rest source.old) (R.rest source.new) sink.old sink.new }
+    ensures after_write { IsErrOf result RunFault.Write → R.tells source.old → W.tells sink.old
+        → BeginsToAnswer W.Sink (R.rest source.old) sink.old sink.new }
+    ensures fault { IfErr result (λ fault. (fault ≡ RunFault.Read) ⊎ (fault ≡ RunFault.Write)) }
+    ensures read_failed { IsErrOf result RunFault.Read → R.failures source.new ≡ R.failures source.old + 1 }
+    ensures no_read_failed { IsErrOf result RunFault.Read ⊎ (R.failures source.new ≡ R.failures source.old) }
+    ensures write_failed { IsErrOf result RunFault.Write → W.failures sink.new ≡ W.failures sink.old + 1 }
+    ensures no_write_failed { IsErrOf result RunFault.Write ⊎ (W.failures sink.new ≡ W.failures sink.old) }
+    ensures source_tells { R.tells source.old → R.tells source.new }
+    ensures sink_tells { W.tells sink.old → W.tells sink.new }
+{
+    let mut chunk = [0; CHUNK];
+    'pieces: loop {
+        let count = match source.read(&mut chunk) {
+            Ok(count) => count,
+            Err(_) => return Err(RunFault::Read),
+        };
+        if count == 0 {
+            break;
+        }
+        session.feed(&chunk[..count], sink)?;
+    }
+    session.finish(sink)
+}
 
 /// Answers a script: reads it from the source, and writes a line for each line that has an answer.
 ///
@@ -50,16 +94,8 @@ pub fn run<R: Source, W: Sink>(alloc: Global, source: &mut R, sink: &mut W) -> R
     ensures sink_tells { W.tells sink.old → W.tells sink.new }
 {
     let mut session = Session::new(alloc)?;
-    let mut chunk = [0; CHUNK];
-    'pieces: loop {
-        let count = match source.read(&mut chunk) {
-            Ok(count) => count,
-            Err(_) => return Err(RunFault::Read),
-        };
-        if count == 0 {
-            break;
-        }
-        session.feed(&chunk[..count], sink)?;
-    }
-    session.finish(sink)
+    let outcome = answer_all(&mut session, source, sink);
+    // By a call: the proof of a function that drops a world itself takes minutes.
+    drop(session);
+    outcome
 }

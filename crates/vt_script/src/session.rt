@@ -13,8 +13,8 @@ use vt_io::output::Sink;
 use vt_line::fault::RunFault;
 use vt_line::line::Line;
 use vt_line::print::write_reply;
-use vt_spec::errors::Rule;
 use vt_ns::World;
+use vt_spec::errors::Rule;
 
 /// The world, how many lines are answered, and the line that is being read.
 #[derive(Drop)]
@@ -75,10 +75,10 @@ impl Session {
         ensures begun { IfOk result (λ session. lines_begun (state_of session) ≡ 0) }
         ensures memory { IfErr result (λ fault. fault ≡ RunFault.Memory) }
     {
-        let Ok(world) = World::new(alloc) else {
+        let Ok(line) = LineBuffer::new(alloc) else {
             return Err(RunFault::Memory);
         };
-        let Ok(line) = LineBuffer::new(alloc) else {
+        let Ok(world) = World::new(alloc) else {
             return Err(RunFault::Memory);
         };
         Ok(Session {
@@ -144,11 +144,11 @@ impl Session {
     }
 
     /// Answers a last line that ends without a newline. `Write`: the sink failed.
-    pub fn finish<W: Sink>(mut self, sink: &mut W) -> Result<(), RunFault>
+    pub fn finish<W: Sink>(&mut self, sink: &mut W) -> Result<(), RunFault>
         requires countable { W.failures sink.old + 1 < 2 ^ 64 }
-        requires lines { lines_begun (state_of self) < 2 ^ 64 }
-        ensures closes { (line : List ℕ) → IsReading (state_of self) line
-            → Closes W.Sink (moment (state_of self) line) result sink.old sink.new }
+        requires lines { lines_begun (state_of self.old) < 2 ^ 64 }
+        ensures closes { (line : List ℕ) → IsReading (state_of self.old) line
+            → Closes W.Sink (moment (state_of self.old) line) result sink.old sink.new }
         ensures counted { OnErr result (W.failures sink.new ≡ W.failures sink.old + 1) }
         ensures fault { IfErr result (λ fault. fault ≡ RunFault.Write) }
     {

@@ -68,19 +68,6 @@ fn tries_again_when_interrupted(rt: HostRuntime) {
 }
 
 #[test]
-fn passes_bytes_on(rt: HostRuntime) -> Result<(), Fail> {
-    let mut buffer = [0u8; 4];
-    let mut source = ReadSource::new(b"ab".as_slice());
-    assert_eq!(rt; source.read(&mut buffer), Ok(2));
-    assert_eq!(rt; source.read(&mut buffer), Ok(0));
-    let mut sink = WriteSink::new(Vec::new(rt.alloc()));
-    assert_eq!(rt; sink.write(&buffer), Ok(4));
-    sink.flush()?;
-    assert_eq!(rt; sink.into_inner().as_slice(), b"ab\0\0".as_slice());
-    Ok(())
-}
-
-#[test]
 fn fails_when_full(rt: HostRuntime) {
     let mut sink = WriteSink::new(Full);
     assert_eq!(rt; sink.write(b"ab"), Err(SinkFailed));

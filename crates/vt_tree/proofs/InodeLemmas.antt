@@ -9,8 +9,8 @@ use Rattle.vt_spec.specs.Machine.Outcome.Descriptors.{overwritten}
 use Rattle.vt_spec.specs.Inodes.{Inode, Inodes, count_after, inode_with_node, node_in, one_directory, parent_above, pinned, unpinned, used_once_less, used_once_more, uses_in, with_changed, with_new}
 use Rattle.vt_spec.specs.Tree.{Node, bytes_in, bytes_of, new_directory, node_with_bytes, node_with_entry, parent_in, with_bytes}
 use Rattle.vt_spec.specs.Lists.{chain, is_among}
-use Rattle.vt_slots.proofs.SlotLemmas.{slots_len-with_node_at}
-use Rattle.vt_slots.specs.Slots.{Slots, goes, node_at, with_node_at, inodes_in, put_at, slot_at, slots_len}
+use Rattle.vt_tree.proofs.SlotLemmas.{slots_len-with_node_at}
+use Rattle.vt_tree.specs.Slots.{Slots, goes, node_at, with_node_at, inodes_in, put_at, slot_at, slots_len}
 
 -- another node leaves the uses
 uses-inode_with_node : (node : Option (Node ℕ)) (inode : Option (Inode ℕ)) → uses_in (inode_with_node node inode) ≡ uses_in inode

@@ -1,2 +1,4 @@
 pub mod TreeValue
 pub mod Paths
+pub mod Slots
+pub mod Lends

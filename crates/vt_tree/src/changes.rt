@@ -9,10 +9,10 @@ ghost use Rattle.vt_spec.specs.Language.Changes.{node_with_attr, node_with_paren
 ghost use Rattle.vt_spec.specs.Machine.Outcome.Descriptors.{overwritten};
 ghost use Rattle.vt_spec.specs.Inodes.{with_changed, unpinned, without_replaced};
 ghost use Rattle.vt_spec.specs.Tree.{name_cmp, bytes_in, entries_in, entry_named, node_with_bytes, node_with_entry};
-ghost use Rattle.vt_slots.specs.Slots.{inodes_in, node_at};
+ghost use Rattle.vt_tree.specs.Slots.{inodes_in, node_at};
 
+use crate::slots::Slots;
 use vt_node::{Attr, NodeId};
-use vt_slots::Slots;
 use vt_spec::errors::{Deny, Rule};
 
 // Puts an entry into a directory. S5: an allocation failed; a name that exists needs none.

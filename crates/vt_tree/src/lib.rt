@@ -3,6 +3,7 @@
 
 mod changes;
 mod paths;
+mod slots;
 mod trees;
 
 pub use trees::Tree;

@@ -13,16 +13,16 @@ ghost use Rattle.vt_spec.specs.Machine.Outcome.Descriptors.{overwritten};
 ghost use Rattle.vt_spec.specs.Tree.{is_directory_node, parent_in, entries_in, names_in, bytes_in};
 ghost use Rattle.vt_spec.specs.TreeLaws.{IsDirectory, entry_at};
 ghost use Rattle.vt_tree.specs.TreeValue.{inodes_of, tree_of, next_number};
-ghost use Rattle.vt_slots.specs.Slots.{most_uses};
+ghost use Rattle.vt_tree.specs.Slots.{most_uses};
 
 use crate::changes::{
     insert_entry, release, remove_entry, remove_object, set_attr, set_bytes, set_parent,
     write_bytes,
 };
+use crate::slots::Slots;
 use std::alloc::Global;
 use std::marker::Model;
 use vt_node::{Attr, Node, NodeId, copied_bytes};
-use vt_slots::Slots;
 use vt_spec::errors::{Deny, Rule};
 
 /// A tree of directories, files, symlinks and whiteouts, each with a number, and with a count of its uses: the names that

@@ -27,7 +27,8 @@ returns-in_err-name_at g c meant is =
     let access = access_of c.args.access in
     let change = unnumbered meant (new_file task c.args.mode []) in
     let p = err_from_is_err_and c.from_residual-in_err-name_at.result c.from_residual-in_err-name_at.ensures.1 in
-    rw (p.1, p.2) (without_memory task (create_file_permit nat_eq looks task meant access c.args.mode) (open_new_permit task meant access c.args.mode) _
+    rw (p.1, p.2) (without_memory task (create_file_permit nat_eq looks task meant access c.args.mode)
+    (open_new_permit task meant access c.args.mode) _
     (unless-let_through (make_rules looks task meant change) (Ok (open_new_permit task meant access c.args.mode))
     (c.in_ok-may_make.ensures meant change is.parent))
     c.in_err-name_at.ensures.memory)

@@ -3,7 +3,7 @@ use Rattle.std.proofs.lemmas.Result.{on_err_weaker, on_ok_weaker}
 use Rattle.std.specs.Option.{option_copied_mut}
 use Rattle.vt_spec.specs.declared.errors.Rule.TheVariants.{S5}
 use Rattle.vt_spec.specs.Errors.{denial}
-use Rattle.vt_slots.specs.Slots.{most_uses}
+use Rattle.vt_tree.specs.Slots.{most_uses}
 use Rattle.vt_fs.proofs.Standing.{kept, nothing_changes, pins, standing_of, uses_there}
 use Rattle.vt_fs.proofs.filesystems.Filesystems.pin.Goals as goal
 

@@ -8,4 +8,4 @@ pub returns-clause-opening : goal.returns-clause-opening
 unfolding world_seen
 returns-clause-opening c =
     let begun : World ℕ → Moment = λ world. record { world = world; answered = 0; line = [] } in
-    ap begun c.in-Ok.ensures.opening
+    ap begun c.in-Ok-new.ensures.opening

@@ -1,7 +1,7 @@
 use Rattle.std.proofs.Common.{◌≡◌, nat_eq, ap, ◌∙◌}
 use Rattle.vt_spec.specs.Inodes.{with_changed, with_new}
 use Rattle.vt_spec.specs.Tree.{node_with_entry}
-use Rattle.vt_slots.specs.Slots.{inodes_in}
+use Rattle.vt_tree.specs.Slots.{inodes_in}
 use Rattle.vt_tree.specs.TreeValue.{inodes_of}
 use Rattle.vt_tree.proofs.InodeLemmas.{inodes-created}
 use Rattle.vt_tree.proofs.trees.Tree.create.Goals as goal

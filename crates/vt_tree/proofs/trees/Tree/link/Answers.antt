@@ -1,7 +1,7 @@
 use Rattle.std.proofs.Common.{◌≡◌, nat_eq, ap, ◌∙◌, arith}
 use Rattle.vt_spec.specs.Inodes.{pinned, uses_in, with_name}
 use Rattle.vt_spec.specs.Tree.{node_with_entry}
-use Rattle.vt_slots.specs.Slots.{inodes_in, slot_at}
+use Rattle.vt_tree.specs.Slots.{inodes_in, slot_at}
 use Rattle.vt_tree.specs.TreeValue.{inodes_of}
 use Rattle.vt_tree.proofs.InodeLemmas.{inodes-acquired, uses-with_changed}
 use Rattle.vt_tree.proofs.trees.Tree.link.Goals as goal

@@ -1,0 +1,5 @@
+use Rattle.vt_later_laws.proofs.EndedBy.{only_these_end_inodes}
+use Rattle.vt_later_laws.proofs.ends.only_these_calls_end_inodes.Goals as goal
+
+pub returns : goal.returns
+returns c = only_these_end_inodes

@@ -1,0 +1,9 @@
+pub mod MergedNumbers
+pub mod UpperCopying
+pub mod UpperFronts
+pub mod UpperPlaces
+pub mod UpperKinds
+pub mod UpperWorlds
+pub mod UpperAsked
+pub mod MountedLeft
+pub mod MountedAgain

@@ -1,0 +1,8 @@
+use Rattle.vt_merge_laws.proofs.MountedAgain.{mounted_anew_shows_the_same, mounted_over_the_same_layers}
+use Rattle.vt_merge_laws.proofs.mounted.an_overlay_mounted_anew_shows_the_same.Goals as goal
+
+pub returns-clause-layers : goal.returns-clause-layers
+returns-clause-layers c = mounted_anew_shows_the_same
+
+pub returns-clause-same : goal.returns-clause-same
+returns-clause-same c = mounted_over_the_same_layers

@@ -1,0 +1,11 @@
+use Rattle.vt_merge_laws.proofs.MountedLeft.{mounting_leaves_overlays, mounting_leaves_trees, mounting_lets_nothing_go}
+use Rattle.vt_merge_laws.proofs.mounted.mounting_an_overlay_leaves_the_invariants.Goals as goal
+
+pub returns-clause-nothing : goal.returns-clause-nothing
+returns-clause-nothing c = mounting_lets_nothing_go
+
+pub returns-clause-trees : goal.returns-clause-trees
+returns-clause-trees c = mounting_leaves_trees
+
+pub returns-clause-overlays : goal.returns-clause-overlays
+returns-clause-overlays c = mounting_leaves_overlays

@@ -1,0 +1,4 @@
+pub mod MergedTrees
+pub mod UpperChanges
+pub mod UpperCalls
+pub mod MountedAnew

@@ -1,0 +1,69 @@
+-- Overlays that are mounted, and mounted anew, in the world that the call leaves: mount(2), and the kernel's
+-- overlayfs document,
+-- "upper and lower" and "changes to underlying filesystems".
+use Rattle.std.specs.Prelude.{All, List, Ok, Some, map, nat_eq, ℕ, ◌≡◌}
+use Rattle.vt_spec.specs.Language.Answers.Answer.{Done}
+use Rattle.vt_spec.specs.Language.Calls.{MountFlags, OverlayWords}
+use Rattle.vt_spec.specs.Language.Calls.Call.{MountOverlay}
+use Rattle.vt_spec.specs.Lists.{Fresh, evens}
+use Rattle.vt_spec.specs.Machine.Invariants.{IsWorld, OverlayInvariants, TreeInvariants}
+use Rattle.vt_spec.specs.Machine.Outcome.Mounting.{LayerPlaces, layers_walked, overlay_at}
+use Rattle.vt_spec.specs.Machine.Policy.{policy}
+use Rattle.vt_spec.specs.Machine.Settled.{settled}
+use Rattle.vt_spec.specs.Machine.World.{Layer, Overlay, Task, World, filesystem_numbered, open_layer, shown_layers, task_called}
+use Rattle.vt_layer_laws.specs.Layers.Mounted.{AreAsOthers, ShowTheSame}
+use Rattle.vt_layer_laws.specs.Layers.Mounting.{AreNewNumbers, OfMounting}
+
+-- `mount overlay`, granted or refused, leaves nothing that nothing uses;
+abbrev pub MountingLetsNothingGo : Type 0
+MountingLetsNothingGo = OfMounting (λ world. settled nat_eq world ≡ world)
+
+-- so when what nothing uses is gone, trees and overlays have their invariants, the new overlay too.
+abbrev pub MountingLeavesTrees : Type 0
+MountingLeavesTrees = OfMounting (λ world. TreeInvariants nat_eq (settled nat_eq world))
+
+abbrev pub MountingLeavesOverlays : Type 0
+MountingLeavesOverlays = OfMounting (λ world. OverlayInvariants nat_eq (settled nat_eq world))
+
+-- the world that a granted `mount overlay` leaves, its last step done, and the number of the overlay in it
+abbrev pub world_mounted : Fresh ℕ → World ℕ → Task ℕ → List ℕ → OverlayWords → MountFlags → World ℕ
+world_mounted fresh world task path words flags =
+    (policy nat_eq fresh world task.name (MountOverlay path (Some words) flags)).world
+
+abbrev pub number_mounted : Fresh ℕ → ℕ
+number_mounted fresh = evens (evens fresh) 0
+
+-- An overlay was left in one world, and a task of another mounts one over layers that lead everywhere to what the
+-- first one's led
+-- to: it shows the tree that the first one showed, whoever mounts it, and wherever.
+abbrev pub MountedAnewShowsTheSame : Type 0
+MountedAnewShowsTheSame =
+    (fresh : Fresh ℕ) (before later : World ℕ) (number : ℕ) (left : Overlay ℕ) (task : Task ℕ) (path : List ℕ)
+    (words : OverlayWords) (flags : MountFlags) (places : LayerPlaces ℕ)
+    → IsWorld nat_eq before → (filesystem_numbered nat_eq before number).overlay ≡ Some left
+    → IsWorld nat_eq later → AreNewNumbers fresh later → task_called later task.name ≡ Some task
+    → (policy nat_eq fresh later task.name (MountOverlay path (Some words) flags)).answer ≡ Ok Done
+    → layers_walked nat_eq later task words ≡ Ok places
+    → AreAsOthers (map (open_layer nat_eq before) (shown_layers left))
+    (map (open_layer nat_eq later) (shown_layers (overlay_at nat_eq later task places)))
+    → ShowTheSame (filesystem_numbered nat_eq (world_mounted fresh later task path words flags) (number_mounted fresh))
+    (filesystem_numbered nat_eq before number)
+
+-- layers that are directories of trees that were not changed
+abbrev pub AreKept : World ℕ → World ℕ → List (Layer ℕ) → Type 0
+AreKept before later layers =
+    All (λ (layer : Layer ℕ). (filesystem_numbered nat_eq later layer.filesystem).files.tree
+    ≡ (filesystem_numbered nat_eq before layer.filesystem).files.tree) layers
+
+-- So over the same layers, where their trees were not changed.
+abbrev pub MountedOverTheSameLayers : Type 0
+MountedOverTheSameLayers =
+    (fresh : Fresh ℕ) (before later : World ℕ) (number : ℕ) (left : Overlay ℕ) (task : Task ℕ) (path : List ℕ)
+    (words : OverlayWords) (flags : MountFlags) (places : LayerPlaces ℕ)
+    → IsWorld nat_eq before → (filesystem_numbered nat_eq before number).overlay ≡ Some left
+    → IsWorld nat_eq later → AreNewNumbers fresh later → task_called later task.name ≡ Some task
+    → (policy nat_eq fresh later task.name (MountOverlay path (Some words) flags)).answer ≡ Ok Done
+    → layers_walked nat_eq later task words ≡ Ok places
+    → shown_layers (overlay_at nat_eq later task places) ≡ shown_layers left → AreKept before later (shown_layers left)
+    → ShowTheSame (filesystem_numbered nat_eq (world_mounted fresh later task path words flags) (number_mounted fresh))
+    (filesystem_numbered nat_eq before number)

@@ -1,0 +1,31 @@
+-- Layers of live overlays stand apart after a change of one: the kernel's overlayfs document, "sharing and copying layers".
+use Rattle.std.specs.Prelude.{Some, false, nat_eq, ℕ, ◌≡◌}
+use Rattle.std.specs.List.{list_any}
+use Rattle.vt_spec.specs.Language.Changes.{Change}
+use Rattle.vt_spec.specs.Lists.{Fresh, any_pair}
+use Rattle.vt_spec.specs.Machine.Filesystems.{merge_of, stack_of, with_change}
+use Rattle.vt_spec.specs.Machine.Invariants.{IsWorld, live_lowers, overlap}
+use Rattle.vt_spec.specs.Machine.Locked.{live_upper_and_work, overlaps_one_of}
+use Rattle.vt_spec.specs.Machine.Mounts.{Location}
+use Rattle.vt_spec.specs.Machine.World.{Layer, Overlay, World, filesystem_at, filesystem_numbered}
+use Rattle.vt_spec.specs.TreeLaws.{IsReached}
+use Rattle.vt_layer_laws.specs.Layers.Locked.{AreNoInodes}
+use Rattle.vt_overlay_laws.specs.WholeChanges.{IsAskedWell}
+
+-- no two layers that changes write to have an inode in common, nor has one of them with a lower layer of a live overlay: what the
+-- invariants of overlays say of it
+pub record StandApart (world : World ℕ) : Type 0 where
+  pub changed : any_pair (overlap nat_eq world) (live_upper_and_work world) ≡ false
+  pub lowers : list_any (overlaps_one_of nat_eq world (live_lowers nat_eq world)) (live_upper_and_work world) ≡ false
+
+-- They stand apart after a change of an overlay that asks for what it may, by numbers that no inode has, where names lead to the
+-- directory of its upper layer from the root of its tree.
+abbrev pub LayersStayApart : Type 0
+LayersStayApart =
+    (fresh : Fresh ℕ) (world : World ℕ) (location : Location ℕ) (change : Change ℕ) (overlay : Overlay ℕ) (upper : Layer ℕ)
+    → IsWorld nat_eq world
+    → (filesystem_at nat_eq world location).overlay ≡ Some overlay → overlay.upper ≡ Some upper
+    → IsReached (filesystem_numbered nat_eq world upper.filesystem).files.tree upper.directory
+    → ((j k : ℕ) → fresh j ≡ fresh k → j ≡ k) → ((filesystem : ℕ) → AreNoInodes fresh world filesystem)
+    → IsAskedWell (stack_of nat_eq world overlay upper) (merge_of nat_eq world (filesystem_at nat_eq world location) overlay upper) change
+    → StandApart (with_change nat_eq fresh world location change)

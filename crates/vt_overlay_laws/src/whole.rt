@@ -1,0 +1,25 @@
+//! Laws of overlays that stay whole: changes follow one another.
+ghost use Rattle.vt_overlay_laws.specs.WholeStays.{ChangesFollowOneAnother, ChangesKeepWhole, LinkKeepsWhole, MakeKeepsWhole};
+ghost use Rattle.vt_overlay_laws.specs.WholeStays.{MergedTreesStay, MoveKeepsWhole, NamesLeadToOwn, ObjectsAreOwn, RemoveKeepsWhole};
+ghost use Rattle.vt_overlay_laws.specs.WholeStays.{UpperTreesStay};
+
+/// An overlay stays whole in each change: its tree and that of its upper layer are trees, names lead to the upper layer's directory,
+/// and its tree is what its layers show. So after any number of changes, one after the other.
+pub fn changes_keep_overlays_whole()
+    ensures made { MakeKeepsWhole }
+    ensures linked { LinkKeepsWhole }
+    ensures removed { RemoveKeepsWhole }
+    ensures moved { MoveKeepsWhole }
+    ensures changes { ChangesKeepWhole }
+    ensures rows { ChangesFollowOneAnother }
+{}
+
+/// The overlay's tree and that of its upper layer stay trees, with the numbers of their inodes beside them, and what lost its name is
+/// its own parent. Each name of the upper layer's tree leads where it led, or to an object of the overlay or a new inode, and the
+/// upper object of an inode is the one that it was, or a new one.
+pub fn changes_keep_both_trees()
+    ensures upper { UpperTreesStay }
+    ensures merged { MergedTreesStay }
+    ensures names { NamesLeadToOwn }
+    ensures objects { ObjectsAreOwn }
+{}

@@ -1,0 +1,4 @@
+pub mod AskedNames
+pub mod AskedOthers
+pub mod AskedOverlays
+pub mod ChangedOverlays

@@ -1,0 +1,11 @@
+use Rattle.vt_overlay_permit_laws.proofs.AskedOverlays
+use Rattle.vt_overlay_permit_laws.proofs.asked.permits_ask_well.Goals as goal
+
+pub returns-clause-all : goal.returns-clause-all
+returns-clause-all c = AskedOverlays.permits_ask_well
+
+pub returns-clause-proper : goal.returns-clause-proper
+returns-clause-proper c = AskedOverlays.permits_ask_properly
+
+pub returns-clause-overlays : goal.returns-clause-overlays
+returns-clause-overlays c = AskedOverlays.permits_ask_overlays_well

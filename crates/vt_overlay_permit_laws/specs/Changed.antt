@@ -1,0 +1,45 @@
+-- What a permit asks of an overlay can be done: what the laws of letting go ask for (`CanChange`) holds of it.
+use Rattle.std.specs.Prelude.{None, Ok, Some, nat_eq, ℕ, ◌≡◌}
+use Rattle.vt_spec.specs.Language.Calls.{Call}
+use Rattle.vt_spec.specs.Language.Changes.{Change}
+use Rattle.vt_spec.specs.Lists.{Fresh, odds}
+use Rattle.vt_spec.specs.Machine.Filesystems.{merge_of, stack_of}
+use Rattle.vt_spec.specs.Machine.Invariants.{IsWorld}
+use Rattle.vt_spec.specs.Machine.Judge.{judge_in}
+use Rattle.vt_spec.specs.Machine.Mounts.{Location}
+use Rattle.vt_spec.specs.Machine.Permits.{Permit}
+use Rattle.vt_spec.specs.Machine.Permits.Permit.{ToMake, ToOpenNew}
+use Rattle.vt_spec.specs.Machine.Run.{Serves}
+use Rattle.vt_spec.specs.Machine.World.{Layer, Overlay, Task, World, filesystem_at, filesystem_numbered, task_called}
+use Rattle.vt_spec.specs.TreeLaws.{IsReached}
+use Rattle.vt_layer_laws.specs.Layers.Untouched.{inode_in}
+use Rattle.vt_overlay_laws.specs.WholeChanges.{IsAskedWell}
+use Rattle.vt_overlays_let_go.specs.OverlayChanges.{CanChange}
+use Rattle.vt_overlay_permit_laws.specs.Asked.{change_asked}
+
+-- The change of an overlay that asks for what it may leaves both trees trees, where names lead to the directory of its upper layer.
+abbrev pub AskedChangesCanBeMade : Type 0
+AskedChangesCanBeMade =
+    (fresh : Fresh ℕ) (world : World ℕ) (location : Location ℕ) (change : Change ℕ) (overlay : Overlay ℕ) (upper : Layer ℕ)
+    → IsWorld nat_eq world → (filesystem_at nat_eq world location).overlay ≡ Some overlay → overlay.upper ≡ Some upper
+    → IsReached (filesystem_numbered nat_eq world upper.filesystem).files.tree upper.directory
+    → ((j k : ℕ) → fresh j ≡ fresh k → j ≡ k) → ((k : ℕ) → inode_in world upper.filesystem (fresh k) ≡ None)
+    → IsAskedWell (stack_of nat_eq world overlay upper) (merge_of nat_eq world (filesystem_at nat_eq world location) overlay upper) change
+    → CanChange fresh world location change overlay upper
+
+-- the numbers that are left for copies and whiteouts: a new inode has one of the others
+abbrev pub numbers_left : Fresh ℕ → Permit ℕ → Fresh ℕ
+numbers_left fresh (ToMake directory name node) = odds fresh
+numbers_left fresh (ToOpenNew directory name node access) = odds fresh
+numbers_left fresh permit = fresh
+
+-- So does the change that a permit asks for.
+abbrev pub PermitsCanChange : Type 0
+PermitsCanChange =
+    (world : World ℕ) (fresh : Fresh ℕ) (task : Task ℕ) (call : Call) (permit : Permit ℕ) (location : Location ℕ) (change : Change ℕ)
+    (overlay : Overlay ℕ) (upper : Layer ℕ)
+    → IsWorld nat_eq world → Serves nat_eq world fresh → task_called world task.name ≡ Some task
+    → judge_in nat_eq fresh world task call ≡ Ok permit → change_asked fresh world permit ≡ Some (location, change)
+    → (filesystem_at nat_eq world location).overlay ≡ Some overlay → overlay.upper ≡ Some upper
+    → IsReached (filesystem_numbered nat_eq world upper.filesystem).files.tree upper.directory
+    → CanChange (numbers_left fresh permit) world location change overlay upper

@@ -1,0 +1,50 @@
+-- Where mounts stand once others are detached, and how a list of new mount points is applied.
+use Rattle.std.specs.Prelude.{List, None, Option, [], filter_map, find, flat_map, if◌then◌else◌, map, nat_eq, option_map, ℕ, ◌≡◌}
+use Rattle.std.specs.Map.{lookup}
+use Rattle.vt_spec.specs.Lists.{or_else, then_some}
+use Rattle.vt_spec.specs.Machine.Detach.{is_going, mount_point_left, taken_away}
+use Rattle.vt_spec.specs.Machine.Mounts.{Location, Mount, children, detached}
+use Rattle.vt_spec.specs.Machine.Receives.{regrouped}
+use Rattle.vt_spec.specs.Machine.World.{World, with_mounts}
+use Rattle.vt_location.specs.Locations.{location_of}
+use Rattle.vt_location.specs.Numbers.{counted}
+use Rattle.vt_propagate.specs.declared.falling.NewPoint.{NewPoint}
+
+abbrev pub point_of : NewPoint → ℕ × Location ℕ
+point_of point = (counted point.mount.count, location_of point.place)
+
+-- a mount at its new mount point, if it gets one
+abbrev pub moved_by : List (ℕ × Location ℕ) → Mount ℕ → Mount ℕ
+moved_by points mount = record mount { mount_point = or_else (lookup (nat_eq mount.number) points) mount.mount_point }
+
+-- Where these mounts are detached, the others move to these mount points, and the groups without members end.
+abbrev pub left_by : List ℕ → List (ℕ × Location ℕ) → Mount ℕ → Mount ℕ
+left_by gone points mount = if is_going nat_eq gone mount.number then detached mount else moved_by points mount
+
+abbrev pub LeavesBy : World ℕ → List ℕ → List (ℕ × Location ℕ) → Type 0
+LeavesBy world gone points = taken_away nat_eq world gone ≡ regrouped nat_eq (with_mounts world (map (left_by gone points) world.mounts))
+
+-- By the list of mounts alone
+
+-- a world of mounts alone
+abbrev pub of_mounts : List (Mount ℕ) → World ℕ
+of_mounts mounts =
+    record { mounts = mounts; master = λ group. None; filesystems = []; namespaces = []; tasks = []; change = 0 }
+
+-- the new mount point of a mount that stays
+abbrev pub point_left : List (Mount ℕ) → List ℕ → Mount ℕ → Option (ℕ × Location ℕ)
+point_left mounts gone mount =
+    if is_going nat_eq gone mount.number then None
+    else option_map (λ place. (mount.number, mount_point_left nat_eq (of_mounts mounts) gone place)) mount.mount_point
+
+abbrev pub point_left_of : List (Mount ℕ) → List ℕ → ℕ → Option (ℕ × Location ℕ)
+point_left_of mounts gone number =
+    then_some (find (λ mount. nat_eq number mount.number) mounts) (point_left mounts gone)
+
+-- of all mounts on one that goes, and on all that go
+abbrev pub points_left_on : List (Mount ℕ) → List ℕ → ℕ → List (ℕ × Location ℕ)
+points_left_on mounts gone number =
+    filter_map (point_left_of mounts gone) (map (λ child. child.number) (children nat_eq mounts number))
+
+abbrev pub all_points_left : List (Mount ℕ) → List ℕ → List (ℕ × Location ℕ)
+all_points_left mounts gone = flat_map (points_left_on mounts gone) gone

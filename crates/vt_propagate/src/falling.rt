@@ -1,0 +1,117 @@
+//! Where mounts stand once others are detached: umount(2), and the kernel's document sharedsubtree, "Unmount semantics".
+ghost use Rattle.std.specs.Prelude.{◌≡◌, ◌++◌, IfErr, IfOk, OnOk, filter_map, map, nat_eq, option_map, ℕ};
+ghost use Rattle.vt_spec.specs.declared.errors.Rule.TheVariants.{S5};
+ghost use Rattle.vt_spec.specs.Errors.{denial};
+ghost use Rattle.vt_spec.specs.Machine.Detach.{is_going, mount_point_left, mount_point_of_parent};
+ghost use Rattle.vt_spec.specs.Machine.World.{World};
+ghost use Rattle.vt_location.specs.Locations.{location_of};
+ghost use Rattle.vt_location.specs.Numbers.{counted};
+ghost use Rattle.vt_mount.specs.MountsValue.{mounts_in};
+ghost use Rattle.vt_propagate.specs.Falling.{LeavesBy, all_points_left, of_mounts, point_left_of, point_of};
+
+use std::alloc::{AllocError, Global};
+use vt_location::{Location, MountId};
+use vt_mount::Mounts;
+use vt_spec::errors::{Deny, Rule};
+
+/// A mount, and the mount point that it gets.
+#[derive(Clone, Copy, Debug, PartialEq, Eq)]
+pub struct NewPoint {
+    pub mount: MountId,
+    pub place: Location,
+}
+
+/// The new mount points of the mounts that stay where these are detached. A mount on one of them takes that one's mount point; if
+/// that is on one of them too, the mount point of that, and so on.
+///
+/// S5 (ENOMEM): an allocation failed.
+pub fn points_left(alloc: Global, mounts: &Mounts, gone: &[MountId]) -> Result<Vec<NewPoint>, Deny>
+    ensures ok { IfOk result (λ points. (world : World ℕ) → mounts_in mounts.now ≡ world.mounts
+        → LeavesBy world (map (λ id. counted id.count) gone.now) (map point_of points.items)) }
+    ensures memory { IfErr result (λ deny. deny ≡ denial S5) }
+{
+    mounts.are_ascending();
+    let Ok(points) = all_left(alloc, mounts, gone) else {
+        return Err(Rule::S5.denial());
+    };
+    Ok(points)
+}
+
+// The new mount points of all mounts on these.
+fn all_left(alloc: Global, mounts: &Mounts, gone: &[MountId]) -> Result<Vec<NewPoint>, AllocError>
+    ensures { IfOk result (λ points. map point_of points.items
+        ≡ all_points_left (mounts_in mounts.now) (map (λ id. counted id.count) gone.now)) }
+{
+    let mut points = Vec::new(alloc);
+    for id in gone {
+        push_left(mounts, gone, mounts.children(*id), &mut points)?;
+    }
+    Ok(points)
+}
+
+// Adds the new mount points of these mounts.
+fn push_left(
+    mounts: &Mounts,
+    gone: &[MountId],
+    children: &[MountId],
+    points: &mut Vec<NewPoint>,
+) -> Result<(), AllocError>
+    ensures { OnOk result (map point_of points.new.items ≡ map point_of points.old.items
+        ++ filter_map (point_left_of (mounts_in mounts.now) (map (λ id. counted id.count) gone.now))
+        (map (λ id. counted id.count) children.now)) }
+{
+    for child in children {
+        if let Some(point) = point_left(mounts, gone, *child) {
+            points.push(point)?;
+        }
+    }
+    Ok(())
+}
+
+// The new mount point of a mount that stays.
+fn point_left(mounts: &Mounts, gone: &[MountId], id: MountId) -> Option<NewPoint>
+    ensures { option_map point_of result
+        ≡ point_left_of (mounts_in mounts.now) (map (λ id. counted id.count) gone.now) (counted id.count) }
+{
+    let mount = mounts.get(id)?;
+    if is_gone(gone, id) {
+        return None;
+    }
+    Some(NewPoint {
+        mount: id,
+        place: place_left(mounts, gone, mount.mount_point?),
+    })
+}
+
+// Where a mount point is left.
+fn place_left(mounts: &Mounts, gone: &[MountId], place: Location) -> Location
+    ensures { location_of result
+        ≡ mount_point_left nat_eq (of_mounts (mounts_in mounts.now)) (map (λ id. counted id.count) gone.now) (location_of place) }
+{
+    let mut here = place;
+    for _ in 0..mounts.len() {
+        let Some(below) = below_gone(mounts, gone, here) else {
+            return here;
+        };
+        here = below;
+    }
+    here
+}
+
+// The mount point of the mount that a mount point is on, if that mount goes.
+fn below_gone(mounts: &Mounts, gone: &[MountId], place: Location) -> Option<Location>
+    ensures { option_map location_of result
+        ≡ mount_point_of_parent nat_eq (of_mounts (mounts_in mounts.now)) (map (λ id. counted id.count) gone.now) (location_of place) }
+{
+    if !is_gone(gone, place.mount) {
+        return None;
+    }
+    mounts.get(place.mount)?.mount_point
+}
+
+// Whether a mount is one of these.
+fn is_gone(gone: &[MountId], id: MountId) -> bool
+    ensures { result ≡ is_going nat_eq (map (λ id. counted id.count) gone.now) (counted id.count) }
+{
+    gone.iter().any(|other| *other == id)
+}
