@@ -8,7 +8,7 @@ use Rattle.vt_spec.specs.Lists.{any_pair, folded}
 use Rattle.vt_spec.specs.Machine.Mounts as meant
 use Rattle.vt_spec.specs.Machine.Mounts.{root_of}
 use Rattle.vt_spec.specs.Machine.World.{World, all_locations}
-use Rattle.vt_spec.specs.OneTree.Inodes.{Inodes}
+use Rattle.vt_spec.specs.Inodes.{Inodes}
 use Rattle.vt_count_laws.specs.Using.{Exchanges, is_inode, is_on, pinned_if, places_of}
 use Rattle.vt_count_laws.proofs.Places.{mounts_are_uses}
 use Rattle.vt_fs.specs.FilesystemsValue.{Shown}

@@ -7,7 +7,7 @@ use Rattle.vt_spec.specs.Machine.Mounts as meant
 use Rattle.vt_spec.specs.Machine.Mounts.{mount_in, root_of}
 use Rattle.vt_spec.specs.Machine.World.{Filesystem, World, filesystem_numbered, is_directory_at, mount_at, no_filesystem, node_at}
 use Rattle.vt_spec.specs.Machine.Invariants.{IsWorld, has_its_root}
-use Rattle.vt_spec.specs.OneTree.Inodes.{Inode as Counted, node_in}
+use Rattle.vt_spec.specs.Inodes.{Inode as Counted, node_in}
 use Rattle.vt_spec.specs.Tree.{is_directory_node}
 use Rattle.vt_count_laws.specs.Counted.{IsCounted, IsPlain}
 use Rattle.vt_count_laws.specs.Using.{AreThere, Exchanges}

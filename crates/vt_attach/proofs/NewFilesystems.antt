@@ -4,7 +4,7 @@ use Rattle.std.specs.Prelude.{All}
 use Rattle.std.proofs.lemmas.Bool.{ltb-true, ne_eqb}
 use Rattle.vt_spec.specs.Machine.Run.{used_by_filesystem, used_by_mount}
 use Rattle.vt_spec.specs.Machine.World.{Namespace, root_attr}
-use Rattle.vt_spec.specs.OneTree.Inodes.{Inodes}
+use Rattle.vt_spec.specs.Inodes.{Inodes}
 use Rattle.vt_count_laws.specs.Using.{root_counted}
 use Rattle.vt_fs.specs.FilesystemsValue.{FilesystemEntry, Filesystems, IsNew, entry_of, filesystem_seen, inodes_seen, without}
 use Rattle.vt_laws.proofs.Supports.{used_numbers_are_named}

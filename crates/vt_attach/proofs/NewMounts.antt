@@ -14,7 +14,7 @@ use Rattle.vt_spec.specs.Machine.Permits.{Permit}
 use Rattle.vt_spec.specs.Machine.Permits.Permit.{ToMountPlain}
 use Rattle.vt_spec.specs.Machine.World.{Filesystem, World, all_locations, filesystem_numbered, mount_at, new_plain, root_attr}
 use Rattle.vt_spec.specs.Machine.Invariants.{IsWorld, has_its_root, is_located_well}
-use Rattle.vt_spec.specs.OneTree.Inodes.{pinned}
+use Rattle.vt_spec.specs.Inodes.{pinned}
 use Rattle.vt_count_laws.specs.Counted.{IsCounted, IsPlain}
 use Rattle.vt_count_laws.specs.Using.{Exchanges, is_on, is_outside, one_counted, pinned_if, places_of}
 use Rattle.vt_count_laws.proofs.MountRoots as Roots

@@ -9,7 +9,7 @@ use Rattle.vt_spec.specs.Machine.Mounts.Propagation.{Private as IsPrivate}
 use Rattle.vt_spec.specs.Machine.World as meant
 use Rattle.vt_spec.specs.Machine.World.{Filesystem, World, first_mount, first_task, new_plain, opening, root_attr}
 use Rattle.vt_spec.specs.Machine.Invariants.{IsWorld}
-use Rattle.vt_spec.specs.OneTree.Inodes.{Inodes, node_in, one_directory, pinned, tree_of, used_once_more}
+use Rattle.vt_spec.specs.Inodes.{Inodes, node_in, one_directory, pinned, tree_of, used_once_more}
 use Rattle.vt_spec.specs.Tree.{new_directory, tree_of_root}
 use Rattle.vt_count_laws.specs.Counted.{IsCounted}
 use Rattle.vt_count_laws.specs.Using.{one_counted, root_counted}

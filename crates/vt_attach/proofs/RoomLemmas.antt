@@ -8,7 +8,7 @@ use Rattle.vt_spec.specs.declared.errors.Deny.{Deny}
 use Rattle.vt_spec.specs.declared.errors.Rule.TheVariants.{S5}
 use Rattle.vt_spec.specs.Errors.{denial}
 use Rattle.vt_spec.specs.Lists.{folded}
-use Rattle.vt_spec.specs.OneTree.Inodes.{Inode as Counted, Inodes, pinned, used_once_more, uses_in}
+use Rattle.vt_spec.specs.Inodes.{Inode as Counted, Inodes, pinned, used_once_more, uses_in}
 use Rattle.vt_count_laws.specs.Using.{pinned_if}
 use Rattle.vt_fs.specs.FilesystemsValue.{Filesystems, Shown, entry_of, inodes_at, inodes_seen, no_entry, shown, shown_entry, with_changed}
 use Rattle.vt_letting_go.specs.OneByOne.{Inode}

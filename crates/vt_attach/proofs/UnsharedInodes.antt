@@ -12,8 +12,8 @@ use Rattle.vt_spec.specs.Machine.Namespaces.{copied_mount, location_on_copy}
 use Rattle.vt_spec.specs.Machine.Run.{Serves}
 use Rattle.vt_spec.specs.Machine.World.{Filesystem, Task, World, filesystem_numbered, mount_at, mount_numbered, task_called}
 use Rattle.vt_spec.specs.Machine.Invariants.{has_its_root, is_located_well, is_there}
-use Rattle.vt_spec.specs.OneTree.Inodes.{node_in}
-use Rattle.vt_spec.specs.OneTree.Inodes as Trees
+use Rattle.vt_spec.specs.Inodes.{node_in}
+use Rattle.vt_spec.specs.Inodes as Trees
 use Rattle.vt_count_laws.specs.Using.{AreThere, places_of}
 use Rattle.vt_fs.specs.FilesystemsValue.{FilesystemEntry, filesystem_seen, inodes_seen}
 use Rattle.vt_letting_go.specs.Counts.{times}

@@ -6,7 +6,7 @@ use Rattle.vt_location.specs.declared.locations.Location.{Location}
 use Rattle.vt_location.specs.declared.mounts.Mount.{Mount}
 use Rattle.vt_location.specs.Numbers.{counted}
 use Rattle.vt_mount.specs.MountsValue.{MountEntry, without}
-use Rattle.vt_spec.specs.OneTree.Inodes.{uses_in}
+use Rattle.vt_spec.specs.Inodes.{uses_in}
 use Rattle.vt_detach.specs.Uses.{inode_of, mounts_shown}
 
 -- the most that is counted

@@ -4,10 +4,10 @@ ghost use Rattle.vt_calls.specs.Kinds.{is_on_file};
 ghost use Rattle.vt_calls.specs.Permitted.{EndsGiven, IsGiven};
 
 use crate::answers::done;
+use vt_ns::World;
 use vt_permits::Permit;
 use vt_request::{Answer, TaskName};
 use vt_spec::errors::Deny;
-use vt_ns::World;
 
 // Changes a file as a permit allows. S5 (ENOMEM): an allocation failed; nothing has changed.
 pub(crate) fn change_file(
@@ -20,7 +20,10 @@ pub(crate) fn change_file(
     ensures { EndsGiven world.old name.now permit result world.new }
 {
     match permit {
-        Permit::ToWrite { file, bytes } => done(world.write(name, file, bytes)),
+        Permit::ToWrite { file, bytes } => {
+            world.write(name, file, bytes);
+            Ok(Answer::Done)
+        }
         Permit::ToSetAttr { object, attr } => {
             world.set_attr(name, object, attr);
             Ok(Answer::Done)

@@ -4,10 +4,10 @@ ghost use Rattle.vt_calls.specs.Kinds.{is_to_remove};
 ghost use Rattle.vt_calls.specs.Permitted.{EndsGiven, IsGiven};
 
 use crate::answers::done;
+use vt_ns::World;
 use vt_permits::Permit;
 use vt_request::{Answer, TaskName};
 use vt_spec::errors::Deny;
-use vt_ns::World;
 
 // Takes a name away as a permit allows. S5 (ENOMEM): an allocation failed, or a count of uses is full; nothing has changed.
 pub(crate) fn remove(world: &mut World, name: &TaskName, permit: Permit) -> Result<Answer, Deny>
@@ -20,7 +20,10 @@ pub(crate) fn remove(world: &mut World, name: &TaskName, permit: Permit) -> Resu
             directory,
             name: entry,
             object,
-        } => done(world.unlink(name, directory, &entry, object)),
+        } => {
+            world.unlink(name, directory, &entry, object);
+            Ok(Answer::Done)
+        }
         Permit::ToRemoveDirectory {
             parent,
             name: entry,

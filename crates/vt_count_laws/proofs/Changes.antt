@@ -1,21 +1,20 @@
 -- Each change that fits, with the sweep after it.
-use Rattle.std.proofs.Common.{◌≡◌, ◌≢◌, refl, sym, ap, subst, ◌∙◌, ⊎_elim, ℕ, nat_eq, true, false, cond, not, List, [], ◌∷◌, map, Option, Some, None, is_some, arith}
+use Rattle.std.proofs.Common.{◌≡◌, ◌≢◌, refl, sym, ap, subst, ◌∙◌, ⊎_elim, ℕ, nat_eq, true, false, cond, List, [], map, Option, Some, None, is_some, arith}
 use Rattle.std.proofs.lemmas.Bool.Decides.{eqb_tells}
 use Rattle.std.specs.List.{list_all}
 use Rattle.vt_spec.specs.FileTree.{FileTree}
 use Rattle.vt_spec.specs.Language.Changes as Changes
 use Rattle.vt_spec.specs.Language.Changes.{Change, content_with_mark, node_with_attr, node_with_mark, node_with_parent}
 use Rattle.vt_spec.specs.Language.Changes.Change.{AddName, CopyUp, Make, Move, Remove, SetAttr, SetBytes, SetMark}
-use Rattle.vt_spec.specs.Lists.{Fresh, is_among, is_empty_list}
+use Rattle.vt_spec.specs.Lists.{Fresh, is_among}
 use Rattle.vt_spec.specs.Machine.Filesystems.{filesystem_changed, with_change, with_files}
 use Rattle.vt_spec.specs.Machine.Mounts.{Location}
 use Rattle.vt_spec.specs.Machine.Settled.{settled}
 use Rattle.vt_spec.specs.Machine.World.{Filesystem, Overlay, World, filesystem_at, filesystem_numbered, is_overlay}
 use Rattle.vt_spec.specs.Machine.Invariants.{IsWorld}
-use Rattle.vt_spec.specs.OneTree.Fits.{Fits, MayReplace}
-use Rattle.vt_spec.specs.OneTree.Inodes.{Inodes, changed, node_in, tree_of, with_changed, without_replaced}
-use Rattle.vt_spec.specs.OneTree.Rules.{is_filled}
-use Rattle.vt_spec.specs.Tree.{Entries, Node, entries_in, entry_named, is_directory_node, node_with_bytes, node_with_entry}
+use Rattle.vt_spec.specs.Fits.{Fits, MayReplace}
+use Rattle.vt_spec.specs.Inodes.{Inodes, changed, node_in, tree_of, with_changed, without_replaced}
+use Rattle.vt_spec.specs.Tree.{Node, entries_in, entry_named, is_directory_node, node_with_bytes, node_with_entry}
 use Rattle.vt_letting_go.proofs.NamesKept.{same_entries_attr, same_entries_bytes, same_entries_mark}
 use Rattle.vt_letting_go.specs.InUse.{AllInUse, IsListedTree, is_inode_used}
 use Rattle.vt_letting_go.specs.OneByOne as LettingGo
@@ -32,10 +31,6 @@ use Rattle.vt_count_laws.proofs.NameCounts as Names
 use Rattle.vt_count_laws.proofs.Swept as Swept
 use Rattle.vt_count_laws.proofs.Swept.{base_of, counted_start, found_is, plain_of, there_if_counted}
 use Rattle.vt_count_laws.proofs.TreeCounts.{IsStart, IsTallied, linked, rewritten}
-
-no_entries : (entries : Entries ℕ) → not (is_empty_list entries) ≡ false → entries ≡ []
-no_entries [] e = refl
-no_entries (entry ∷ rest) e = cc
 
 -- The tree and the counted inodes after a change, before the sweep
 module _ (base : ℕ → ℕ) (files : FileTree ℕ) (inodes : Inodes ℕ) (root : inodes.root ≡ files.tree.root)
@@ -54,12 +49,12 @@ module _ (base : ℕ → ℕ) (files : FileTree ℕ) (inodes : Inodes ℕ) (root
       → entry_named name (entries_in (node d)) ≡ o
   leads_to d name o is = ap (λ x. entry_named name (entries_in x)) (sym (start.same d)) ∙ is
 
-  is_bare : (n : ℕ) → is_filled (tree_of inodes) n ≡ false → entries_in (node n) ≡ []
-  is_bare n e = ap entries_in (sym (start.same n)) ∙ no_entries (entries_in (node_in (inodes.inode n))) e
+  is_bare : (n : ℕ) → entries_in (node_in (inodes.inode n)) ≡ [] → entries_in (node n) ≡ []
+  is_bare n e = ap entries_in (sym (start.same n)) ∙ e
 
   moves : (from : ℕ) (old : List ℕ) (to : ℕ) (new : List ℕ) (object : ℕ) → entry_named old (entries_in (node from)) ≡ Some object
       → is_directory_node (node to) ≡ true
-      → (o : Option ℕ) → entry_named new (entries_in (node to)) ≡ o → MayReplace inodes object o
+      → (o : Option ℕ) → entry_named new (entries_in (node to)) ≡ o → MayReplace (tree_of inodes) object o
       → Tallied (Changes.changed_node nat_eq (Changes.with_name nat_eq
       (Changes.without_name nat_eq (Changes.without_parent nat_eq files o) from old) to new object) object (node_with_parent to))
       (without_replaced nat_eq
@@ -93,7 +88,7 @@ module _ (base : ℕ → ℕ) (files : FileTree ℕ) (inodes : Inodes ℕ) (root
       (sym same)
       (moves from old to new object (leads_to from old (Some object) fits.0) (is_there to fits.1)
       (entry_named new (entries_in (node to))) refl
-      (subst (MayReplace inodes object) same fits.2))
+      (subst (MayReplace (tree_of inodes) object) same fits.2))
     where
       same : entry_named new (entries_in (node_in (inodes.inode to))) ≡ entry_named new (entries_in (node to))
       same = ap (λ x. entry_named new (entries_in x)) (start.same to)

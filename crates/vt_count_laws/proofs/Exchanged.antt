@@ -7,8 +7,8 @@ use Rattle.vt_spec.specs.FileTree.{targets_in}
 use Rattle.vt_spec.specs.Lists.{folded, is_among}
 use Rattle.vt_spec.specs.Machine.Settled.{named_in, used_in}
 use Rattle.vt_spec.specs.Machine.World.{Filesystem, World, filesystem_numbered, is_overlay, no_filesystem}
-use Rattle.vt_spec.specs.OneTree.Inodes.{Inodes, node_in, uses_in}
-use Rattle.vt_spec.specs.OneTree.Inodes as Trees
+use Rattle.vt_spec.specs.Inodes.{Inodes, node_in, uses_in}
+use Rattle.vt_spec.specs.Inodes as Trees
 use Rattle.vt_spec.specs.Tree.{Node}
 use Rattle.vt_letting_go.specs.Counts.{inode_uses, times}
 use Rattle.vt_letting_go.specs.InUse.{HasTrees, InodesInUse, IsListedTree, is_inode_used}

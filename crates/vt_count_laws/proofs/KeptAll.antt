@@ -7,8 +7,8 @@ use Rattle.vt_spec.specs.Language.Changes as Changes
 use Rattle.vt_spec.specs.Language.Changes.{Change, node_with_attr, node_with_mark}
 use Rattle.vt_spec.specs.Language.Changes.Change.{AddName, CopyUp, Make, Move, Remove, SetAttr, SetBytes, SetMark}
 use Rattle.vt_spec.specs.Lists.{is_among}
-use Rattle.vt_spec.specs.OneTree.Fits.{Fits}
-use Rattle.vt_spec.specs.OneTree.Inodes.{Inode, Inodes, changed, node_in, pinned, used_once_more, with_changed}
+use Rattle.vt_spec.specs.Fits.{Fits}
+use Rattle.vt_spec.specs.Inodes.{Inode, Inodes, changed, node_in, pinned, used_once_more, with_changed}
 use Rattle.vt_spec.specs.Tree.{Node, node_with_bytes, node_with_entry}
 use Rattle.vt_letting_go.specs.TreeChanges.{with_tree}
 use Rattle.vt_letting_go.proofs.Lists.{all_pass, is_among_numbers}

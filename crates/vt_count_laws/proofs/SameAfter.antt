@@ -5,7 +5,7 @@ use Rattle.vt_spec.specs.FileTree.{FileTree}
 use Rattle.vt_spec.specs.Machine.Filesystems.{with_files}
 use Rattle.vt_spec.specs.Machine.SameWorlds.{SameFilesystem, SameFilesystems, SameWorlds}
 use Rattle.vt_spec.specs.Machine.World.{Filesystem, filesystem_numbered, replaced_if_numbered}
-use Rattle.vt_spec.specs.OneTree.Inodes.{changed, node_in}
+use Rattle.vt_spec.specs.Inodes.{changed, node_in}
 use Rattle.vt_letting_go.specs.TreeChanges.{with_tree}
 use Rattle.vt_count_laws.specs.Changing.{CountedChangesAreSwept, filesystem_of}
 use Rattle.vt_count_laws.proofs.Changes as Changes
@@ -60,6 +60,6 @@ counted_changes_are_swept fresh world location inodes change is files tree once 
         ∙ sym (among_by_times n left.numbers (is_some ((changed nat_eq inodes change).inode n))
         (Changes.left_times fresh world location inodes change is n)))
       where
-        there : (o : Rattle.std.specs.Prelude.Option (Rattle.vt_spec.specs.OneTree.Inodes.Inode ℕ)) → is_some (node_in o) ≡ is_some o
+        there : (o : Rattle.std.specs.Prelude.Option (Rattle.vt_spec.specs.Inodes.Inode ℕ)) → is_some (node_in o) ≡ is_some o
         there Rattle.std.specs.Prelude.None = refl
         there (Rattle.std.specs.Prelude.Some inode) = refl

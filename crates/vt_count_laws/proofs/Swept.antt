@@ -7,7 +7,7 @@ use Rattle.vt_spec.specs.Lists.{is_among}
 use Rattle.vt_spec.specs.Machine.Filesystems.{with_files}
 use Rattle.vt_spec.specs.Machine.Settled.{filesystem_lives, is_mounted, layers_in, located_in, named_in, objects_of_overlay, only_among, only_used, only_used_by, real_among, settled, used_in, without_dead_filesystems, without_dead_groups, without_dead_in, without_dead_inodes, without_dead_mounts}
 use Rattle.vt_spec.specs.Machine.World.{Filesystem, Overlay, World, filesystem_numbered, is_overlay, no_filesystem, replaced_if_numbered}
-use Rattle.vt_spec.specs.OneTree.Inodes.{Inode, Inodes, node_in, uses_in}
+use Rattle.vt_spec.specs.Inodes.{Inode, Inodes, node_in, uses_in}
 use Rattle.vt_spec.specs.Tree.{Node}
 use Rattle.vt_letting_go.specs.Counts.{inode_uses, times}
 use Rattle.vt_letting_go.specs.InUse.{AllInUse, FilesystemsInUse, IsListedTree, is_inode_used}

@@ -3,7 +3,7 @@
 use Rattle.std.specs.Prelude.{All, false, length, nat_eq, ℕ, ◌≡◌}
 use Rattle.vt_spec.specs.Lists.{any_pair}
 use Rattle.vt_spec.specs.Machine.World.{Filesystem, World, is_overlay}
-use Rattle.vt_spec.specs.OneTree.Inodes.{Inodes, node_in, uses_in}
+use Rattle.vt_spec.specs.Inodes.{Inodes, node_in, uses_in}
 use Rattle.vt_letting_go.specs.Counts.{inode_uses}
 
 -- no filesystem is an overlay

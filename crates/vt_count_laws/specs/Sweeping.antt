@@ -3,7 +3,7 @@ use Rattle.std.specs.Prelude.{List, nat_eq, ℕ}
 use Rattle.vt_spec.specs.Machine.SameWorlds.{SameWorlds}
 use Rattle.vt_spec.specs.Machine.Settled.{settled, without_dead_filesystems, without_dead_mounts}
 use Rattle.vt_spec.specs.Machine.World.{World, filesystem_numbered}
-use Rattle.vt_spec.specs.OneTree.Inodes.{Inodes}
+use Rattle.vt_spec.specs.Inodes.{Inodes}
 use Rattle.vt_letting_go.specs.InUse.{HasTrees, InodesInUse}
 use Rattle.vt_letting_go.specs.OneByOne.{Inode}
 use Rattle.vt_count_laws.specs.Counted.{IsCounted, IsPlain}

@@ -5,8 +5,8 @@ use Rattle.vt_spec.specs.Lists.{Fresh, any_pair, folded, is_among}
 use Rattle.vt_spec.specs.Machine.Mounts.{Location, Mount, root_of}
 use Rattle.vt_spec.specs.Machine.World.{World, all_locations, filesystem_numbered, mount_at, new_plain, opening, root_attr}
 use Rattle.vt_spec.specs.Machine.Invariants.{IsWorld}
-use Rattle.vt_spec.specs.OneTree.Inodes as Trees
-use Rattle.vt_spec.specs.OneTree.Inodes.{Inodes, one_directory, pinned, unpinned}
+use Rattle.vt_spec.specs.Inodes as Trees
+use Rattle.vt_spec.specs.Inodes.{Inodes, one_directory, pinned, unpinned}
 use Rattle.vt_spec.specs.Tree.{new_directory}
 use Rattle.vt_letting_go.specs.Counts.{inode_uses, mounts_showing, times}
 use Rattle.vt_letting_go.specs.InUse.{HasTrees, InodesInUse}

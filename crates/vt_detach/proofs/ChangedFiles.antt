@@ -14,8 +14,8 @@ use Rattle.vt_spec.specs.Machine.SameWorlds.{SameFiles, SameFilesystem, SameFile
 use Rattle.vt_spec.specs.Machine.Settled.{settled}
 use Rattle.vt_spec.specs.Machine.World.{Filesystem, Task, World, filesystem_at, filesystem_numbered, replaced_if_numbered, with_filesystem}
 use Rattle.vt_spec.specs.Machine.Invariants.{IsWorld}
-use Rattle.vt_spec.specs.OneTree.Fits.{Fits}
-use Rattle.vt_spec.specs.OneTree.Inodes.{Inodes, changed, node_in, tree_of}
+use Rattle.vt_spec.specs.Fits.{Fits}
+use Rattle.vt_spec.specs.Inodes.{Inodes, changed, node_in, tree_of}
 use Rattle.vt_count_laws.specs.Changing.{IsChange, LinksWhatIsThere, after_change, filesystem_of}
 use Rattle.vt_count_laws.specs.Counted.{IsCounted, IsPlain}
 use Rattle.vt_count_laws.proofs.Alike.{same_worlds_count_alike}

@@ -3,7 +3,7 @@ use Rattle.std.proofs.Common.{◌≡◌, refl, sym, ap, ◌∙◌, ℕ, nat_eq, 
 use Rattle.std.specs.Prelude.{⊤}
 use Rattle.vt_spec.specs.Language.Changes.{Change, node_with_attr, node_with_mark, node_with_parent, node_without_entry}
 use Rattle.vt_spec.specs.Language.Changes.Change.{AddName, CopyUp, Make, Move, Remove, SetAttr, SetBytes, SetMark}
-use Rattle.vt_spec.specs.OneTree.Inodes.{Inode, Inodes, changed, inode_with_node, node_in, pinned, unpinned, used_once_less, used_once_more, with_changed, with_inode, without_replaced}
+use Rattle.vt_spec.specs.Inodes.{Inode, Inodes, changed, inode_with_node, node_in, pinned, unpinned, used_once_less, used_once_more, with_changed, with_inode, without_replaced}
 use Rattle.vt_spec.specs.Tree.{Node, entries_in, entry_named, node_with_bytes, node_with_entry}
 
 module _ (number : ℕ) where

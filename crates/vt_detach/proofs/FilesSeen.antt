@@ -9,7 +9,7 @@ use Rattle.vt_spec.specs.Machine.Mounts.{Mount, source_of}
 use Rattle.vt_spec.specs.Machine.Run.{used_by_filesystem, used_by_mount}
 use Rattle.vt_spec.specs.Machine.World.{Filesystem, Namespace, filesystem_at, filesystem_numbered, is_overlay, mount_at, no_filesystem, node_at}
 use Rattle.vt_spec.specs.Machine.Invariants.{is_located_well}
-use Rattle.vt_spec.specs.OneTree.Inodes.{node_in}
+use Rattle.vt_spec.specs.Inodes.{node_in}
 use Rattle.vt_spec.specs.TreeLaws.{IsTree}
 use Rattle.vt_fs.specs.FilesystemsValue.{FilesystemEntry, Filesystems, entry_of, files_at, filesystem_seen, filesystems_seen, inodes_at, inodes_seen, no_entry}
 use Rattle.vt_laws.specs.Numbers.{LeavesOutTwo, location_named}

@@ -3,7 +3,7 @@ use Rattle.std.proofs.Common.{◌≡◌, refl, sym, ap, ◌∙◌, true≢false,
 use Rattle.std.specs.Prelude.{All, find}
 use Rattle.std.proofs.lemmas.List.Elements.{All-head, All-tail}
 use Rattle.vt_spec.specs.Machine.World.{Filesystem, no_filesystem}
-use Rattle.vt_spec.specs.OneTree.Inodes.{node_in}
+use Rattle.vt_spec.specs.Inodes.{node_in}
 use Rattle.vt_spec.specs.Tree.{Node}
 use Rattle.vt_location.specs.Numbers.{counted, inode_number, is_inode_of}
 use Rattle.vt_location.proofs.NumberLemmas.{counted_inode, inode_same, slot_of}

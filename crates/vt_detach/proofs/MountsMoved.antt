@@ -12,8 +12,8 @@ use Rattle.vt_spec.specs.Machine.Mounts.Propagation.{Private, Shared, Slave, Unb
 use Rattle.vt_spec.specs.Machine.Permits.Permit.{ToMove}
 use Rattle.vt_spec.specs.Machine.World.{Filesystem, World, filesystem_numbered, is_directory_at, mount_at, mount_numbered, node_at}
 use Rattle.vt_spec.specs.Machine.Invariants.{has_its_root, is_located_well}
-use Rattle.vt_spec.specs.OneTree.Inodes as Trees
-use Rattle.vt_spec.specs.OneTree.Inodes.{node_in}
+use Rattle.vt_spec.specs.Inodes as Trees
+use Rattle.vt_spec.specs.Inodes.{node_in}
 use Rattle.vt_spec.specs.Tree.{is_directory_node}
 use Rattle.vt_spec.proofs.Lists as spec
 use Rattle.vt_count_laws.specs.Using.{AreThere, Exchanges}

@@ -6,8 +6,8 @@ use Rattle.vt_spec.specs.Lists.{folded}
 use Rattle.vt_spec.specs.Machine.Mounts.{Location, Mount, same_location}
 use Rattle.vt_spec.specs.Machine.World.{Filesystem, World, all_locations, filesystem_numbered, mount_at}
 use Rattle.vt_spec.specs.Machine.Invariants.{is_located_well, is_there}
-use Rattle.vt_spec.specs.OneTree.Inodes.{Inodes, node_in}
-use Rattle.vt_spec.specs.OneTree.Inodes as Trees
+use Rattle.vt_spec.specs.Inodes.{Inodes, node_in}
+use Rattle.vt_spec.specs.Inodes as Trees
 use Rattle.vt_count_laws.specs.Using.{AreThere, Exchanges, exchanged, pinned_if, unpinned_if}
 use Rattle.vt_count_laws.proofs.Places.{locations_are_uses, locations_use_mounts}
 use Rattle.vt_fs.specs.FilesystemsValue.{FilesystemEntry, Shown, filesystem_seen, inodes_seen}

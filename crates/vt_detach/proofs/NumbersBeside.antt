@@ -3,8 +3,7 @@ use Rattle.std.proofs.Common.{◌≡◌, refl, sym, ap, ◌∙◌, true≢false,
 use Rattle.std.specs.Prelude.{find}
 use Rattle.vt_spec.specs.Lists.{any_pair, is_among}
 use Rattle.vt_spec.specs.Machine.World.{Filesystem, no_filesystem}
-use Rattle.vt_spec.specs.OneTree.Inodes.{Inode, node_in}
-use Rattle.vt_one_text.specs.OneTreeNumbers.{renamed_inode}
+use Rattle.vt_spec.specs.Inodes.{Inode, node_in, renamed_inode}
 use Rattle.vt_location.specs.Numbers.{counted, exchanged}
 use Rattle.vt_fs.specs.FilesystemsValue.{Filesystems, entry_of, filesystem_seen, filesystems_seen, filled_from, no_entry}
 use Rattle.vt_fs.specs.Laws.{FilesystemsAreFound, NumbersAreApart, NumbersAreListed}

@@ -4,7 +4,7 @@ use Rattle.std.specs.Prelude.{All, if◌then◌else◌, ⊤}
 use Rattle.std.proofs.lemmas.List.Elements.{All-cons, All-head, All-nil, All-tail}
 use Rattle.vt_spec.specs.Language.Changes.{Change, node_with_attr, node_with_mark, node_with_parent, node_without_entry}
 use Rattle.vt_spec.specs.Language.Changes.Change.{AddName, CopyUp, Make, Move, Remove, SetAttr, SetBytes, SetMark}
-use Rattle.vt_spec.specs.OneTree.Inodes.{Inode, Inodes, changed, inode_with_node, node_in, pinned, unpinned, used_once_less, used_once_more, with_changed as with_node_changed, with_inode, without_replaced}
+use Rattle.vt_spec.specs.Inodes.{Inode, Inodes, changed, inode_with_node, node_in, pinned, unpinned, used_once_less, used_once_more, with_changed as with_node_changed, with_inode, without_replaced}
 use Rattle.vt_spec.specs.Tree.{Node, entries_in, entry_named, node_with_bytes, node_with_entry}
 use Rattle.vt_location.specs.Numbers.{is_inode_of}
 use Rattle.vt_fs.specs.FilesystemsValue.{ChangesInodes, FilesystemEntry, Filesystems, Shown, shown, shown_entry, shown_with, with_changed, without}

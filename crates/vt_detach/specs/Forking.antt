@@ -5,7 +5,7 @@ use Rattle.vt_location.specs.declared.locations.Location.{Location}
 use Rattle.vt_location.specs.Locations.{number_of}
 use Rattle.vt_location.specs.Numbers.{counted}
 use Rattle.vt_mount.specs.MountsValue.{MountEntry, uses_of, writers_of}
-use Rattle.vt_spec.specs.OneTree.Inodes.{uses_in}
+use Rattle.vt_spec.specs.Inodes.{uses_in}
 use Rattle.vt_detach.specs.WorldValue.{NamespaceEntry}
 
 -- the mount and the inode of a location may get so many uses more, none of them open for writing

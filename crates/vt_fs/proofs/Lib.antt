@@ -3,6 +3,5 @@ pub mod Entries
 pub mod Standing
 pub mod Parents
 pub mod Numbers
-pub mod Fitting
 pub mod NewFilesystem
 pub mod PathsFound

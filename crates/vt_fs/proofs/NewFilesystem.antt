@@ -3,7 +3,7 @@ use Rattle.std.proofs.Common.{◌≡◌, refl, sym, ap, ◌∙◌, true≢false,
 use Rattle.std.specs.Prelude.{if◌then◌else◌}
 use Rattle.vt_spec.specs.declared.attributes.Attr.{Attr}
 use Rattle.vt_spec.specs.Lists.{is_among}
-use Rattle.vt_spec.specs.OneTree.Inodes.{Inodes, node_in, one_directory, tree_of}
+use Rattle.vt_spec.specs.Inodes.{Inodes, node_in, one_directory, tree_of}
 use Rattle.vt_spec.specs.Tree.{new_directory, tree_of_root}
 use Rattle.vt_location.specs.Numbers.{counted, inode_number}
 use Rattle.vt_fs.specs.FilesystemsValue.{FilesystemEntry, filesystem_seen, inodes_seen, new_filesystem, numbers_seen}

@@ -9,7 +9,7 @@ use Rattle.std.specs.FinMap.Entries.{below_all, is_sorted}
 use Rattle.std.specs.Ordering.{eq_by_cmp, is_eq, is_lt}
 use Rattle.vt_spec.specs.FileTree.{has_entry_to, is_directory_under, is_removed, named_parent, targets_in}
 use Rattle.vt_spec.specs.Lists.{chain, is_among, when}
-use Rattle.vt_spec.specs.OneTree.Inodes.{Inodes, is_directory_under as is_under_in, parent_above, tree_of}
+use Rattle.vt_spec.specs.Inodes.{Inodes, is_directory_under as is_under_in, parent_above, tree_of}
 use Rattle.vt_spec.specs.Tree.{Content, Entries, Node, Tree, entries_in, entry_named, is_directory_node, name_cmp, parent_in}
 use Rattle.vt_spec.specs.Tree.Content.{Directory, Regular, Symlink, Whiteout}
 use Rattle.vt_spec.specs.TreeLaws.{HasOwnParents, IsDirectory, IsTree, entry_at, led}

@@ -1,10 +1,10 @@
 -- Paths from one directory of a filesystem down to another.
-use Rattle.std.proofs.Common.{◌≡◌, refl, sym, ap, subst, ◌∙◌, true≢false, ℕ, nat_eq, eq-eqb, eqb-true, ne_eqb, Bool, true, false, cond, ◌||◌, not, List, [], ◌∷◌, map, length, reverse, Option, Some, None, is_some, option_map, unwrap_or, arith}
+use Rattle.std.proofs.Common.{◌≡◌, refl, sym, ap, ◌∙◌, true≢false, ℕ, nat_eq, eq-eqb, eqb-true, ne_eqb, Bool, true, false, cond, ◌||◌, not, List, [], ◌∷◌, map, reverse, Option, Some, None, is_some, option_map, unwrap_or, arith}
 use Rattle.std.proofs.lemmas.List.Sums.{take_while-cons}
 use Rattle.std.proofs.lemmas.Option.{same_Some}
 use Rattle.vt_spec.specs.FileTree.{named_parent, own_name, path_down}
 use Rattle.vt_spec.specs.Lists.{before_first, chain, is_among, when}
-use Rattle.vt_spec.specs.OneTree.Inodes.{Inodes, tree_of as tree_of_inodes}
+use Rattle.vt_spec.specs.Inodes.{tree_of as tree_of_inodes}
 use Rattle.vt_spec.specs.Tree.{is_directory_node}
 use Rattle.vt_tree.specs.Paths.{NamesDirectoriesOnce, files_of, path_in}
 use Rattle.vt_tree.specs.TreeValue.{TreeValue, inodes_of, tree_of}

@@ -1,23 +1,15 @@
 -- A tree by the numbers of its inodes: whatever is made of it is what is made of it by slots, renamed.
-use Rattle.std.proofs.Common.{◌≡◌, refl, ℕ, nat_eq, Bool, List, Option, Some, None, option_map, is_some, ◌∷◌, ◌++◌, [], not, ◌&&◌, nat_lt}
+use Rattle.std.proofs.Common.{◌≡◌, refl, ℕ, nat_eq, Bool, List, Option, Some, None, option_map}
 use Rattle.vt_spec.specs.declared.attributes.Attr.{Attr}
-use Rattle.vt_spec.specs.declared.errors.Rule.TheVariants.{E1, E2, E3, E4, E5, E6, E7, W6}
-use Rattle.vt_spec.specs.Errors.{Rules}
 use Rattle.vt_spec.specs.Language.Changes.{Change}
 use Rattle.vt_spec.specs.Language.Changes.Change.{AddName, CopyUp, Make, Move, Remove, SetAttr, SetBytes, SetMark}
-use Rattle.vt_spec.specs.Language.Limits.{largest_file}
-use Rattle.vt_spec.specs.Lists.{holds_of}
 use Rattle.vt_spec.specs.Machine.Renaming.{renamed_node}
-use Rattle.vt_spec.specs.OneTree.Inodes.{Inode, Inodes, changed, is_directory_under, one_directory, pinned, tree_of, unpinned, uses_in}
-use Rattle.vt_spec.specs.OneTree.Rules.{is_filled}
-use Rattle.vt_spec.specs.OneTree.Walk.{is_directory_at}
-use Rattle.vt_spec.specs.Tree.{Node, Tree, parent_in}
+use Rattle.vt_spec.specs.Inodes.{Inode, Inodes, changed, is_directory_under, one_directory, pinned, renamed_inode, renamed_inodes, tree_of, unpinned, uses_in}
+use Rattle.vt_spec.specs.Tree.{Node, parent_in}
 use Rattle.vt_spec.specs.TreeLaws.{entry_at}
-use Rattle.vt_one_text.specs.OneTreeNumbers.{renamed_inode, renamed_inodes}
 use Rattle.vt_laws.specs.Renaming.{Renaming}
 use Rattle.vt_laws.proofs.Commuting.{Named, commutes_nat, node_itself, option_itself}
 use Rattle.vt_tree.specs.Paths.{path_in}
-use Rattle.vt_tree.specs.TreeRules.{hard_link_rules, make_rules, rename_rules, unlink_rules, write_rules}
 use Rattle.vt_location.specs.Numbers.{exchanged}
 use Rattle.vt_location.proofs.NumberLemmas.{exchanged_back}
 
@@ -69,9 +61,6 @@ WithOne A = Inodes A × A
 abbrev WithTwo : Type 0 → Type 0
 WithTwo A = Inodes A × A × A
 
-abbrev WithThree : Type 0 → Type 0
-WithThree A = Inodes A × A × A × A
-
 abbrev named_change : Named WithChange
 named_change = record {
   rename = λ A B there back s. (renamed_inodes there back s.0, renamed_change there back s.1);
@@ -88,12 +77,6 @@ abbrev named_two : Named WithTwo
 named_two = record {
   rename = λ A B there back s. (renamed_inodes there back s.0, there s.1, there s.2);
   itself = λ A s i. (inodes_itself s.0 i, s.1, s.2);
-}
-
-abbrev named_three : Named WithThree
-named_three = record {
-  rename = λ A B there back s. (renamed_inodes there back s.0, there s.1, there s.2, there s.3);
-  itself = λ A s i. (inodes_itself s.0 i, s.1, s.2, s.3);
 }
 
 -- What is made of it: a tree, a number, a node, or what has no numbers in it
@@ -157,58 +140,6 @@ module _ (f : ℕ) (inodes : Inodes ℕ) where
   path_by_numbers top directory =
       commutes_nat WithTwo (λ (A : Type 0). Option (List (List ℕ))) named_two (named_nothing (Option (List (List ℕ))))
       (λ A eq s. path_in eq s.0 s.1 s.2) (exchange f) (inodes, top, directory)
-
--- The rules of a tree's calls, for numbers of any type
-module _ {N : Type 0} (eq : N → N → Bool) where
-  abbrev make_rules_of : Inodes N → N → List ℕ → Rules
-  make_rules_of inodes directory name =
-      (not (is_directory_at (tree_of inodes) directory), E3) ∷ (is_some (entry_at (tree_of inodes) directory name), E1) ∷ []
-
-  abbrev leads_to_of : Tree N → N → List ℕ → N → Bool
-  leads_to_of tree directory name object = holds_of (eq object) (entry_at tree directory name)
-
-  abbrev replace_rules_of : Tree N → N → Option N → Rules
-  replace_rules_of tree object replaced =
-      (holds_of (is_directory_at tree) replaced && not (is_directory_at tree object), E2)
-      ∷ (holds_of (λ other. not (is_directory_at tree other)) replaced && is_directory_at tree object, E3)
-      ∷ (holds_of (is_filled tree) replaced && is_directory_at tree object, E4)
-      ∷ []
-
-  abbrev rename_rules_of : Inodes N → N → List ℕ → N → List ℕ → N → Rules
-  rename_rules_of inodes from old to new object =
-      (not (leads_to_of (tree_of inodes) from old object), W6)
-      ∷ (not (is_directory_at (tree_of inodes) to), E3)
-      ∷ replace_rules_of (tree_of inodes) object (entry_at (tree_of inodes) to new)
-      ++ (is_directory_at (tree_of inodes) object && is_directory_under eq inodes object to, E5)
-      ∷ []
-
-module _ (f : ℕ) (inodes : Inodes ℕ) where
-  pub make_rules_by_numbers : (directory : ℕ) (name : List ℕ) → make_rules (by_numbers f inodes) (exchanged f directory) name ≡ make_rules inodes directory name
-  make_rules_by_numbers directory name =
-      commutes_nat WithOne (λ (A : Type 0). Rules) named_one (named_nothing Rules) (λ A eq s. make_rules_of eq s.0 s.1 name) (exchange f) (inodes, directory)
-
-  pub hard_link_rules_by_numbers : (directory : ℕ) (name : List ℕ) (object : ℕ)
-      → hard_link_rules (by_numbers f inodes) (exchanged f directory) name (exchanged f object) ≡ hard_link_rules inodes directory name object
-  hard_link_rules_by_numbers directory name object =
-      commutes_nat WithTwo (λ (A : Type 0). Rules) named_two (named_nothing Rules)
-      (λ A eq s. make_rules_of eq s.0 s.1 name ++ (is_directory_at (tree_of s.0) s.2, E7) ∷ []) (exchange f) (inodes, directory, object)
-
-  pub unlink_rules_by_numbers : (directory : ℕ) (name : List ℕ) (object : ℕ)
-      → unlink_rules (by_numbers f inodes) (exchanged f directory) name (exchanged f object) ≡ unlink_rules inodes directory name object
-  unlink_rules_by_numbers directory name object =
-      commutes_nat WithTwo (λ (A : Type 0). Rules) named_two (named_nothing Rules)
-      (λ A eq s. (not (leads_to_of eq (tree_of s.0) s.1 name s.2), W6) ∷ (is_filled (tree_of s.0) s.2, E4) ∷ []) (exchange f) (inodes, directory, object)
-
-  pub rename_rules_by_numbers : (from : ℕ) (old : List ℕ) (to : ℕ) (new : List ℕ) (object : ℕ)
-      → rename_rules (by_numbers f inodes) (exchanged f from) old (exchanged f to) new (exchanged f object) ≡ rename_rules inodes from old to new object
-  rename_rules_by_numbers from old to new object =
-      commutes_nat WithThree (λ (A : Type 0). Rules) named_three (named_nothing Rules)
-      (λ A eq s. rename_rules_of eq s.0 s.1 old s.2 new s.3) (exchange f) (inodes, from, to, object)
-
-  pub write_rules_by_numbers : (file end : ℕ) → write_rules (by_numbers f inodes) (exchanged f file) end ≡ write_rules inodes file end
-  write_rules_by_numbers file end =
-      commutes_nat WithOne (λ (A : Type 0). Rules) named_one (named_nothing Rules)
-      (λ A eq s. (is_directory_at (tree_of s.0) s.1, E2) ∷ (nat_lt largest_file end, E6) ∷ []) (exchange f) (inodes, file)
 
 -- one directory, whose number is renamed
 abbrev Number : Type 0 → Type 0

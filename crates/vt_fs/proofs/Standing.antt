@@ -1,23 +1,22 @@
 -- A filesystem that is there, with this tree; and what a change of that tree changes.
-use Rattle.std.proofs.Common.{◌≡◌, refl, sym, ap, ◌∙◌, true≢false, ℕ, Bool, true, false, cond, nat_eq, List, [], ◌∷◌, not, Option, Some, None, option_map, unwrap_or, MutBor}
-use Rattle.std.specs.Prelude.{if◌then◌else◌}
+use Rattle.std.proofs.Common.{◌≡◌, refl, sym, ap, subst, ◌∙◌, true≢false, ℕ, Bool, true, false, cond, nat_eq, List, [], ◌∷◌, not, Option, Some, None, option_map, unwrap_or, is_some, MutBor}
+use Rattle.std.specs.Prelude.{IsSome, if◌then◌else◌}
 use Rattle.std.specs.List.{list_any}
 use Rattle.std.specs.Option.{option_copied_mut}
 use Rattle.std.proofs.lemmas.Bool.{eqb-true}
 use Rattle.vt_spec.specs.Language.Changes.{Change}
 use Rattle.vt_spec.specs.Lists.{any_pair, is_empty_list}
-use Rattle.vt_spec.specs.OneTree.Inodes.{Inode, Inodes, changed, is_directory_under, node_in, pinned, tree_of as tree_of_inodes, unpinned, uses_in}
-use Rattle.vt_spec.specs.Tree.{Entries, Node, entries_in, parent_in}
-use Rattle.vt_spec.specs.TreeLaws.{entry_at as number_at}
-use Rattle.vt_one_text.specs.OneTreeNumbers.{renamed_inode}
+use Rattle.vt_spec.specs.Inodes.{Inode, Inodes, changed, is_directory_under, node_in, pinned, renamed_inode, tree_of as tree_of_inodes, unpinned, uses_in}
+use Rattle.vt_spec.specs.Fits.{MayReplace, StaysOutside}
+use Rattle.vt_spec.specs.Tree.{Entries, Node, entries_in, is_directory_node, parent_in}
+use Rattle.vt_spec.specs.TreeLaws.{IsDirectory, entry_at as number_at}
 use Rattle.vt_location.specs.Numbers.{exchanged}
 use Rattle.vt_tree.specs.Paths.{path_in}
-use Rattle.vt_tree.specs.TreeRules.{hard_link_rules, make_rules, rename_rules, unlink_rules, write_rules}
 use Rattle.vt_tree.specs.TreeValue.{TreeValue, inodes_of, tree_of}
-use Rattle.vt_fs.specs.FilesystemsValue.{ChangesInodes, FilesystemEntry, Filesystems, entry_at, entry_of, files_at, inodes_at, inodes_seen, no_entry, node_seen, seen_in, shown, shown_entry, shown_with, with_tree, without}
+use Rattle.vt_fs.specs.FilesystemsValue.{ChangesInodes, FilesystemEntry, Filesystems, entry_at, entry_of, files_at, files_seen, inodes_at, inodes_seen, no_entry, node_seen, seen_in, shown, shown_entry, shown_with, with_tree, without}
 use Rattle.vt_location.proofs.NumberLemmas.{exchanged_back}
 use Rattle.vt_fs.proofs.Entries.{or_first, or_second}
-use Rattle.vt_fs.proofs.Renamed.{by_numbers, changed_by_numbers, entry_by_numbers, hard_link_rules_by_numbers, make_rules_by_numbers, node_by_numbers, own_by_numbers, path_by_numbers, pinned_by_numbers, plain_by_numbers, rename_rules_by_numbers, renamed_change, root_by_numbers, under_by_numbers, unlink_rules_by_numbers, unpinned_by_numbers, uses_by_numbers, write_rules_by_numbers}
+use Rattle.vt_fs.proofs.Renamed.{by_numbers, changed_by_numbers, entry_by_numbers, node_by_numbers, own_by_numbers, path_by_numbers, pinned_by_numbers, plain_by_numbers, renamed_change, root_by_numbers, under_by_numbers, unpinned_by_numbers, uses_by_numbers}
 
 -- the filesystem of this count is there, with this tree, and no two have one count
 pub record Standing (fs : Filesystems) (f : ℕ) (tree : TreeValue) : Type 0 where
@@ -70,6 +69,29 @@ nowhere fs f absent = by (entry_of fs f) absent
 
 pub entry_nowhere : (fs : Filesystems) (f : ℕ) → option_map (λ (entry : FilesystemEntry). entry.tree) (entry_of fs f) ≡ None → entry_at fs f ≡ no_entry f
 entry_nowhere fs f absent = ap (λ o. unwrap_or o (no_entry f)) (nowhere fs f absent)
+
+-- a filesystem with a directory or a name exists
+module _ (fs : Filesystems) (f : ℕ) (lent : Option (MutBor TreeValue))
+    (value : option_copied_mut lent ≡ option_map (λ (entry : FilesystemEntry). entry.tree) (entry_of fs f)) (number : ℕ) where
+  pub directory_exists : IsDirectory (files_at fs f).tree number → IsSome lent
+  directory_exists is = by lent value
+    where
+      by : (o : Option (MutBor TreeValue))
+          → option_copied_mut o ≡ option_map (λ (entry : FilesystemEntry). entry.tree) (entry_of fs f) → IsSome o
+      by None e =
+          absurd (true≢false (sym is
+          ∙ ap (λ entry. is_directory_node ((files_seen entry).tree.node number)) (entry_nowhere fs f (sym e))))
+      by (Some tree) e = refl
+
+  pub named_exists : (name : List ℕ) (object : ℕ) → number_at (files_at fs f).tree number name ≡ Some object → IsSome lent
+  named_exists name object named = by lent value
+    where
+      by : (o : Option (MutBor TreeValue))
+          → option_copied_mut o ≡ option_map (λ (entry : FilesystemEntry). entry.tree) (entry_of fs f) → IsSome o
+      by None e =
+          absurd (true≢false (ap is_some (sym named)
+          ∙ ap (λ entry. is_some (number_at (files_seen entry).tree number name)) (entry_nowhere fs f (sym e))))
+      by (Some tree) e = refl
 
 module _ (f : ℕ) (change : Inodes ℕ → Inodes ℕ) where
   -- where no filesystem has the count, none is shown changed
@@ -175,29 +197,6 @@ module _ (fs : Filesystems) (f : ℕ) (tree : TreeValue) (found : option_map (λ
       → number_at (files_at fs f).tree number name ≡ option_map (exchanged f) (number_at (tree_of tree) slot name)
   entry_there slot number name same = (λ i. number_at (tree_of_inodes (is_seen i)) (sym same i) name) ∙ entry_by_numbers f (inodes_of tree) slot name
 
-  pub make_rules_there : (slot number : ℕ) (name : List ℕ) → exchanged f slot ≡ number → make_rules (inodes_at fs f) number name ≡ make_rules (inodes_of tree) slot name
-  make_rules_there slot number name same = (λ i. make_rules (is_seen i) (sym same i) name) ∙ make_rules_by_numbers f (inodes_of tree) slot name
-
-  pub hard_link_rules_there : (slot number : ℕ) (name : List ℕ) (object_slot object : ℕ) → exchanged f slot ≡ number → exchanged f object_slot ≡ object
-      → hard_link_rules (inodes_at fs f) number name object ≡ hard_link_rules (inodes_of tree) slot name object_slot
-  hard_link_rules_there slot number name object_slot object same same_object =
-      (λ i. hard_link_rules (is_seen i) (sym same i) name (sym same_object i)) ∙ hard_link_rules_by_numbers f (inodes_of tree) slot name object_slot
-
-  pub unlink_rules_there : (slot number : ℕ) (name : List ℕ) (object_slot object : ℕ) → exchanged f slot ≡ number → exchanged f object_slot ≡ object
-      → unlink_rules (inodes_at fs f) number name object ≡ unlink_rules (inodes_of tree) slot name object_slot
-  unlink_rules_there slot number name object_slot object same same_object =
-      (λ i. unlink_rules (is_seen i) (sym same i) name (sym same_object i)) ∙ unlink_rules_by_numbers f (inodes_of tree) slot name object_slot
-
-  pub rename_rules_there : (from_slot from : ℕ) (old : List ℕ) (to_slot to : ℕ) (new : List ℕ) (object_slot object : ℕ)
-      → exchanged f from_slot ≡ from → exchanged f to_slot ≡ to → exchanged f object_slot ≡ object
-      → rename_rules (inodes_at fs f) from old to new object ≡ rename_rules (inodes_of tree) from_slot old to_slot new object_slot
-  rename_rules_there from_slot from old to_slot to new object_slot object same_from same_to same_object =
-      (λ i. rename_rules (is_seen i) (sym same_from i) old (sym same_to i) new (sym same_object i))
-      ∙ rename_rules_by_numbers f (inodes_of tree) from_slot old to_slot new object_slot
-
-  pub write_rules_there : (slot number end : ℕ) → exchanged f slot ≡ number → write_rules (inodes_at fs f) number end ≡ write_rules (inodes_of tree) slot end
-  write_rules_there slot number end same = (λ i. write_rules (is_seen i) (sym same i) end) ∙ write_rules_by_numbers f (inodes_of tree) slot end
-
   pub root_there : (slot number : ℕ) → exchanged f slot ≡ number → nat_eq number (files_at fs f).tree.root ≡ nat_eq slot (inodes_of tree).root
   root_there slot number same = (λ i. nat_eq (sym same i) (is_seen i).root) ∙ root_by_numbers f (inodes_of tree) slot
 
@@ -248,10 +247,43 @@ module _ (fs : Filesystems) (f : ℕ) (tree : TreeValue) (found : option_map (λ
           let is : exchanged f other ≡ exchanged f object_slot = cc in
           ap Some (sym (exchanged_back f other) ∙ ap (exchanged f) is ∙ exchanged_back f object_slot)
 
-  pub number_named : (slot number : ℕ) (name : List ℕ) (object_slot object : ℕ) → exchanged f slot ≡ number → exchanged f object_slot ≡ object
-      → number_at (tree_of tree) slot name ≡ Some object_slot → number_at (files_at fs f).tree number name ≡ Some object
-  number_named slot number name object_slot object same same_object named =
-      entry_there slot number name same ∙ ap (option_map (exchanged f)) named ∙ ap Some same_object
+  -- a name that is free by numbers is free by slots
+  pub free_there : (slot number : ℕ) (name : List ℕ) → exchanged f slot ≡ number
+      → number_at (files_at fs f).tree number name ≡ None → number_at (tree_of tree) slot name ≡ None
+  free_there slot number name same free =
+      by (number_at (tree_of tree) slot name) (sym (entry_there slot number name same) ∙ free)
+    where
+      by : (o : Option ℕ) → option_map (exchanged f) o ≡ None → o ≡ None
+      by None e = refl
+      by (Some other) e = absurd cc
+
+  pub directory_there : (slot number : ℕ) → exchanged f slot ≡ number
+      → is_directory_node ((files_at fs f).tree.node number) ≡ is_directory_node ((tree_of tree).node slot)
+  directory_there slot number same = plain_there Bool (λ A node. is_directory_node node) slot number same
+
+  -- what may be replaced by numbers may be by slots, and what stays outside stays so
+  pub replaced_there : (slot number : ℕ) (name : List ℕ) (object_slot object : ℕ) → exchanged f slot ≡ number
+      → exchanged f object_slot ≡ object
+      → MayReplace (files_at fs f).tree object (number_at (files_at fs f).tree number name)
+      → MayReplace (tree_of tree) object_slot (number_at (tree_of tree) slot name)
+  replaced_there slot number name object_slot object same same_object may =
+      by (number_at (tree_of tree) slot name)
+      (subst (MayReplace (files_at fs f).tree object) (entry_there slot number name same) may)
+    where
+      by : (o : Option ℕ) → MayReplace (files_at fs f).tree object (option_map (exchanged f) o)
+          → MayReplace (tree_of tree) object_slot o
+      by None may = tt
+      by (Some old) may = (
+        (λ is. may.0 (ap (exchanged f) is ∙ same_object)),
+        sym (directory_there old _ refl) ∙ may.1 ∙ directory_there object_slot object same_object,
+        empty_there old _ refl may.2,
+      )
+
+  pub outside_there : (slot number object_slot object : ℕ) → exchanged f slot ≡ number → exchanged f object_slot ≡ object
+      → StaysOutside (inodes_at fs f) object number → StaysOutside (inodes_of tree) object_slot slot
+  outside_there slot number object_slot object same same_object outside = λ is.
+      sym (under_there object_slot object slot number same_object same)
+      ∙ outside (directory_there object_slot object same_object ∙ is)
 
 -- A tree that is written back as it was changes nothing.
 written_back : (fs : Filesystems) (f : ℕ) (tree : TreeValue) → any_pair (λ a b. nat_eq a.count b.count) fs ≡ false

@@ -4,9 +4,8 @@ use Rattle.vt_spec.specs.declared.attributes.Attr.{Attr}
 use Rattle.vt_spec.specs.FileTree.{FileTree}
 use Rattle.vt_spec.specs.Machine.Renaming.{renamed_node}
 use Rattle.vt_spec.specs.Machine.World.{Filesystem}
-use Rattle.vt_spec.specs.OneTree.Inodes.{Inode, Inodes, one_directory, tree_of}
+use Rattle.vt_spec.specs.Inodes.{Inode, Inodes, one_directory, renamed_inodes, tree_of}
 use Rattle.vt_spec.specs.Tree.{Node, tree_of_root}
-use Rattle.vt_one_text.specs.OneTreeNumbers.{renamed_inodes}
 use Rattle.vt_tree.specs.TreeValue.{TreeValue, inodes_of, next_number}
 use Rattle.vt_location.specs.declared.numbers.FilesystemId.{FilesystemId}
 use Rattle.vt_location.specs.Numbers.{counted, exchanged, inode_number}

@@ -1,22 +1,21 @@
 //! `Filesystems`, and the calls that look at them and change them.
-ghost use Rattle.std.specs.Prelude.{◌≡◌, ◌≢◌, ℕ, [], ◌+◌, ◌-◌, ◌++◌, ◌∷◌, ◌↔◌, ◌⊎◌, nat_eq, length, map, drop, take, false, is_some, slice_get, None, Ok, Some, IfOk, IfErr, IfSome, IsErrOf, IsOk, IsOkUnless, IsTrue, OnOk, OnErr, ◌<◌, option_copied, option_map};
+ghost use Rattle.std.specs.Prelude.{◌≡◌, ℕ, [], ◌+◌, ◌-◌, ◌++◌, ◌∷◌, ◌↔◌, ◌≤◌, nat_eq, length, map, drop, take, false, is_some, slice_get, None, Some, IfOk, IfErr, IfSome, IsErrOf, IsOk, IsTrue, OnOk, OnErr, ◌<◌, option_copied, option_map};
 ghost use Rattle.std.specs.Option.{option_copied_mut};
 ghost use Rattle.std.specs.Borrow.{sem};
 ghost use Rattle.std.specs.Map.{lookup};
 ghost use Rattle.vt_spec.specs.Errors.{denial};
 ghost use Rattle.vt_spec.specs.declared.attributes.Kind.TheVariants.{File};
-ghost use Rattle.vt_spec.specs.declared.errors.Rule.TheVariants.{S5, E2};
-ghost use Rattle.vt_spec.specs.FileTree.{is_directory_under, is_removed};
+ghost use Rattle.vt_spec.specs.declared.errors.Rule.TheVariants.{S5};
+ghost use Rattle.vt_spec.specs.FileTree.{is_directory_under, is_kind_in, is_removed};
+ghost use Rattle.vt_spec.specs.Fits.{MayReplace, StaysOutside};
+ghost use Rattle.vt_spec.specs.Inodes.{changed, pinned, unpinned, uses_in};
 ghost use Rattle.vt_spec.specs.Language.Changes.Change.{AddName, Make, Move, Remove, SetAttr, SetBytes};
+ghost use Rattle.vt_spec.specs.Language.Limits.{largest_file};
 ghost use Rattle.vt_spec.specs.Laws.Trees.{IsNewIn};
 ghost use Rattle.vt_spec.specs.Lists.{any_pair};
 ghost use Rattle.vt_spec.specs.Machine.Outcome.Descriptors.{overwritten};
-ghost use Rattle.vt_spec.specs.OneTree.Fits.{Fits};
-ghost use Rattle.vt_spec.specs.OneTree.Inodes.{changed, pinned, unpinned, uses_in};
-ghost use Rattle.vt_spec.specs.OneTree.Rules.{is_kind_at};
 ghost use Rattle.vt_spec.specs.Tree.{bytes_in, entries_in, is_directory_node, names_in};
-ghost use Rattle.vt_spec.specs.TreeLaws.{entry_at as number_at};
-ghost use Rattle.vt_tree.specs.TreeRules.{AnswersBy, hard_link_rules, make_rules, rename_rules, ruling, unlink_rules, write_rules};
+ghost use Rattle.vt_spec.specs.TreeLaws.{IsDirectory, entry_at as number_at};
 ghost use Rattle.vt_tree.specs.Slots.{most_uses};
 ghost use Rattle.vt_location.specs.Locations.{number_of};
 ghost use Rattle.vt_location.specs.Numbers.{exchanged, is_inode_of};
@@ -66,8 +65,7 @@ fn found_under(
 
 /// The plain filesystems, in the order in which they were made. Each is a tree of inodes in slots of its own.
 ///
-/// In a filesystem that does not exist there is nothing to read, a change of names is refused (E3, W6), and any other change
-/// has no effect.
+/// In a filesystem that does not exist there is nothing to read, and a change of bytes, attributes or uses has no effect.
 #[derive(Debug, Drop)]
 pub struct Filesystems {
     by_number: IndexMap<FilesystemId, Filesystem>,
@@ -313,24 +311,6 @@ impl Filesystems {
         }
     }
 
-    /// The bytes of a file, or the text of a symlink: read(2).
-    ///
-    /// E2 (EISDIR): a directory. S5 (ENOMEM): an allocation failed; an empty result needs none.
-    pub fn read(&self, file: NodeRef) -> Result<Vec<u8>, Deny>
-        ensures ok { IfOk result (λ bytes.
-            bytes.items ≡ bytes_in ((files_at self.now file.filesystem.count).tree.node (number_of file))) }
-        ensures directory { IsErrOf result (denial E2)
-            ↔ IsTrue (is_directory_node ((files_at self.now file.filesystem.count).tree.node (number_of file))) }
-        ensures empty { IsErrOf result (denial S5)
-            → bytes_in ((files_at self.now file.filesystem.count).tree.node (number_of file)) ≢ [] }
-        ensures errors { IfErr result (λ deny. (deny ≡ denial E2) ⊎ (deny ≡ denial S5)) }
-    {
-        match self.get(file.filesystem) {
-            Some(tree) => tree.read(slot_of(file)),
-            None => Ok(Vec::new(*self.by_number.allocator())),
-        }
-    }
-
     /// At most `size` bytes of a file from an offset on: pread(2). Past the end there are none.
     ///
     /// S5 (ENOMEM): an allocation failed; an empty result needs none.
@@ -347,83 +327,68 @@ impl Filesystems {
         }
     }
 
-    /// Makes an inode under a name of a directory: mkdir(2), open(2) with O_CREAT, symlink(2), mknod(2).
+    /// Makes an inode under a free name of a directory: mkdir(2), open(2) with O_CREAT, symlink(2), mknod(2).
     ///
-    /// E3 (ENOTDIR): the parent is no directory. E1 (EEXIST): the name exists. S5 (ENOMEM): an allocation failed.
+    /// S5 (ENOMEM): an allocation failed.
     pub fn create(&mut self, directory: NodeRef, name: Vec<u8>, node: Node) -> Result<NodeRef, Deny>
-        requires { IsNewIn directory.slot node }
+        requires directory { IsDirectory (files_at self.old directory.filesystem.count).tree (number_of directory) }
+        requires free { number_at (files_at self.old directory.filesystem.count).tree
+            (number_of directory) name.items ≡ None }
+        requires node { IsNewIn directory.slot node }
         ensures ok { IfOk result (λ made. ChangesInodes directory.filesystem.count
             (λ inodes. changed nat_eq inodes
             (Make (number_of directory) name.items (number_of made) (node_seen directory.filesystem.count node)))
             self.old self.new) }
-        ensures number { IfOk result (λ made. number_of made ≡ next_seen (entry_at self.old directory.filesystem.count)) }
+        ensures number { IfOk result (λ made.
+            number_of made ≡ next_seen (entry_at self.old directory.filesystem.count)) }
         ensures filesystem { IfOk result (λ made. made.filesystem ≡ directory.filesystem) }
-        ensures answer { AnswersBy
-            (make_rules (inodes_at self.old directory.filesystem.count) (number_of directory) name.items) result }
-        ensures fits { Fits (inodes_at self.old directory.filesystem.count)
-            (Make (number_of directory) name.items (next_seen (entry_at self.old directory.filesystem.count))
-            (node_seen directory.filesystem.count node))
-            → IsOkUnless result (denial S5) }
+        ensures memory { IfErr result (λ deny. deny ≡ denial S5) }
         ensures err { OnErr result (self.new ≡ self.old) }
     {
-        match self.get_mut(directory.filesystem) {
-            Some(tree) => match tree.create(slot_of(directory), name, node) {
-                Ok(slot) => Ok(in_slot(directory.filesystem, slot)),
-                Err(deny) => Err(deny),
-            },
-            None => Err(Rule::E3.denial()),
-        }
+        let tree = self.get_mut(directory.filesystem).unwrap();
+        let slot = tree.create(slot_of(directory), name, node)?;
+        Ok(in_slot(directory.filesystem, slot))
     }
 
-    /// Makes another hard link to an inode of the same filesystem: link(2). That the inode exists is checked by the caller.
+    /// Makes another hard link to an inode of the same filesystem, under a free name: link(2).
     ///
-    /// E3 (ENOTDIR): the parent is no directory. E1 (EEXIST): the name exists. E7 (EPERM): the inode is a directory. S5 (ENOMEM):
-    /// an allocation failed, or the inode has 2^64 - 1 uses.
+    /// S5 (ENOMEM): an allocation failed, or the inode has 2^64 - 1 uses.
     pub fn link(&mut self, directory: NodeRef, name: Vec<u8>, object: NodeRef) -> Result<(), Deny>
-        requires { object.filesystem ≡ directory.filesystem }
+        requires one_filesystem { object.filesystem ≡ directory.filesystem }
+        requires directory { IsDirectory (files_at self.old directory.filesystem.count).tree (number_of directory) }
+        requires free { number_at (files_at self.old directory.filesystem.count).tree
+            (number_of directory) name.items ≡ None }
+        requires object { is_directory_node
+            ((files_at self.old directory.filesystem.count).tree.node (number_of object)) ≡ false }
         ensures ok { OnOk result (ChangesInodes directory.filesystem.count
             (λ inodes. changed nat_eq inodes (AddName (number_of directory) name.items (number_of object)))
             self.old self.new) }
-        ensures answer { AnswersBy
-            (hard_link_rules (inodes_at self.old directory.filesystem.count) (number_of directory) name.items (number_of object))
-            result }
-        ensures fits { Fits (inodes_at self.old directory.filesystem.count)
-            (AddName (number_of directory) name.items (number_of object)) → IsOkUnless result (denial S5) }
+        ensures memory { IfErr result (λ deny. deny ≡ denial S5) }
         ensures err { OnErr result (self.new ≡ self.old) }
     {
-        match self.get_mut(directory.filesystem) {
-            Some(tree) => tree.link(slot_of(directory), name, slot_of(object)),
-            None => Err(Rule::E3.denial()),
-        }
+        let tree = self.get_mut(directory.filesystem).unwrap();
+        tree.link(slot_of(directory), name, slot_of(object))
     }
 
-    /// Removes a name of an inode: unlink(2), rmdir(2). With its last use the inode is freed. It does not allocate.
-    ///
-    /// W6 (ENOENT): the name does not lead to the inode. E4 (ENOTEMPTY): the inode is a directory with entries.
-    pub fn unlink(&mut self, directory: NodeRef, name: &[u8], object: NodeRef) -> Result<(), Deny>
-        requires { object.filesystem ≡ directory.filesystem }
-        ensures ok { OnOk result (ChangesInodes directory.filesystem.count
+    /// Removes a name of an inode that has no entries: unlink(2), rmdir(2). With its last use the inode is freed. It does not
+    /// allocate.
+    pub fn unlink(&mut self, directory: NodeRef, name: &[u8], object: NodeRef)
+        requires one_filesystem { object.filesystem ≡ directory.filesystem }
+        requires named { number_at (files_at self.old directory.filesystem.count).tree
+            (number_of directory) name.now ≡ Some (number_of object) }
+        requires empty { entries_in
+            ((files_at self.old directory.filesystem.count).tree.node (number_of object)) ≡ [] }
+        ensures { ChangesInodes directory.filesystem.count
             (λ inodes. changed nat_eq inodes (Remove (number_of directory) name.now (number_of object)))
-            self.old self.new) }
-        ensures answer { result ≡ ruling
-            (unlink_rules (inodes_at self.old directory.filesystem.count) (number_of directory) name.now (number_of object)) }
-        ensures fits { Fits (inodes_at self.old directory.filesystem.count)
-            (Remove (number_of directory) name.now (number_of object)) → result ≡ Ok tt }
-        ensures err { OnErr result (self.new ≡ self.old) }
+            self.old self.new }
     {
-        match self.get_mut(directory.filesystem) {
-            Some(tree) => tree.unlink(slot_of(directory), name, slot_of(object)),
-            None => Err(Rule::W6.denial()),
-        }
+        let tree = self.get_mut(directory.filesystem).unwrap();
+        tree.unlink(slot_of(directory), name, slot_of(object));
     }
 
-    /// Renames an inode within its filesystem, and replaces what had the new name: rename(2). If the new name already leads to
-    /// the inode, nothing changes.
+    /// Renames an inode within its filesystem, and replaces what had the new name: rename(2).
     ///
-    /// W6 (ENOENT): the old name does not lead to the inode. E3 (ENOTDIR): the new parent is no directory, or a directory would
-    /// replace what is none. E2 (EISDIR): what is no directory would replace one. E4 (ENOTEMPTY): a directory would replace one
-    /// with entries. E5 (EINVAL): a directory would lie under itself. S5 (ENOMEM): an allocation failed, which only a new name
-    /// needs.
+    /// S5 (ENOMEM): an allocation failed, which only a new name needs.
     pub fn rename(
         &mut self,
         from: NodeRef,
@@ -432,76 +397,59 @@ impl Filesystems {
         new: Vec<u8>,
         object: NodeRef,
     ) -> Result<(), Deny>
-        requires to { to.filesystem ≡ from.filesystem }
-        requires object { object.filesystem ≡ from.filesystem }
-        ensures ok { number_at (files_at self.old from.filesystem.count).tree (number_of to) new.items ≢ Some (number_of object)
-            → OnOk result (ChangesInodes from.filesystem.count
-            (λ inodes. changed nat_eq inodes (Move (number_of from) old.now (number_of to) new.items (number_of object)))
+        requires one_filesystem { to.filesystem ≡ from.filesystem }
+        requires of_object { object.filesystem ≡ from.filesystem }
+        requires named { number_at (files_at self.old from.filesystem.count).tree
+            (number_of from) old.now ≡ Some (number_of object) }
+        requires directory { IsDirectory (files_at self.old from.filesystem.count).tree (number_of to) }
+        requires replaced { MayReplace (files_at self.old from.filesystem.count).tree (number_of object)
+            (number_at (files_at self.old from.filesystem.count).tree (number_of to) new.items) }
+        requires outside { StaysOutside (inodes_at self.old from.filesystem.count) (number_of object) (number_of to) }
+        ensures ok { OnOk result (ChangesInodes from.filesystem.count
+            (λ inodes. changed nat_eq inodes
+            (Move (number_of from) old.now (number_of to) new.items (number_of object)))
             self.old self.new) }
-        ensures one_object { number_at (files_at self.old from.filesystem.count).tree (number_of to) new.items ≡ Some (number_of object)
-            → OnOk result (self.new ≡ self.old) }
-        ensures answer { AnswersBy
-            (rename_rules (inodes_at self.old from.filesystem.count)
-            (number_of from) old.now (number_of to) new.items (number_of object))
-            result }
         ensures new_name { IsErrOf result (denial S5)
             → number_at (files_at self.old from.filesystem.count).tree (number_of to) new.items ≡ None }
-        ensures fits { Fits (inodes_at self.old from.filesystem.count)
-            (Move (number_of from) old.now (number_of to) new.items (number_of object)) → IsOkUnless result (denial S5) }
-        ensures fits_ok { Fits (inodes_at self.old from.filesystem.count)
-            (Move (number_of from) old.now (number_of to) new.items (number_of object))
-            → OnOk result (ChangesInodes from.filesystem.count
-            (λ inodes. changed nat_eq inodes (Move (number_of from) old.now (number_of to) new.items (number_of object)))
-            self.old self.new) }
+        ensures memory { IfErr result (λ deny. deny ≡ denial S5) }
         ensures err { OnErr result (self.new ≡ self.old) }
     {
-        match self.get_mut(from.filesystem) {
-            Some(tree) => tree.rename(slot_of(from), old, slot_of(to), new, slot_of(object)),
-            None => Err(Rule::W6.denial()),
-        }
+        let tree = self.get_mut(from.filesystem).unwrap();
+        tree.rename(slot_of(from), old, slot_of(to), new, slot_of(object))
     }
 
-    /// Sets the whole content of a file: write(2) after open(2) with O_TRUNC. It does not allocate.
-    ///
-    /// E2 (EISDIR): a directory. E6 (EFBIG): more than 1,048,576 bytes. A symlink, a whiteout and a number without an inode
-    /// stay as they are.
-    pub fn write(&mut self, file: NodeRef, bytes: Vec<u8>) -> Result<(), Deny>
-        ensures ok { OnOk result (ChangesInodes file.filesystem.count
-            (λ inodes. changed nat_eq inodes (SetBytes (number_of file) bytes.items)) self.old self.new) }
-        ensures answer { IsTrue (is_some (entry_of self.old file.filesystem.count)) → result ≡ ruling
-            (write_rules (inodes_at self.old file.filesystem.count) (number_of file) (length bytes.items)) }
-        ensures nowhere { entry_of self.old file.filesystem.count ≡ None → result ≡ Ok tt }
-        ensures fits { Fits (inodes_at self.old file.filesystem.count) (SetBytes (number_of file) bytes.items)
-            → result ≡ Ok tt }
-        ensures err { OnErr result (self.new ≡ self.old) }
+    /// Sets the whole content of a file: write(2) after open(2) with O_TRUNC. It does not allocate. A symlink, a whiteout and
+    /// a number without an inode stay as they are.
+    pub fn write(&mut self, file: NodeRef, bytes: Vec<u8>)
+        requires file { is_directory_node
+            ((files_at self.old file.filesystem.count).tree.node (number_of file)) ≡ false }
+        requires size { length bytes.items ≤ largest_file }
+        ensures { ChangesInodes file.filesystem.count
+            (λ inodes. changed nat_eq inodes (SetBytes (number_of file) bytes.items)) self.old self.new }
     {
-        match self.get_mut(file.filesystem) {
-            Some(tree) => tree.write(slot_of(file), bytes),
-            None => Ok(()),
+        if let Some(tree) = self.get_mut(file.filesystem) {
+            tree.write(slot_of(file), bytes);
         }
     }
 
     /// Writes bytes into a file from an offset on, and zeros into a gap before them: pwrite(2). Only a file that gets
-    /// longer takes memory.
+    /// longer takes memory. A symlink, a whiteout and a number without an inode stay as they are.
     ///
-    /// E2 (EISDIR): a directory. E6 (EFBIG): the bytes would end after the first 1,048,576. S5 (ENOMEM): an allocation failed. A
-    /// symlink, a whiteout and a number without an inode stay as they are.
+    /// S5 (ENOMEM): an allocation failed.
     pub fn write_at(&mut self, file: NodeRef, offset: usize, bytes: &[u8]) -> Result<(), Deny>
+        requires file { is_directory_node
+            ((files_at self.old file.filesystem.count).tree.node (number_of file)) ≡ false }
+        requires size { offset + length bytes.now ≤ largest_file }
         ensures ok { OnOk result (ChangesInodes file.filesystem.count
             (λ inodes. changed nat_eq inodes (SetBytes (number_of file)
             (overwritten offset bytes.now (bytes_in ((files_at self.old file.filesystem.count).tree.node (number_of file))))))
             self.old self.new) }
-        ensures answer { IsTrue (is_some (entry_of self.old file.filesystem.count)) → AnswersBy
-            (write_rules (inodes_at self.old file.filesystem.count) (number_of file) (offset + length bytes.now)) result }
-        ensures nowhere { entry_of self.old file.filesystem.count ≡ None → result ≡ Ok tt }
         ensures file { IsErrOf result (denial S5)
-            → IsTrue (is_kind_at (files_at self.old file.filesystem.count).tree (number_of file) File) }
+            → IsTrue (is_kind_in File ((files_at self.old file.filesystem.count).tree.node (number_of file))) }
         ensures longer { IsErrOf result (denial S5)
             → length (bytes_in ((files_at self.old file.filesystem.count).tree.node (number_of file)))
             < offset + length bytes.now }
-        ensures fits { Fits (inodes_at self.old file.filesystem.count) (SetBytes (number_of file)
-            (overwritten offset bytes.now (bytes_in ((files_at self.old file.filesystem.count).tree.node (number_of file)))))
-            → IsOkUnless result (denial S5) }
+        ensures memory { IfErr result (λ deny. deny ≡ denial S5) }
         ensures err { OnErr result (self.new ≡ self.old) }
     {
         match self.get_mut(file.filesystem) {

@@ -1,8 +1,8 @@
-//! What no clause says: that calls succeed with ample memory.
+//! What no clause says: that calls succeed with ample memory. Scripts through `run` do the rest (`vt_tests`).
 use super::*;
 use std::test::Fail;
 use vt_location::FilesystemId;
-use vt_node::{Attr, Mode, Node, copied_bytes};
+use vt_node::{Attr, Mode};
 
 #[test]
 fn calls_succeed_with_ample_memory(rt: HostRuntime) -> Result<(), Fail> {
@@ -18,19 +18,9 @@ fn calls_succeed_with_ample_memory(rt: HostRuntime) -> Result<(), Fail> {
     filesystems.add(first, attr)?;
     filesystems.add(second, attr)?;
     let root = filesystems.root(second).ok_or("its root")?;
-    let file = Node::new_file(attr, copied_bytes(alloc, b"hi")?);
-    let file = filesystems.create(root, copied_bytes(alloc, b"f")?, file)?;
-    filesystems.link(root, copied_bytes(alloc, b"g")?, file)?;
-    filesystems.rename(root, b"f", root, copied_bytes(alloc, b"e")?, file)?;
-    filesystems.write_at(file, 2, b"!")?;
-    filesystems.pin(file)?;
-    assert_eq!(rt; filesystems.uses(file), 3);
-    assert_eq!(rt; filesystems.read(file)?.as_slice(), b"hi!".as_slice());
-    assert_eq!(rt;
-        filesystems.read_part(file, 1, 2)?.as_slice(),
-        b"i!".as_slice()
-    );
-    assert_eq!(rt; filesystems.list(root)?.len(), 2);
+    filesystems.pin(root)?;
+    assert_eq!(rt; filesystems.uses(root), 2);
+    assert_eq!(rt; filesystems.list(root)?.len(), 0);
     filesystems.hold_mount(second)?;
     assert_eq!(rt; filesystems.mounts(second), 1);
     filesystems.remove(second);

@@ -9,8 +9,8 @@ use Rattle.vt_location.specs.declared.locations.Location.{Location}
 use Rattle.vt_location.specs.Locations.{number_of}
 use Rattle.vt_location.specs.Numbers.{counted}
 use Rattle.vt_mount.specs.MountsValue.{MountEntry, changed, entry_numbered, held, uses_of, writers_of}
-use Rattle.vt_spec.specs.OneTree.Inodes as Trees
-use Rattle.vt_spec.specs.OneTree.Inodes.{Inodes, pinned, used_once_more, uses_in}
+use Rattle.vt_spec.specs.Inodes as Trees
+use Rattle.vt_spec.specs.Inodes.{Inodes, pinned, used_once_more, uses_in}
 use Rattle.vt_detach.specs.declared.namespaces.Namespace.{Namespace}
 use Rattle.vt_detach.specs.Forking.{HasRoom, more_tasks, with_task_more}
 use Rattle.vt_detach.specs.Uses.{kept, pinned_in, with_location}

@@ -1,7 +1,6 @@
 -- The event that removes a directory, with the mounts on it: rmdir(2).
 use Rattle.std.proofs.Common.{◌≡◌, ◌≢◌, refl, sym, ap, subst, ◌∙◌, ℕ, nat_eq, true, ◌&&◌, List, [], map, filter, flat_map}
-use Rattle.std.specs.Prelude.{Ok, Result, option_to_list}
-use Rattle.vt_spec.specs.declared.errors.Deny.{Deny}
+use Rattle.std.specs.Prelude.{option_to_list}
 use Rattle.vt_spec.specs.Language.Calls.{TaskName}
 use Rattle.vt_spec.specs.Language.Changes.{Change}
 use Rattle.vt_spec.specs.Language.Changes.Change.{Remove}
@@ -12,9 +11,9 @@ use Rattle.vt_spec.specs.Machine.Mounts.{Mount}
 use Rattle.vt_spec.specs.Machine.Permits.{Permit}
 use Rattle.vt_spec.specs.Machine.Permits.Permit.{ToChange, ToRemoveDirectory}
 use Rattle.vt_spec.specs.Machine.World.{World, mount_numbered}
-use Rattle.vt_spec.specs.OneTree.Fits.{Fits}
-use Rattle.vt_spec.specs.OneTree.Inodes.{Inodes, changed, tree_of}
-use Rattle.vt_fs.specs.FilesystemsValue.{ChangesInodes, Filesystems, inodes_at, inodes_seen}
+use Rattle.vt_spec.specs.Fits.{Fits}
+use Rattle.vt_spec.specs.Inodes.{Inodes, changed, tree_of}
+use Rattle.vt_fs.specs.FilesystemsValue.{ChangesInodes, Filesystems, inodes_seen}
 use Rattle.vt_location.specs.declared.locations.Location.{Location}
 use Rattle.vt_location.specs.Locations.{location_of, number_of}
 use Rattle.vt_mount.specs.MountsValue.{MountEntry, mounts_in, stands_over}
@@ -29,21 +28,17 @@ use Rattle.vt_detach.specs.Events.{Permits, supply_of}
 use Rattle.vt_detach.specs.Held.{IsHeld}
 use Rattle.vt_detach.specs.Uses.{kept}
 use Rattle.vt_detach.specs.WorldValue.{WorldValue, world_of}
-use Rattle.vt_detach.proofs.ChangedFiles.{ChangesFiles, with_filesystems}
+use Rattle.vt_detach.proofs.ChangedFiles.{ChangesFiles, IsFilesEvent, with_filesystems}
 use Rattle.vt_ns.proofs.ChangedWithMounts.{changed_then_detached, nothing_goes}
 use Rattle.vt_detach.proofs.DetachingBegins.{HasChildrenOf, detached_world}
 use Rattle.vt_detach.proofs.DetachingEnds.{held_is_kept, taken_is_detached}
-use Rattle.vt_ns.proofs.FileAnswers.{IsAnswered, unlink_passes}
 use Rattle.vt_detach.proofs.FileEvents.{IsSmall, permit_fits}
-use Rattle.vt_ns.proofs.FileRemoving.{removal_is_answered}
-use Rattle.vt_detach.proofs.FilesSeen.{IsLocated, files_are_plain, inodes_named, located, located_filesystem, located_inodes}
+use Rattle.vt_ns.proofs.FileRemoving.{removal_is_done}
+use Rattle.vt_detach.proofs.FilesSeen.{IsLocated, files_are_plain, inodes_named, located, located_filesystem}
 use Rattle.vt_detach.proofs.LazilyUnmounted.{trees_have_children, trees_numbers}
 use Rattle.vt_ns.proofs.MountsOn.{none_on, one_on, tops_on, trees_collected}
 use Rattle.vt_detach.proofs.Remaining.{remade}
 use Rattle.vt_detach.proofs.Staying.{IsDone}
-
-abbrev pub no_refusal : Result (Unit {0}) Deny
-no_refusal = Ok tt
 
 module _ (value : WorldValue) (held : IsHeld value) (name : TaskName) (parent : Location) (entry : List ℕ) (directory : Location)
     (small : IsSmall parent) (small_directory : IsSmall directory)
@@ -95,16 +90,12 @@ module _ (value : WorldValue) (held : IsHeld value) (name : TaskName) (parent : 
       change inodes held.in_world (files_are_plain value.filesystems) permits.given refl
       (ap tree_of same ∙ ap (λ filesystem. filesystem.files.tree) (sym (located_filesystem value parent seen)))
 
-  pub unlink_fits : Fits (inodes_at value.filesystems parent.node.filesystem.count) change
-  unlink_fits = fits (inodes_at value.filesystems parent.node.filesystem.count) (located_inodes value parent seen)
-
   -- where no mount stands on it
   pub alone_is_removed : gone ≡ [] → (filesystems : Filesystems)
       → ChangesInodes parent.node.filesystem.count (λ inodes. changed nat_eq inodes change) value.filesystems filesystems
-      → IsAnswered value name permit (with_filesystems value filesystems) no_refusal
+      → IsFilesEvent value name permit (with_filesystems value filesystems)
   alone_is_removed none filesystems changes =
-      removal_is_answered value held name parent entry directory small small_directory permits (none_on world tops none) filesystems no_refusal changes
-      (sym (unlink_passes (inodes_at value.filesystems parent.node.filesystem.count) (number_of parent.node) entry (number_of directory.node) unlink_fits)) tt
+      removal_is_done value held name parent entry directory small small_directory permits (none_on world tops none) filesystems changes
 
   pub directory_is_removed : (filesystems others : Filesystems) (mounts : List MountEntry) → gone ≢ []
       → ChangesInodes parent.node.filesystem.count (λ inodes. changed nat_eq inodes change) value.filesystems filesystems

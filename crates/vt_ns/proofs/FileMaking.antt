@@ -1,9 +1,5 @@
 -- The event that makes an inode: mkdir(2), symlink(2), mknod(2).
 use Rattle.std.proofs.Common.{◌≡◌, refl, sym, ap, subst, ◌∙◌, ⊎_elim, inl, inr, true≢false, ℕ, ◌<◌, ◌/◌, ◌&&◌, Bool, true, false, nat_eq, List, [], ◌∷◌, map, arith}
-use Rattle.std.specs.Prelude.{Err, Ok, is_ok, ◌⊎◌}
-use Rattle.vt_spec.specs.declared.errors.Deny.{Deny}
-use Rattle.vt_spec.specs.declared.errors.Rule.TheVariants.{S5}
-use Rattle.vt_spec.specs.Errors.{Rules, denial}
 use Rattle.vt_spec.specs.Language.Calls.{TaskName}
 use Rattle.vt_spec.specs.Language.Changes.{Change}
 use Rattle.vt_spec.specs.Language.Changes.Change.{Make}
@@ -13,8 +9,8 @@ use Rattle.vt_spec.specs.Machine.Filesystems.{with_change}
 use Rattle.vt_spec.specs.Machine.Permits.{Permit}
 use Rattle.vt_spec.specs.Machine.Permits.Permit.{ToMake}
 use Rattle.vt_spec.specs.Machine.Renaming.{renamed_entry}
-use Rattle.vt_spec.specs.OneTree.Fits.{Fits}
-use Rattle.vt_spec.specs.OneTree.Inodes.{Inodes, changed, tree_of}
+use Rattle.vt_spec.specs.Fits.{Fits}
+use Rattle.vt_spec.specs.Inodes.{Inodes, changed, tree_of}
 use Rattle.vt_spec.specs.Rights.{is_directory}
 use Rattle.vt_spec.specs.Tree.{Content, Entries, Node, kind_of}
 use Rattle.vt_spec.specs.Tree.Content.{Directory, Regular, Symlink, Whiteout}
@@ -29,12 +25,10 @@ use Rattle.vt_permit_laws.specs.Sees.{MayBeMade}
 use Rattle.vt_permit_laws.proofs.SeesFit.{given_changes_fit}
 use Rattle.vt_permit_laws.proofs.SeesTasks.{given_permits_are_seen_to}
 use Rattle.vt_run_laws.specs.Handed.{is_counted_before}
-use Rattle.vt_tree.specs.TreeRules.{make_rules, ruling}
 use Rattle.vt_detach.specs.Events.{Permits, next_inode, supply_of}
 use Rattle.vt_detach.specs.Held.{IsHeld}
 use Rattle.vt_detach.specs.WorldValue.{WorldValue, world_of}
 use Rattle.vt_detach.proofs.ChangedFiles.{IsFilesEvent, files_are_changed, with_filesystems}
-use Rattle.vt_ns.proofs.FileAnswers.{make_passes}
 use Rattle.vt_detach.proofs.FileEvents.{IsSmall, permit_fits}
 use Rattle.vt_detach.proofs.FilesSeen.{IsLocated, files_are_plain, inodes_named, located, located_filesystem, located_inodes}
 
@@ -73,11 +67,6 @@ new_is_named named directory node there new =
     by (Symlink text) e = refl
     by Whiteout e = refl
 
-pub only_memory : (rules : Rules) (deny : Deny) → ruling rules ≡ Ok tt
-    → (ruling rules ≡ Err deny) ⊎ ((ruling rules ≡ Ok tt) × (deny ≡ denial S5)) → deny ≡ denial S5
-only_memory rules deny clear by =
-    ⊎_elim (λ refused. absurd (true≢false (sym (ap is_ok clear) ∙ ap is_ok refused))) (λ memory. memory.1) by
-
 module _ (value : WorldValue) (held : IsHeld value) (name : TaskName) (directory : Location) (entry : List ℕ) (node : Node ℕ)
     (small : IsSmall directory)
     (permits : Permits value name (ToMake (location_of directory) entry (node_seen directory.node.filesystem.count node))) where
@@ -104,10 +93,9 @@ module _ (value : WorldValue) (held : IsHeld value) (name : TaskName) (directory
       (change (next_inode value (location_of directory))) inodes held.in_world (files_are_plain value.filesystems) permits.given refl
       (ap tree_of same ∙ ap (λ filesystem. filesystem.files.tree) (sym (located_filesystem value directory seen)))
 
-  pub make_clear : ruling (make_rules (inodes_at value.filesystems directory.node.filesystem.count) (number_of directory.node) entry) ≡ Ok tt
-  make_clear =
-      let fits = fits_next (inodes_at value.filesystems directory.node.filesystem.count) (located_inodes value directory seen) in
-      make_passes (inodes_at value.filesystems directory.node.filesystem.count) (number_of directory.node) entry [] fits.0 fits.1 refl
+  -- the parent is a directory, and the name is free
+  pub make_fits : Fits (inodes_at value.filesystems directory.node.filesystem.count) (change (next_inode value (location_of directory)))
+  make_fits = fits_next (inodes_at value.filesystems directory.node.filesystem.count) (located_inodes value directory seen)
 
   pub make_is_done : (filesystems : Filesystems) (made : NodeRef) → made.slot < 18446744073709551616
       → made.filesystem ≡ directory.node.filesystem

@@ -1,8 +1,7 @@
 -- The event that writes a part of a file: pwrite(2).
-use Rattle.std.proofs.Common.{◌≡◌, refl, sym, ap, subst, ◌∙◌, inr, true≢false, ℕ, ◌+◌, Bool, true, false, nat_eq, nat_lt, List, [], ◌∷◌, map, length, is_some, OnErr, OnOk, eqb-true, eq-eqb, arith}
-use Rattle.std.specs.Prelude.{Ok, Result, ◌==◌}
+use Rattle.std.proofs.Common.{◌≡◌, refl, sym, ap, subst, ◌∙◌, inr, true≢false, ℕ, ◌+◌, ◌≤◌, Bool, true, false, nat_eq, List, [], ◌∷◌, map, length, OnErr, OnOk, ltb-false, eqb-true, eq-eqb, arith}
+use Rattle.std.specs.Prelude.{Result, ◌==◌}
 use Rattle.vt_spec.specs.declared.errors.Deny.{Deny}
-use Rattle.vt_spec.specs.declared.errors.Rule.TheVariants.{E2, E6}
 use Rattle.vt_spec.specs.Language.Calls.{TaskName, same_name}
 use Rattle.vt_spec.specs.Language.Changes.{Change}
 use Rattle.vt_spec.specs.Language.Changes.Change.{SetBytes}
@@ -14,11 +13,10 @@ use Rattle.vt_spec.specs.Machine.Permits.Permit.{ToWritePart}
 use Rattle.vt_spec.specs.Machine.SameWorlds.{SameWorlds}
 use Rattle.vt_spec.specs.Machine.World.{Descriptor, Task, all_locations, locations_of, node_at}
 use Rattle.vt_spec.specs.Machine.Invariants.{is_located_well}
-use Rattle.vt_spec.specs.OneTree.Fits.{Fits}
-use Rattle.vt_spec.specs.OneTree.Inodes.{Inodes, changed, tree_of}
-use Rattle.vt_spec.specs.OneTree.Walk.{is_directory_at}
-use Rattle.vt_spec.specs.Tree.{bytes_in}
-use Rattle.vt_fs.specs.FilesystemsValue.{ChangesInodes, Filesystems, entry_of, files_at, inodes_at, inodes_seen}
+use Rattle.vt_spec.specs.Fits.{Fits}
+use Rattle.vt_spec.specs.Inodes.{Inodes, changed, tree_of}
+use Rattle.vt_spec.specs.Tree.{bytes_in, is_directory_node}
+use Rattle.vt_fs.specs.FilesystemsValue.{ChangesInodes, Filesystems, files_at, inodes_at, inodes_seen}
 use Rattle.vt_letting_go.proofs.Lists.{Among, among-flat_map, among-map}
 use Rattle.vt_spec.proofs.Lists.{among_from_list_all}
 use Rattle.vt_location.specs.declared.locations.Location.{Location}
@@ -27,13 +25,12 @@ use Rattle.vt_permit_laws.specs.Sees.{HasOpen, SeesTo}
 use Rattle.vt_permit_laws.proofs.SeesFit.{given_changes_fit}
 use Rattle.vt_permit_laws.proofs.SeesTasks.{given_permits_are_seen_to}
 use Rattle.vt_run_laws.proofs.AlikeWorlds.{sameness_is_an_equivalence}
-use Rattle.vt_tree.specs.TreeRules.{AnswersBy, ruling, write_rules}
 use Rattle.vt_world_laws.proofs.ReachedWalks.{found_among}
 use Rattle.vt_detach.specs.Events.{Becomes, Permits, supply_of}
 use Rattle.vt_detach.specs.Held.{IsHeld}
 use Rattle.vt_detach.specs.WorldValue.{WorldValue, world_of}
 use Rattle.vt_detach.proofs.ChangedFiles.{files_are_changed, with_filesystems}
-use Rattle.vt_ns.proofs.FileAnswers.{IsAnswered, answered, if_ok, passed}
+use Rattle.vt_ns.proofs.FileAnswers.{IsAnswered, answered, if_ok}
 use Rattle.vt_detach.proofs.FileEvents.{IsSmall}
 use Rattle.vt_detach.proofs.FilesSeen.{IsLocated, files_are_plain, located, located_filesystem, located_inodes}
 
@@ -101,24 +98,21 @@ module _ (value : WorldValue) (held : IsHeld value) (name : TaskName) (file : Lo
       ap (λ inodes. (tree_of inodes).node (number_of file.node)) (located_inodes value file seen)
       ∙ ap (λ filesystem. filesystem.files.tree.node (number_of file.node)) (sym (located_filesystem value file seen))
 
-  clear : ruling (write_rules here (number_of file.node) (offset + length (byte ∷ rest))) ≡ Ok tt
-  clear =
-      passed (is_directory_at (tree_of here) (number_of file.node)) E2 ((nat_lt largest_file (offset + length (byte ∷ rest)), E6) ∷ [])
-      (fits here (located_inodes value file seen)).0
-      (passed (nat_lt largest_file (offset + length (byte ∷ rest))) E6 [] sees.1 refl)
+  -- the file is no directory, and the bytes end within the limit
+  part_fits : (is_directory_node ((files_at value.filesystems file.node.filesystem.count).tree.node (number_of file.node)) ≡ false)
+      × (offset + length (byte ∷ rest) ≤ largest_file)
+  part_fits =
+      ((fits here (located_inodes value file seen)).0, ltb-false largest_file (offset + length (byte ∷ rest)) sees.1)
 
   part_is_answered : (filesystems : Filesystems) (result : Result (Unit {0}) Deny)
       → OnOk result (ChangesInodes file.node.filesystem.count
       (λ inodes. changed nat_eq inodes (SetBytes (number_of file.node)
       (overwritten offset (byte ∷ rest) (bytes_in ((files_at value.filesystems file.node.filesystem.count).tree.node (number_of file.node))))))
       value.filesystems filesystems)
-      → (is_some (entry_of value.filesystems file.node.filesystem.count) ≡ true
-      → AnswersBy (write_rules here (number_of file.node) (offset + length (byte ∷ rest))) result)
       → OnErr result (filesystems ≡ value.filesystems)
       → IsAnswered value name permit (with_filesystems value filesystems) result
-  part_is_answered filesystems result ok answer err =
-      answered value held name permit filesystems (write_rules here (number_of file.node) (offset + length (byte ∷ rest))) result clear
-      (answer (ap is_some (ap (entry_of value.filesystems) (sym seen.count_is) ∙ seen.found)))
+  part_is_answered filesystems result ok err =
+      answered value held name permit filesystems result
       (if_ok result (λ changes.
       files_are_changed value name permit (location_of file) change filesystems held permits
       (record {
@@ -156,10 +150,16 @@ pub write_part_is_answered : (value : WorldValue) → IsHeld value → (name : T
     (λ inodes. changed nat_eq inodes (SetBytes (number_of file.node)
     (overwritten offset bytes (bytes_in ((files_at value.filesystems file.node.filesystem.count).tree.node (number_of file.node))))))
     value.filesystems filesystems)
-    → (is_some (entry_of value.filesystems file.node.filesystem.count) ≡ true
-    → AnswersBy (write_rules (inodes_at value.filesystems file.node.filesystem.count) (number_of file.node) (offset + length bytes)) result)
     → OnErr result (filesystems ≡ value.filesystems)
     → IsAnswered value name (ToWritePart (location_of file) offset bytes) (with_filesystems value filesystems) result
-write_part_is_answered value held name file offset [] small permits some filesystems result ok answer err = absurd (some refl)
-write_part_is_answered value held name file offset (byte ∷ rest) small permits some filesystems result ok answer err =
-    part_is_answered value held name file offset byte rest small permits filesystems result ok answer err
+write_part_is_answered value held name file offset [] small permits some filesystems result ok err = absurd (some refl)
+write_part_is_answered value held name file offset (byte ∷ rest) small permits some filesystems result ok err =
+    part_is_answered value held name file offset byte rest small permits filesystems result ok err
+
+pub write_part_fits : (value : WorldValue) → IsHeld value → (name : TaskName) (file : Location) (offset : ℕ) (bytes : List ℕ) → IsSmall file
+    → Permits value name (ToWritePart (location_of file) offset bytes) → (length bytes ≡ 0 → ⊥)
+    → (is_directory_node ((files_at value.filesystems file.node.filesystem.count).tree.node (number_of file.node)) ≡ false)
+    × (offset + length bytes ≤ largest_file)
+write_part_fits value held name file offset [] small permits some = absurd (some refl)
+write_part_fits value held name file offset (byte ∷ rest) small permits some =
+    part_fits value held name file offset byte rest small permits

@@ -1,9 +1,7 @@
 -- The event that removes a directory on which no mount stands: rmdir(2).
-use Rattle.std.proofs.Common.{◌≡◌, refl, sym, ap, subst, ◌∙◌, ℕ, ◌&&◌, ◌||◌, true, false, nat_eq, List, [], ◌∷◌, is_some, OnErr, OnOk}
-use Rattle.std.specs.Prelude.{Result}
+use Rattle.std.proofs.Common.{◌≡◌, refl, sym, ap, subst, ◌∙◌, ℕ, ◌&&◌, ◌||◌, true, false, nat_eq, List, [], ◌∷◌, is_some}
 use Rattle.std.proofs.lemmas.Bool.{and_parts}
 use Rattle.std.specs.List.{list_all, list_any}
-use Rattle.vt_spec.specs.declared.errors.Deny.{Deny}
 use Rattle.vt_spec.specs.Language.Calls.{TaskName}
 use Rattle.vt_spec.specs.Language.Changes.{Change}
 use Rattle.vt_spec.specs.Language.Changes.Change.{Remove}
@@ -16,8 +14,8 @@ use Rattle.vt_spec.specs.Machine.Permits.{Permit}
 use Rattle.vt_spec.specs.Machine.Permits.Permit.{ToRemoveDirectory}
 use Rattle.vt_spec.specs.Machine.Receives.{lost_a_group, regrouped_by}
 use Rattle.vt_spec.specs.Machine.World.{World}
-use Rattle.vt_spec.specs.OneTree.Fits.{Fits}
-use Rattle.vt_spec.specs.OneTree.Inodes.{Inodes, changed, tree_of}
+use Rattle.vt_spec.specs.Fits.{Fits}
+use Rattle.vt_spec.specs.Inodes.{Inodes, changed, tree_of}
 use Rattle.vt_spec.specs.TreeLaws.{entry_at}
 use Rattle.vt_fs.specs.FilesystemsValue.{ChangesInodes, Filesystems, inodes_at, inodes_seen}
 use Rattle.vt_letting_go.proofs.NamespacesEnd.{nothing_taken}
@@ -27,12 +25,10 @@ use Rattle.vt_mount.specs.MountsValue.{MountEntry, mounts_in}
 use Rattle.vt_permit_laws.specs.Sees.{SeesTo}
 use Rattle.vt_permit_laws.proofs.SeesFit.{given_changes_fit}
 use Rattle.vt_permit_laws.proofs.SeesTasks.{given_permits_are_seen_to}
-use Rattle.vt_tree.specs.TreeRules.{ruling, unlink_rules}
 use Rattle.vt_detach.specs.Events.{Permits, supply_of}
 use Rattle.vt_detach.specs.Held.{IsHeld, is_ungrouped}
 use Rattle.vt_detach.specs.WorldValue.{WorldValue, world_of}
-use Rattle.vt_detach.proofs.ChangedFiles.{files_are_changed, with_filesystems}
-use Rattle.vt_ns.proofs.FileAnswers.{IsAnswered, answered, by_ruling, if_ok, unlink_passes}
+use Rattle.vt_detach.proofs.ChangedFiles.{IsFilesEvent, files_are_changed, with_filesystems}
 use Rattle.vt_detach.proofs.FileEvents.{IsSmall, permit_fits}
 use Rattle.vt_detach.proofs.FilesSeen.{IsLocated, also_there, files_are_plain, located, located_filesystem, located_inodes, tree_of_entry}
 use Rattle.vt_detach.proofs.Ungrouped.{not_lost}
@@ -87,19 +83,13 @@ module _ (value : WorldValue) (held : IsHeld value) (name : TaskName) (parent : 
       change inodes held.in_world (files_are_plain value.filesystems) permits.given refl
       (ap tree_of same ∙ ap (λ filesystem. filesystem.files.tree) (sym (located_filesystem value parent seen)))
 
-  pub removal_is_answered : mounts_on nat_eq (world_of value) (location_of directory) ≡ []
-      → (filesystems : Filesystems) (result : Result (Unit {0}) Deny)
-      → OnOk result (ChangesInodes parent.node.filesystem.count (λ inodes. changed nat_eq inodes change) value.filesystems filesystems)
-      → result ≡ ruling (unlink_rules (inodes_at value.filesystems parent.node.filesystem.count) (number_of parent.node) entry (number_of directory.node))
-      → OnErr result (filesystems ≡ value.filesystems)
-      → IsAnswered value name permit (with_filesystems value filesystems) result
-  removal_is_answered none filesystems result ok answer err =
-      let clear = unlink_passes (inodes_at value.filesystems parent.node.filesystem.count) (number_of parent.node) entry (number_of directory.node)
-      (fits (inodes_at value.filesystems parent.node.filesystem.count) (located_inodes value parent seen)) in
-      answered value held name permit filesystems
-      (unlink_rules (inodes_at value.filesystems parent.node.filesystem.count) (number_of parent.node) entry (number_of directory.node)) result clear
-      (by_ruling (unlink_rules (inodes_at value.filesystems parent.node.filesystem.count) (number_of parent.node) entry (number_of directory.node)) result answer clear)
-      (if_ok result (λ changes.
+  pub removal_fits : Fits (inodes_at value.filesystems parent.node.filesystem.count) change
+  removal_fits = fits (inodes_at value.filesystems parent.node.filesystem.count) (located_inodes value parent seen)
+
+  pub removal_is_done : mounts_on nat_eq (world_of value) (location_of directory) ≡ [] → (filesystems : Filesystems)
+      → ChangesInodes parent.node.filesystem.count (λ inodes. changed nat_eq inodes change) value.filesystems filesystems
+      → IsFilesEvent value name permit (with_filesystems value filesystems)
+  removal_is_done none filesystems changes =
       files_are_changed value name permit (location_of parent) change filesystems held permits
       (record {
         named = λ i. seen.named i && directory_seen.named i;
@@ -120,5 +110,4 @@ module _ (value : WorldValue) (held : IsHeld value) (name : TaskName) (parent : 
         changes =
             subst (λ count. ChangesInodes count (λ inodes. changed nat_eq inodes change) value.filesystems filesystems) (sym seen.count_is) changes;
         own = λ number other. tt;
-      })) ok)
-      err
+      })

@@ -1,10 +1,7 @@
 -- The event that renames, where no mount stands on what is replaced: rename(2).
-use Rattle.std.proofs.Common.{◌≡◌, refl, sym, ap, subst, ◌∙◌, ℕ, ◌&&◌, true, nat_eq, List, [], map, Option, None, Some, option_map, is_some, OnErr, OnOk}
-use Rattle.std.specs.Prelude.{Err, IfSome, IsOkUnless, Ok, Result}
+use Rattle.std.proofs.Common.{◌≡◌, refl, sym, ap, subst, ◌∙◌, ℕ, ◌&&◌, true, nat_eq, List, [], map, Option, None, Some, option_map, is_some}
+use Rattle.std.specs.Prelude.{IfSome}
 use Rattle.std.proofs.lemmas.Bool.{and_parts}
-use Rattle.vt_spec.specs.declared.errors.Deny.{Deny}
-use Rattle.vt_spec.specs.declared.errors.Rule.TheVariants.{S5}
-use Rattle.vt_spec.specs.Errors.{denial}
 use Rattle.vt_spec.specs.Language.Calls.{TaskName}
 use Rattle.vt_spec.specs.Language.Changes.{Change}
 use Rattle.vt_spec.specs.Language.Changes.Change.{Move}
@@ -17,8 +14,8 @@ use Rattle.vt_spec.specs.Machine.Permits.{Permit}
 use Rattle.vt_spec.specs.Machine.Permits.Permit.{ToRename}
 use Rattle.vt_spec.specs.Machine.World.{filesystem_numbered, mount_at, mount_numbered}
 use Rattle.vt_spec.specs.Machine.Invariants.{is_located_well, is_there}
-use Rattle.vt_spec.specs.OneTree.Fits.{Fits}
-use Rattle.vt_spec.specs.OneTree.Inodes.{Inodes, changed, tree_of}
+use Rattle.vt_spec.specs.Fits.{Fits}
+use Rattle.vt_spec.specs.Inodes.{Inodes, changed, tree_of}
 use Rattle.vt_fs.specs.FilesystemsValue.{ChangesInodes, Filesystems, inodes_at, inodes_seen}
 use Rattle.vt_laws.specs.Numbers.{location_named, none_or}
 use Rattle.vt_location.specs.declared.locations.Location.{Location}
@@ -33,7 +30,6 @@ use Rattle.vt_detach.specs.Events.{Permits, supply_of}
 use Rattle.vt_detach.specs.Held.{IsHeld}
 use Rattle.vt_detach.specs.WorldValue.{WorldValue, world_of}
 use Rattle.vt_detach.proofs.ChangedFiles.{IsFilesEvent, files_are_changed, with_filesystems}
-use Rattle.vt_ns.proofs.FileAnswers.{IsAnswered, if_ok}
 use Rattle.vt_detach.proofs.FileEvents.{IsSmall, permit_fits}
 use Rattle.vt_ns.proofs.FileRemoving.{nothing_detached}
 use Rattle.vt_detach.proofs.Places.{located_is_named}
@@ -102,48 +98,29 @@ module _ (value : WorldValue) (held : IsHeld value) (name : TaskName) (from : Lo
   nothing_replaced None none = refl
   nothing_replaced (Some other) none = nothing_detached value held (location_of other) none
 
-  pub rename_is_answered : IfSome replaced (λ other. mounts_on nat_eq (world_of value) (location_of other) ≡ [])
-      → (filesystems : Filesystems) (result : Result (Unit {0}) Deny)
-      → (Fits (inodes_at value.filesystems from.node.filesystem.count) change → IsOkUnless result (denial S5))
-      → (Fits (inodes_at value.filesystems from.node.filesystem.count) change
-      → OnOk result (ChangesInodes from.node.filesystem.count (λ inodes. changed nat_eq inodes change) value.filesystems filesystems))
-      → OnErr result (filesystems ≡ value.filesystems)
-      → IsAnswered value name permit (with_filesystems value filesystems) result
-  rename_is_answered none filesystems result unless_memory ok err =
-      let fitting = fits (inodes_at value.filesystems from.node.filesystem.count) (located_inodes value from seen) in
-      by result (unless_memory fitting) (if_ok result event (ok fitting)) err
-    where
-      event : ChangesInodes from.node.filesystem.count (λ inodes. changed nat_eq inodes change) value.filesystems filesystems
-          → IsFilesEvent value name permit (with_filesystems value filesystems)
-      event changes =
-          files_are_changed value name permit (location_of from) change filesystems held permits
-          (record {
-            named = is_named;
-            rest = supply_of value permit;
-            applied = ap (λ world. with_change nat_eq (supply_of value permit) world (location_of from) change) (nothing_replaced replaced none);
-            named_supply = λ k. 0;
-            are_named = λ k. refl;
-            named_rest = λ k. 0;
-            applied_named = ap (λ world. with_change nat_eq (λ k. 0) world (location_of from) change) (nothing_replaced replaced none);
-          })
-          (record {
-            entry = seen.entry;
-            among = seen.among;
-            found = seen.found;
-            shows = seen.shows;
-            fits = fits (inodes_seen seen.entry) refl;
-            links = tt;
-            changes =
-                subst (λ count. ChangesInodes count (λ inodes. changed nat_eq inodes change) value.filesystems filesystems) (sym seen.count_is) changes;
-            own = λ number other. tt;
-          })
-
-      by : (result : Result (Unit {0}) Deny) → IsOkUnless result (denial S5) → OnOk result (IsFilesEvent value name permit (with_filesystems value filesystems))
-          → OnErr result (filesystems ≡ value.filesystems) → IsAnswered value name permit (with_filesystems value filesystems) result
-      by (Ok done) unless_memory event kept = record { held = event.held; ok = event.becomes; memory = tt; err = tt }
-      by (Err deny) unless_memory event kept = record {
-        held = subst (λ fs. IsHeld (with_filesystems value fs)) (sym kept) held;
-        ok = tt;
-        memory = unless_memory;
-        err = ap (with_filesystems value) kept;
-      }
+  pub rename_alone_is_done : IfSome replaced (λ other. mounts_on nat_eq (world_of value) (location_of other) ≡ [])
+      → (filesystems : Filesystems)
+      → ChangesInodes from.node.filesystem.count (λ inodes. changed nat_eq inodes change) value.filesystems filesystems
+      → IsFilesEvent value name permit (with_filesystems value filesystems)
+  rename_alone_is_done none filesystems changes =
+      files_are_changed value name permit (location_of from) change filesystems held permits
+      (record {
+        named = is_named;
+        rest = supply_of value permit;
+        applied = ap (λ world. with_change nat_eq (supply_of value permit) world (location_of from) change) (nothing_replaced replaced none);
+        named_supply = λ k. 0;
+        are_named = λ k. refl;
+        named_rest = λ k. 0;
+        applied_named = ap (λ world. with_change nat_eq (λ k. 0) world (location_of from) change) (nothing_replaced replaced none);
+      })
+      (record {
+        entry = seen.entry;
+        among = seen.among;
+        found = seen.found;
+        shows = seen.shows;
+        fits = fits (inodes_seen seen.entry) refl;
+        links = tt;
+        changes =
+            subst (λ count. ChangesInodes count (λ inodes. changed nat_eq inodes change) value.filesystems filesystems) (sym seen.count_is) changes;
+        own = λ number other. tt;
+      })

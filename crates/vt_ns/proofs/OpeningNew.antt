@@ -1,6 +1,5 @@
 -- A new file is made in a directory, and opened: open(2) with O_CREAT.
 use Rattle.std.proofs.Common.{◌≡◌, refl, sym, ap, subst, ◌∙◌, inl, inr, true≢false, ℕ, ◌<◌, ◌/◌, ◌&&◌, true, cond, nat_eq, eq-eqb, List, [], ◌∷◌, map, Option, Some, is_some, option_map, unwrap_or, arith}
-use Rattle.std.specs.Prelude.{Ok}
 use Rattle.std.specs.List.{list_all}
 use Rattle.std.proofs.lemmas.Option.{same_Some}
 use Rattle.vt_spec.specs.declared.errors.Rule.TheVariants.{S3, S5}
@@ -20,8 +19,8 @@ use Rattle.vt_spec.specs.Machine.SameWorlds.{SameWorlds}
 use Rattle.vt_spec.specs.Machine.Settled.{settled, without_dead_mounts}
 use Rattle.vt_spec.specs.Machine.World.{Descriptor, Task, World, all_locations, locations_of, replaced_if_called, with_task}
 use Rattle.vt_spec.specs.Machine.Invariants.{IsWorld, is_located_well, is_within_limits}
-use Rattle.vt_spec.specs.OneTree.Fits.{Fits}
-use Rattle.vt_spec.specs.OneTree.Inodes.{Inodes, changed, tree_of, uses_in, with_changed}
+use Rattle.vt_spec.specs.Fits.{Fits}
+use Rattle.vt_spec.specs.Inodes.{Inodes, changed, tree_of, uses_in, with_changed}
 use Rattle.vt_spec.specs.Tree.{Node, node_with_entry}
 use Rattle.vt_count_laws.specs.Counted.{IsPlain}
 use Rattle.vt_count_laws.proofs.Changes.{only_files_change}
@@ -48,7 +47,6 @@ use Rattle.vt_run_laws.specs.Handed.{is_counted_before}
 use Rattle.vt_run_laws.proofs.AlikeSettled.{settled_alike}
 use Rattle.vt_run_laws.proofs.AlikeWorlds.{alike_from_same, same_from_alike, same_worlds_are_plain_alike, sameness_is_an_equivalence}
 use Rattle.vt_tasks.specs.TasksValue.{Tasks, called, changed_by, changed_called, open_refusal, replaced}
-use Rattle.vt_tree.specs.TreeRules.{make_rules, ruling}
 use Rattle.vt_world_laws.specs.Worlds.Kept.{IsWorldButForUse}
 use Rattle.vt_world_laws.specs.Worlds.Permits.{IsFitPermit}
 use Rattle.vt_world_laws.proofs.MountsKept.{mounts_kept}
@@ -63,7 +61,6 @@ use Rattle.vt_detach.specs.Uses.{kept, with_location, with_use}
 use Rattle.vt_detach.specs.WorldValue.{WorldValue, world_of}
 use Rattle.vt_detach.proofs.Bridging.{IsSwept, swept_is_same}
 use Rattle.vt_detach.proofs.ChangedFiles.{ChangesFiles, change_is_held, change_is_swept, inodes_after, is_change, partner, with_filesystems}
-use Rattle.vt_ns.proofs.FileAnswers.{make_passes}
 use Rattle.vt_detach.proofs.FileEvents.{IsSmall, permit_fits}
 use Rattle.vt_ns.proofs.FileMaking.{new_in_slot, new_is_named}
 use Rattle.vt_ns.proofs.FilesOpened.{inserted_goes, opened_moves, opened_stays, opened_tasks}
@@ -129,10 +126,9 @@ module _ (value : WorldValue) (held : IsHeld value) (name : TaskName) (directory
       (files_are_plain value.filesystems) permits.given refl
       (ap tree_of same ∙ ap (λ filesystem. filesystem.files.tree) (sym (located_filesystem value directory seen)))
 
-  pub make_is_clear : ruling (make_rules (inodes_at value.filesystems count) (number_of directory.node) entry) ≡ Ok tt
-  make_is_clear =
-      let fit = fits_next (inodes_at value.filesystems count) (located_inodes value directory seen) in
-      make_passes (inodes_at value.filesystems count) (number_of directory.node) entry [] fit.0 fit.1 refl
+  -- the parent is a directory, and the name is free
+  pub make_fits : Fits (inodes_at value.filesystems count) (change next_number)
+  make_fits = fits_next (inodes_at value.filesystems count) (located_inodes value directory seen)
 
   -- the filesystem is there, and has a number for one more inode
   has_filesystem : entry_of value.filesystems count ≡ Some seen.entry

@@ -17,7 +17,7 @@ use Rattle.vt_spec.specs.Machine.Permits.Permit.{ToChange, ToRename}
 use Rattle.vt_spec.specs.Machine.World.{World, filesystem_at, filesystem_numbered, mount_at, mount_numbered, with_mounts}
 use Rattle.vt_spec.specs.TreeLaws.{entry_at}
 use Rattle.vt_fs.specs.FilesystemsValue.{ChangesInodes, Filesystems, inodes_seen}
-use Rattle.vt_spec.specs.OneTree.Inodes.{changed}
+use Rattle.vt_spec.specs.Inodes.{changed}
 use Rattle.vt_letting_go.specs.FileChanges.{names_lost}
 use Rattle.vt_letting_go.proofs.Lists.{Among}
 use Rattle.vt_location.specs.declared.locations.Location.{Location}

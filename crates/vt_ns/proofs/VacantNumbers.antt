@@ -9,7 +9,7 @@ use Rattle.vt_spec.specs.Machine.Mounts.Propagation.{Private, Shared, Slave, Unb
 use Rattle.vt_spec.specs.Machine.Run.{used_by_filesystem, used_by_mount}
 use Rattle.vt_spec.specs.Machine.Mounts as meant
 use Rattle.vt_spec.specs.Machine.World.{Namespace, mount_at}
-use Rattle.vt_spec.specs.OneTree.Inodes.{node_in}
+use Rattle.vt_spec.specs.Inodes.{node_in}
 use Rattle.vt_fs.specs.FilesystemsValue.{FilesystemEntry, Filesystems, entry_at, entry_of, filesystems_seen, inodes_at, inodes_seen, next_seen, no_entry, numbers_seen}
 use Rattle.vt_letting_go.proofs.Lists.{Among, among_from_all}
 use Rattle.vt_location.specs.Numbers.{counted, inode_number, is_inode_of}

@@ -23,17 +23,13 @@ impl World {
         self.filesystems.set_attr(object.node, attr);
     }
 
-    /// Sets the whole content of a file: write(2) after open(2) with O_TRUNC.
-    ///
-    /// S5 (ENOMEM): memory was refused.
-    pub fn write(&mut self, name: &TaskName, file: Location, bytes: Vec<u8>) -> Result<(), Deny>
+    /// Sets the whole content of a file: write(2) after open(2) with O_TRUNC. It takes no memory.
+    pub fn write(&mut self, name: &TaskName, file: Location, bytes: Vec<u8>)
         requires { Permits self.old name.now (ToChange (location_of file) (SetBytes (number_of file.node) bytes.items)) }
-        ensures ok { OnOk result
-            (Becomes self.old name.now (ToChange (location_of file) (SetBytes (number_of file.node) bytes.items)) self.new) }
-        ensures memory { IfErr result (λ deny. deny ≡ denial S5) }
-        ensures err { OnErr result (self.new ≡ self.old) }
+        ensures { Becomes self.old name.now
+            (ToChange (location_of file) (SetBytes (number_of file.node) bytes.items)) self.new }
     {
-        self.filesystems.write(file.node, bytes)
+        self.filesystems.write(file.node, bytes);
     }
 
     /// Makes a further hard link to an inode: link(2).
@@ -56,24 +52,14 @@ impl World {
         self.filesystems.link(directory.node, entry, object)
     }
 
-    /// Takes a name from an inode that is no directory: unlink(2). With its last use the inode goes.
-    ///
-    /// S5 (ENOMEM): memory was refused.
-    pub fn unlink(
-        &mut self,
-        name: &TaskName,
-        directory: Location,
-        entry: &[u8],
-        object: NodeRef,
-    ) -> Result<(), Deny>
+    /// Takes a name from an inode that is no directory: unlink(2). With its last use the inode goes. It takes no memory.
+    pub fn unlink(&mut self, name: &TaskName, directory: Location, entry: &[u8], object: NodeRef)
         requires { Permits self.old name.now
             (ToChange (location_of directory) (Remove (number_of directory.node) entry.now (number_of object))) }
-        ensures ok { OnOk result (Becomes self.old name.now
-            (ToChange (location_of directory) (Remove (number_of directory.node) entry.now (number_of object))) self.new) }
-        ensures memory { IfErr result (λ deny. deny ≡ denial S5) }
-        ensures err { OnErr result (self.new ≡ self.old) }
+        ensures { Becomes self.old name.now
+            (ToChange (location_of directory) (Remove (number_of directory.node) entry.now (number_of object))) self.new }
     {
-        self.filesystems.unlink(directory.node, entry, object)
+        self.filesystems.unlink(directory.node, entry, object);
     }
 
     /// Writes bytes into a file from an offset on, and zeros into a gap before them: pwrite(2). No bytes change nothing.

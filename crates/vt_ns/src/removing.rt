@@ -35,7 +35,7 @@ impl World {
         ensures err { OnErr result (self.new ≡ self.old) }
     {
         let gone = trees_on(&self.mounts, directory.node, self.alloc)?;
-        self.filesystems.unlink(parent.node, entry, directory.node)?;
+        self.filesystems.unlink(parent.node, entry, directory.node);
         if !gone.is_empty() {
             detach_each(&mut self.mounts, &mut self.filesystems, &gone);
         }

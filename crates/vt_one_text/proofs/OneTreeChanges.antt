@@ -6,7 +6,7 @@ use Rattle.std.proofs.lemmas.Bool.Decides.{eqb_tells}
 use Rattle.vt_spec.specs.FileTree.{has_entry_to, targets_in}
 use Rattle.vt_spec.specs.Machine.Settled.{settled}
 use Rattle.vt_spec.specs.Language.Calls.{TaskName}
-use Rattle.vt_spec.specs.OneTree.Inodes.{Inode, Inodes, inode_with_node, node_in, tree_of, uses_in, with_changed}
+use Rattle.vt_spec.specs.Inodes.{Inode, Inodes, inode_with_node, node_in, tree_of, uses_in, with_changed}
 use Rattle.vt_spec.specs.OneTree.World.{Task, World, task_called}
 use Rattle.vt_spec.specs.Tree.{Node, Tree, entries_in, is_directory_node, name_cmp, parent_in}
 use Rattle.vt_spec.specs.TreeLaws.{IsDirectory}

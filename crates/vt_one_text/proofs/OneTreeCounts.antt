@@ -2,7 +2,7 @@
 use Rattle.std.proofs.Common.{◌≡◌, ◌≢◌, refl, sym, ap, subst, ◌∙◌, ⊎_elim, ℕ, suc, ◌+◌, ◌-◌, ◌≤◌, nat_eq, nat_le, eq-eqb, ne_eqb, true, false, cond, List, [], ◌∷◌, length, Option, Some, None, is_some, arith}
 use Rattle.std.proofs.lemmas.Bool.Decides.{eqb_tells, leb_tells}
 use Rattle.vt_spec.specs.FileTree.{targets_in}
-use Rattle.vt_spec.specs.OneTree.Inodes.{Inode, Inodes, count_after, inode_with_node, node_in, pinned, unpinned, used_once_less, used_once_more, uses_in, with_changed, with_inode}
+use Rattle.vt_spec.specs.Inodes.{Inode, Inodes, count_after, inode_with_node, node_in, pinned, unpinned, used_once_less, used_once_more, uses_in, with_changed, with_inode}
 use Rattle.vt_spec.specs.Tree.{Node}
 use Rattle.vt_one_text.specs.OneTree.{times_in}
 use Rattle.vt_one_text.proofs.OneTreeEntries.{changed_at, one_if}

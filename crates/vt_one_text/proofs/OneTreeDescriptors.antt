@@ -4,7 +4,7 @@ use Rattle.std.proofs.lemmas.Bool.Decides.{eqb_tells}
 use Rattle.vt_spec.specs.FileTree.{targets_in}
 use Rattle.vt_spec.specs.Machine.Outcome.Descriptors as Descriptors
 use Rattle.vt_spec.specs.Language.Calls.{TaskName}
-use Rattle.vt_spec.specs.OneTree.Inodes.{Inode, Inodes, tree_of, unpinned, uses_in}
+use Rattle.vt_spec.specs.Inodes.{Inode, Inodes, tree_of, unpinned, uses_in}
 use Rattle.vt_spec.specs.OneTree.Policy.{without_uses}
 use Rattle.vt_spec.specs.OneTree.World.{Descriptor, Task, World, free_from, inserted, is_called}
 use Rattle.vt_spec.specs.Tree.{Node, Tree, is_directory_node}

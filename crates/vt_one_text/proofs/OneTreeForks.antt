@@ -10,7 +10,7 @@ use Rattle.vt_spec.specs.Language.Limits.{deepest_name, most_forks}
 use Rattle.vt_spec.specs.Machine.Outcomes as Outcomes
 use Rattle.vt_spec.specs.Language.Answers.Answer.{Child}
 use Rattle.vt_spec.specs.Machine.World as MachineWorld
-use Rattle.vt_spec.specs.OneTree.Inodes.{tree_of}
+use Rattle.vt_spec.specs.Inodes.{tree_of}
 use Rattle.vt_spec.specs.OneTree.Permits.{Permit}
 use Rattle.vt_spec.specs.OneTree.Permits.Permit.{ToFork, ToSetCredentials, ToSetUmask}
 use Rattle.vt_spec.specs.OneTree.Policy.{child_name, child_of, fork_permit, with_child}

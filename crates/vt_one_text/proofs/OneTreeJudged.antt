@@ -13,7 +13,7 @@ use Rattle.vt_spec.specs.Machine.Policy as Machine
 use Rattle.vt_spec.specs.Machine.Settled.{settled}
 use Rattle.vt_spec.specs.Machine.Walk.{Stop, walk_end}
 use Rattle.vt_spec.specs.Machine.World as MachineWorld
-use Rattle.vt_spec.specs.OneTree.Inodes.{Inode, node_in, tree_of}
+use Rattle.vt_spec.specs.Inodes.{Inode, node_in, tree_of}
 use Rattle.vt_spec.specs.OneTree.Permits.{Permit}
 use Rattle.vt_spec.specs.OneTree.Policy.{judge, policy, spent}
 use Rattle.vt_spec.specs.OneTree.World.{Outcome, Task, World, after, is_called}

@@ -16,7 +16,7 @@ use Rattle.vt_spec.specs.Machine.Walk.{LastWord, final_word, is_special, last_wo
 use Rattle.vt_spec.specs.Machine.Walk.LastWord.{Dot, DotDot, Named, NoWord}
 use Rattle.vt_spec.specs.Machine.World as MachineWorld
 use Rattle.vt_spec.specs.Language.Calls.{TaskName}
-use Rattle.vt_spec.specs.OneTree.Inodes.{tree_of}
+use Rattle.vt_spec.specs.Inodes.{tree_of}
 use Rattle.vt_spec.specs.OneTree.Permits.{Permit}
 use Rattle.vt_spec.specs.OneTree.Permits.Permit.{ToChange}
 use Rattle.vt_spec.specs.OneTree.Policy.{hard_link_permit, rmdir_permit, unlink_permit}

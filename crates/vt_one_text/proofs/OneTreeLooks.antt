@@ -12,7 +12,7 @@ use Rattle.vt_spec.specs.Machine.Outcome.Looking as Looking
 use Rattle.vt_spec.specs.Machine.Outcomes as Outcomes
 use Rattle.vt_spec.specs.Machine.World as MachineWorld
 use Rattle.vt_spec.specs.Language.Calls.{TaskName}
-use Rattle.vt_spec.specs.OneTree.Inodes.{tree_of}
+use Rattle.vt_spec.specs.Inodes.{tree_of}
 use Rattle.vt_spec.specs.OneTree.Permits.{Permit}
 use Rattle.vt_spec.specs.OneTree.Policy.{exec_permit, list_permit, lstat_permit, pread_permit, read_permit, readlink_permit, stat_permit}
 use Rattle.vt_spec.specs.OneTree.Rules.{is_kind_at, may_not, descriptor_at}

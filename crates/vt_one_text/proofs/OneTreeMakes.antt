@@ -11,7 +11,7 @@ use Rattle.vt_spec.specs.Lists.{Fresh}
 use Rattle.vt_spec.specs.Machine.Outcome.Descriptors as Descriptors
 use Rattle.vt_spec.specs.Machine.Outcomes as Outcomes
 use Rattle.vt_spec.specs.Language.Answers.Answer.{Done}
-use Rattle.vt_spec.specs.OneTree.Inodes.{Inode, Inodes, inode_with_node, node_in, tree_of, uses_in, with_changed, with_new}
+use Rattle.vt_spec.specs.Inodes.{Inode, Inodes, inode_with_node, node_in, tree_of, uses_in, with_changed, with_new}
 use Rattle.vt_spec.specs.OneTree.Permits.Permit.{ToChange, ToOpenNew}
 use Rattle.vt_spec.specs.OneTree.World.{Task, World, is_called, with_inodes}
 use Rattle.vt_spec.specs.Rights.{is_directory}

@@ -8,7 +8,7 @@ use Rattle.vt_spec.specs.Language.Changes.{node_with_parent, node_without_entry,
 use Rattle.vt_spec.specs.FileTree.{has_entry_to, targets_in}
 use Rattle.vt_spec.specs.Machine.Settled.{settled}
 use Rattle.vt_spec.specs.Language.Calls.{TaskName}
-use Rattle.vt_spec.specs.OneTree.Inodes.{Inodes, tree_of, uses_in, with_changed, without_replaced}
+use Rattle.vt_spec.specs.Inodes.{Inodes, tree_of, uses_in, with_changed, without_replaced}
 use Rattle.vt_spec.specs.OneTree.World.{Task, World, with_inodes}
 use Rattle.vt_spec.specs.Tree.{Entries, Node, Tree, entries_in, entry_named, is_directory_node, name_cmp, node_with_entry, parent_in, with_entry}
 use Rattle.vt_spec.specs.TreeLaws.{IsDirectory}

@@ -11,7 +11,7 @@ use Rattle.vt_spec.specs.Machine.Outcomes as Outcomes
 use Rattle.vt_spec.specs.Language.Answers.Answer.{Done}
 use Rattle.vt_spec.specs.Machine.Settled.{settled}
 use Rattle.vt_spec.specs.Language.Calls.{TaskName}
-use Rattle.vt_spec.specs.OneTree.Inodes.{Inode, Inodes, node_in, tree_of, uses_in, with_changed, with_name, without_name}
+use Rattle.vt_spec.specs.Inodes.{Inode, Inodes, node_in, tree_of, uses_in, with_changed, with_name, without_name}
 use Rattle.vt_spec.specs.OneTree.Permits.Permit.{ToChange}
 use Rattle.vt_spec.specs.OneTree.World.{Task, World, with_inodes}
 use Rattle.vt_spec.specs.Rights.{is_directory}

@@ -2,10 +2,10 @@
 use Rattle.std.proofs.Common.{◌≡◌, refl, Option, Some, None}
 use Rattle.std.specs.Prelude.{option_map}
 use Rattle.vt_spec.specs.Language.Calls.{TaskName}
-use Rattle.vt_spec.specs.OneTree.Inodes.{Inode}
+use Rattle.vt_spec.specs.Inodes.{Inode, renamed_inode}
 use Rattle.vt_spec.specs.OneTree.Policy.{policy}
 use Rattle.vt_spec.specs.OneTree.World.{Outcome, Task, World}
-use Rattle.vt_one_text.specs.OneTreeNumbers.{OneTreeDoesNotSeeNumbers, renamed_descriptor, renamed_inode, renamed_outcome, renamed_task, renamed_world}
+use Rattle.vt_one_text.specs.OneTreeNumbers.{OneTreeDoesNotSeeNumbers, renamed_descriptor, renamed_outcome, renamed_task, renamed_world}
 use Rattle.vt_laws.proofs.Commuting.{Named, commutes_nat, map_itself, node_itself}
 
 -- With each number for itself nothing is renamed.

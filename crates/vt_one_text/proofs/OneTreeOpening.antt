@@ -4,7 +4,7 @@ use Rattle.std.specs.FinMap.Entries.{is_sorted}
 use Rattle.std.proofs.lemmas.Bool.Decides.{eqb_tells}
 use Rattle.vt_spec.specs.Language.Calls.{TaskName}
 use Rattle.vt_spec.specs.Machine.World.{root_attr}
-use Rattle.vt_spec.specs.OneTree.Inodes.{Inode, node_in, uses_in}
+use Rattle.vt_spec.specs.Inodes.{Inode, node_in, uses_in}
 use Rattle.vt_spec.specs.OneTree.World.{Task, first_task, opening, task_called}
 use Rattle.vt_spec.specs.Tree.{entries_in, is_directory_node, name_cmp, new_directory, parent_in}
 use Rattle.vt_one_text.specs.OneTree.{AreInOrder, OpeningIsFit, times_in}

@@ -16,7 +16,7 @@ use Rattle.vt_spec.specs.Machine.Policy as Machine
 use Rattle.vt_spec.specs.Machine.Receives as Receives
 use Rattle.vt_spec.specs.Machine.Settled.{settled}
 use Rattle.vt_spec.specs.Machine.World as MachineWorld
-use Rattle.vt_spec.specs.OneTree.Inodes.{Inode, Inodes, node_in, pinned, tree_of, unpinned, uses_in}
+use Rattle.vt_spec.specs.Inodes.{Inode, Inodes, node_in, pinned, tree_of, unpinned, uses_in}
 use Rattle.vt_spec.specs.OneTree.Permits.Permit.{ToClose, ToOpen}
 use Rattle.vt_spec.specs.OneTree.Policy.{close_permit, closed, descriptor_on, open_file, without_uses, with_opened}
 use Rattle.vt_spec.specs.OneTree.Rules.{is_kind_at, may_not}

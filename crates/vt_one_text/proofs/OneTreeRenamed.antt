@@ -3,7 +3,7 @@ use Rattle.std.proofs.Common.{◌≡◌, refl, sym, ap, subst, ◌∙◌, ℕ, �
 use Rattle.vt_spec.specs.FileTree.{targets_in}
 use Rattle.vt_spec.specs.Machine.Renaming.{renamed_content, renamed_entry}
 use Rattle.vt_spec.specs.Language.Calls.{TaskName}
-use Rattle.vt_spec.specs.OneTree.Inodes.{Inode, node_in, tree_of}
+use Rattle.vt_spec.specs.Inodes.{Inode, node_in, renamed_inode, tree_of}
 use Rattle.vt_spec.specs.OneTree.World.{Descriptor, Task, World}
 use Rattle.vt_spec.specs.Rights.{is_directory}
 use Rattle.vt_spec.specs.Tree.{Content, Entries, Tree, entries_in, entries_of, is_directory_node, kind_of, parent_in, parent_of}
@@ -11,7 +11,7 @@ use Rattle.vt_spec.specs.Tree.Content.{Directory, Regular, Symlink, Whiteout}
 use Rattle.vt_spec.specs.TreeLaws.{IsDirectory}
 use Rattle.vt_laws.specs.Renaming.{Renaming}
 use Rattle.vt_one_text.specs.OneTree.{IsFit, files_of, opened_in, times_in}
-use Rattle.vt_one_text.specs.OneTreeNumbers.{renamed_descriptor, renamed_inode, renamed_task, renamed_world}
+use Rattle.vt_one_text.specs.OneTreeNumbers.{renamed_descriptor, renamed_task, renamed_world}
 use Rattle.vt_one_text.proofs.OneTreeChanges.{directory_there, used_is_there, uses_parts}
 use Rattle.vt_one_text.proofs.OneTreeEntries.{named_by, named_of, one_if, targets}
 use Rattle.vt_one_text.proofs.OneTreeTrees.{parent_is, times_append}

@@ -18,7 +18,7 @@ use Rattle.vt_spec.specs.Machine.Walk.{LastWord, is_special, name_of}
 use Rattle.vt_spec.specs.Machine.Walk.LastWord.{Dot, DotDot, Named, NoWord}
 use Rattle.vt_spec.specs.Machine.World as MachineWorld
 use Rattle.vt_spec.specs.Language.Calls.{TaskName}
-use Rattle.vt_spec.specs.OneTree.Inodes.{Inodes, is_directory_under, parent_above, tree_of, with_moved, without_replaced}
+use Rattle.vt_spec.specs.Inodes.{Inodes, is_directory_under, parent_above, tree_of, with_moved, without_replaced}
 use Rattle.vt_spec.specs.OneTree.Permits.{Permit}
 use Rattle.vt_spec.specs.OneTree.Permits.Permit.{ToChange}
 use Rattle.vt_spec.specs.OneTree.Policy.{rename_permit, renamed_by}
@@ -144,7 +144,7 @@ module _ (beside : Beside) (world : World ℕ) (name : TaskName) (task : Task �
       )
     where
       under : Inodes ℕ
-      under = Rattle.vt_spec.specs.OneTree.Inodes.with_changed nat_eq (Rattle.vt_spec.specs.OneTree.Inodes.with_changed nat_eq (Rattle.vt_spec.specs.OneTree.Inodes.with_changed nat_eq world.inodes from (Rattle.vt_spec.specs.Language.Changes.node_without_entry old)) to (Rattle.vt_spec.specs.Tree.node_with_entry new object)) object (Rattle.vt_spec.specs.Language.Changes.node_with_parent to)
+      under = Rattle.vt_spec.specs.Inodes.with_changed nat_eq (Rattle.vt_spec.specs.Inodes.with_changed nat_eq (Rattle.vt_spec.specs.Inodes.with_changed nat_eq world.inodes from (Rattle.vt_spec.specs.Language.Changes.node_without_entry old)) to (Rattle.vt_spec.specs.Tree.node_with_entry new object)) object (Rattle.vt_spec.specs.Language.Changes.node_with_parent to)
 
       machine : Option ℕ → FileTree.FileTree ℕ
       machine o = Rattle.vt_spec.specs.Language.Changes.changed_node nat_eq (Rattle.vt_spec.specs.Language.Changes.with_name nat_eq

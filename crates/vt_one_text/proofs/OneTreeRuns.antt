@@ -17,7 +17,7 @@ use Rattle.vt_spec.specs.Language.Script as Script
 use Rattle.vt_spec.specs.Language.Limits as ScriptLanguage
 use Rattle.vt_spec.specs.Machine.World as MachineWorld
 use Rattle.vt_spec.specs.Language.Calls as MachineWorldLanguage
-use Rattle.vt_spec.specs.OneTree.Inodes.{Inode, node_in}
+use Rattle.vt_spec.specs.Inodes.{Inode, node_in}
 use Rattle.vt_spec.specs.OneTree.Policy.{judge, policy, spent}
 use Rattle.vt_spec.specs.OneTree.Run as Tree
 use Rattle.vt_spec.specs.OneTree.World.{Outcome, World, after, denied, is_called, opening}

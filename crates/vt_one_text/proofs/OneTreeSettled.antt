@@ -12,7 +12,7 @@ use Rattle.vt_spec.specs.Machine.Policy as Machine
 use Rattle.vt_spec.specs.Machine.Settled as Settled
 use Rattle.vt_spec.specs.Machine.World as MachineWorld
 use Rattle.vt_spec.specs.Language.Calls.{TaskName, same_name}
-use Rattle.vt_spec.specs.OneTree.Inodes.{Inode, node_in, tree_of, uses_in}
+use Rattle.vt_spec.specs.Inodes.{Inode, node_in, tree_of, uses_in}
 use Rattle.vt_spec.specs.OneTree.World.{Descriptor, Task, World, task_called}
 use Rattle.vt_one_text.specs.OneTree.{AreApart, AreInOrder, Beside, IsFit, IsWhole, descriptor_there, embedded, files_of, filesystem_there, location_there, mount_there, opened_in, task_there, times_in}
 use Rattle.vt_one_text.proofs.OneTreeTrees.{among_times, times_among}

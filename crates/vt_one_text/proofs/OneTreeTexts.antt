@@ -3,14 +3,14 @@ use Rattle.std.proofs.Common.{◌≡◌, refl, sym, ap, subst, ◌∙◌, ⊎_el
 use Rattle.vt_spec.specs.Language.Calls.{Call, TaskName}
 use Rattle.vt_spec.specs.Language.Script as Script
 use Rattle.vt_spec.specs.Language.Limits as ScriptLanguage
-use Rattle.vt_spec.specs.OneTree.Inodes.{Inode}
+use Rattle.vt_spec.specs.Inodes.{Inode, renamed_inode}
 use Rattle.vt_spec.specs.OneTree.Policy.{policy}
 use Rattle.vt_spec.specs.OneTree.Run.{Step, Tells, line_step, line_step_by, requested, script_text, step_text, step_world, text_from}
 use Rattle.vt_spec.specs.OneTree.Run.Step.{Answered, Silent}
 use Rattle.vt_spec.specs.OneTree.World.{World, opening}
 use Rattle.vt_laws.specs.Renaming.{Leaves, Renaming}
 use Rattle.vt_one_text.specs.OneTree.{IsAnsweredAlike, IsFit, IsImage}
-use Rattle.vt_one_text.specs.OneTreeNumbers.{renamed_inode, renamed_outcome, renamed_world}
+use Rattle.vt_one_text.specs.OneTreeNumbers.{renamed_outcome, renamed_world}
 use Rattle.vt_one_text.specs.OneTreeTexts.{LanguageTextIsTheText, LinesKeepFit, OneTreeHasOneText, OneTreeHasSomeText, RefusedLinesKeepFit, WholeTextIsTheText}
 use Rattle.vt_one_text.proofs.OneTreeNumbers.{outcome_itself, world_itself}
 use Rattle.vt_one_text.proofs.OneTreeOpening.{opening_is_fit}

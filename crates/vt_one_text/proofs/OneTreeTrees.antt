@@ -6,7 +6,7 @@ use Rattle.vt_spec.specs.Tree.{Tree, Node, entries_in, is_directory_node, parent
 use Rattle.vt_spec.specs.TreeLaws.{IsDirectory}
 use Rattle.vt_spec.specs.FileTree.{has_entry_to, is_directory_under, named_parent, targets_in}
 use Rattle.vt_spec.specs.Lists.{chain, is_among, when}
-use Rattle.vt_spec.specs.OneTree.Inodes.{tree_of}
+use Rattle.vt_spec.specs.Inodes.{tree_of}
 use Rattle.vt_spec.specs.OneTree.World.{World}
 use Rattle.vt_one_text.specs.OneTree.{IsFit, IsWhole, times_in, upwards}
 
@@ -239,7 +239,7 @@ module _ (numbers : List ℕ) (world : World ℕ) (fit : IsFit numbers world) wh
   pub directory_once : (directory : ℕ) → IsDirectory tree directory → times_in directory numbers ≡ 1
   directory_once directory is = fit.each_once directory ∙ ap (λ b. cond b 1 0) (by (world.inodes.inode directory) is)
     where
-      by : (o : Option (Rattle.vt_spec.specs.OneTree.Inodes.Inode ℕ)) → is_directory_node (Rattle.vt_spec.specs.OneTree.Inodes.node_in o) ≡ true → is_some o ≡ true
+      by : (o : Option (Rattle.vt_spec.specs.Inodes.Inode ℕ)) → is_directory_node (Rattle.vt_spec.specs.Inodes.node_in o) ≡ true → is_some o ≡ true
       by None e = cc
       by (Some inode) e = refl
 

@@ -18,7 +18,7 @@ use Rattle.vt_spec.specs.Language.Limits.{most_symlinks}
 use Rattle.vt_spec.specs.Machine.Walk.LastWord.{Dot, DotDot, Named, NoWord}
 use Rattle.vt_spec.specs.Machine.World as MachineWorld
 use Rattle.vt_spec.specs.Language.Calls.{TaskName}
-use Rattle.vt_spec.specs.OneTree.Inodes.{tree_of}
+use Rattle.vt_spec.specs.Inodes.{tree_of}
 use Rattle.vt_spec.specs.OneTree.Walk.{Follow, Here, Place, directory_walk, file_or_symlink, file_walk, file_walked, follow_rules, followed, front_walked, if_link, is_directory_at, last_walked, symlink_of, symlink_start, symlink_there, symlink_walk, symlink_walked, may, new_leaf_walk, new_walk, object_named, object_walk, old_leaf_walk, old_walk, path_walked, placed, rename_new_walk, search_rules, slash_rules, start_of, stepped, unfollowed_walk, walk_start, word_walked, words_walked, is_directory_there}
 use Rattle.vt_spec.specs.OneTree.World.{Task, World}
 use Rattle.vt_one_text.specs.OneTree.{Beside, EndsAlike, IsFit, Steps, embedded, here_there, location_there, place_there, task_there}

@@ -11,7 +11,7 @@ use Rattle.vt_spec.specs.Machine.Mounts.Propagation.{Private}
 use Rattle.vt_spec.specs.Machine.Walk as whole_walk
 use Rattle.vt_spec.specs.Machine.Outcome.Removing as whole_removing
 use Rattle.vt_spec.specs.Machine.World as whole_world
-use Rattle.vt_spec.specs.OneTree.Inodes.{Inodes, tree_of, uses_in}
+use Rattle.vt_spec.specs.Inodes.{Inodes, tree_of, uses_in}
 use Rattle.vt_spec.specs.OneTree.Walk.{Here, Place, directory_walk, file_walk, symlink_walk, new_leaf_walk, new_walk, object_walk, old_leaf_walk, old_walk, rename_new_walk}
 use Rattle.vt_spec.specs.OneTree.World.{Descriptor, Outcome, Task, World, is_called, opening, task_called}
 use Rattle.vt_spec.specs.OneTree.Policy.{policy}

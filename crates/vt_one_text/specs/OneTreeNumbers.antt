@@ -1,23 +1,12 @@
 -- Worlds of one tree with other numbers: names, bytes, attributes and tasks stay.
-use Rattle.std.specs.Prelude.{map, nat_eq, option_map, ℕ, ◌≡◌}
+use Rattle.std.specs.Prelude.{map, nat_eq, ℕ, ◌≡◌}
 use Rattle.vt_spec.specs.Language.Calls.{Call, TaskName}
-use Rattle.vt_spec.specs.Machine.Renaming.{renamed_node}
-use Rattle.vt_spec.specs.OneTree.Inodes.{Inode, Inodes}
+use Rattle.vt_spec.specs.Inodes.{renamed_inodes}
 use Rattle.vt_spec.specs.OneTree.Policy.{policy}
 use Rattle.vt_spec.specs.OneTree.World.{Descriptor, Outcome, Task, World}
 use Rattle.vt_laws.specs.Renaming.{Renaming}
 
 module _ {N M : Type 0} (there : N → M) (back : M → N) where
-  abbrev pub renamed_inode : Inode N → Inode M
-  renamed_inode inode = record { node = renamed_node there back inode.node; uses = inode.uses }
-
-  abbrev pub renamed_inodes : Inodes N → Inodes M
-  renamed_inodes inodes = record {
-    root = there inodes.root;
-    inode = λ number. option_map renamed_inode (inodes.inode (back number));
-    count = inodes.count;
-  }
-
   abbrev pub renamed_descriptor : Descriptor N → Descriptor M
   renamed_descriptor descriptor =
       record { number = descriptor.number; file = there descriptor.file; reads = descriptor.reads; writes = descriptor.writes }
@@ -34,7 +23,7 @@ module _ {N M : Type 0} (there : N → M) (back : M → N) where
   )
 
   abbrev pub renamed_world : World N → World M
-  renamed_world world = record { inodes = renamed_inodes world.inodes; tasks = map renamed_task world.tasks }
+  renamed_world world = record { inodes = renamed_inodes there back world.inodes; tasks = map renamed_task world.tasks }
 
   abbrev pub renamed_outcome : Outcome N → Outcome M
   renamed_outcome outcome = record { answer = outcome.answer; world = renamed_world outcome.world }

@@ -13,18 +13,18 @@ use Rattle.vt_spec.specs.FileTree.{FileTree, is_kind_in}
 use Rattle.vt_spec.specs.Language.Changes.{Change}
 use Rattle.vt_spec.specs.Language.Changes.Change.{AddName, CopyUp, Make, Move, Remove, SetAttr, SetBytes, SetMark}
 use Rattle.vt_spec.specs.Language.Limits.{largest_file}
-use Rattle.vt_spec.specs.Lists.{Fresh, chain, evens, is_among, is_empty_list}
+use Rattle.vt_spec.specs.Lists.{Fresh, chain, evens, is_among}
 use Rattle.vt_spec.specs.Machine.Mounts.{Location}
 use Rattle.vt_spec.specs.Machine.Outcome.Descriptors.{overwritten, padded}
 use Rattle.vt_spec.specs.Machine.Permits.{Permit}
 use Rattle.vt_spec.specs.Machine.Permits.Permit.{Allowed, ToBind, ToChange, ToClose, ToEnterNamespace, ToExit, ToFork, ToList, ToListMounts, ToMake, ToMountOverlay, ToMountPlain, ToMove, ToOpen, ToOpenNew, ToPivot, ToRead, ToReadPart, ToRemoveDirectory, ToRename, ToSetCredentials, ToSetDirectory, ToSetFlags, ToSetRoot, ToSetType, ToSetUmask, ToStat, ToUnmount, ToUnmountLazily, ToUnshare, ToWritePart}
 use Rattle.vt_spec.specs.Machine.World.{Filesystem, Task, World, files_at, mount_at, node_at}
 use Rattle.vt_spec.specs.Machine.Invariants.{IsWorld, ListsNumbers, has_fit_names, has_fit_text, is_fit_filesystem, is_no_larger}
-use Rattle.vt_spec.specs.OneTree.Fits.{Fits, MayReplace}
-use Rattle.vt_spec.specs.OneTree.Inodes.{Inode, Inodes, parent_above, tree_of}
+use Rattle.vt_spec.specs.Fits.{Fits, MayReplace}
+use Rattle.vt_spec.specs.Inodes.{Inode, Inodes, parent_above, tree_of}
 use Rattle.vt_spec.specs.PathText.{is_empty}
 use Rattle.vt_spec.specs.Rights.{is_directory}
-use Rattle.vt_spec.specs.Tree.{Content, Entries, Node, Tree, bytes_in, entries_in, is_directory_node, kind_of, parent_in}
+use Rattle.vt_spec.specs.Tree.{Content, Node, Tree, bytes_in, entries_in, is_directory_node, kind_of, parent_in}
 use Rattle.vt_spec.specs.Tree.Content.{Directory, Regular, Symlink, Whiteout}
 use Rattle.vt_spec.specs.TreeLaws.{HasName, IsDirectory, IsReached, IsTree, entry_at, led}
 use Rattle.vt_spec.proofs.Lists.{chain_ends, chain_goes_on}
@@ -98,10 +98,6 @@ module _ (inodes : Inodes ℕ) where
             ∙ ⊎_elim (λ same. absurd (true≢false (sym (eq-eqb directory inodes.root (sym same)) ∙ e))) goes_on
             (reached_named tree directory reached)
 
-  filled : (object : ℕ) → entries_in (tree.node object) ≡ []
-      → not (is_empty_list (entries_in (tree.node object))) ≡ false
-  filled object e = ap (λ (entries : Entries ℕ). not (is_empty_list entries)) e
-
   fits : (change : Change ℕ) → Facts tree change → Fits inodes change
   fits (Make directory name number node) facts = (
     facts.0.name_is_free.in_directory,
@@ -111,7 +107,7 @@ module _ (inodes : Inodes ℕ) where
   )
   fits (AddName directory name object) facts =
       (facts.0.name_is_free.in_directory, facts.0.name_is_free.free, facts.0.no_directory)
-  fits (Remove directory name object) facts = (facts.0.named, filled object facts.0.empty)
+  fits (Remove directory name object) facts = (facts.0.named, facts.0.empty)
   fits (Move from old to new object) facts = (
     facts.0.named,
     facts.0.in_directory,
@@ -120,12 +116,12 @@ module _ (inodes : Inodes ℕ) where
         above facts.1.0 object to facts.0.not_under inodes.count to facts.0.in_directory facts.0.reached [] refl,
   )
     where
-      replaces : (o : Option ℕ) → entry_at tree to new ≡ o → MayReplace inodes object o
+      replaces : (o : Option ℕ) → entry_at tree to new ≡ o → MayReplace tree object o
       replaces None e = tt
       replaces (Some other) e = (
         (λ same. facts.0.replaced_other (e ∙ ap Some same)),
         facts.1.1 other e,
-        filled other (facts.0.replaced_empty other e),
+        facts.0.replaced_empty other e,
       )
   fits (SetBytes file bytes) facts = (facts.1.0, leb-true (length bytes) largest_file facts.1.1)
   fits (SetAttr object attr) facts = tt

@@ -14,8 +14,8 @@ use Rattle.vt_spec.specs.Machine.Permits.Permit.{Allowed, ToBind, ToChange, ToCl
 use Rattle.vt_spec.specs.Machine.Rules.Descriptors.{descriptor_numbered}
 use Rattle.vt_spec.specs.Machine.World.{Descriptor, Task, World, files_at, is_directory_at}
 use Rattle.vt_spec.specs.Machine.Invariants.{IsWorld}
-use Rattle.vt_spec.specs.OneTree.Fits
-use Rattle.vt_spec.specs.OneTree.Inodes.{Inodes, tree_of}
+use Rattle.vt_spec.specs.Fits.{Fits}
+use Rattle.vt_spec.specs.Inodes.{Inodes, tree_of}
 use Rattle.vt_spec.specs.PathText.{is_empty}
 use Rattle.vt_spec.specs.Tree.{Node, Tree, is_directory_node}
 use Rattle.vt_spec.specs.TreeLaws.{entry_at}
@@ -129,4 +129,4 @@ GivenChangesFit =
     (world : World ℕ) (fresh : Fresh ℕ) (task : Task ℕ) (permit : Permit ℕ) (location : Location ℕ) (change : Change ℕ)
     (inodes : Inodes ℕ) → IsWorld nat_eq world → IsPlain world → IsGiven fresh world task permit
     → change_of fresh world permit ≡ Some (location, change)
-    → tree_of inodes ≡ tree_at world location → Fits.Fits inodes change
+    → tree_of inodes ≡ tree_at world location → Fits inodes change

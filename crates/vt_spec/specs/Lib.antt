@@ -6,6 +6,8 @@ pub mod TreeLaws
 pub mod Lists
 pub mod FileTree
 pub mod Language
+pub mod Inodes
+pub mod Fits
 pub mod Machine
 pub mod OneTree
 pub mod Laws

@@ -1,5 +1,5 @@
 -- A new entry before the old one goes, or after: the tree is the same.
-use Rattle.std.proofs.Common.{◌≡◌, ◌≢◌, ℕ, Bool, true, false, cond, not, List, Option, Some, None, Ok, Err, [], ◌∷◌, ◌++◌, nat_eq, eq-eqb, eqb-true, ne_eqb, refl, sym, ap, subst, ◌∙◌, ⊎_elim, true≢false, is_some}
+use Rattle.std.proofs.Common.{◌≡◌, ◌≢◌, ℕ, Bool, true, false, cond, not, List, Option, Some, None, nat_eq, eq-eqb, eqb-true, ne_eqb, refl, sym, ap, subst, ◌∙◌, ⊎_elim, true≢false, is_some}
 use Rattle.std.proofs.lemmas.Bool.Decides.{eqb_tells}
 use Rattle.std.proofs.lemmas.Float.{T_from_true}
 use Rattle.std.specs.Str.{bytes_eq}
@@ -7,16 +7,11 @@ use Rattle.std.specs.Cmp.Lexicographic.{bytes_decides, nat_list_cmp_total}
 use Rattle.std.specs.FinMap.Entries.{find-where_key, is_sorted, is_sorted-put, is_sorted-where_key, same_entries}
 use Rattle.std.specs.Ordering.{eq_by_cmp, is_eq}
 use Rattle.vt_spec.specs.Language.Changes.{node_with_parent, node_without_entry, without_entry}
-use Rattle.vt_spec.specs.Lists.{holds_of}
-use Rattle.vt_spec.specs.OneTree.Fits.{MayReplace}
-use Rattle.vt_spec.specs.OneTree.Inodes.{Inode, Inodes, inode_with_node, node_in, tree_of, with_changed}
+use Rattle.vt_spec.specs.Fits.{MayReplace}
+use Rattle.vt_spec.specs.Inodes.{Inode, Inodes, inode_with_node, node_in, tree_of, with_changed}
 use Rattle.vt_spec.specs.TreeLaws.{entry_at}
-use Rattle.vt_spec.specs.Tree.{Content, Entries, Node, entries_in, entries_of, entry_named, name_cmp, node_with_entry, with_entries, with_entry}
+use Rattle.vt_spec.specs.Tree.{Content, Entries, Node, Tree, entries_in, entries_of, entry_named, name_cmp, node_with_entry, with_entries, with_entry}
 use Rattle.vt_spec.specs.Tree.Content.{Directory, Regular, Symlink, Whiteout}
-use Rattle.vt_spec.specs.declared.errors.Deny.{Deny}
-use Rattle.vt_spec.specs.declared.errors.Rule.TheVariants.{W6}
-use Rattle.vt_spec.specs.Errors.{Rules}
-use Rattle.vt_tree.specs.TreeRules.{leads_to, rename_rules, ruling}
 use Rattle.vt_spec.proofs.Nodes.{entry_named-with_entry, same_name}
 
 -- entries without a name lead by the others where they led
@@ -118,31 +113,10 @@ module _ (inodes : Inodes ℕ) (f g : Option (Node ℕ) → Option (Node ℕ)) w
           ∙ ap (λ t. cond (nat_eq other number) (by_f (cond t (by_g (inodes.inode number)) (inodes.inode number))) (cond (nat_eq other number) (by_g (inodes.inode number)) (inodes.inode other)))
           (sym (eq-eqb number number refl))
 
--- a name that leads somewhere
-pub leads : (object : ℕ) (found : Option ℕ) → holds_of (nat_eq object) found ≡ true → found ≡ Some object
-leads object None e = absurd (true≢false (sym e))
-leads object (Some other) e = ap Some (sym (eqb-true object other e))
-
 -- what may be replaced is another object
-pub replaced_other : (inodes : Inodes ℕ) (object : ℕ) (found : Option ℕ) → MayReplace inodes object found → found ≢ Some object
-replaced_other inodes object None may e = absurd (true≢false (sym (ap is_some e)))
-replaced_other inodes object (Some other) may e = may.0 cc
-
--- a rule that refuses does so with more behind it
-pub refused_before : (rules more : Rules) (deny : Deny) → ruling rules ≡ Err deny → ruling (rules ++ more) ≡ Err deny
-refused_before [] more deny e = cc
-refused_before ((true, rule) ∷ rules) more deny e = e
-refused_before ((false, rule) ∷ rules) more deny e = refused_before rules more deny e
-
--- where the first rule does not refuse
-passed : (test : Bool) (rules : Rules) → ruling ((not test, W6) ∷ rules) ≡ Ok tt → test ≡ true
-passed true rules e = refl
-passed false rules e = cc
-
-pub named_if_allowed : (inodes : Inodes ℕ) (from : ℕ) (old : List ℕ) (to : ℕ) (new : List ℕ) (object : ℕ)
-    → ruling (rename_rules inodes from old to new object) ≡ Ok tt → entry_at (tree_of inodes) from old ≡ Some object
-named_if_allowed inodes from old to new object allowed =
-    leads object (entry_at (tree_of inodes) from old) (passed (leads_to (tree_of inodes) from old object) _ allowed)
+pub replaced_other : (tree : Tree ℕ) (object : ℕ) (found : Option ℕ) → MayReplace tree object found → found ≢ Some object
+replaced_other tree object None may e = absurd (true≢false (sym (ap is_some e)))
+replaced_other tree object (Some other) may e = may.0 cc
 
 module _ (inodes : Inodes ℕ) (from : ℕ) (old : List ℕ) (to : ℕ) (new : List ℕ) (object : ℕ)
     (sorted : is_sorted name_cmp (entries_in (node_in (inodes.inode to))) ≡ true)

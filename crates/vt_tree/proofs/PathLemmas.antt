@@ -6,11 +6,11 @@ use Rattle.std.proofs.lemmas.List.{append-nil, append_assoc, map-append, reverse
 use Rattle.std.proofs.lemmas.List.Sums.{take_while-cons}
 use Rattle.vt_spec.specs.FileTree.{has_entry_to, named_parent, own_name}
 use Rattle.vt_spec.specs.Lists.{before_first, chain, is_among, when}
-use Rattle.vt_spec.specs.OneTree.Inodes.{Inodes, tree_of}
+use Rattle.vt_spec.specs.Inodes.{Inodes, tree_of}
 use Rattle.vt_spec.specs.Tree.{Content, Entries, Node, Tree, entries_in, entries_of, entry_named, is_directory_node, parent_in}
 use Rattle.vt_spec.specs.Tree.Content.{Directory, Regular, Symlink, Whiteout}
 use Rattle.vt_node.specs.Listed.{HasOneName}
-use Rattle.vt_tree.specs.Paths.{NamesDirectoriesOnce, files_of, path_in}
+use Rattle.vt_tree.specs.Paths.{NamesDirectoriesOnce, files_of}
 
 module _ (inodes : Inodes ℕ) (top : ℕ) where
   abbrev up : ℕ → Option ℕ

@@ -2,7 +2,7 @@
 use Rattle.std.proofs.Common.{◌≡◌, ℕ, ◌+◌, ◌≤◌, List, [], ◌∷◌, Option, Some, None, cond, zero, suc, fold, is_some, nat_eq, if◌then◌else◌, slice_index_or, slice_set, refl, ap, arith}
 use Rattle.std.proofs.lemmas.Bool.Decides.{nat_tests}
 use Rattle.slab.specs.Slab.{Slab, get, Updates}
-use Rattle.vt_spec.specs.OneTree.Inodes.{Inode, inode_with_node, uses_in, used_once_less}
+use Rattle.vt_spec.specs.Inodes.{Inode, inode_with_node, uses_in, used_once_less}
 use Rattle.vt_spec.specs.Tree.{Node}
 use Rattle.vt_tree.specs.Slots.{Slots, put_at, slots_len, with_node_at}
 

@@ -2,7 +2,7 @@
 use Rattle.std.specs.Prelude.{Bool, List, Option, Some, [], map, reverse, true, ℕ, ◌≡◌}
 use Rattle.vt_spec.specs.FileTree.{FileTree, named_parent, own_name}
 use Rattle.vt_spec.specs.Lists.{before_first, chain, is_among, when}
-use Rattle.vt_spec.specs.OneTree.Inodes.{Inodes, tree_of}
+use Rattle.vt_spec.specs.Inodes.{Inodes, tree_of}
 use Rattle.vt_spec.specs.Tree.{Tree, is_directory_node}
 use Rattle.vt_spec.specs.TreeLaws.{entry_at}
 

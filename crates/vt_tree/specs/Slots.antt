@@ -1,6 +1,6 @@
 -- What a contract sees of `Slots`.
 use Rattle.std.specs.Prelude.{ℕ, Bool, List, None, Option, Some, count_by, false, if◌then◌else◌, is_none, is_some, nat_eq, slice_index_or, slice_set}
-use Rattle.vt_spec.specs.OneTree.Inodes.{Inode, Inodes, inode_with_node, node_in, used_once_less}
+use Rattle.vt_spec.specs.Inodes.{Inode, Inodes, inode_with_node, node_in, used_once_less}
 use Rattle.vt_spec.specs.Tree.{Node}
 
 -- what is at each number from 0 on, the number that the next insert gives out, and how many nodes fit with no allocation

@@ -1,6 +1,6 @@
 -- What a contract sees of a `Tree`.
 use Rattle.std.specs.Prelude.{ℕ, List, Option, None, count_by, is_some, slice_index_or}
-use Rattle.vt_spec.specs.OneTree.Inodes.{Inode, Inodes, tree_of as tree_of_inodes}
+use Rattle.vt_spec.specs.Inodes.{Inode, Inodes, tree_of as tree_of_inodes}
 use Rattle.vt_spec.specs.Tree.{Tree}
 
 -- the number of the root, the inode at each number from 0 on, and the number that the next new object gets

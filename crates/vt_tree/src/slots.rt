@@ -4,7 +4,7 @@ ghost use Rattle.std.specs.Option.{option_copied_mut};
 ghost use Rattle.std.specs.Borrow.{Lends, sem};
 ghost use Rattle.vt_spec.specs.Errors.{denial};
 ghost use Rattle.vt_spec.specs.declared.errors.Rule.TheVariants.{S5};
-ghost use Rattle.vt_spec.specs.OneTree.Inodes.{uses_in, used_once_less, used_once_more};
+ghost use Rattle.vt_spec.specs.Inodes.{uses_in, used_once_less, used_once_more};
 
 use slab::Slab;
 use std::alloc::Global;
@@ -21,7 +21,7 @@ struct Slot {
 
 impl Model for Slot {
     ghost use Rattle.std.specs.Prelude.{ℕ};
-    ghost use Rattle.vt_spec.specs.OneTree.Inodes.{Inode};
+    ghost use Rattle.vt_spec.specs.Inodes.{Inode};
 
     ghost Value = { Inode ℕ };
 

@@ -1,17 +1,17 @@
 //! `Tree`, and what its calls change.
-ghost use Rattle.std.specs.Prelude.{◌≡◌, ◌≢◌, ℕ, ◌^◌, ◌≤◌, ◌+◌, ◌<◌, nat_eq, [], ◌∷◌, map, length, drop, take, Ok, None, Some, IfOk, IfErr, OnOk, OnErr, IsErrOf, IsOk, IsOkUnless, IsTrue, ◌↔◌, ◌⊎◌, option_copied};
+ghost use Rattle.std.specs.Prelude.{◌≡◌, ℕ, ◌^◌, ◌≤◌, ◌+◌, ◌<◌, ◌↔◌, nat_eq, false, [], map, length, drop, take, None, Some, IfOk, IfErr, OnOk, OnErr, IsErrOf, IsOk, IsTrue, option_copied};
 ghost use Rattle.vt_spec.specs.Errors.{denial};
 ghost use Rattle.vt_spec.specs.declared.attributes.Kind.TheVariants.{File};
-ghost use Rattle.vt_spec.specs.declared.errors.Rule.TheVariants.{S5, E2};
+ghost use Rattle.vt_spec.specs.declared.errors.Rule.TheVariants.{S5};
+ghost use Rattle.vt_spec.specs.FileTree.{is_kind_in};
+ghost use Rattle.vt_spec.specs.Fits.{MayReplace, StaysOutside};
+ghost use Rattle.vt_spec.specs.Inodes.{changed, is_directory_under, one_directory, pinned, unpinned, uses_in};
 ghost use Rattle.vt_spec.specs.Laws.Trees.{IsNewIn};
 ghost use Rattle.vt_spec.specs.Language.Changes.Change.{AddName, Make, Move, Remove, SetAttr, SetBytes};
+ghost use Rattle.vt_spec.specs.Language.Limits.{largest_file};
 ghost use Rattle.vt_spec.specs.Machine.Outcome.Descriptors.{overwritten};
-ghost use Rattle.vt_spec.specs.OneTree.Fits.{Fits};
-ghost use Rattle.vt_spec.specs.OneTree.Inodes.{changed, is_directory_under, one_directory, pinned, unpinned, uses_in};
-ghost use Rattle.vt_spec.specs.OneTree.Rules.{is_filled, is_kind_at};
 ghost use Rattle.vt_spec.specs.Tree.{is_directory_node, parent_in, entries_in, names_in, bytes_in};
-ghost use Rattle.vt_spec.specs.TreeLaws.{entry_at};
-ghost use Rattle.vt_tree.specs.TreeRules.{AnswersBy, leads_to, hard_link_rules, make_rules, rename_rules, ruling, unlink_rules, write_rules};
+ghost use Rattle.vt_spec.specs.TreeLaws.{IsDirectory, entry_at};
 ghost use Rattle.vt_tree.specs.TreeValue.{inodes_of, tree_of, next_number};
 ghost use Rattle.vt_tree.specs.Slots.{most_uses};
 
@@ -22,7 +22,7 @@ use crate::changes::{
 use crate::slots::Slots;
 use std::alloc::Global;
 use std::marker::Model;
-use vt_node::{Attr, LARGEST_FILE, Node, NodeId, copied_bytes};
+use vt_node::{Attr, Node, NodeId, copied_bytes};
 use vt_spec::errors::{Deny, Rule};
 
 /// A tree of directories, files, symlinks and whiteouts, each with a number, and with a count of its uses: the names that
@@ -91,26 +91,6 @@ impl Tree {
         self.slots.get(id)
     }
 
-    /// Whether the number is of a directory.
-    pub fn is_directory(&self, id: NodeId) -> bool
-        ensures { result ≡ is_directory_node ((tree_of self.now).node id) }
-    {
-        match self.slots.get(id) {
-            Some(node) => node.is_directory(),
-            None => false,
-        }
-    }
-
-    /// Whether the number is of a directory with entries.
-    pub fn is_filled(&self, id: NodeId) -> bool
-        ensures { result ≡ is_filled (tree_of self.now) id }
-    {
-        match self.slots.get(id) {
-            Some(node) => node.is_filled(),
-            None => false,
-        }
-    }
-
     /// The parent of a directory; of anything else its own number.
     pub fn parent(&self, id: NodeId) -> NodeId
         ensures { result ≡ parent_in id ((tree_of self.now).node id) }
@@ -119,13 +99,6 @@ impl Tree {
             Some(node) => node.parent(id),
             None => id,
         }
-    }
-
-    /// The number that a name of a directory leads to.
-    pub fn look(&self, directory: NodeId, name: &[u8]) -> Option<NodeId>
-        ensures { result ≡ entry_at (tree_of self.now) directory name.now }
-    {
-        self.slots.get(directory)?.entry(name)
     }
 
     /// How often the object is in use: the names that lead to it, and what is pinned. A number without an object has no
@@ -149,24 +122,6 @@ impl Tree {
             return Ok(Vec::new(self.alloc));
         };
         node.names(self.alloc).map_err(|_error| Rule::S5.denial())
-    }
-
-    /// The bytes of a file, or the text of a symlink: read(2).
-    ///
-    /// E2: a directory. S5: an allocation failed. No bytes need none.
-    pub fn read(&self, file: NodeId) -> Result<Vec<u8>, Deny>
-        ensures ok { IfOk result (λ bytes. bytes.items ≡ bytes_in ((tree_of self.now).node file)) }
-        ensures directory { IsErrOf result (denial E2) ↔ IsTrue (is_directory_node ((tree_of self.now).node file)) }
-        ensures empty { IsErrOf result (denial S5) → bytes_in ((tree_of self.now).node file) ≢ [] }
-        ensures errors { IfErr result (λ deny. (deny ≡ denial E2) ⊎ (deny ≡ denial S5)) }
-    {
-        match self.slots.get(file) {
-            Some(node) if node.is_directory() => Err(Rule::E2.denial()),
-            Some(node) => {
-                copied_bytes(self.alloc, node.bytes()).map_err(|_error| Rule::S5.denial())
-            }
-            None => Ok(Vec::new(self.alloc)),
-        }
     }
 
     /// At most `size` bytes of a file from an offset on: pread(2). Past the end there are none.
@@ -205,45 +160,37 @@ impl Tree {
         top == here
     }
 
-    /// Makes an object under a name of a directory: mkdir(2), open(2) with O_CREAT, symlink(2), mknod(2).
+    /// Makes an object under a free name of a directory: mkdir(2), open(2) with O_CREAT, symlink(2), mknod(2).
     ///
-    /// E3: no directory. E1: the name exists. S5: an allocation failed.
+    /// S5 (ENOMEM): an allocation failed.
     pub fn create(&mut self, directory: NodeId, name: Vec<u8>, node: Node) -> Result<NodeId, Deny>
-        requires { IsNewIn directory node }
+        requires directory { IsDirectory (tree_of self.old) directory }
+        requires free { entry_at (tree_of self.old) directory name.items ≡ None }
+        requires node { IsNewIn directory node }
         ensures ok { IfOk result (λ id.
             inodes_of self.new ≡ changed nat_eq (inodes_of self.old) (Make directory name.items id node)) }
         ensures number { IfOk result (λ id. id ≡ next_number self.old) }
-        ensures answer { AnswersBy (make_rules (inodes_of self.old) directory name.items) result }
-        ensures fits { Fits (inodes_of self.old) (Make directory name.items (next_number self.old) node)
-            → IsOkUnless result (denial S5) }
+        ensures memory { IfErr result (λ deny. deny ≡ denial S5) }
         ensures err { OnErr result (self.new ≡ self.old) }
     {
-        if let Err(deny) = self.check_name(directory, &name) {
-            return Err(deny);
-        }
         self.slots.reserve(1)?;
         let id = self.slots.next();
         insert_entry(&mut self.slots, directory, name, id)?;
         Ok(self.slots.insert_reserved(node))
     }
 
-    /// Makes a further hard link to an object: link(2). That the object exists is not checked: it is the caller's.
+    /// Makes a further hard link to an object, under a free name: link(2).
     ///
-    /// E3: no directory. E1: the name exists. E7: the object is a directory. S5: an allocation failed, or the object has
-    /// 2^64 - 1 uses.
+    /// S5 (ENOMEM): an allocation failed, or the object has 2^64 - 1 uses.
     pub fn link(&mut self, directory: NodeId, name: Vec<u8>, object: NodeId) -> Result<(), Deny>
+        requires directory { IsDirectory (tree_of self.old) directory }
+        requires free { entry_at (tree_of self.old) directory name.items ≡ None }
+        requires object { is_directory_node ((tree_of self.old).node object) ≡ false }
         ensures ok { OnOk result
             (inodes_of self.new ≡ changed nat_eq (inodes_of self.old) (AddName directory name.items object)) }
-        ensures answer { AnswersBy (hard_link_rules (inodes_of self.old) directory name.items object) result }
-        ensures fits { Fits (inodes_of self.old) (AddName directory name.items object) → IsOkUnless result (denial S5) }
+        ensures memory { IfErr result (λ deny. deny ≡ denial S5) }
         ensures err { OnErr result (self.new ≡ self.old) }
     {
-        if let Err(deny) = self.check_name(directory, &name) {
-            return Err(deny);
-        }
-        if self.is_directory(object) {
-            return Err(Rule::E7.denial());
-        }
         if self.slots.uses(object) == u64::MAX {
             return Err(Rule::S5.denial());
         }
@@ -252,32 +199,21 @@ impl Tree {
         Ok(())
     }
 
-    /// Takes a name from an object: unlink(2), rmdir(2). With its last use the object goes. It does not allocate.
-    ///
-    /// W6: the name is not the object's. E4: the object is a directory with entries.
-    pub fn unlink(&mut self, directory: NodeId, name: &[u8], object: NodeId) -> Result<(), Deny>
-        ensures ok { OnOk result
-            (inodes_of self.new ≡ changed nat_eq (inodes_of self.old) (Remove directory name.now object)) }
-        ensures answer { result ≡ ruling (unlink_rules (inodes_of self.old) directory name.now object) }
-        ensures fits { Fits (inodes_of self.old) (Remove directory name.now object) → result ≡ Ok tt }
-        ensures err { OnErr result (self.new ≡ self.old) }
+    /// Removes a name of an object that has no entries: unlink(2), rmdir(2). With its last use the object goes. It does not
+    /// allocate.
+    pub fn unlink(&mut self, directory: NodeId, name: &[u8], object: NodeId)
+        requires named { entry_at (tree_of self.old) directory name.now ≡ Some object }
+        requires empty { entries_in ((tree_of self.old).node object) ≡ [] }
+        ensures { inodes_of self.new
+            ≡ changed nat_eq (inodes_of self.old) (Remove directory name.now object) }
     {
-        if !self.leads_to(directory, name, object) {
-            return Err(Rule::W6.denial());
-        }
-        if self.is_filled(object) {
-            return Err(Rule::E4.denial());
-        }
         remove_entry(&mut self.slots, directory, name);
         remove_object(&mut self.slots, object);
-        Ok(())
     }
 
-    /// Gives an object another name, and takes the place of what had that: rename(2). Two names of one object stay.
+    /// Gives an object another name, and takes the place of what had that: rename(2).
     ///
-    /// W6: the old name is not the object's. E3: no directory, or a directory over what is none. E2: no directory over a
-    /// directory. E4: a directory over one with entries. E5: a directory under itself. S5: an allocation failed, which only
-    /// a new name needs.
+    /// S5 (ENOMEM): an allocation failed, which only a new name needs.
     pub fn rename(
         &mut self,
         from: NodeId,
@@ -286,27 +222,17 @@ impl Tree {
         new: Vec<u8>,
         object: NodeId,
     ) -> Result<(), Deny>
-        ensures ok { entry_at (tree_of self.old) to new.items ≢ Some object
-            → OnOk result
+        requires named { entry_at (tree_of self.old) from old.now ≡ Some object }
+        requires directory { IsDirectory (tree_of self.old) to }
+        requires replaced { MayReplace (tree_of self.old) object (entry_at (tree_of self.old) to new.items) }
+        requires outside { StaysOutside (inodes_of self.old) object to }
+        ensures ok { OnOk result
             (inodes_of self.new ≡ changed nat_eq (inodes_of self.old) (Move from old.now to new.items object)) }
-        ensures one_object { entry_at (tree_of self.old) to new.items ≡ Some object
-            → OnOk result (self.new ≡ self.old) }
-        ensures answer { AnswersBy (rename_rules (inodes_of self.old) from old.now to new.items object) result }
         ensures new_name { IsErrOf result (denial S5) → entry_at (tree_of self.old) to new.items ≡ None }
-        ensures fits { Fits (inodes_of self.old) (Move from old.now to new.items object)
-            → IsOkUnless result (denial S5) }
-        ensures fits_ok { Fits (inodes_of self.old) (Move from old.now to new.items object)
-            → OnOk result
-            (inodes_of self.new ≡ changed nat_eq (inodes_of self.old) (Move from old.now to new.items object)) }
+        ensures memory { IfErr result (λ deny. deny ≡ denial S5) }
         ensures err { OnErr result (self.new ≡ self.old) }
     {
-        if let Err(deny) = self.check_rename(from, old, to, &new, object) {
-            return Err(deny);
-        }
         let replaced = self.look(to, &new);
-        if self.leads_to(to, &new, object) {
-            return Ok(());
-        }
         insert_entry(&mut self.slots, to, new, object)?;
         remove_entry(&mut self.slots, from, old);
         set_parent(&mut self.slots, object, to);
@@ -316,50 +242,31 @@ impl Tree {
         Ok(())
     }
 
-    /// Sets the whole content of a file: write(2) after open(2) with O_TRUNC. It does not allocate.
-    ///
-    /// E2: a directory. E6: more than 1,048,576 bytes. A symlink, a whiteout and a number without an object stay as they
-    /// are.
-    pub fn write(&mut self, file: NodeId, bytes: Vec<u8>) -> Result<(), Deny>
-        ensures ok { OnOk result
-            (inodes_of self.new ≡ changed nat_eq (inodes_of self.old) (SetBytes file bytes.items)) }
-        ensures answer { result ≡ ruling (write_rules (inodes_of self.old) file (length bytes.items)) }
-        ensures fits { Fits (inodes_of self.old) (SetBytes file bytes.items) → result ≡ Ok tt }
-        ensures err { OnErr result (self.new ≡ self.old) }
+    /// Sets the whole content of a file: write(2) after open(2) with O_TRUNC. It does not allocate. A symlink, a whiteout and
+    /// a number without an object stay as they are.
+    pub fn write(&mut self, file: NodeId, bytes: Vec<u8>)
+        requires file { is_directory_node ((tree_of self.old).node file) ≡ false }
+        requires size { length bytes.items ≤ largest_file }
+        ensures { inodes_of self.new ≡ changed nat_eq (inodes_of self.old) (SetBytes file bytes.items) }
     {
-        if self.is_directory(file) {
-            return Err(Rule::E2.denial());
-        }
-        if bytes.len() > LARGEST_FILE {
-            return Err(Rule::E6.denial());
-        }
         set_bytes(&mut self.slots, file, bytes);
-        Ok(())
     }
 
     /// Writes bytes into a file from an offset on, and zeros into a gap before them: pwrite(2). Only a file that gets
-    /// longer allocates.
+    /// longer allocates. A symlink, a whiteout and a number without an object stay as they are.
     ///
-    /// E2: a directory. E6: the bytes would end behind 1,048,576. S5: an allocation failed. A symlink, a whiteout and a
-    /// number without an object stay as they are.
+    /// S5 (ENOMEM): an allocation failed.
     pub fn write_at(&mut self, file: NodeId, offset: usize, bytes: &[u8]) -> Result<(), Deny>
+        requires file { is_directory_node ((tree_of self.old).node file) ≡ false }
+        requires size { offset + length bytes.now ≤ largest_file }
         ensures ok { OnOk result (inodes_of self.new ≡ changed nat_eq (inodes_of self.old)
             (SetBytes file (overwritten offset bytes.now (bytes_in ((tree_of self.old).node file))))) }
-        ensures answer { AnswersBy (write_rules (inodes_of self.old) file (offset + length bytes.now)) result }
-        ensures file { IsErrOf result (denial S5) → IsTrue (is_kind_at (tree_of self.old) file File) }
+        ensures file { IsErrOf result (denial S5) → IsTrue (is_kind_in File ((tree_of self.old).node file)) }
         ensures longer { IsErrOf result (denial S5)
             → length (bytes_in ((tree_of self.old).node file)) < offset + length bytes.now }
-        ensures fits { Fits (inodes_of self.old)
-            (SetBytes file (overwritten offset bytes.now (bytes_in ((tree_of self.old).node file))))
-            → IsOkUnless result (denial S5) }
+        ensures memory { IfErr result (λ deny. deny ≡ denial S5) }
         ensures err { OnErr result (self.new ≡ self.old) }
     {
-        if self.is_directory(file) {
-            return Err(Rule::E2.denial());
-        }
-        if offset > LARGEST_FILE || bytes.len() > LARGEST_FILE - offset {
-            return Err(Rule::E6.denial());
-        }
         write_bytes(&mut self.slots, file, offset, bytes)
     }
 
@@ -389,61 +296,10 @@ impl Tree {
         release(&mut self.slots, object);
     }
 
-    // Whether a name of a directory is this object's.
-    fn leads_to(&self, directory: NodeId, name: &[u8], object: NodeId) -> bool
-        ensures { result ≡ leads_to (tree_of self.now) directory name.now object }
+    // The number that a name of a directory leads to.
+    fn look(&self, directory: NodeId, name: &[u8]) -> Option<NodeId>
+        ensures { result ≡ entry_at (tree_of self.now) directory name.now }
     {
-        match self.look(directory, name) {
-            Some(found) => object == found,
-            None => false,
-        }
-    }
-
-    // Whether the rules let a name be made.
-    fn check_name(&self, directory: NodeId, name: &[u8]) -> Result<(), Deny>
-        ensures { result ≡ ruling (make_rules (inodes_of self.now) directory name.now) }
-    {
-        if !self.is_directory(directory) {
-            return Err(Rule::E3.denial());
-        }
-        if self.look(directory, name).is_some() {
-            return Err(Rule::E1.denial());
-        }
-        Ok(())
-    }
-
-    // Whether the rules let an object go to another name.
-    fn check_rename(
-        &self,
-        from: NodeId,
-        old: &[u8],
-        to: NodeId,
-        new: &[u8],
-        object: NodeId,
-    ) -> Result<(), Deny>
-        ensures { result ≡ ruling (rename_rules (inodes_of self.now) from old.now to new.now object) }
-    {
-        if !self.leads_to(from, old, object) {
-            return Err(Rule::W6.denial());
-        }
-        if !self.is_directory(to) {
-            return Err(Rule::E3.denial());
-        }
-        let moves_directory = self.is_directory(object);
-        if let Some(other) = self.look(to, new) {
-            if self.is_directory(other) && !moves_directory {
-                return Err(Rule::E2.denial());
-            }
-            if !self.is_directory(other) && moves_directory {
-                return Err(Rule::E3.denial());
-            }
-            if self.is_filled(other) && moves_directory {
-                return Err(Rule::E4.denial());
-            }
-        }
-        if moves_directory && self.is_under(object, to) {
-            return Err(Rule::E5.denial());
-        }
-        Ok(())
+        self.slots.get(directory)?.entry(name)
     }
 }

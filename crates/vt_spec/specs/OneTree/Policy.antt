@@ -16,7 +16,7 @@ use Rattle.vt_spec.specs.Machine.Outcome.Making.{directory_mode, file_mode, syml
 use Rattle.vt_spec.specs.Machine.Outcome.Tasks.{capabilities_of, child_credentials, permission_bits, with_dropped}
 use Rattle.vt_spec.specs.Language.Answers.Answer.{Bytes, Child, Done, Names, Opened, Told}
 use Rattle.vt_spec.specs.Machine.Walk.{is_special, name_of}
-use Rattle.vt_spec.specs.OneTree.Inodes.{Inodes, changed, pinned, tree_of, unpinned, with_new}
+use Rattle.vt_spec.specs.Inodes.{Inodes, changed, pinned, tree_of, unpinned, with_new}
 use Rattle.vt_spec.specs.OneTree.Permits.{Permit}
 use Rattle.vt_spec.specs.OneTree.Permits.Permit.{Allowed, ToChange, ToClose, ToExit, ToFork, ToList, ToOpen, ToOpenNew, ToRead, ToReadPart, ToSetCredentials, ToSetUmask, ToTell}
 use Rattle.vt_spec.specs.OneTree.Rules.{attr_at, chmod_rules, descriptor_at, descriptor_rules, exclusive_rules, exec_rules, file_word_rules, fork_rules, is_one_object, hard_link_rules, list_rules, new_rules, open_new_rules, open_rules, pwrite_rules, read_rules, readlink_rules, rename_rules, rewrite_rules, rmdir_rules, unlink_rules, write_new_rules}

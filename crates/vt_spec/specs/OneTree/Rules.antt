@@ -13,7 +13,7 @@ use Rattle.vt_spec.specs.Lists.{holds_of, is_empty_list}
 use Rattle.vt_spec.specs.Machine.Outcome.Descriptors.{access_rights}
 use Rattle.vt_spec.specs.Language.Limits.{deepest_name, largest_file, most_descriptors, most_forks}
 use Rattle.vt_spec.specs.Machine.Walk.{is_dot, is_dot_dot, is_no_word, is_special}
-use Rattle.vt_spec.specs.OneTree.Inodes.{Inodes, is_directory_under, tree_of}
+use Rattle.vt_spec.specs.Inodes.{Inodes, is_directory_under, tree_of}
 use Rattle.vt_spec.specs.OneTree.Walk.{Place, is_directory_at, may}
 use Rattle.vt_spec.specs.OneTree.World.{Descriptor, Task, descriptor_numbered}
 use Rattle.vt_spec.specs.PathText.{is_empty}

@@ -4,7 +4,7 @@ use Rattle.vt_spec.specs.declared.errors.Deny.{Deny}
 use Rattle.vt_spec.specs.Language.Answers.{Answer}
 use Rattle.vt_spec.specs.Language.Calls.{TaskName, same_name}
 use Rattle.vt_spec.specs.Machine.World.{first_credentials, root_attr}
-use Rattle.vt_spec.specs.OneTree.Inodes.{Inodes, node_in, one_directory}
+use Rattle.vt_spec.specs.Inodes.{Inodes, node_in, one_directory}
 use Rattle.vt_spec.specs.Rights.{Credentials}
 use Rattle.vt_spec.specs.Tree.{Node}
 

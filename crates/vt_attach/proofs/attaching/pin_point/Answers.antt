@@ -2,7 +2,7 @@ use Rattle.std.proofs.Common.{ap, arith, nat_eq, subst, sym, true, ◌≡◌, �
 use Rattle.std.proofs.lemmas.Bool.{leb-true}
 use Rattle.vt_fs.specs.FilesystemsValue.{ChangesInodes, inodes_at, shown}
 use Rattle.vt_location.specs.Locations.{number_of}
-use Rattle.vt_spec.specs.OneTree.Inodes.{pinned, uses_in}
+use Rattle.vt_spec.specs.Inodes.{pinned, uses_in}
 use Rattle.vt_attach.specs.Room.{most_counted, point_has_room}
 use Rattle.vt_detach.specs.Uses.{pinned_at}
 use Rattle.vt_attach.proofs.RoomLemmas.{not_refused, uses_are_shown}

@@ -21,10 +21,9 @@ write_part-requires c =
 
 pub returns-in-ToWrite : goal.returns-in-ToWrite
 returns-in-ToWrite c =
-    changed c.args.world.now c.args.name.now c.args.permit _ (ToChange (location_of c.in-ToWrite.file)
-    (SetBytes (number_of c.in-ToWrite.file.node) c.in-ToWrite.bytes.items)) c.in-ToWrite.is (λ task called. refl) _ c.write.result
-    c.done.result c.done.ensures tt
-    (λ task called. refl) refl c.write.ensures.ok c.write.ensures.memory c.write.ensures.err
+    made c.args.world.now c.args.name.now c.args.permit _ (ToChange (location_of c.in-ToWrite.file)
+    (SetBytes (number_of c.in-ToWrite.file.node) c.in-ToWrite.bytes.items)) c.in-ToWrite.is (λ task called. refl) _ _ tt
+    (λ task called. refl) c.write.ensures
 
 pub returns-in-ToSetAttr : goal.returns-in-ToSetAttr
 returns-in-ToSetAttr c =
@@ -37,5 +36,5 @@ returns-in-ToWritePart c =
     changed c.args.world.now c.args.name.now c.args.permit _ (ToWritePart (location_of c.in-ToWritePart.file) c.in-ToWritePart.offset
     c.deref.result.now) c.in-ToWritePart.is
     (λ task called. ap (λ entry. ToWritePart (location_of c.in-ToWritePart.file) c.in-ToWritePart.offset entry)
-    (sym c.deref.ensures.value)) _ c.write_part.result c.done-in-ToWritePart.result c.done-in-ToWritePart.ensures tt
+    (sym c.deref.ensures.value)) _ c.write_part.result c.done.result c.done.ensures tt
     (λ task called. refl) refl c.write_part.ensures.ok c.write_part.ensures.memory c.write_part.ensures.err

@@ -2,7 +2,7 @@ use Rattle.std.proofs.Common.{ap, option_map, refl, sym}
 use Rattle.vt_location.specs.Locations.{location_of, number_of}
 use Rattle.vt_spec.specs.Language.Changes.Change.{Remove}
 use Rattle.vt_spec.specs.Machine.Permits.Permit.{ToChange, ToRemoveDirectory, ToRename}
-use Rattle.vt_calls.proofs.Endings.{changed, permitted}
+use Rattle.vt_calls.proofs.Endings.{changed, made, permitted}
 use Rattle.vt_calls.proofs.removing.remove.Goals as goal
 
 pub unlink-requires : goal.unlink-requires
@@ -27,12 +27,11 @@ rename-requires c =
 
 pub returns-in-ToUnlink : goal.returns-in-ToUnlink
 returns-in-ToUnlink c =
-    changed c.args.world.now c.args.name.now c.args.permit _ (ToChange (location_of c.in-ToUnlink.directory)
+    made c.args.world.now c.args.name.now c.args.permit _ (ToChange (location_of c.in-ToUnlink.directory)
     (Remove (number_of c.in-ToUnlink.directory.node) c.deref.result.now (number_of c.in-ToUnlink.object))) c.in-ToUnlink.is
     (λ task called. ap (λ entry. ToChange (location_of c.in-ToUnlink.directory)
-    (Remove (number_of c.in-ToUnlink.directory.node) entry (number_of c.in-ToUnlink.object))) (sym c.deref.ensures.value)) _
-    c.unlink.result c.done.result c.done.ensures tt
-    (λ task called. refl) refl c.unlink.ensures.ok c.unlink.ensures.memory c.unlink.ensures.err
+    (Remove (number_of c.in-ToUnlink.directory.node) entry (number_of c.in-ToUnlink.object))) (sym c.deref.ensures.value)) _ _ tt
+    (λ task called. refl) c.unlink.ensures
 
 pub returns-in-ToRemoveDirectory : goal.returns-in-ToRemoveDirectory
 returns-in-ToRemoveDirectory c =
@@ -40,7 +39,7 @@ returns-in-ToRemoveDirectory c =
     c.deref-in-ToRemoveDirectory.result.now (location_of c.in-ToRemoveDirectory.directory)) c.in-ToRemoveDirectory.is
     (λ task called. ap (λ entry. ToRemoveDirectory (location_of c.in-ToRemoveDirectory.parent) entry
     (location_of c.in-ToRemoveDirectory.directory)) (sym c.deref-in-ToRemoveDirectory.ensures.value)) _ c.remove_directory.result
-    c.done-in-ToRemoveDirectory.result c.done-in-ToRemoveDirectory.ensures tt
+    c.done.result c.done.ensures tt
     (λ task called. refl) refl c.remove_directory.ensures.ok c.remove_directory.ensures.memory c.remove_directory.ensures.err
 
 pub returns-in-ToRename : goal.returns-in-ToRename

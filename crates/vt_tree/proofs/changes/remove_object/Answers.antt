@@ -1,5 +1,5 @@
 use Rattle.std.proofs.Common.{nat_eq, ap, ◌∙◌}
-use Rattle.vt_spec.specs.OneTree.Inodes.{unpinned}
+use Rattle.vt_spec.specs.Inodes.{unpinned}
 use Rattle.vt_tree.proofs.changes.remove_object.Goals as goal
 
 pub returns : goal.returns

@@ -1,17 +1,21 @@
-use Rattle.std.proofs.Common.{ap, refl, subst, sym, ◌∙◌, ◌+◌, ◌<◌, ◌≤◌, length, List, Bool, ℕ, IsTrue}
+use Rattle.std.proofs.Common.{ap, refl, subst, sym, ◌∙◌, ◌+◌, ◌<◌, length, List, Bool, ℕ, IsTrue}
 use Rattle.std.proofs.lemmas.Result.{on_err_weaker, on_ok_weaker}
 use Rattle.std.specs.Option.{option_copied_mut}
 use Rattle.vt_spec.specs.Language.Changes.Change.{SetBytes}
 use Rattle.vt_spec.specs.declared.attributes.Kind.TheVariants.{File}
-use Rattle.vt_spec.specs.Errors.{Rules}
 use Rattle.vt_spec.specs.FileTree.{is_kind_in}
 use Rattle.vt_spec.specs.Machine.Outcome.Descriptors.{overwritten}
-use Rattle.vt_spec.specs.Tree.{bytes_in, is_directory_node}
-use Rattle.vt_tree.specs.TreeRules.{AnswersBy}
+use Rattle.vt_spec.specs.Tree.{bytes_in}
 use Rattle.vt_tree.specs.TreeValue.{tree_of}
-use Rattle.vt_spec.specs.Language.Limits.{largest_file}
-use Rattle.vt_fs.proofs.Standing.{changes, kept, nothing_changes, plain_there, standing_of, write_rules_there}
+use Rattle.vt_fs.proofs.Standing.{changes, directory_there, kept, nothing_changes, plain_there, standing_of}
 use Rattle.vt_fs.proofs.filesystems.Filesystems.write_at.Goals as goal
+
+pub write_at-requires-clause-file : goal.write_at-requires-clause-file
+write_at-requires-clause-file c =
+    let f = c.args.file.filesystem.count in
+    let standing = standing_of c.args.self.now f c.get_mut.result c.in-Some.tree c.get_mut.ensures.value c.get_mut.ensures.apart c.in-Some.is in
+    sym (directory_there c.args.self.now f c.in-Some.tree.now standing.found c.slot_of.result _ c.slot_of.ensures.number)
+    ∙ c.requires.file
 
 pub returns-in-Some-clause-ok : goal.returns-in-Some-clause-ok
 returns-in-Some-clause-ok c =
@@ -23,14 +27,6 @@ returns-in-Some-clause-ok c =
     (SetBytes c.slot_of.result (overwritten c.args.offset c.args.bytes.now (bytes_in ((tree_of c.in-Some.tree.now).node c.slot_of.result)))) _
     (λ i. SetBytes (c.slot_of.ensures.number i) (overwritten c.args.offset c.args.bytes.now (sym bytes i))))
     c.write_at.ensures.ok
-
-pub returns-in-Some-clause-answer : goal.returns-in-Some-clause-answer
-returns-in-Some-clause-answer c = λ there.
-    let f = c.args.file.filesystem.count in
-    let standing = standing_of c.args.self.now f c.get_mut.result c.in-Some.tree c.get_mut.ensures.value c.get_mut.ensures.apart c.in-Some.is in
-    subst (λ (rules : Rules). AnswersBy rules c.write_at.result)
-    (sym (write_rules_there c.args.self.now f c.in-Some.tree.now standing.found c.slot_of.result _ (c.args.offset + length c.args.bytes.now) c.slot_of.ensures.number))
-    c.write_at.ensures.answer
 
 pub returns-in-Some-clause-file : goal.returns-in-Some-clause-file
 returns-in-Some-clause-file c = λ refused.
@@ -54,12 +50,3 @@ returns-in-Some-clause-err c =
 pub returns-in-None-clause-ok : goal.returns-in-None-clause-ok
 returns-in-None-clause-ok c =
     nothing_changes c.args.file.filesystem.count _ c.args.self.now _ refl (sym c.get_mut.ensures.value ∙ ap option_copied_mut c.in-None.is)
-
-pub returns-in-Some-clause-fits : goal.returns-in-Some-clause-fits
-returns-in-Some-clause-fits c = λ fits.
-    let f = c.args.file.filesystem.count in
-    let standing = standing_of c.args.self.now f c.get_mut.result c.in-Some.tree c.get_mut.ensures.value c.get_mut.ensures.apart c.in-Some.is in
-    let bytes = plain_there c.args.self.now f c.in-Some.tree.now standing.found (List ℕ) (λ A node. bytes_in node) c.slot_of.result _ c.slot_of.ensures.number in
-    let directory = plain_there c.args.self.now f c.in-Some.tree.now standing.found Bool (λ A node. is_directory_node node) c.slot_of.result _ c.slot_of.ensures.number in
-    c.write_at.ensures.fits
-    (sym directory ∙ fits.0, subst (λ (old : List ℕ). length (overwritten c.args.offset c.args.bytes.now old) ≤ largest_file) bytes fits.1)

@@ -2,19 +2,17 @@ use Rattle.std.proofs.Common.{◌≡◌, sym, subst, ap, ◌∙◌, arith, nat_e
 use Rattle.std.specs.Prelude.{Err}
 use Rattle.vt_spec.specs.Language.Changes.Change.{Make}
 use Rattle.vt_spec.specs.Machine.Permits.Permit.{ToOpenNew}
-use Rattle.vt_spec.specs.OneTree.Inodes.{changed, uses_in}
+use Rattle.vt_spec.specs.Inodes.{changed, uses_in}
 use Rattle.vt_fs.specs.FilesystemsValue.{ChangesInodes, inodes_at, node_seen}
 use Rattle.vt_location.specs.declared.locations.NodeRef.{NodeRef}
 use Rattle.vt_location.specs.Locations.{location_of, number_of}
 use Rattle.vt_location.specs.Numbers.{counted}
 use Rattle.vt_mount.specs.MountsValue.{changed as changed_mounts, held}
 use Rattle.vt_request.specs.Requests.{access_of}
-use Rattle.vt_tree.specs.TreeRules.{make_rules}
 use Rattle.vt_ns.specs.contracts.world.World.{the_view}
 use Rattle.vt_detach.specs.Events.{Becomes, Permits}
 use Rattle.vt_detach.proofs.ChangedFiles.{with_filesystems}
-use Rattle.vt_ns.proofs.FileMaking.{only_memory}
-use Rattle.vt_ns.proofs.OpeningNew.{has_next, make_is_clear, new_in_directory, new_opens, next_is_numbered, room_for_one, used_once}
+use Rattle.vt_ns.proofs.OpeningNew.{has_next, make_fits, new_in_directory, new_opens, next_is_numbered, room_for_one, used_once}
 use Rattle.vt_detach.proofs.Remaining.{remade}
 use Rattle.vt_detach.proofs.Shown.{pins}
 use Rattle.vt_ns.proofs.world.World.open_new.Goals as goal
@@ -31,18 +29,20 @@ returns-in-Err-clause-memory c =
     ∙ room_for_one (the_view c.self.inside) c.self.invariant c.args.name.now c.args.directory c.args.entry.items c.args.node (access_of c.args.access) (omega arith)
     (subst (λ value. Permits value c.args.name.now (ToOpenNew (location_of c.args.directory) c.args.entry.items (node_seen c.args.directory.node.filesystem.count c.args.node) (access_of c.args.access))) (sym c.self.view_is) c.requires)
 
-pub create-requires : goal.create-requires
-create-requires c =
+pub create-requires-clause-directory : goal.create-requires-clause-directory
+create-requires-clause-directory c =
+    (make_fits (the_view c.self.inside) c.self.invariant c.args.name.now c.args.directory c.args.entry.items c.args.node (access_of c.args.access) (omega arith)
+    (subst (λ value. Permits value c.args.name.now (ToOpenNew (location_of c.args.directory) c.args.entry.items (node_seen c.args.directory.node.filesystem.count c.args.node) (access_of c.args.access))) (sym c.self.view_is) c.requires)).0
+
+pub create-requires-clause-free : goal.create-requires-clause-free
+create-requires-clause-free c =
+    (make_fits (the_view c.self.inside) c.self.invariant c.args.name.now c.args.directory c.args.entry.items c.args.node (access_of c.args.access) (omega arith)
+    (subst (λ value. Permits value c.args.name.now (ToOpenNew (location_of c.args.directory) c.args.entry.items (node_seen c.args.directory.node.filesystem.count c.args.node) (access_of c.args.access))) (sym c.self.view_is) c.requires)).1
+
+pub create-requires-clause-node : goal.create-requires-clause-node
+create-requires-clause-node c =
     new_in_directory (the_view c.self.inside) c.self.invariant c.args.name.now c.args.directory c.args.entry.items c.args.node (access_of c.args.access) (omega arith)
     (subst (λ value. Permits value c.args.name.now (ToOpenNew (location_of c.args.directory) c.args.entry.items (node_seen c.args.directory.node.filesystem.count c.args.node) (access_of c.args.access))) (sym c.self.view_is) c.requires)
-
-pub returns-in-Err-create-clause-memory : goal.returns-in-Err-create-clause-memory
-returns-in-Err-create-clause-memory c =
-    only_memory (make_rules (inodes_at c.self.inside.filesystems c.args.directory.node.filesystem.count) (number_of c.args.directory.node) c.args.entry.items)
-    c.in-Err-create.deny
-    (make_is_clear (the_view c.self.inside) c.self.invariant c.args.name.now c.args.directory c.args.entry.items c.args.node (access_of c.args.access) (omega arith)
-    (subst (λ value. Permits value c.args.name.now (ToOpenNew (location_of c.args.directory) c.args.entry.items (node_seen c.args.directory.node.filesystem.count c.args.node) (access_of c.args.access))) (sym c.self.view_is) c.requires))
-    c.in-Err-create.ensures.answer
 
 -- a new inode has one use, and room for another
 pub invariant_of-self-in_err-pin : goal.invariant_of-self-in_err-pin

@@ -1,5 +1,4 @@
-use Rattle.std.proofs.Common.{rules, ◌≡◌, ◌≢◌, ◌∙◌, sym, subst, ap, arith, map, length, true≢false}
-use Rattle.std.specs.Prelude.{is_ok}
+use Rattle.std.proofs.Common.{rules, ◌≡◌, ◌≢◌, ◌∙◌, sym, subst, arith, map, length}
 use Rattle.vt_location.specs.Locations.{location_of}
 use Rattle.vt_location.specs.Numbers.{counted}
 use Rattle.vt_spec.specs.Machine.Permits.Permit.{ToRemoveDirectory}
@@ -8,32 +7,37 @@ use Rattle.vt_detach.specs.Detached.{LeaveInTurn}
 use Rattle.vt_detach.specs.Events.{Becomes, Permits}
 use Rattle.vt_detach.specs.Uses.{kept}
 use Rattle.vt_detach.proofs.ChangedFiles.{with_filesystems}
-use Rattle.vt_ns.proofs.DirectoryRemoved.{alone_is_removed, collected_are, directory_is_removed, unlink_fits}
+use Rattle.vt_ns.proofs.DirectoryRemoved.{alone_is_removed, collected_are, directory_is_removed}
 use Rattle.vt_ns.proofs.MountsOn.{none_counted, some_counted}
-use Rattle.vt_ns.proofs.FileRemoving.{removed_in}
+use Rattle.vt_ns.proofs.FileRemoving.{removal_fits, removed_in}
 use Rattle.vt_detach.proofs.Remaining.{remade}
 use Rattle.vt_ns.proofs.world.World.remove_directory.Goals as goal
 use Rattle.vt_ns.proofs.world.World.remove_directory.Goals.{then-not-is_empty, else-not-is_empty}
 
-pub unlink-requires : goal.unlink-requires
-unlink-requires c =
+pub unlink-requires-clause-one_filesystem : goal.unlink-requires-clause-one_filesystem
+unlink-requires-clause-one_filesystem c =
     removed_in (the_view c.self.inside) c.self.invariant c.args.name.now c.args.parent c.args.entry.now c.args.directory (omega arith) (omega arith)
     (subst (λ value. Permits value c.args.name.now (ToRemoveDirectory (location_of c.args.parent) c.args.entry.now (location_of c.args.directory))) (sym c.self.view_is) c.requires)
 
-pub returns-in_err-unlink-clause-memory : goal.returns-in_err-unlink-clause-memory
-returns-in_err-unlink-clause-memory c =
-    absurd (true≢false (ap is_ok (sym (c.unlink.ensures.fits (unlink_fits (the_view c.self.inside) c.self.invariant c.args.name.now c.args.parent c.args.entry.now c.args.directory (omega arith) (omega arith)
-    (subst (λ value. Permits value c.args.name.now (ToRemoveDirectory (location_of c.args.parent) c.args.entry.now (location_of c.args.directory))) (sym c.self.view_is) c.requires))) ∙ c.in_err-unlink.was)))
+pub unlink-requires-clause-named : goal.unlink-requires-clause-named
+unlink-requires-clause-named c =
+    (removal_fits (the_view c.self.inside) c.self.invariant c.args.name.now c.args.parent c.args.entry.now c.args.directory (omega arith) (omega arith)
+    (subst (λ value. Permits value c.args.name.now (ToRemoveDirectory (location_of c.args.parent) c.args.entry.now (location_of c.args.directory))) (sym c.self.view_is) c.requires)).0
 
-pub invariant_of-self-then-not-is_empty : goal.invariant_of-self-then-not-is_empty
-invariant_of-self-then-not-is_empty c =
+pub unlink-requires-clause-empty : goal.unlink-requires-clause-empty
+unlink-requires-clause-empty c =
+    (removal_fits (the_view c.self.inside) c.self.invariant c.args.name.now c.args.parent c.args.entry.now c.args.directory (omega arith) (omega arith)
+    (subst (λ value. Permits value c.args.name.now (ToRemoveDirectory (location_of c.args.parent) c.args.entry.now (location_of c.args.directory))) (sym c.self.view_is) c.requires)).1
+
+pub invariant_of-self : goal.invariant_of-self
+invariant_of-self c =
     let some : length c.in_ok-gone.gone.items ≢ 0 = search rules in
     (directory_is_removed (the_view c.self.inside) c.self.invariant c.args.name.now c.args.parent c.args.entry.now c.args.directory (omega arith) (omega arith)
     (subst (λ value. Permits value c.args.name.now (ToRemoveDirectory (location_of c.args.parent) c.args.entry.now (location_of c.args.directory))) (sym c.self.view_is) c.requires)
     c.unlink.new.self c.detach_each.new.filesystems c.detach_each.new.mounts
     (λ none. some_counted c.in_ok-gone.gone.items some ((collected_are (the_view c.self.inside) c.self.invariant c.args.name.now c.args.parent c.args.entry.now c.args.directory (omega arith) (omega arith)
     (subst (λ value. Permits value c.args.name.now (ToRemoveDirectory (location_of c.args.parent) c.args.entry.now (location_of c.args.directory))) (sym c.self.view_is) c.requires)
-    (map (λ id. counted id.count) c.in_ok-gone.gone.items) c.in_ok-gone.ensures.ok) ∙ none)) c.in_ok-unlink.ensures.ok
+    (map (λ id. counted id.count) c.in_ok-gone.gone.items) c.in_ok-gone.ensures.ok) ∙ none)) c.unlink.ensures
     (subst (λ ids. LeaveInTurn ids (kept c.self.inside.mounts c.unlink.new.self) (kept c.detach_each.new.mounts c.detach_each.new.filesystems)) (collected_are (the_view c.self.inside) c.self.invariant c.args.name.now c.args.parent c.args.entry.now c.args.directory (omega arith) (omega arith)
     (subst (λ value. Permits value c.args.name.now (ToRemoveDirectory (location_of c.args.parent) c.args.entry.now (location_of c.args.directory))) (sym c.self.view_is) c.requires)
     (map (λ id. counted id.count) c.in_ok-gone.gone.items) c.in_ok-gone.ensures.ok)
@@ -46,7 +50,7 @@ invariant_of-self-else-not-is_empty c =
     (subst (λ value. Permits value c.args.name.now (ToRemoveDirectory (location_of c.args.parent) c.args.entry.now (location_of c.args.directory))) (sym c.self.view_is) c.requires)
     (sym (collected_are (the_view c.self.inside) c.self.invariant c.args.name.now c.args.parent c.args.entry.now c.args.directory (omega arith) (omega arith)
     (subst (λ value. Permits value c.args.name.now (ToRemoveDirectory (location_of c.args.parent) c.args.entry.now (location_of c.args.directory))) (sym c.self.view_is) c.requires)
-    (map (λ id. counted id.count) c.in_ok-gone.gone.items) c.in_ok-gone.ensures.ok) ∙ none_counted c.in_ok-gone.gone.items none) c.unlink.new.self c.in_ok-unlink.ensures.ok).held
+    (map (λ id. counted id.count) c.in_ok-gone.gone.items) c.in_ok-gone.ensures.ok) ∙ none_counted c.in_ok-gone.gone.items none) c.unlink.new.self c.unlink.ensures).held
 
 pub returns-clause-ok : goal.returns-clause-ok
 returns-clause-ok c = elim c.if-not-is_empty.branch [
@@ -60,7 +64,7 @@ returns-clause-ok c = elim c.if-not-is_empty.branch [
       c.unlink.new.self w.detach_each.new.filesystems w.detach_each.new.mounts
       (λ none. some_counted c.in_ok-gone.gone.items some ((collected_are (the_view c.self.inside) c.self.invariant c.args.name.now c.args.parent c.args.entry.now c.args.directory (omega arith) (omega arith)
       (subst (λ value. Permits value c.args.name.now (ToRemoveDirectory (location_of c.args.parent) c.args.entry.now (location_of c.args.directory))) (sym c.self.view_is) c.requires)
-      (map (λ id. counted id.count) c.in_ok-gone.gone.items) c.in_ok-gone.ensures.ok) ∙ none)) c.in_ok-unlink.ensures.ok
+      (map (λ id. counted id.count) c.in_ok-gone.gone.items) c.in_ok-gone.ensures.ok) ∙ none)) c.unlink.ensures
       (subst (λ ids. LeaveInTurn ids (kept c.self.inside.mounts c.unlink.new.self) (kept w.detach_each.new.mounts w.detach_each.new.filesystems)) (collected_are (the_view c.self.inside) c.self.invariant c.args.name.now c.args.parent c.args.entry.now c.args.directory (omega arith) (omega arith)
       (subst (λ value. Permits value c.args.name.now (ToRemoveDirectory (location_of c.args.parent) c.args.entry.now (location_of c.args.directory))) (sym c.self.view_is) c.requires)
       (map (λ id. counted id.count) c.in_ok-gone.gone.items) c.in_ok-gone.ensures.ok)
@@ -73,5 +77,5 @@ returns-clause-ok c = elim c.if-not-is_empty.branch [
       (subst (λ value. Permits value c.args.name.now (ToRemoveDirectory (location_of c.args.parent) c.args.entry.now (location_of c.args.directory))) (sym c.self.view_is) c.requires)
       (sym (collected_are (the_view c.self.inside) c.self.invariant c.args.name.now c.args.parent c.args.entry.now c.args.directory (omega arith) (omega arith)
       (subst (λ value. Permits value c.args.name.now (ToRemoveDirectory (location_of c.args.parent) c.args.entry.now (location_of c.args.directory))) (sym c.self.view_is) c.requires)
-      (map (λ id. counted id.count) c.in_ok-gone.gone.items) c.in_ok-gone.ensures.ok) ∙ none_counted c.in_ok-gone.gone.items none) c.unlink.new.self c.in_ok-unlink.ensures.ok).ok)
+      (map (λ id. counted id.count) c.in_ok-gone.gone.items) c.in_ok-gone.ensures.ok) ∙ none_counted c.in_ok-gone.gone.items none) c.unlink.new.self c.unlink.ensures).becomes)
 ]

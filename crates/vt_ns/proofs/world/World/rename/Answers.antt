@@ -1,6 +1,4 @@
-use Rattle.std.proofs.Common.{rules, ◌≡◌, ◌≢◌, ◌∙◌, sym, subst, arith, map, length, option_map, Err, IfErr, OnOk}
-use Rattle.vt_spec.specs.declared.errors.Rule.TheVariants.{S5}
-use Rattle.vt_spec.specs.Errors.{denial}
+use Rattle.std.proofs.Common.{rules, ◌≡◌, ◌≢◌, ◌∙◌, sym, subst, arith, map, length, option_map}
 use Rattle.vt_location.specs.Locations.{location_of}
 use Rattle.vt_location.specs.Numbers.{counted}
 use Rattle.vt_spec.specs.Machine.Permits.Permit.{ToRename}
@@ -10,27 +8,41 @@ use Rattle.vt_detach.specs.Events.{Becomes, Permits}
 use Rattle.vt_detach.specs.Uses.{kept}
 use Rattle.vt_detach.proofs.ChangedFiles.{with_filesystems}
 use Rattle.vt_ns.proofs.MountsOn.{none_counted, some_counted}
-use Rattle.vt_ns.proofs.FileRenaming.{rename_fits, rename_is_answered, renamed_object, renamed_to}
+use Rattle.vt_ns.proofs.FileRenaming.{rename_fits, rename_alone_is_done, renamed_object, renamed_to}
 use Rattle.vt_ns.proofs.RenamedOver.{nothing_on_replaced, rename_is_done, replaced_collected}
 use Rattle.vt_detach.proofs.Remaining.{remade}
 use Rattle.vt_ns.proofs.world.World.rename.Goals as goal
 use Rattle.vt_ns.proofs.world.World.rename.Goals.{then-not-is_empty, else-not-is_empty}
 
-pub rename-requires-clause-to : goal.rename-requires-clause-to
-rename-requires-clause-to c =
+pub rename-requires-clause-one_filesystem : goal.rename-requires-clause-one_filesystem
+rename-requires-clause-one_filesystem c =
     renamed_to (the_view c.self.inside) c.self.invariant c.args.name.now c.args.from c.args.old.now c.args.to c.args.new.items c.args.object c.args.replaced (omega arith) (omega arith) (omega arith)
     (subst (λ value. Permits value c.args.name.now (ToRename (location_of c.args.from) c.args.old.now (location_of c.args.to) c.args.new.items (location_of c.args.object) (option_map location_of c.args.replaced))) (sym c.self.view_is) c.requires)
 
-pub rename-requires-clause-object : goal.rename-requires-clause-object
-rename-requires-clause-object c =
+pub rename-requires-clause-of_object : goal.rename-requires-clause-of_object
+rename-requires-clause-of_object c =
     renamed_object (the_view c.self.inside) c.self.invariant c.args.name.now c.args.from c.args.old.now c.args.to c.args.new.items c.args.object c.args.replaced (omega arith) (omega arith) (omega arith)
     (subst (λ value. Permits value c.args.name.now (ToRename (location_of c.args.from) c.args.old.now (location_of c.args.to) c.args.new.items (location_of c.args.object) (option_map location_of c.args.replaced))) (sym c.self.view_is) c.requires)
 
-pub returns-in_err-rename-clause-memory : goal.returns-in_err-rename-clause-memory
-returns-in_err-rename-clause-memory c =
-    let error : c.from_residual-in_err-rename.result ≡ Err c.in_err-rename.field-0.0 = search rules in
-    subst (λ result. IfErr result (λ deny. deny ≡ denial S5)) (sym error) (c.in_err-rename.ensures.fits (rename_fits (the_view c.self.inside) c.self.invariant c.args.name.now c.args.from c.args.old.now c.args.to c.args.new.items c.args.object c.args.replaced (omega arith) (omega arith) (omega arith)
-    (subst (λ value. Permits value c.args.name.now (ToRename (location_of c.args.from) c.args.old.now (location_of c.args.to) c.args.new.items (location_of c.args.object) (option_map location_of c.args.replaced))) (sym c.self.view_is) c.requires)))
+pub rename-requires-clause-named : goal.rename-requires-clause-named
+rename-requires-clause-named c =
+    (rename_fits (the_view c.self.inside) c.self.invariant c.args.name.now c.args.from c.args.old.now c.args.to c.args.new.items c.args.object c.args.replaced (omega arith) (omega arith) (omega arith)
+    (subst (λ value. Permits value c.args.name.now (ToRename (location_of c.args.from) c.args.old.now (location_of c.args.to) c.args.new.items (location_of c.args.object) (option_map location_of c.args.replaced))) (sym c.self.view_is) c.requires)).0
+
+pub rename-requires-clause-directory : goal.rename-requires-clause-directory
+rename-requires-clause-directory c =
+    (rename_fits (the_view c.self.inside) c.self.invariant c.args.name.now c.args.from c.args.old.now c.args.to c.args.new.items c.args.object c.args.replaced (omega arith) (omega arith) (omega arith)
+    (subst (λ value. Permits value c.args.name.now (ToRename (location_of c.args.from) c.args.old.now (location_of c.args.to) c.args.new.items (location_of c.args.object) (option_map location_of c.args.replaced))) (sym c.self.view_is) c.requires)).1
+
+pub rename-requires-clause-replaced : goal.rename-requires-clause-replaced
+rename-requires-clause-replaced c =
+    (rename_fits (the_view c.self.inside) c.self.invariant c.args.name.now c.args.from c.args.old.now c.args.to c.args.new.items c.args.object c.args.replaced (omega arith) (omega arith) (omega arith)
+    (subst (λ value. Permits value c.args.name.now (ToRename (location_of c.args.from) c.args.old.now (location_of c.args.to) c.args.new.items (location_of c.args.object) (option_map location_of c.args.replaced))) (sym c.self.view_is) c.requires)).2
+
+pub rename-requires-clause-outside : goal.rename-requires-clause-outside
+rename-requires-clause-outside c =
+    (rename_fits (the_view c.self.inside) c.self.invariant c.args.name.now c.args.from c.args.old.now c.args.to c.args.new.items c.args.object c.args.replaced (omega arith) (omega arith) (omega arith)
+    (subst (λ value. Permits value c.args.name.now (ToRename (location_of c.args.from) c.args.old.now (location_of c.args.to) c.args.new.items (location_of c.args.object) (option_map location_of c.args.replaced))) (sym c.self.view_is) c.requires)).3
 
 pub invariant_of-self-then-not-is_empty : goal.invariant_of-self-then-not-is_empty
 invariant_of-self-then-not-is_empty c =
@@ -40,8 +52,7 @@ invariant_of-self-then-not-is_empty c =
     c.rename.new.self c.detach_each.new.filesystems c.detach_each.new.mounts
     (λ none. some_counted c.in_ok-gone.gone.items some ((replaced_collected (the_view c.self.inside) c.self.invariant c.args.name.now c.args.from c.args.old.now c.args.to c.args.new.items c.args.object c.args.replaced (omega arith) (omega arith) (omega arith) c.trees_replaced.ensures.slot
     (subst (λ value. Permits value c.args.name.now (ToRename (location_of c.args.from) c.args.old.now (location_of c.args.to) c.args.new.items (location_of c.args.object) (option_map location_of c.args.replaced))) (sym c.self.view_is) c.requires)
-    (map (λ id. counted id.count) c.in_ok-gone.gone.items) c.in_ok-gone.ensures.ok) ∙ none)) (c.in_ok-rename.ensures.fits_ok (rename_fits (the_view c.self.inside) c.self.invariant c.args.name.now c.args.from c.args.old.now c.args.to c.args.new.items c.args.object c.args.replaced (omega arith) (omega arith) (omega arith)
-    (subst (λ value. Permits value c.args.name.now (ToRename (location_of c.args.from) c.args.old.now (location_of c.args.to) c.args.new.items (location_of c.args.object) (option_map location_of c.args.replaced))) (sym c.self.view_is) c.requires)))
+    (map (λ id. counted id.count) c.in_ok-gone.gone.items) c.in_ok-gone.ensures.ok) ∙ none)) c.in_ok-rename.ensures.ok
     (subst (λ ids. LeaveInTurn ids (kept c.self.inside.mounts c.rename.new.self) (kept c.detach_each.new.mounts c.detach_each.new.filesystems)) (replaced_collected (the_view c.self.inside) c.self.invariant c.args.name.now c.args.from c.args.old.now c.args.to c.args.new.items c.args.object c.args.replaced (omega arith) (omega arith) (omega arith) c.trees_replaced.ensures.slot
     (subst (λ value. Permits value c.args.name.now (ToRename (location_of c.args.from) c.args.old.now (location_of c.args.to) c.args.new.items (location_of c.args.object) (option_map location_of c.args.replaced))) (sym c.self.view_is) c.requires)
     (map (λ id. counted id.count) c.in_ok-gone.gone.items) c.in_ok-gone.ensures.ok)
@@ -50,13 +61,13 @@ invariant_of-self-then-not-is_empty c =
 pub invariant_of-self-else-not-is_empty : goal.invariant_of-self-else-not-is_empty
 invariant_of-self-else-not-is_empty c =
     let none : length c.in_ok-gone.gone.items ≡ 0 = search rules in
-    (rename_is_answered (the_view c.self.inside) c.self.invariant c.args.name.now c.args.from c.args.old.now c.args.to c.args.new.items c.args.object c.args.replaced (omega arith) (omega arith) (omega arith)
+    (rename_alone_is_done (the_view c.self.inside) c.self.invariant c.args.name.now c.args.from c.args.old.now c.args.to c.args.new.items c.args.object c.args.replaced (omega arith) (omega arith) (omega arith)
     (subst (λ value. Permits value c.args.name.now (ToRename (location_of c.args.from) c.args.old.now (location_of c.args.to) c.args.new.items (location_of c.args.object) (option_map location_of c.args.replaced))) (sym c.self.view_is) c.requires)
     (nothing_on_replaced (the_view c.self.inside) c.self.invariant c.args.name.now c.args.from c.args.old.now c.args.to c.args.new.items c.args.object c.args.replaced (omega arith) (omega arith) (omega arith) c.trees_replaced.ensures.slot
     (subst (λ value. Permits value c.args.name.now (ToRename (location_of c.args.from) c.args.old.now (location_of c.args.to) c.args.new.items (location_of c.args.object) (option_map location_of c.args.replaced))) (sym c.self.view_is) c.requires)
     (sym (replaced_collected (the_view c.self.inside) c.self.invariant c.args.name.now c.args.from c.args.old.now c.args.to c.args.new.items c.args.object c.args.replaced (omega arith) (omega arith) (omega arith) c.trees_replaced.ensures.slot
     (subst (λ value. Permits value c.args.name.now (ToRename (location_of c.args.from) c.args.old.now (location_of c.args.to) c.args.new.items (location_of c.args.object) (option_map location_of c.args.replaced))) (sym c.self.view_is) c.requires)
-    (map (λ id. counted id.count) c.in_ok-gone.gone.items) c.in_ok-gone.ensures.ok) ∙ none_counted c.in_ok-gone.gone.items none)) c.rename.new.self c.rename.result c.rename.ensures.fits c.rename.ensures.fits_ok c.rename.ensures.err).held
+    (map (λ id. counted id.count) c.in_ok-gone.gone.items) c.in_ok-gone.ensures.ok) ∙ none_counted c.in_ok-gone.gone.items none)) c.rename.new.self c.in_ok-rename.ensures.ok).held
 
 pub returns-clause-ok : goal.returns-clause-ok
 returns-clause-ok c = elim c.if-not-is_empty.branch [
@@ -70,8 +81,7 @@ returns-clause-ok c = elim c.if-not-is_empty.branch [
       c.rename.new.self w.detach_each.new.filesystems w.detach_each.new.mounts
       (λ none. some_counted c.in_ok-gone.gone.items some ((replaced_collected (the_view c.self.inside) c.self.invariant c.args.name.now c.args.from c.args.old.now c.args.to c.args.new.items c.args.object c.args.replaced (omega arith) (omega arith) (omega arith) c.trees_replaced.ensures.slot
       (subst (λ value. Permits value c.args.name.now (ToRename (location_of c.args.from) c.args.old.now (location_of c.args.to) c.args.new.items (location_of c.args.object) (option_map location_of c.args.replaced))) (sym c.self.view_is) c.requires)
-      (map (λ id. counted id.count) c.in_ok-gone.gone.items) c.in_ok-gone.ensures.ok) ∙ none)) (c.in_ok-rename.ensures.fits_ok (rename_fits (the_view c.self.inside) c.self.invariant c.args.name.now c.args.from c.args.old.now c.args.to c.args.new.items c.args.object c.args.replaced (omega arith) (omega arith) (omega arith)
-      (subst (λ value. Permits value c.args.name.now (ToRename (location_of c.args.from) c.args.old.now (location_of c.args.to) c.args.new.items (location_of c.args.object) (option_map location_of c.args.replaced))) (sym c.self.view_is) c.requires)))
+      (map (λ id. counted id.count) c.in_ok-gone.gone.items) c.in_ok-gone.ensures.ok) ∙ none)) c.in_ok-rename.ensures.ok
       (subst (λ ids. LeaveInTurn ids (kept c.self.inside.mounts c.rename.new.self) (kept w.detach_each.new.mounts w.detach_each.new.filesystems)) (replaced_collected (the_view c.self.inside) c.self.invariant c.args.name.now c.args.from c.args.old.now c.args.to c.args.new.items c.args.object c.args.replaced (omega arith) (omega arith) (omega arith) c.trees_replaced.ensures.slot
       (subst (λ value. Permits value c.args.name.now (ToRename (location_of c.args.from) c.args.old.now (location_of c.args.to) c.args.new.items (location_of c.args.object) (option_map location_of c.args.replaced))) (sym c.self.view_is) c.requires)
       (map (λ id. counted id.count) c.in_ok-gone.gone.items) c.in_ok-gone.ensures.ok)
@@ -80,12 +90,11 @@ returns-clause-ok c = elim c.if-not-is_empty.branch [
       let none : length c.in_ok-gone.gone.items ≡ 0 = search rules in
       subst (λ new. Becomes c.args.self.now c.args.name.now (ToRename (location_of c.args.from) c.args.old.now (location_of c.args.to) c.args.new.items (location_of c.args.object) (option_map location_of c.args.replaced)) new) (sym w.self-is)
       (subst (λ value. Becomes value c.args.name.now (ToRename (location_of c.args.from) c.args.old.now (location_of c.args.to) c.args.new.items (location_of c.args.object) (option_map location_of c.args.replaced)) (with_filesystems (the_view c.self.inside) c.rename.new.self)) c.self.view_is
-      (subst (λ result. OnOk result (Becomes (the_view c.self.inside) c.args.name.now (ToRename (location_of c.args.from) c.args.old.now (location_of c.args.to) c.args.new.items (location_of c.args.object) (option_map location_of c.args.replaced)) (with_filesystems (the_view c.self.inside) c.rename.new.self))) c.in_ok-rename.was
-      (rename_is_answered (the_view c.self.inside) c.self.invariant c.args.name.now c.args.from c.args.old.now c.args.to c.args.new.items c.args.object c.args.replaced (omega arith) (omega arith) (omega arith)
+      (rename_alone_is_done (the_view c.self.inside) c.self.invariant c.args.name.now c.args.from c.args.old.now c.args.to c.args.new.items c.args.object c.args.replaced (omega arith) (omega arith) (omega arith)
       (subst (λ value. Permits value c.args.name.now (ToRename (location_of c.args.from) c.args.old.now (location_of c.args.to) c.args.new.items (location_of c.args.object) (option_map location_of c.args.replaced))) (sym c.self.view_is) c.requires)
       (nothing_on_replaced (the_view c.self.inside) c.self.invariant c.args.name.now c.args.from c.args.old.now c.args.to c.args.new.items c.args.object c.args.replaced (omega arith) (omega arith) (omega arith) c.trees_replaced.ensures.slot
       (subst (λ value. Permits value c.args.name.now (ToRename (location_of c.args.from) c.args.old.now (location_of c.args.to) c.args.new.items (location_of c.args.object) (option_map location_of c.args.replaced))) (sym c.self.view_is) c.requires)
       (sym (replaced_collected (the_view c.self.inside) c.self.invariant c.args.name.now c.args.from c.args.old.now c.args.to c.args.new.items c.args.object c.args.replaced (omega arith) (omega arith) (omega arith) c.trees_replaced.ensures.slot
       (subst (λ value. Permits value c.args.name.now (ToRename (location_of c.args.from) c.args.old.now (location_of c.args.to) c.args.new.items (location_of c.args.object) (option_map location_of c.args.replaced))) (sym c.self.view_is) c.requires)
-      (map (λ id. counted id.count) c.in_ok-gone.gone.items) c.in_ok-gone.ensures.ok) ∙ none_counted c.in_ok-gone.gone.items none)) c.rename.new.self c.rename.result c.rename.ensures.fits c.rename.ensures.fits_ok c.rename.ensures.err).ok))
+      (map (λ id. counted id.count) c.in_ok-gone.gone.items) c.in_ok-gone.ensures.ok) ∙ none_counted c.in_ok-gone.gone.items none)) c.rename.new.self c.in_ok-rename.ensures.ok).becomes)
 ]

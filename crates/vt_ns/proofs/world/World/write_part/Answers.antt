@@ -4,7 +4,7 @@ use Rattle.vt_spec.specs.Machine.Permits.Permit.{ToWritePart}
 use Rattle.vt_ns.specs.contracts.world.World.{the_view}
 use Rattle.vt_detach.specs.Events.{Becomes, Permits}
 use Rattle.vt_detach.proofs.ChangedFiles.{with_filesystems}
-use Rattle.vt_ns.proofs.FileParts.{no_bytes, nothing_is_written, some_bytes, write_part_is_answered}
+use Rattle.vt_ns.proofs.FileParts.{no_bytes, nothing_is_written, some_bytes, write_part_fits, write_part_is_answered}
 use Rattle.vt_ns.proofs.world.World.write_part.Goals as goal
 
 pub returns-then-is_empty-clause-ok : goal.returns-then-is_empty-clause-ok
@@ -12,6 +12,18 @@ returns-then-is_empty-clause-ok c =
     subst (λ value. Becomes value c.args.name.now (ToWritePart (location_of c.args.file) c.args.offset c.args.bytes.now) (the_view c.self.inside)) c.self.view_is
     (nothing_is_written (the_view c.self.inside) c.self.invariant c.args.name.now (location_of c.args.file) c.args.offset c.args.bytes.now
     (no_bytes c.args.bytes.now c.is_empty.result c.is_empty.ensures c.if-is_empty.true))
+
+pub write_at-requires-clause-file : goal.write_at-requires-clause-file
+write_at-requires-clause-file c =
+    (write_part_fits (the_view c.self.inside) c.self.invariant c.args.name.now c.args.file c.args.offset c.args.bytes.now (omega arith)
+    (subst (λ value. Permits value c.args.name.now (ToWritePart (location_of c.args.file) c.args.offset c.args.bytes.now)) (sym c.self.view_is) c.requires)
+    (some_bytes c.args.bytes.now c.is_empty.result c.is_empty.ensures c.if-is_empty.false)).0
+
+pub write_at-requires-clause-size : goal.write_at-requires-clause-size
+write_at-requires-clause-size c =
+    (write_part_fits (the_view c.self.inside) c.self.invariant c.args.name.now c.args.file c.args.offset c.args.bytes.now (omega arith)
+    (subst (λ value. Permits value c.args.name.now (ToWritePart (location_of c.args.file) c.args.offset c.args.bytes.now)) (sym c.self.view_is) c.requires)
+    (some_bytes c.args.bytes.now c.is_empty.result c.is_empty.ensures c.if-is_empty.false)).1
 
 pub invariant_of-self : goal.invariant_of-self
 invariant_of-self c = c.self.invariant
@@ -21,7 +33,7 @@ invariant_of-self-2 c =
     (write_part_is_answered (the_view c.self.inside) c.self.invariant c.args.name.now c.args.file c.args.offset c.args.bytes.now (omega arith)
     (subst (λ value. Permits value c.args.name.now (ToWritePart (location_of c.args.file) c.args.offset c.args.bytes.now)) (sym c.self.view_is) c.requires)
     (some_bytes c.args.bytes.now c.is_empty.result c.is_empty.ensures c.if-is_empty.false)
-    c.write_at.new.self c.write_at.result c.write_at.ensures.ok c.write_at.ensures.answer c.write_at.ensures.err).held
+    c.write_at.new.self c.write_at.result c.write_at.ensures.ok c.write_at.ensures.err).held
 
 pub returns-clause-ok : goal.returns-clause-ok
 returns-clause-ok c =
@@ -29,11 +41,4 @@ returns-clause-ok c =
     (write_part_is_answered (the_view c.self.inside) c.self.invariant c.args.name.now c.args.file c.args.offset c.args.bytes.now (omega arith)
     (subst (λ value. Permits value c.args.name.now (ToWritePart (location_of c.args.file) c.args.offset c.args.bytes.now)) (sym c.self.view_is) c.requires)
     (some_bytes c.args.bytes.now c.is_empty.result c.is_empty.ensures c.if-is_empty.false)
-    c.write_at.new.self c.write_at.result c.write_at.ensures.ok c.write_at.ensures.answer c.write_at.ensures.err).ok
-
-pub returns-clause-memory : goal.returns-clause-memory
-returns-clause-memory c =
-    (write_part_is_answered (the_view c.self.inside) c.self.invariant c.args.name.now c.args.file c.args.offset c.args.bytes.now (omega arith)
-    (subst (λ value. Permits value c.args.name.now (ToWritePart (location_of c.args.file) c.args.offset c.args.bytes.now)) (sym c.self.view_is) c.requires)
-    (some_bytes c.args.bytes.now c.is_empty.result c.is_empty.ensures c.if-is_empty.false)
-    c.write_at.new.self c.write_at.result c.write_at.ensures.ok c.write_at.ensures.answer c.write_at.ensures.err).memory
+    c.write_at.new.self c.write_at.result c.write_at.ensures.ok c.write_at.ensures.err).ok

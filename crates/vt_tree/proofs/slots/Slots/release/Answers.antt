@@ -1,5 +1,5 @@
 use Rattle.std.proofs.Common.{◌≤◌, None, sym, ap, ◌∙◌, arith}
-use Rattle.vt_spec.specs.OneTree.Inodes.{uses_in}
+use Rattle.vt_spec.specs.Inodes.{uses_in}
 use Rattle.vt_tree.specs.Slots.{slot_at, put_at}
 use Rattle.vt_tree.proofs.SlotLemmas.{get-updates, used_once_less-last}
 use Rattle.vt_tree.proofs.slots.Slots.release.Goals as goal

@@ -1,4 +1,4 @@
-use Rattle.std.proofs.Common.{rules, ◌≡◌, sym, ap, ◌∙◌, ℕ, true, false, nat_eq, map, reverse, Some, Vec, arith}
+use Rattle.std.proofs.Common.{rules, ◌≡◌, sym, ap, ◌∙◌, true, false, nat_eq, map, Some}
 use Rattle.std.proofs.lemmas.List.{map-append}
 use Rattle.vt_tree.specs.TreeValue.{inodes_of}
 use Rattle.vt_tree.proofs.PathLemmas.{arrives, goes_on, map-reverse, negated}

@@ -1,5 +1,5 @@
 use Rattle.std.proofs.Common.{◌≡◌, nat_eq, ap, ◌∙◌}
-use Rattle.vt_spec.specs.OneTree.Inodes.{with_changed, with_new}
+use Rattle.vt_spec.specs.Inodes.{with_changed, with_new}
 use Rattle.vt_spec.specs.Tree.{node_with_entry}
 use Rattle.vt_tree.specs.Slots.{inodes_in}
 use Rattle.vt_tree.specs.TreeValue.{inodes_of}

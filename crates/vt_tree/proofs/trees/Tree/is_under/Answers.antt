@@ -1,6 +1,6 @@
 use Rattle.std.proofs.Common.{◌≡◌, ◌<◌, ◌-◌, refl, false, nat_eq, sym, ap, ◌∙◌, arith}
 use Rattle.vt_spec.specs.Lists.{chain, is_among}
-use Rattle.vt_spec.specs.OneTree.Inodes.{parent_above}
+use Rattle.vt_spec.specs.Inodes.{parent_above}
 use Rattle.vt_tree.specs.TreeValue.{inodes_of}
 use Rattle.vt_tree.proofs.InodeLemmas.{climb}
 use Rattle.vt_tree.proofs.trees.Tree.is_under.Goals as goal

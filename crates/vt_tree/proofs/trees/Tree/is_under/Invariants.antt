@@ -1,6 +1,6 @@
 use Rattle.std.proofs.Common.{◌≡◌, nat_eq}
 use Rattle.vt_spec.specs.Lists.{chain, is_among}
-use Rattle.vt_spec.specs.OneTree.Inodes.{is_directory_under, parent_above}
+use Rattle.vt_spec.specs.Inodes.{is_directory_under, parent_above}
 use Rattle.vt_tree.specs.TreeValue.{inodes_of}
 use Rattle.vt_tree.proofs.trees.Tree.is_under.Given as goal
 

@@ -1,11 +1,9 @@
-use Rattle.std.proofs.Common.{◌≡◌, inl, sym, nat_eq, ap, ◌∙◌, arith}
-use Rattle.vt_spec.specs.OneTree.Inodes.{pinned, uses_in, with_name}
+use Rattle.std.proofs.Common.{◌≡◌, nat_eq, ap, ◌∙◌, arith}
+use Rattle.vt_spec.specs.Inodes.{pinned, uses_in, with_name}
 use Rattle.vt_spec.specs.Tree.{node_with_entry}
 use Rattle.vt_tree.specs.Slots.{inodes_in, slot_at}
 use Rattle.vt_tree.specs.TreeValue.{inodes_of}
 use Rattle.vt_tree.proofs.InodeLemmas.{inodes-acquired, uses-with_changed}
-use Rattle.vt_tree.proofs.MoveLemmas.{refused_before}
-use Rattle.vt_tree.specs.TreeRules.{make_rules, ruling}
 use Rattle.vt_tree.proofs.trees.Tree.link.Goals as goal
 
 -- an entry leaves the count below its limit
@@ -21,8 +19,3 @@ returns-clause-ok c =
     inodes-acquired c.self.inside.root c.insert_entry.new.slots c.count_use.new.self c.args.object c.count_use.ensures.acquired c.count_use.ensures.len
     ∙ ap (λ inodes. pinned nat_eq inodes c.args.object) (c.in_ok-insert_entry.ensures.ok c.self.inside.root)
     ∙ ap (λ value. with_name nat_eq (inodes_of value) c.args.directory c.args.name.items c.args.object) c.self.view_is
-
-pub returns-in-Err-clause-answer : goal.returns-in-Err-clause-answer
-returns-in-Err-clause-answer c =
-    inl (refused_before (make_rules (inodes_of c.args.self.now) c.args.directory c.args.name.items) _ c.in-Err.deny
-    (ap (λ name. ruling (make_rules (inodes_of c.args.self.now) c.args.directory name)) (sym c.deref.ensures.value) ∙ sym c.in-Err.ensures))

@@ -1,5 +1,5 @@
 use Rattle.std.proofs.Common.{◌≡◌, ap, nat_eq, ◌∙◌}
-use Rattle.vt_spec.specs.OneTree.Inodes.{one_directory}
+use Rattle.vt_spec.specs.Inodes.{one_directory}
 use Rattle.vt_tree.specs.Slots.{Slots, slot_at, slots_len}
 use Rattle.vt_tree.proofs.InodeLemmas.{inodes-root}
 use Rattle.vt_tree.proofs.trees.Tree.new.Goals as goal

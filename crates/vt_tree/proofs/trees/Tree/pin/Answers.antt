@@ -1,6 +1,6 @@
 use Rattle.std.proofs.Common.{nat_eq, ap, ◌∙◌}
 use Rattle.std.proofs.lemmas.Result.{on_ok_weaker}
-use Rattle.vt_spec.specs.OneTree.Inodes.{pinned}
+use Rattle.vt_spec.specs.Inodes.{pinned}
 use Rattle.vt_tree.specs.TreeValue.{inodes_of}
 use Rattle.vt_tree.proofs.InodeLemmas.{inodes-acquired}
 use Rattle.vt_tree.proofs.trees.Tree.pin.Goals as goal

@@ -1,6 +1,6 @@
 use Rattle.std.proofs.Common.{nat_eq, ap, ◌∙◌}
 use Rattle.vt_spec.specs.Language.Changes.{node_with_attr}
-use Rattle.vt_spec.specs.OneTree.Inodes.{with_changed}
+use Rattle.vt_spec.specs.Inodes.{with_changed}
 use Rattle.vt_tree.specs.TreeValue.{inodes_of}
 use Rattle.vt_tree.proofs.trees.Tree.set_attr.Goals as goal
 

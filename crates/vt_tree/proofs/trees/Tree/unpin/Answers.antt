@@ -1,5 +1,5 @@
 use Rattle.std.proofs.Common.{nat_eq, ap, ◌∙◌}
-use Rattle.vt_spec.specs.OneTree.Inodes.{unpinned}
+use Rattle.vt_spec.specs.Inodes.{unpinned}
 use Rattle.vt_tree.specs.TreeValue.{inodes_of}
 use Rattle.vt_tree.proofs.trees.Tree.unpin.Goals as goal
 

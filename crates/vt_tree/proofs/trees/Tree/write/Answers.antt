@@ -1,10 +1,10 @@
 use Rattle.std.proofs.Common.{nat_eq, ap, ◌∙◌}
-use Rattle.vt_spec.specs.OneTree.Inodes.{with_changed}
+use Rattle.vt_spec.specs.Inodes.{with_changed}
 use Rattle.vt_spec.specs.Tree.{node_with_bytes}
 use Rattle.vt_tree.specs.TreeValue.{inodes_of}
 use Rattle.vt_tree.proofs.trees.Tree.write.Goals as goal
 
-pub returns-clause-ok : goal.returns-clause-ok
-returns-clause-ok c =
+pub returns : goal.returns
+returns c =
     c.set_bytes.ensures.set c.self.inside.root
     ∙ ap (λ value. with_changed nat_eq (inodes_of value) c.args.file (node_with_bytes c.args.bytes.items)) c.self.view_is

@@ -4,6 +4,7 @@ use Rattle.vt_spec.specs.declared.attributes.Attr.{Attr}
 use Rattle.vt_spec.specs.Language.Changes.{Change, node_with_attr, node_with_mark, node_with_parent, node_without_entry}
 use Rattle.vt_spec.specs.Language.Changes.Change.{AddName, CopyUp, Make, Move, Remove, SetAttr, SetBytes, SetMark}
 use Rattle.vt_spec.specs.Lists.{chain, is_among}
+use Rattle.vt_spec.specs.Machine.Renaming.{renamed_node}
 use Rattle.vt_spec.specs.Tree.{Node, Tree, entries_in, entry_named, new_directory, node_with_bytes, node_with_entry, parent_in}
 
 -- an inode, and how many names lead to it and descriptors are on it; the root counts once more
@@ -123,4 +124,16 @@ module _ {N : Type 0} (eq : N → N → Bool) where
     root = root;
     inode = λ other. if eq other root then Some (record { node = record { attr = attr; content = new_directory root }; uses = 1 }) else None;
     count = 1;
+  }
+
+-- the inodes under other numbers
+module _ {N M : Type 0} (there : N → M) (back : M → N) where
+  abbrev pub renamed_inode : Inode N → Inode M
+  renamed_inode inode = record { node = renamed_node there back inode.node; uses = inode.uses }
+
+  abbrev pub renamed_inodes : Inodes N → Inodes M
+  renamed_inodes inodes = record {
+    root = there inodes.root;
+    inode = λ number. option_map renamed_inode (inodes.inode (back number));
+    count = inodes.count;
   }
