@@ -5,7 +5,7 @@ use Rattle.vt_location.specs.Numbers.{counted}
 use Rattle.vt_mount.specs.MountsValue.{mounts_in}
 use Rattle.vt_ns.proofs.LooksKept.{bare_top, no_child}
 use Rattle.vt_ns.proofs.looking.WorldLook.ground.Goals as goal
-use Rattle.vt_ns.specs.WorldValue.{WorldValue}
+use Rattle.vt_detach.specs.WorldValue.{WorldValue}
 
 pub returns : goal.returns
 returns c =
