@@ -580,3 +580,150 @@ module _ (fresh : Fresh ℕ) (world : World ℕ) (location : Location ℕ) (chan
       let lie = both_lie a b live_a live_b differ n object p q in
       overlap_of a b n object same (is_there_if a (live_plain a live_a) n object lie.0) lie.0 lie.1)
       (same_layer a b)
+
+  -- The layers afterwards are those that were
+  abbrev IgnoresReal : (Overlay ℕ → List (Layer ℕ)) → Type 0
+  IgnoresReal layers = (o : Overlay ℕ) (real : ℕ → Option (Real ℕ)) → layers (record o { real = real }) ≡ layers o
+
+  all_of : (layers : Overlay ℕ → List (Layer ℕ)) (fs : List (Filesystem ℕ))
+      → flat_map (of_overlay [] layers) (filter is_overlay fs) ≡ flat_map (of_overlay [] layers) fs
+  all_of layers [] = refl
+  all_of layers (f ∷ fs) = by f.overlay refl (all_of layers fs)
+    where
+      by : (o : Option (Overlay ℕ)) → f.overlay ≡ o → flat_map (of_overlay [] layers) (filter is_overlay fs) ≡ flat_map (of_overlay [] layers) fs
+          → flat_map (of_overlay [] layers) (cond (is_some f.overlay) (f ∷ filter is_overlay fs) (filter is_overlay fs))
+          ≡ overlay_or [] layers f.overlay ++ flat_map (of_overlay [] layers) fs
+      by None e rest =
+          ap (λ b. flat_map (of_overlay [] layers) (cond b (f ∷ filter is_overlay fs) (filter is_overlay fs))) (ap is_some e)
+          ∙ rest ∙ sym (ap (λ o. overlay_or [] layers o ++ flat_map (of_overlay [] layers) fs) e)
+      by (Some v) e rest =
+          ap (λ b. flat_map (of_overlay [] layers) (cond b (f ∷ filter is_overlay fs) (filter is_overlay fs))) (ap is_some e)
+          ∙ ap (λ l. overlay_or [] layers f.overlay ++ l) rest
+
+  mapped_same : (layers : Overlay ℕ → List (Layer ℕ)) (r : Filesystem ℕ → Filesystem ℕ) (fs : List (Filesystem ℕ))
+      → ((f : Filesystem ℕ) → Among f fs → of_overlay [] layers (r f) ≡ of_overlay [] layers f)
+      → flat_map (of_overlay [] layers) (map r fs) ≡ flat_map (of_overlay [] layers) fs
+  mapped_same layers r [] h = refl
+  mapped_same layers r (f ∷ fs) h =
+      ap (λ l. l ++ flat_map (of_overlay [] layers) (map r fs)) (h f (inl refl))
+      ∙ ap (λ l. of_overlay [] layers f ++ l) (mapped_same layers r fs (λ g m. h g (inr m)))
+
+  first_same : (layers : Overlay ℕ → List (Layer ℕ)) → IgnoresReal layers → (f : Filesystem ℕ) → Among f world.filesystems
+      → of_overlay [] layers (replaced_if_numbered nat_eq changed f) ≡ of_overlay [] layers f
+  first_same layers ignores f m = by (nat_eq changed.number f.number) refl
+    where
+      by : (b : Bool) → nat_eq changed.number f.number ≡ b → of_overlay [] layers (cond b changed f) ≡ of_overlay [] layers f
+      by true e =
+          ignores overlay merge.real
+          ∙ sym (ap (overlay_or [] layers) is)
+          ∙ ap (λ n. of_overlay [] layers (filesystem_numbered nat_eq world n)) (sym (number_of_filesystem world number) ∙ eqb-true changed.number f.number e)
+          ∙ ap (of_overlay [] layers) (own_number f m)
+      by false e = refl
+
+  second_same : (layers : Overlay ℕ → List (Layer ℕ)) (f : Filesystem ℕ) → Among f (map (replaced_if_numbered nat_eq changed) world.filesystems)
+      → of_overlay [] layers (replaced_if_numbered nat_eq changed_upper f) ≡ of_overlay [] layers f
+  second_same layers f m = from (among-from_map (replaced_if_numbered nat_eq changed) world.filesystems f m)
+    where
+      at : (old : Filesystem ℕ) → Among old world.filesystems → (b : Bool) → nat_eq changed.number old.number ≡ b → f ≡ cond b changed old
+          → (c : Bool) → nat_eq changed_upper.number f.number ≡ c → of_overlay [] layers (cond c changed_upper f) ≡ of_overlay [] layers f
+      at old o b e same false g = refl
+      at old o true e same true g =
+          absurd (apart (sym (number_of_filesystem world upper.filesystem) ∙ eqb-true changed_upper.number f.number g
+          ∙ ap (λ x. x.number) same ∙ number_of_filesystem world number))
+      at old o false e same true g =
+          ap (λ n. of_overlay [] layers (filesystem_numbered nat_eq world n))
+          (sym (number_of_filesystem world upper.filesystem) ∙ eqb-true changed_upper.number f.number g ∙ ap (λ x. x.number) same)
+          ∙ ap (of_overlay [] layers) (own_number old o) ∙ sym (ap (of_overlay [] layers) same)
+
+      from : (old : Filesystem ℕ) × Among old world.filesystems × (f ≡ replaced_if_numbered nat_eq changed old)
+          → of_overlay [] layers (replaced_if_numbered nat_eq changed_upper f) ≡ of_overlay [] layers f
+      from (old, o, same) = at old o (nat_eq changed.number old.number) refl same (nat_eq changed_upper.number f.number) refl
+
+  layers_same : (layers : Overlay ℕ → List (Layer ℕ)) → IgnoresReal layers
+      → flat_map (of_overlay [] layers) (overlays later) ≡ flat_map (of_overlay [] layers) (overlays world)
+  layers_same layers ignores =
+      ap (λ w. flat_map (of_overlay [] layers) (overlays w)) later_is
+      ∙ all_of layers (map (replaced_if_numbered nat_eq changed_upper) (map (replaced_if_numbered nat_eq changed) world.filesystems))
+      ∙ mapped_same layers (replaced_if_numbered nat_eq changed_upper) (map (replaced_if_numbered nat_eq changed) world.filesystems) (second_same layers)
+      ∙ mapped_same layers (replaced_if_numbered nat_eq changed) world.filesystems (first_same layers ignores)
+      ∙ sym (all_of layers world.filesystems)
+
+  live_of : (layer : Layer ℕ) → Among layer (live_upper_and_work world) → IsLive layer
+  unfolding IsLive
+  live_of layer m = ⊎_elim inl (λ differ. inr (inl (m, differ))) (same_layer layer upper)
+
+  low_of : (layer : Layer ℕ) → Among layer (live_lowers nat_eq world) → IsLive layer
+  unfolding IsLive
+  low_of layer m = inr (inr m)
+
+  -- two that overlap then
+  overlap_then : (a b : Layer ℕ) → IsLive a → IsLive b → overlap nat_eq later a b ≡ true → overlap nat_eq world a b ≡ true
+  overlap_then a b live_a live_b e =
+      from (any_among (λ (o : ℕ). lies_or_counts_under nat_eq later a.filesystem o a && list_any (lies_or_counts_under nat_eq later a.filesystem o) (b ∷ []))
+      (filesystem_numbered nat_eq later a.filesystem).files.numbers e)
+    where
+      one : (c : Bool) → (c || false) ≡ true → c ≡ true
+      one true e = e
+      one false e = e
+
+      from : (o : ℕ) × Among o (filesystem_numbered nat_eq later a.filesystem).files.numbers
+          × ((lies_or_counts_under nat_eq later a.filesystem o a && (lies_or_counts_under nat_eq later a.filesystem o b || false)) ≡ true)
+          → overlap nat_eq world a b ≡ true
+      from (o, m, f) =
+          overlap_before a b live_a live_b a.filesystem o refl (and_first (lies_or_counts_under nat_eq later a.filesystem o a) _ f)
+          (one (lies_or_counts_under nat_eq later a.filesystem o b) (and_second (lies_or_counts_under nat_eq later a.filesystem o a) _ f))
+
+  changed_stay : any_pair (overlap nat_eq later) (live_upper_and_work later) ≡ false
+  changed_stay =
+      ap (any_pair (overlap nat_eq later)) (layers_same upper_and_work (λ o real. refl))
+      ∙ no_pair_later (overlap nat_eq world) (overlap nat_eq later) (live_upper_and_work world)
+      (λ a b m n e. overlap_then a b (live_of a m) (live_of b n) e) conditions.overlays.changed_apart
+
+  lowers_stay : list_any (overlaps_one_of nat_eq later (live_lowers nat_eq later)) (live_upper_and_work later) ≡ false
+  lowers_stay =
+      ap (list_any (overlaps_one_of nat_eq later (live_lowers nat_eq later))) (layers_same upper_and_work (λ o real. refl))
+      ∙ ap (λ l. list_any (overlaps_one_of nat_eq later l) (live_upper_and_work world)) (layers_same (λ o. o.lowers) (λ o real. refl))
+      ∙ none_from_among (overlaps_one_of nat_eq later (live_lowers nat_eq world)) (live_upper_and_work world)
+      (λ a m. by a m (overlaps_one_of nat_eq later (live_lowers nat_eq world) a) refl)
+    where
+      inner : (a : Layer ℕ) → Among a (live_upper_and_work world) → (o : ℕ) → lies_or_counts_under nat_eq later a.filesystem o a ≡ true
+          → (b : Layer ℕ) × Among b (live_lowers nat_eq world) × (lies_or_counts_under nat_eq later a.filesystem o b ≡ true) → ⊥
+      inner a m o p (b, n, q) =
+          found (any_among (λ (x : ℕ). lies_or_counts_under nat_eq world a.filesystem x a && list_any (lies_or_counts_under nat_eq world a.filesystem x) (b ∷ []))
+          (filesystem_numbered nat_eq world a.filesystem).files.numbers
+          (overlap_before a b (live_of a m) (low_of b n) a.filesystem o refl p q))
+        where
+          one : (c : Bool) → (c || false) ≡ true → c ≡ true
+          one true e = e
+          one false e = e
+
+          found : (x : ℕ) × Among x (filesystem_numbered nat_eq world a.filesystem).files.numbers
+              × ((lies_or_counts_under nat_eq world a.filesystem x a && (lies_or_counts_under nat_eq world a.filesystem x b || false)) ≡ true) → ⊥
+          found (x, l, f) =
+              never_both _ _
+              (none_among (λ (y : ℕ). lies_or_counts_under nat_eq world a.filesystem y a && list_any (lies_or_counts_under nat_eq world a.filesystem y) (live_lowers nat_eq world))
+              (filesystem_numbered nat_eq world a.filesystem).files.numbers
+              (none_among (overlaps_one_of nat_eq world (live_lowers nat_eq world)) (live_upper_and_work world) conditions.overlays.lowers_apart a m) x l)
+              (and_first (lies_or_counts_under nat_eq world a.filesystem x a) _ f)
+              (any_from_among (lies_or_counts_under nat_eq world a.filesystem x) (live_lowers nat_eq world) b n
+              (one (lies_or_counts_under nat_eq world a.filesystem x b) (and_second (lies_or_counts_under nat_eq world a.filesystem x a) _ f)))
+
+      from : (a : Layer ℕ) → Among a (live_upper_and_work world) → (o : ℕ) × Among o (filesystem_numbered nat_eq later a.filesystem).files.numbers
+          × ((lies_or_counts_under nat_eq later a.filesystem o a && list_any (lies_or_counts_under nat_eq later a.filesystem o) (live_lowers nat_eq world)) ≡ true) → ⊥
+      from a m (o, l, f) =
+          inner a m o (and_first (lies_or_counts_under nat_eq later a.filesystem o a) _ f)
+          (any_among (lies_or_counts_under nat_eq later a.filesystem o) (live_lowers nat_eq world) (and_second (lies_or_counts_under nat_eq later a.filesystem o a) _ f))
+
+      by : (a : Layer ℕ) → Among a (live_upper_and_work world) → (b : Bool) → overlaps_one_of nat_eq later (live_lowers nat_eq world) a ≡ b
+          → overlaps_one_of nat_eq later (live_lowers nat_eq world) a ≡ false
+      by a m false e = e
+      by a m true e =
+          absurd (from a m (any_among (λ (o : ℕ). lies_or_counts_under nat_eq later a.filesystem o a && list_any (lies_or_counts_under nat_eq later a.filesystem o) (live_lowers nat_eq world))
+          (filesystem_numbered nat_eq later a.filesystem).files.numbers e))
+
+  pub stand_apart : StandApart later
+  stand_apart = record { changed = changed_stay; lowers = lowers_stay }
+
+pub layers_stay_apart : LayersStayApart
+layers_stay_apart fresh world location change overlay upper conditions is has reached distinct none asked =
+    stand_apart fresh world location change overlay upper conditions is has reached distinct none asked

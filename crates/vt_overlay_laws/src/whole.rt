@@ -1,4 +1,5 @@
 //! Laws of overlays that stay whole: changes follow one another.
+ghost use Rattle.vt_overlay_laws.specs.LayersApart.{LayersStayApart};
 ghost use Rattle.vt_overlay_laws.specs.WholeStays.{ChangesFollowOneAnother, ChangesKeepWhole, LinkKeepsWhole, MakeKeepsWhole};
 ghost use Rattle.vt_overlay_laws.specs.WholeStays.{MergedTreesStay, MoveKeepsWhole, NamesLeadToOwn, ObjectsAreOwn, RemoveKeepsWhole};
 ghost use Rattle.vt_overlay_laws.specs.WholeStays.{UpperTreesStay};
@@ -22,4 +23,10 @@ pub fn changes_keep_both_trees()
     ensures merged { MergedTreesStay }
     ensures names { NamesLeadToOwn }
     ensures objects { ObjectsAreOwn }
+{}
+
+/// Layers of live overlays stand apart after a change of one: no inode of a layer that changes write to lies or counts under another
+/// such layer, or under a lower one.
+pub fn changes_keep_layers_apart()
+    ensures { LayersStayApart }
 {}
