@@ -85,60 +85,60 @@ module _ (fresh : Fresh ℕ) (world : World ℕ) (location : Location ℕ) (chan
     (reached : IsReached (filesystem_numbered nat_eq world upper.filesystem).files.tree upper.directory)
     (distinct : (j k : ℕ) → fresh j ≡ fresh k → j ≡ k) (none : (filesystem : ℕ) → AreNoInodes fresh world filesystem)
     (asked : IsAskedWell (stack_of nat_eq world overlay upper) (merge_of nat_eq world (filesystem_at nat_eq world location) overlay upper) change) where
-  abbrev number : ℕ
+  abbrev pub number : ℕ
   number = (mount_at nat_eq world location).filesystem
 
-  abbrev later : World ℕ
+  abbrev pub later : World ℕ
   later = with_change nat_eq fresh world location change
 
-  abbrev stack : Stack ℕ
+  abbrev pub stack : Stack ℕ
   stack = stack_of nat_eq world overlay upper
 
-  abbrev before : Merge ℕ
+  abbrev pub before : Merge ℕ
   before = WholeLater.before fresh world location change overlay upper conditions is has reached distinct none asked
 
-  abbrev merge : Merge ℕ
+  abbrev pub merge : Merge ℕ
   merge = WholeLater.merge fresh world location change overlay upper conditions is has reached distinct none asked
 
-  abbrev changed : Filesystem ℕ
+  abbrev pub changed : Filesystem ℕ
   changed = WholeLater.changed_filesystem fresh world location change overlay upper conditions is has reached distinct none asked
 
-  abbrev changed_upper : Filesystem ℕ
+  abbrev pub changed_upper : Filesystem ℕ
   changed_upper = WholeLater.changed_upper fresh world location change overlay upper conditions is has reached distinct none asked
 
-  later_is : later ≡ WholeLater.later fresh world location change overlay upper conditions is has reached distinct none asked
+  pub later_is : later ≡ WholeLater.later fresh world location change overlay upper conditions is has reached distinct none asked
   later_is = WholeLater.later_is fresh world location change overlay upper conditions is has reached distinct none asked
 
-  apart : upper.filesystem ≢ number
+  pub apart : upper.filesystem ≢ number
   apart = WholeLater.apart fresh world location change overlay upper conditions is has reached distinct none asked
 
-  upper_later : filesystem_numbered nat_eq later upper.filesystem ≡ changed_upper
+  pub upper_later : filesystem_numbered nat_eq later upper.filesystem ≡ changed_upper
   upper_later =
       ap (λ w. filesystem_numbered nat_eq w upper.filesystem) later_is
       ∙ WholeLater.upper_later fresh world location change overlay upper conditions is has reached distinct none asked
 
-  new : AreNew fresh before
+  pub new : AreNew fresh before
   new = record { distinct = distinct; unused = λ k. none upper.filesystem k }
 
-  whole : IsWhole stack before
+  pub whole : IsWhole stack before
   whole = overlays_are_whole world number overlay upper conditions is has reached
 
-  goes : Goes upper.directory before.upper merge.upper
+  pub goes : Goes upper.directory before.upper merge.upper
   goes = change_goes fresh stack before whole new change asked
 
-  numbers_in : (n : ℕ) → ListsNumbers nat_eq (filesystem_numbered nat_eq world n).files
+  pub numbers_in : (n : ℕ) → ListsNumbers nat_eq (filesystem_numbered nat_eq world n).files
   numbers_in n =
       numbered_anyhow (λ (f : Filesystem ℕ). ListsNumbers nat_eq f.files) n world.filesystems conditions.files.numbers (λ k. refl)
 
   -- the layers that are not the upper one
-  abbrev IsOther : Layer ℕ → Type 0
+  abbrev pub IsOther : Layer ℕ → Type 0
   IsOther layer = (Among layer (live_upper_and_work world) × (layer ≢ upper)) ⊎ Among layer (live_lowers nat_eq world)
 
-  upper_live : Among upper (live_upper_and_work world)
+  pub upper_live : Among upper (live_upper_and_work world)
   upper_live =
       layer_among world conditions upper_and_work number overlay is upper (upper_is_layer world conditions number overlay is upper has)
 
-  upper_plain : is_plain_layer nat_eq world upper ≡ true
+  pub upper_plain : is_plain_layer nat_eq world upper ≡ true
   upper_plain = layer_plain world conditions number overlay is upper (upper_in_layers world conditions number overlay is upper has)
 
   -- layers are directories of plain trees
@@ -155,10 +155,10 @@ module _ (fresh : Fresh ℕ) (world : World ℕ) (location : Location ℕ) (chan
       by None a e = absurd a
       by (Some v) a e = among_from_list_all (is_plain_layer nat_eq world) (layers_of v) e layer (of v layer a)
 
-  changed_plain : (layer : Layer ℕ) → Among layer (live_upper_and_work world) → is_plain_layer nat_eq world layer ≡ true
+  pub changed_plain : (layer : Layer ℕ) → Among layer (live_upper_and_work world) → is_plain_layer nat_eq world layer ≡ true
   changed_plain = plain_of upper_and_work (λ o layer m. among-append_left (upper_and_work o) o.lowers layer m)
 
-  other_plain : (layer : Layer ℕ) → IsOther layer → is_plain_layer nat_eq world layer ≡ true
+  pub other_plain : (layer : Layer ℕ) → IsOther layer → is_plain_layer nat_eq world layer ≡ true
   other_plain layer (inl m) = changed_plain layer m.0
   other_plain layer (inr m) =
       plain_of (λ o. o.lowers) (λ o l a. among-append_right (upper_and_work o) o.lowers l a) layer m
@@ -196,7 +196,7 @@ module _ (fresh : Fresh ℕ) (world : World ℕ) (location : Location ℕ) (chan
       (any_from_among (lies_or_counts_under nat_eq world upper.filesystem object) (live_lowers nat_eq world) layer m (subst (λ k. Lies layer k object) same in_layer))
 
   -- paths from the others lead where they led
-  other_leads : (layer : Layer ℕ) → IsOther layer → LeadsAsBefore world later layer
+  pub other_leads : (layer : Layer ℕ) → IsOther layer → LeadsAsBefore world later layer
   other_leads layer other =
       leads_as_before world conditions layer (other_plain layer other) later
       (λ inode lies there.
@@ -208,11 +208,11 @@ module _ (fresh : Fresh ℕ) (world : World ℕ) (location : Location ℕ) (chan
       (subst (λ n. Lies layer n inode) (sym same) lies)))
 
   -- The trees afterwards
-  plain_elsewhere : (layer : Layer ℕ) → is_plain_layer nat_eq world layer ≡ true → layer.filesystem ≢ number
+  pub plain_elsewhere : (layer : Layer ℕ) → is_plain_layer nat_eq world layer ≡ true → layer.filesystem ≢ number
   plain_elsewhere layer plain same =
       none_is_some overlay (sym (no_overlay_in world conditions layer plain) ∙ ap (λ n. (filesystem_numbered nat_eq world n).overlay) same ∙ is)
 
-  stays : (n : ℕ) → n ≢ number → n ≢ upper.filesystem → filesystem_numbered nat_eq later n ≡ filesystem_numbered nat_eq world n
+  pub stays : (n : ℕ) → n ≢ number → n ≢ upper.filesystem → filesystem_numbered nat_eq later n ≡ filesystem_numbered nat_eq world n
   stays n no_number no_upper =
       Rattle.vt_layer_laws.proofs.LowersWorld.others_elsewhere fresh world location change n no_number
       (λ o u f g s. no_upper (s ∙ ap (λ l. l.filesystem) (some_is_one u upper (sym g ∙ ap (λ v. v.upper) (some_is_one o overlay (sym f ∙ is)) ∙ has))))
@@ -232,7 +232,7 @@ module _ (fresh : Fresh ℕ) (world : World ℕ) (location : Location ℕ) (chan
           subst (λ f. IsTree f.files.tree) (sym (stays layer.filesystem (plain_elsewhere layer plain) t.1)) (layer_tree world conditions layer plain)
 
   -- what lies under a layer, by paths
-  abbrev LedIn : World ℕ → Layer ℕ → ℕ → Type 0
+  abbrev pub LedIn : World ℕ → Layer ℕ → ℕ → Type 0
   LedIn w layer object =
       (path : List (List ℕ)) × (led (filesystem_numbered nat_eq w layer.filesystem).files.tree layer.directory path ≡ Some object)
 
@@ -330,7 +330,7 @@ module _ (fresh : Fresh ℕ) (world : World ℕ) (location : Location ℕ) (chan
           )
 
   -- one filesystem has a number
-  own_number : (f : Filesystem ℕ) → Among f world.filesystems → filesystem_numbered nat_eq world f.number ≡ f
+  pub own_number : (f : Filesystem ℕ) → Among f world.filesystems → filesystem_numbered nat_eq world f.number ≡ f
   own_number f m = ap (λ o. Rattle.std.specs.Prelude.unwrap_or o (Rattle.vt_spec.specs.Machine.World.no_filesystem f.number)) (by world.filesystems conditions.files.one_filesystem m)
     where
       first : (p q : Bool) → (p || q) ≡ false → p ≡ false
@@ -483,7 +483,7 @@ module _ (fresh : Fresh ℕ) (world : World ℕ) (location : Location ℕ) (chan
       counted : list_any (counts_in_layer nat_eq later n object layer) (overlays later) ≡ true → Lies layer n object
       counted f = found_of (any_among (counts_in_layer nat_eq later n object layer) (overlays later) f)
 
-  same_layer : (a b : Layer ℕ) → (a ≡ b) ⊎ (a ≢ b)
+  pub same_layer : (a b : Layer ℕ) → (a ≡ b) ⊎ (a ≢ b)
   same_layer a b =
       ⊎_elim
       (λ f. ⊎_elim (λ d. inl (λ i. record { filesystem = f.1 i; directory = d.1 i })) (λ d. inr (λ e. d.1 (ap (λ l. l.directory) e))) (eqb_tells a.directory b.directory))

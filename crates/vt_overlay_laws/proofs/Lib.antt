@@ -1,3 +1,4 @@
+pub mod ApartInvariants
 pub mod ApartLater
 pub mod ApartPaths
 pub mod UpperOwn
