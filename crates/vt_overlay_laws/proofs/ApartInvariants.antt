@@ -1,13 +1,12 @@
 -- The invariants of overlays and of trees after a change of an overlay.
-use Rattle.std.proofs.Common.{◌≡◌, ◌≢◌, refl, sym, ap, subst, ◌∙◌, true≢false, eqb-true, eq-eqb, ◌⊎◌, ⊎_elim, inl, inr, ℕ, nat_eq, Bool, true, false, not, cond, ◌&&◌, ◌||◌, List, [], ◌∷◌, ◌++◌, map, Option, Some, None, is_some}
+use Rattle.std.proofs.Common.{◌≡◌, ◌≢◌, refl, sym, ap, subst, ◌∙◌, true≢false, eqb-true, ◌⊎◌, ⊎_elim, inl, inr, ℕ, nat_eq, Bool, true, false, not, cond, ◌&&◌, ◌||◌, List, [], ◌∷◌, map, Option, Some, None, is_some}
 use Rattle.std.proofs.lemmas.Bool.Decides.{eqb_tells}
 use Rattle.std.specs.List.{list_all, list_any}
-use Rattle.std.specs.Prelude.{All, option_to_list}
 use Rattle.vt_spec.specs.Language.Changes.{Change}
 use Rattle.vt_spec.specs.Lists.{Fresh, any_pair}
 use Rattle.vt_spec.specs.Machine.Filesystems.{merge_of, stack_of, with_change}
 use Rattle.vt_spec.specs.Machine.Invariants.{IsMerged, IsWorld, OverlayInvariants, has_fit_layers, is_plain_layer, live_lowers}
-use Rattle.vt_spec.specs.Machine.Locked.{live_upper_and_work, of_overlay, overlay_or, upper_and_work}
+use Rattle.vt_spec.specs.Machine.Locked.{of_overlay, overlay_or, upper_and_work}
 use Rattle.vt_spec.specs.Machine.Mounts.{Location}
 use Rattle.vt_spec.specs.Machine.World.{Filesystem, Layer, Overlay, World, filesystem_at, filesystem_numbered, is_overlay, layers_of, mount_at, replaced_if_numbered}
 use Rattle.vt_spec.specs.Tree.{is_directory_node}
@@ -16,11 +15,10 @@ use Rattle.vt_spec.proofs.Lists.{Among, all_from_among, among-append, among-flat
 use Rattle.vt_tree_laws.specs.Trees.{IsFileTree}
 use Rattle.vt_layer_laws.specs.Layers.Locked.{AreNoInodes}
 use Rattle.vt_layer_laws.proofs.LockedApart.{layer_among, layer_plain, no_overlay_in}
-use Rattle.vt_layer_laws.proofs.LowersWorld.{number_of_filesystem}
 use Rattle.vt_layer_laws.proofs.ShownAtPath.{none_is_some}
 use Rattle.vt_layer_laws.proofs.UpperLine.{and_first, and_second}
 use Rattle.vt_layer_laws.proofs.ViewsNames.{alike_kept}
-use Rattle.vt_overlay_laws.specs.LayersApart.{OverlayInvariantsStay, StandApart, TreesAfter, TreesStay}
+use Rattle.vt_overlay_laws.specs.LayersApart.{OverlayInvariantsStay, TreesAfter, TreesStay}
 use Rattle.vt_overlay_laws.specs.WholeChanges.{IsAskedWell}
 use Rattle.vt_overlay_laws.proofs.ApartLater
 use Rattle.vt_overlay_laws.proofs.UpperWhole.{merged_trees_stay, upper_trees_stay}

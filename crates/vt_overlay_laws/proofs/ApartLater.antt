@@ -5,24 +5,23 @@ use Rattle.std.specs.List.{list_any}
 use Rattle.std.specs.Prelude.{filter, flat_map, option_to_list}
 use Rattle.vt_spec.specs.FileTree.{is_under}
 use Rattle.vt_spec.specs.Language.Changes.{Change}
-use Rattle.vt_spec.specs.Lists.{Fresh, any_pair, holds_of, is_among}
+use Rattle.vt_spec.specs.Lists.{Fresh, any_pair, holds_of}
 use Rattle.vt_spec.specs.Machine.CopyUp.{Merge, Stack}
 use Rattle.vt_spec.specs.Machine.Filesystems.{merge_of, stack_of, with_change}
 use Rattle.vt_spec.specs.Machine.Invariants.{IsWorld, ListsNumbers, is_plain_layer, is_there, live_lowers, overlap}
-use Rattle.vt_spec.specs.Machine.Layers.{at_path}
 use Rattle.vt_spec.specs.Machine.Locked.{counts_in_layer, is_object_of, is_real_upper, lies_in_layer, lies_or_counts_under, live_upper_and_work, of_overlay, overlaps_one_of, overlay_or, overlays, upper_and_work}
 use Rattle.vt_spec.specs.Machine.Mounts.{Location}
 use Rattle.vt_spec.specs.Machine.World.{Filesystem, Layer, Overlay, Real, World, filesystem_at, filesystem_numbered, is_overlay, layers_of, mount_at, open_layer, replaced_if_numbered, upper_object}
 use Rattle.vt_spec.specs.Machine.World.Real.{Below, Upper}
 use Rattle.vt_spec.specs.Tree.{is_directory_node}
-use Rattle.vt_spec.specs.TreeLaws.{IsDirectory, IsReached, IsTree, entry_at, led}
-use Rattle.vt_spec.proofs.Lists.{Among, among-append_left, among-append_right, among-filter, among-flat_map, among-from_filter, among-from_flat_map, among-from_map, among-map, among_from_list_all, among_numbers, any_among, any_from_among, none_among, none_from_among}
+use Rattle.vt_spec.specs.TreeLaws.{IsReached, IsTree, entry_at, led}
+use Rattle.vt_spec.proofs.Lists.{Among, among-append_left, among-append_right, among-filter, among-flat_map, among-from_filter, among-from_flat_map, among-from_map, among_from_list_all, among_numbers, any_among, any_from_among, none_among, none_from_among}
 use Rattle.vt_spec.proofs.Nodes.{directory_used}
 use Rattle.vt_tree_laws.proofs.TreesOfWorlds.{numbered_anyhow}
 use Rattle.vt_layer_laws.specs.Layers.Locked.{AreNoInodes, LeadsAsBefore}
 use Rattle.vt_layer_laws.specs.Layers.Untouched.{inode_in}
 use Rattle.vt_layer_laws.specs.Layers.Upper.{IsUpperObject}
-use Rattle.vt_layer_laws.proofs.LockedApart.{both_hold, layer_among, layer_plain, left_holds, lies_there, merged_among, never_both, no_overlay_in, object_counts, right_holds, upper_in_layers, upper_is_layer}
+use Rattle.vt_layer_laws.proofs.LockedApart.{both_hold, layer_among, layer_plain, left_holds, lies_there, never_both, no_overlay_in, object_counts, right_holds, upper_in_layers, upper_is_layer}
 use Rattle.vt_layer_laws.proofs.LockedPaths.{layer_tree, leads_as_before}
 use Rattle.vt_layer_laws.proofs.LowersWorld.{filesystem_elsewhere, number_of_filesystem}
 use Rattle.vt_layer_laws.proofs.ShownAtPath.{none_is_some, some_is_one}
@@ -32,8 +31,8 @@ use Rattle.vt_layer_laws.proofs.UpperWorld.{overlay_merges}
 use Rattle.vt_overlay_laws.specs.LayersApart.{LayersStayApart, StandApart}
 use Rattle.vt_overlay_laws.specs.WhatIsShown.{IsWhole}
 use Rattle.vt_overlay_laws.specs.WholeChanges.{IsAskedWell}
-use Rattle.vt_overlay_laws.specs.WholeStays.{AreNew, IsNewBy, IsOwnPlaced}
-use Rattle.vt_overlay_laws.proofs.ApartPaths.{Led, led_on, led_under, under_led}
+use Rattle.vt_overlay_laws.specs.WholeStays.{AreNew, IsNewBy}
+use Rattle.vt_overlay_laws.proofs.ApartPaths.{led_under, under_led}
 use Rattle.vt_overlay_laws.proofs.UpperGoes.{Goes}
 use Rattle.vt_overlay_laws.proofs.UpperOwn
 use Rattle.vt_overlay_laws.proofs.UpperWhole.{change_goes}
@@ -239,8 +238,7 @@ module _ (fresh : Fresh ℕ) (world : World ℕ) (location : Location ℕ) (chan
   lies_later : (layer : Layer ℕ) → is_plain_layer nat_eq world layer ≡ true → (n object : ℕ) → lies_in_layer nat_eq later n object layer ≡ true
       → (n ≡ layer.filesystem) × LedIn later layer object
   lies_later layer plain n object e =
-      let same = eqb-true n layer.filesystem (and_first (nat_eq n layer.filesystem) _ e) in
-      (
+      let same = eqb-true n layer.filesystem (and_first (nat_eq n layer.filesystem) _ e) in (
         same,
         under_led (filesystem_numbered nat_eq later layer.filesystem).files (tree_later layer plain) layer.directory object
             (subst (λ k. is_under nat_eq (filesystem_numbered nat_eq later k).files layer.directory object ≡ true) same
@@ -397,8 +395,7 @@ module _ (fresh : Fresh ℕ) (world : World ℕ) (location : Location ℕ) (chan
       → (n ≡ u.filesystem) × ((k : ℕ) × (v.real k ≡ Some (Upper object)))
   real_of_object g v u has_u n object e =
       let first = and_first (holds_of (λ l. nat_eq n l.filesystem) v.upper) _ e in
-      let found = any_among (is_real_upper nat_eq v object) g.files.numbers (and_second (holds_of (λ l. nat_eq n l.filesystem) v.upper) _ e) in
-      (
+      let found = any_among (is_real_upper nat_eq v object) g.files.numbers (and_second (holds_of (λ l. nat_eq n l.filesystem) v.upper) _ e) in (
         eqb-true n u.filesystem (sym (ap (holds_of (λ l. nat_eq n l.filesystem)) has_u) ∙ first),
         (found.0, by (v.real found.0) found.2),
       )
@@ -448,8 +445,7 @@ module _ (fresh : Fresh ℕ) (world : World ℕ) (location : Location ℕ) (chan
   changed_parts w layer n object parts =
       let same = some_is_one _ parts.overlay_of parts.is_of in
       let one : upper ≡ parts.upper_of_it = some_is_one upper parts.upper_of_it (sym has ∙ ap (λ v. v.upper) same ∙ parts.has_it) in
-      let real = real_of_object changed parts.overlay_of parts.upper_of_it parts.has_it n object parts.object_of in
-      (
+      let real = real_of_object changed parts.overlay_of parts.upper_of_it parts.has_it n object parts.object_of in (
         subst (λ u. lies_in_layer nat_eq w u.filesystem u.directory layer ≡ true) (sym one) parts.lies,
         (real.0 ∙ ap (λ u. u.filesystem) (sym one), (real.1.0, ap (λ v. v.real real.1.0) same ∙ real.1.1)),
       )
@@ -551,15 +547,13 @@ module _ (fresh : Fresh ℕ) (world : World ℕ) (location : Location ℕ) (chan
   unfolding IsLive
   both_lie a b (inl x) (inl y) differ n object p q = absurd (differ (x ∙ sym y))
   both_lie a b (inl x) (inr y) differ n object p q =
-      let in_b = later_other b y n object q in
-      (
+      let in_b = later_other b y n object q in (
         ⊎_elim (λ l. subst (λ m. Lies m n object) (sym x) l) (λ f. absurd (not_new b (other_plain b y) n object in_b f))
             (later_upper n object (subst (λ m. lies_or_counts_under nat_eq later n object m ≡ true) x p)),
         in_b,
       )
   both_lie a b (inr x) (inl y) differ n object p q =
-      let in_a = later_other a x n object p in
-      (
+      let in_a = later_other a x n object p in (
         in_a,
         ⊎_elim (λ l. subst (λ m. Lies m n object) (sym y) l) (λ f. absurd (not_new a (other_plain a x) n object in_a f))
             (later_upper n object (subst (λ m. lies_or_counts_under nat_eq later n object m ≡ true) y q)),

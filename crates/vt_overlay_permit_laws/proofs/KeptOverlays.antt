@@ -1,22 +1,20 @@
 -- A granted call that changes an overlay keeps the invariants of overlays.
-use Rattle.std.proofs.Common.{◌≡◌, refl, sym, ap, subst, ◌∙◌, ℕ, nat_eq, Bool, true, false, List, [], ◌∷◌, map, Option, Some, None}
+use Rattle.std.proofs.Common.{◌≡◌, refl, sym, ap, subst, ◌∙◌, ℕ, nat_eq, Bool, true, false, List, [], ◌∷◌, Option, Some, None}
 use Rattle.std.specs.Prelude.{All, ⊤}
 use Rattle.vt_spec.specs.Language.Changes.{Change}
 use Rattle.vt_spec.specs.Language.Changes.Change.{CopyUp, Move, Remove}
 use Rattle.vt_spec.specs.Lists.{Fresh, any_pair, when}
 use Rattle.vt_spec.specs.Machine.Apply.{apply}
-use Rattle.vt_spec.specs.Machine.Detach.{taken_away, without_mounts_on}
+use Rattle.vt_spec.specs.Machine.Detach.{without_mounts_on}
 use Rattle.vt_spec.specs.Machine.Filesystems.{filesystem_changed, with_change}
 use Rattle.vt_spec.specs.Machine.Invariants.{IsMerged, OverlayInvariants}
 use Rattle.vt_spec.specs.Machine.Mounts.{Location}
 use Rattle.vt_spec.specs.Machine.Outcome.Descriptors.{is_copied_up, with_copy}
-use Rattle.vt_spec.specs.Machine.Outcome.Removing.{without_replaced}
 use Rattle.vt_spec.specs.Machine.Permits.{Permit}
 use Rattle.vt_spec.specs.Machine.Permits.Permit.{Allowed, ToBind, ToChange, ToClose, ToEnterNamespace, ToExit, ToFork, ToList, ToListMounts, ToMake, ToMountOverlay, ToMountPlain, ToMove, ToOpen, ToOpenNew, ToPivot, ToRead, ToReadPart, ToRemoveDirectory, ToRename, ToSetCredentials, ToSetDirectory, ToSetFlags, ToSetRoot, ToSetType, ToSetUmask, ToStat, ToUnmount, ToUnmountLazily, ToUnshare, ToWritePart}
 use Rattle.vt_spec.specs.Machine.World.{Filesystem, Layer, Overlay, Task, World, filesystem_numbered, mount_at}
 use Rattle.vt_spec.specs.TreeLaws.{IsReached}
 use Rattle.vt_tree_laws.specs.Trees.{IsFileTree}
-use Rattle.vt_tree_laws.proofs.TreesOfWorlds.{taken_filesystems, taken_shows}
 use Rattle.vt_layer_laws.proofs.LowersMounts.{same_filesystems_without, same_mounted_without}
 use Rattle.vt_overlay_laws.specs.LayersApart.{TreesAfter}
 use Rattle.vt_overlay_laws.proofs.ApartInvariants.{overlay_invariants_stay, trees_stay}
@@ -159,8 +157,7 @@ permits_keep_overlay_invariants world fresh task call permit location change ove
     let left = are_left world fresh conditions serves permit in
     let asked = permits_ask_overlays_well world fresh task call permit location change overlay upper conditions serves called judged asks is has in
     let same = permits_make_their_change world fresh task permit location change asks in
-    let then = with_change nat_eq (numbers_left fresh permit) world location change in
-    (
+    let then = with_change nat_eq (numbers_left fresh permit) world location change in (
       overlays_in (apply nat_eq fresh world task permit).world then same
           (overlay_invariants_stay (numbers_left fresh permit) world location change overlay upper conditions is has reached left.0 left.1 asked),
       trees_in (apply nat_eq fresh world task permit).world then upper same
