@@ -5,24 +5,23 @@ use Rattle.std.specs.List.{list_any}
 use Rattle.std.specs.Prelude.{filter, flat_map, option_to_list}
 use Rattle.vt_spec.specs.FileTree.{is_under}
 use Rattle.vt_spec.specs.Language.Changes.{Change}
-use Rattle.vt_spec.specs.Lists.{Fresh, any_pair, holds_of, is_among}
+use Rattle.vt_spec.specs.Lists.{Fresh, any_pair, holds_of}
 use Rattle.vt_spec.specs.Machine.CopyUp.{Merge, Stack}
 use Rattle.vt_spec.specs.Machine.Filesystems.{merge_of, stack_of, with_change}
 use Rattle.vt_spec.specs.Machine.Invariants.{IsWorld, ListsNumbers, is_plain_layer, is_there, live_lowers, overlap}
-use Rattle.vt_spec.specs.Machine.Layers.{at_path}
 use Rattle.vt_spec.specs.Machine.Locked.{counts_in_layer, is_object_of, is_real_upper, lies_in_layer, lies_or_counts_under, live_upper_and_work, of_overlay, overlaps_one_of, overlay_or, overlays, upper_and_work}
 use Rattle.vt_spec.specs.Machine.Mounts.{Location}
 use Rattle.vt_spec.specs.Machine.World.{Filesystem, Layer, Overlay, Real, World, filesystem_at, filesystem_numbered, is_overlay, layers_of, mount_at, open_layer, replaced_if_numbered, upper_object}
 use Rattle.vt_spec.specs.Machine.World.Real.{Below, Upper}
 use Rattle.vt_spec.specs.Tree.{is_directory_node}
-use Rattle.vt_spec.specs.TreeLaws.{IsDirectory, IsReached, IsTree, entry_at, led}
-use Rattle.vt_spec.proofs.Lists.{Among, among-append_left, among-append_right, among-filter, among-flat_map, among-from_filter, among-from_flat_map, among-from_map, among-map, among_from_list_all, among_numbers, any_among, any_from_among, none_among, none_from_among}
+use Rattle.vt_spec.specs.TreeLaws.{IsReached, IsTree, entry_at, led}
+use Rattle.vt_spec.proofs.Lists.{Among, among-append_left, among-append_right, among-filter, among-flat_map, among-from_filter, among-from_flat_map, among-from_map, among_from_list_all, among_numbers, any_among, any_from_among, none_among, none_from_among}
 use Rattle.vt_spec.proofs.Nodes.{directory_used}
 use Rattle.vt_tree_laws.proofs.TreesOfWorlds.{numbered_anyhow}
 use Rattle.vt_layer_laws.specs.Layers.Locked.{AreNoInodes, LeadsAsBefore}
 use Rattle.vt_layer_laws.specs.Layers.Untouched.{inode_in}
 use Rattle.vt_layer_laws.specs.Layers.Upper.{IsUpperObject}
-use Rattle.vt_layer_laws.proofs.LockedApart.{both_hold, layer_among, layer_plain, left_holds, lies_there, merged_among, never_both, no_overlay_in, object_counts, right_holds, upper_in_layers, upper_is_layer}
+use Rattle.vt_layer_laws.proofs.LockedApart.{both_hold, layer_among, layer_plain, left_holds, lies_there, never_both, no_overlay_in, object_counts, right_holds, upper_in_layers, upper_is_layer}
 use Rattle.vt_layer_laws.proofs.LockedPaths.{layer_tree, leads_as_before}
 use Rattle.vt_layer_laws.proofs.LowersWorld.{filesystem_elsewhere, number_of_filesystem}
 use Rattle.vt_layer_laws.proofs.ShownAtPath.{none_is_some, some_is_one}
@@ -32,8 +31,8 @@ use Rattle.vt_layer_laws.proofs.UpperWorld.{overlay_merges}
 use Rattle.vt_overlay_laws.specs.LayersApart.{LayersStayApart, StandApart}
 use Rattle.vt_overlay_laws.specs.WhatIsShown.{IsWhole}
 use Rattle.vt_overlay_laws.specs.WholeChanges.{IsAskedWell}
-use Rattle.vt_overlay_laws.specs.WholeStays.{AreNew, IsNewBy, IsOwnPlaced}
-use Rattle.vt_overlay_laws.proofs.ApartPaths.{Led, led_on, led_under, under_led}
+use Rattle.vt_overlay_laws.specs.WholeStays.{AreNew, IsNewBy}
+use Rattle.vt_overlay_laws.proofs.ApartPaths.{led_under, under_led}
 use Rattle.vt_overlay_laws.proofs.UpperGoes.{Goes}
 use Rattle.vt_overlay_laws.proofs.UpperOwn
 use Rattle.vt_overlay_laws.proofs.UpperWhole.{change_goes}
@@ -85,60 +84,60 @@ module _ (fresh : Fresh ℕ) (world : World ℕ) (location : Location ℕ) (chan
     (reached : IsReached (filesystem_numbered nat_eq world upper.filesystem).files.tree upper.directory)
     (distinct : (j k : ℕ) → fresh j ≡ fresh k → j ≡ k) (none : (filesystem : ℕ) → AreNoInodes fresh world filesystem)
     (asked : IsAskedWell (stack_of nat_eq world overlay upper) (merge_of nat_eq world (filesystem_at nat_eq world location) overlay upper) change) where
-  abbrev number : ℕ
+  abbrev pub number : ℕ
   number = (mount_at nat_eq world location).filesystem
 
-  abbrev later : World ℕ
+  abbrev pub later : World ℕ
   later = with_change nat_eq fresh world location change
 
-  abbrev stack : Stack ℕ
+  abbrev pub stack : Stack ℕ
   stack = stack_of nat_eq world overlay upper
 
-  abbrev before : Merge ℕ
+  abbrev pub before : Merge ℕ
   before = WholeLater.before fresh world location change overlay upper conditions is has reached distinct none asked
 
-  abbrev merge : Merge ℕ
+  abbrev pub merge : Merge ℕ
   merge = WholeLater.merge fresh world location change overlay upper conditions is has reached distinct none asked
 
-  abbrev changed : Filesystem ℕ
+  abbrev pub changed : Filesystem ℕ
   changed = WholeLater.changed_filesystem fresh world location change overlay upper conditions is has reached distinct none asked
 
-  abbrev changed_upper : Filesystem ℕ
+  abbrev pub changed_upper : Filesystem ℕ
   changed_upper = WholeLater.changed_upper fresh world location change overlay upper conditions is has reached distinct none asked
 
-  later_is : later ≡ WholeLater.later fresh world location change overlay upper conditions is has reached distinct none asked
+  pub later_is : later ≡ WholeLater.later fresh world location change overlay upper conditions is has reached distinct none asked
   later_is = WholeLater.later_is fresh world location change overlay upper conditions is has reached distinct none asked
 
-  apart : upper.filesystem ≢ number
+  pub apart : upper.filesystem ≢ number
   apart = WholeLater.apart fresh world location change overlay upper conditions is has reached distinct none asked
 
-  upper_later : filesystem_numbered nat_eq later upper.filesystem ≡ changed_upper
+  pub upper_later : filesystem_numbered nat_eq later upper.filesystem ≡ changed_upper
   upper_later =
       ap (λ w. filesystem_numbered nat_eq w upper.filesystem) later_is
       ∙ WholeLater.upper_later fresh world location change overlay upper conditions is has reached distinct none asked
 
-  new : AreNew fresh before
+  pub new : AreNew fresh before
   new = record { distinct = distinct; unused = λ k. none upper.filesystem k }
 
-  whole : IsWhole stack before
+  pub whole : IsWhole stack before
   whole = overlays_are_whole world number overlay upper conditions is has reached
 
-  goes : Goes upper.directory before.upper merge.upper
+  pub goes : Goes upper.directory before.upper merge.upper
   goes = change_goes fresh stack before whole new change asked
 
-  numbers_in : (n : ℕ) → ListsNumbers nat_eq (filesystem_numbered nat_eq world n).files
+  pub numbers_in : (n : ℕ) → ListsNumbers nat_eq (filesystem_numbered nat_eq world n).files
   numbers_in n =
       numbered_anyhow (λ (f : Filesystem ℕ). ListsNumbers nat_eq f.files) n world.filesystems conditions.files.numbers (λ k. refl)
 
   -- the layers that are not the upper one
-  abbrev IsOther : Layer ℕ → Type 0
+  abbrev pub IsOther : Layer ℕ → Type 0
   IsOther layer = (Among layer (live_upper_and_work world) × (layer ≢ upper)) ⊎ Among layer (live_lowers nat_eq world)
 
-  upper_live : Among upper (live_upper_and_work world)
+  pub upper_live : Among upper (live_upper_and_work world)
   upper_live =
       layer_among world conditions upper_and_work number overlay is upper (upper_is_layer world conditions number overlay is upper has)
 
-  upper_plain : is_plain_layer nat_eq world upper ≡ true
+  pub upper_plain : is_plain_layer nat_eq world upper ≡ true
   upper_plain = layer_plain world conditions number overlay is upper (upper_in_layers world conditions number overlay is upper has)
 
   -- layers are directories of plain trees
@@ -155,10 +154,10 @@ module _ (fresh : Fresh ℕ) (world : World ℕ) (location : Location ℕ) (chan
       by None a e = absurd a
       by (Some v) a e = among_from_list_all (is_plain_layer nat_eq world) (layers_of v) e layer (of v layer a)
 
-  changed_plain : (layer : Layer ℕ) → Among layer (live_upper_and_work world) → is_plain_layer nat_eq world layer ≡ true
+  pub changed_plain : (layer : Layer ℕ) → Among layer (live_upper_and_work world) → is_plain_layer nat_eq world layer ≡ true
   changed_plain = plain_of upper_and_work (λ o layer m. among-append_left (upper_and_work o) o.lowers layer m)
 
-  other_plain : (layer : Layer ℕ) → IsOther layer → is_plain_layer nat_eq world layer ≡ true
+  pub other_plain : (layer : Layer ℕ) → IsOther layer → is_plain_layer nat_eq world layer ≡ true
   other_plain layer (inl m) = changed_plain layer m.0
   other_plain layer (inr m) =
       plain_of (λ o. o.lowers) (λ o l a. among-append_right (upper_and_work o) o.lowers l a) layer m
@@ -196,7 +195,7 @@ module _ (fresh : Fresh ℕ) (world : World ℕ) (location : Location ℕ) (chan
       (any_from_among (lies_or_counts_under nat_eq world upper.filesystem object) (live_lowers nat_eq world) layer m (subst (λ k. Lies layer k object) same in_layer))
 
   -- paths from the others lead where they led
-  other_leads : (layer : Layer ℕ) → IsOther layer → LeadsAsBefore world later layer
+  pub other_leads : (layer : Layer ℕ) → IsOther layer → LeadsAsBefore world later layer
   other_leads layer other =
       leads_as_before world conditions layer (other_plain layer other) later
       (λ inode lies there.
@@ -208,11 +207,11 @@ module _ (fresh : Fresh ℕ) (world : World ℕ) (location : Location ℕ) (chan
       (subst (λ n. Lies layer n inode) (sym same) lies)))
 
   -- The trees afterwards
-  plain_elsewhere : (layer : Layer ℕ) → is_plain_layer nat_eq world layer ≡ true → layer.filesystem ≢ number
+  pub plain_elsewhere : (layer : Layer ℕ) → is_plain_layer nat_eq world layer ≡ true → layer.filesystem ≢ number
   plain_elsewhere layer plain same =
       none_is_some overlay (sym (no_overlay_in world conditions layer plain) ∙ ap (λ n. (filesystem_numbered nat_eq world n).overlay) same ∙ is)
 
-  stays : (n : ℕ) → n ≢ number → n ≢ upper.filesystem → filesystem_numbered nat_eq later n ≡ filesystem_numbered nat_eq world n
+  pub stays : (n : ℕ) → n ≢ number → n ≢ upper.filesystem → filesystem_numbered nat_eq later n ≡ filesystem_numbered nat_eq world n
   stays n no_number no_upper =
       Rattle.vt_layer_laws.proofs.LowersWorld.others_elsewhere fresh world location change n no_number
       (λ o u f g s. no_upper (s ∙ ap (λ l. l.filesystem) (some_is_one u upper (sym g ∙ ap (λ v. v.upper) (some_is_one o overlay (sym f ∙ is)) ∙ has))))
@@ -232,15 +231,14 @@ module _ (fresh : Fresh ℕ) (world : World ℕ) (location : Location ℕ) (chan
           subst (λ f. IsTree f.files.tree) (sym (stays layer.filesystem (plain_elsewhere layer plain) t.1)) (layer_tree world conditions layer plain)
 
   -- what lies under a layer, by paths
-  abbrev LedIn : World ℕ → Layer ℕ → ℕ → Type 0
+  abbrev pub LedIn : World ℕ → Layer ℕ → ℕ → Type 0
   LedIn w layer object =
       (path : List (List ℕ)) × (led (filesystem_numbered nat_eq w layer.filesystem).files.tree layer.directory path ≡ Some object)
 
   lies_later : (layer : Layer ℕ) → is_plain_layer nat_eq world layer ≡ true → (n object : ℕ) → lies_in_layer nat_eq later n object layer ≡ true
       → (n ≡ layer.filesystem) × LedIn later layer object
   lies_later layer plain n object e =
-      let same = eqb-true n layer.filesystem (and_first (nat_eq n layer.filesystem) _ e) in
-      (
+      let same = eqb-true n layer.filesystem (and_first (nat_eq n layer.filesystem) _ e) in (
         same,
         under_led (filesystem_numbered nat_eq later layer.filesystem).files (tree_later layer plain) layer.directory object
             (subst (λ k. is_under nat_eq (filesystem_numbered nat_eq later k).files layer.directory object ≡ true) same
@@ -330,7 +328,7 @@ module _ (fresh : Fresh ℕ) (world : World ℕ) (location : Location ℕ) (chan
           )
 
   -- one filesystem has a number
-  own_number : (f : Filesystem ℕ) → Among f world.filesystems → filesystem_numbered nat_eq world f.number ≡ f
+  pub own_number : (f : Filesystem ℕ) → Among f world.filesystems → filesystem_numbered nat_eq world f.number ≡ f
   own_number f m = ap (λ o. Rattle.std.specs.Prelude.unwrap_or o (Rattle.vt_spec.specs.Machine.World.no_filesystem f.number)) (by world.filesystems conditions.files.one_filesystem m)
     where
       first : (p q : Bool) → (p || q) ≡ false → p ≡ false
@@ -397,8 +395,7 @@ module _ (fresh : Fresh ℕ) (world : World ℕ) (location : Location ℕ) (chan
       → (n ≡ u.filesystem) × ((k : ℕ) × (v.real k ≡ Some (Upper object)))
   real_of_object g v u has_u n object e =
       let first = and_first (holds_of (λ l. nat_eq n l.filesystem) v.upper) _ e in
-      let found = any_among (is_real_upper nat_eq v object) g.files.numbers (and_second (holds_of (λ l. nat_eq n l.filesystem) v.upper) _ e) in
-      (
+      let found = any_among (is_real_upper nat_eq v object) g.files.numbers (and_second (holds_of (λ l. nat_eq n l.filesystem) v.upper) _ e) in (
         eqb-true n u.filesystem (sym (ap (holds_of (λ l. nat_eq n l.filesystem)) has_u) ∙ first),
         (found.0, by (v.real found.0) found.2),
       )
@@ -448,8 +445,7 @@ module _ (fresh : Fresh ℕ) (world : World ℕ) (location : Location ℕ) (chan
   changed_parts w layer n object parts =
       let same = some_is_one _ parts.overlay_of parts.is_of in
       let one : upper ≡ parts.upper_of_it = some_is_one upper parts.upper_of_it (sym has ∙ ap (λ v. v.upper) same ∙ parts.has_it) in
-      let real = real_of_object changed parts.overlay_of parts.upper_of_it parts.has_it n object parts.object_of in
-      (
+      let real = real_of_object changed parts.overlay_of parts.upper_of_it parts.has_it n object parts.object_of in (
         subst (λ u. lies_in_layer nat_eq w u.filesystem u.directory layer ≡ true) (sym one) parts.lies,
         (real.0 ∙ ap (λ u. u.filesystem) (sym one), (real.1.0, ap (λ v. v.real real.1.0) same ∙ real.1.1)),
       )
@@ -483,7 +479,7 @@ module _ (fresh : Fresh ℕ) (world : World ℕ) (location : Location ℕ) (chan
       counted : list_any (counts_in_layer nat_eq later n object layer) (overlays later) ≡ true → Lies layer n object
       counted f = found_of (any_among (counts_in_layer nat_eq later n object layer) (overlays later) f)
 
-  same_layer : (a b : Layer ℕ) → (a ≡ b) ⊎ (a ≢ b)
+  pub same_layer : (a b : Layer ℕ) → (a ≡ b) ⊎ (a ≢ b)
   same_layer a b =
       ⊎_elim
       (λ f. ⊎_elim (λ d. inl (λ i. record { filesystem = f.1 i; directory = d.1 i })) (λ d. inr (λ e. d.1 (ap (λ l. l.directory) e))) (eqb_tells a.directory b.directory))
@@ -551,15 +547,13 @@ module _ (fresh : Fresh ℕ) (world : World ℕ) (location : Location ℕ) (chan
   unfolding IsLive
   both_lie a b (inl x) (inl y) differ n object p q = absurd (differ (x ∙ sym y))
   both_lie a b (inl x) (inr y) differ n object p q =
-      let in_b = later_other b y n object q in
-      (
+      let in_b = later_other b y n object q in (
         ⊎_elim (λ l. subst (λ m. Lies m n object) (sym x) l) (λ f. absurd (not_new b (other_plain b y) n object in_b f))
             (later_upper n object (subst (λ m. lies_or_counts_under nat_eq later n object m ≡ true) x p)),
         in_b,
       )
   both_lie a b (inr x) (inl y) differ n object p q =
-      let in_a = later_other a x n object p in
-      (
+      let in_a = later_other a x n object p in (
         in_a,
         ⊎_elim (λ l. subst (λ m. Lies m n object) (sym y) l) (λ f. absurd (not_new a (other_plain a x) n object in_a f))
             (later_upper n object (subst (λ m. lies_or_counts_under nat_eq later n object m ≡ true) y q)),
@@ -580,3 +574,150 @@ module _ (fresh : Fresh ℕ) (world : World ℕ) (location : Location ℕ) (chan
       let lie = both_lie a b live_a live_b differ n object p q in
       overlap_of a b n object same (is_there_if a (live_plain a live_a) n object lie.0) lie.0 lie.1)
       (same_layer a b)
+
+  -- The layers afterwards are those that were
+  abbrev IgnoresReal : (Overlay ℕ → List (Layer ℕ)) → Type 0
+  IgnoresReal layers = (o : Overlay ℕ) (real : ℕ → Option (Real ℕ)) → layers (record o { real = real }) ≡ layers o
+
+  all_of : (layers : Overlay ℕ → List (Layer ℕ)) (fs : List (Filesystem ℕ))
+      → flat_map (of_overlay [] layers) (filter is_overlay fs) ≡ flat_map (of_overlay [] layers) fs
+  all_of layers [] = refl
+  all_of layers (f ∷ fs) = by f.overlay refl (all_of layers fs)
+    where
+      by : (o : Option (Overlay ℕ)) → f.overlay ≡ o → flat_map (of_overlay [] layers) (filter is_overlay fs) ≡ flat_map (of_overlay [] layers) fs
+          → flat_map (of_overlay [] layers) (cond (is_some f.overlay) (f ∷ filter is_overlay fs) (filter is_overlay fs))
+          ≡ overlay_or [] layers f.overlay ++ flat_map (of_overlay [] layers) fs
+      by None e rest =
+          ap (λ b. flat_map (of_overlay [] layers) (cond b (f ∷ filter is_overlay fs) (filter is_overlay fs))) (ap is_some e)
+          ∙ rest ∙ sym (ap (λ o. overlay_or [] layers o ++ flat_map (of_overlay [] layers) fs) e)
+      by (Some v) e rest =
+          ap (λ b. flat_map (of_overlay [] layers) (cond b (f ∷ filter is_overlay fs) (filter is_overlay fs))) (ap is_some e)
+          ∙ ap (λ l. overlay_or [] layers f.overlay ++ l) rest
+
+  mapped_same : (layers : Overlay ℕ → List (Layer ℕ)) (r : Filesystem ℕ → Filesystem ℕ) (fs : List (Filesystem ℕ))
+      → ((f : Filesystem ℕ) → Among f fs → of_overlay [] layers (r f) ≡ of_overlay [] layers f)
+      → flat_map (of_overlay [] layers) (map r fs) ≡ flat_map (of_overlay [] layers) fs
+  mapped_same layers r [] h = refl
+  mapped_same layers r (f ∷ fs) h =
+      ap (λ l. l ++ flat_map (of_overlay [] layers) (map r fs)) (h f (inl refl))
+      ∙ ap (λ l. of_overlay [] layers f ++ l) (mapped_same layers r fs (λ g m. h g (inr m)))
+
+  first_same : (layers : Overlay ℕ → List (Layer ℕ)) → IgnoresReal layers → (f : Filesystem ℕ) → Among f world.filesystems
+      → of_overlay [] layers (replaced_if_numbered nat_eq changed f) ≡ of_overlay [] layers f
+  first_same layers ignores f m = by (nat_eq changed.number f.number) refl
+    where
+      by : (b : Bool) → nat_eq changed.number f.number ≡ b → of_overlay [] layers (cond b changed f) ≡ of_overlay [] layers f
+      by true e =
+          ignores overlay merge.real
+          ∙ sym (ap (overlay_or [] layers) is)
+          ∙ ap (λ n. of_overlay [] layers (filesystem_numbered nat_eq world n)) (sym (number_of_filesystem world number) ∙ eqb-true changed.number f.number e)
+          ∙ ap (of_overlay [] layers) (own_number f m)
+      by false e = refl
+
+  second_same : (layers : Overlay ℕ → List (Layer ℕ)) (f : Filesystem ℕ) → Among f (map (replaced_if_numbered nat_eq changed) world.filesystems)
+      → of_overlay [] layers (replaced_if_numbered nat_eq changed_upper f) ≡ of_overlay [] layers f
+  second_same layers f m = from (among-from_map (replaced_if_numbered nat_eq changed) world.filesystems f m)
+    where
+      at : (old : Filesystem ℕ) → Among old world.filesystems → (b : Bool) → nat_eq changed.number old.number ≡ b → f ≡ cond b changed old
+          → (c : Bool) → nat_eq changed_upper.number f.number ≡ c → of_overlay [] layers (cond c changed_upper f) ≡ of_overlay [] layers f
+      at old o b e same false g = refl
+      at old o true e same true g =
+          absurd (apart (sym (number_of_filesystem world upper.filesystem) ∙ eqb-true changed_upper.number f.number g
+          ∙ ap (λ x. x.number) same ∙ number_of_filesystem world number))
+      at old o false e same true g =
+          ap (λ n. of_overlay [] layers (filesystem_numbered nat_eq world n))
+          (sym (number_of_filesystem world upper.filesystem) ∙ eqb-true changed_upper.number f.number g ∙ ap (λ x. x.number) same)
+          ∙ ap (of_overlay [] layers) (own_number old o) ∙ sym (ap (of_overlay [] layers) same)
+
+      from : (old : Filesystem ℕ) × Among old world.filesystems × (f ≡ replaced_if_numbered nat_eq changed old)
+          → of_overlay [] layers (replaced_if_numbered nat_eq changed_upper f) ≡ of_overlay [] layers f
+      from (old, o, same) = at old o (nat_eq changed.number old.number) refl same (nat_eq changed_upper.number f.number) refl
+
+  layers_same : (layers : Overlay ℕ → List (Layer ℕ)) → IgnoresReal layers
+      → flat_map (of_overlay [] layers) (overlays later) ≡ flat_map (of_overlay [] layers) (overlays world)
+  layers_same layers ignores =
+      ap (λ w. flat_map (of_overlay [] layers) (overlays w)) later_is
+      ∙ all_of layers (map (replaced_if_numbered nat_eq changed_upper) (map (replaced_if_numbered nat_eq changed) world.filesystems))
+      ∙ mapped_same layers (replaced_if_numbered nat_eq changed_upper) (map (replaced_if_numbered nat_eq changed) world.filesystems) (second_same layers)
+      ∙ mapped_same layers (replaced_if_numbered nat_eq changed) world.filesystems (first_same layers ignores)
+      ∙ sym (all_of layers world.filesystems)
+
+  live_of : (layer : Layer ℕ) → Among layer (live_upper_and_work world) → IsLive layer
+  unfolding IsLive
+  live_of layer m = ⊎_elim inl (λ differ. inr (inl (m, differ))) (same_layer layer upper)
+
+  low_of : (layer : Layer ℕ) → Among layer (live_lowers nat_eq world) → IsLive layer
+  unfolding IsLive
+  low_of layer m = inr (inr m)
+
+  -- two that overlap then
+  overlap_then : (a b : Layer ℕ) → IsLive a → IsLive b → overlap nat_eq later a b ≡ true → overlap nat_eq world a b ≡ true
+  overlap_then a b live_a live_b e =
+      from (any_among (λ (o : ℕ). lies_or_counts_under nat_eq later a.filesystem o a && list_any (lies_or_counts_under nat_eq later a.filesystem o) (b ∷ []))
+      (filesystem_numbered nat_eq later a.filesystem).files.numbers e)
+    where
+      one : (c : Bool) → (c || false) ≡ true → c ≡ true
+      one true e = e
+      one false e = e
+
+      from : (o : ℕ) × Among o (filesystem_numbered nat_eq later a.filesystem).files.numbers
+          × ((lies_or_counts_under nat_eq later a.filesystem o a && (lies_or_counts_under nat_eq later a.filesystem o b || false)) ≡ true)
+          → overlap nat_eq world a b ≡ true
+      from (o, m, f) =
+          overlap_before a b live_a live_b a.filesystem o refl (and_first (lies_or_counts_under nat_eq later a.filesystem o a) _ f)
+          (one (lies_or_counts_under nat_eq later a.filesystem o b) (and_second (lies_or_counts_under nat_eq later a.filesystem o a) _ f))
+
+  changed_stay : any_pair (overlap nat_eq later) (live_upper_and_work later) ≡ false
+  changed_stay =
+      ap (any_pair (overlap nat_eq later)) (layers_same upper_and_work (λ o real. refl))
+      ∙ no_pair_later (overlap nat_eq world) (overlap nat_eq later) (live_upper_and_work world)
+      (λ a b m n e. overlap_then a b (live_of a m) (live_of b n) e) conditions.overlays.changed_apart
+
+  lowers_stay : list_any (overlaps_one_of nat_eq later (live_lowers nat_eq later)) (live_upper_and_work later) ≡ false
+  lowers_stay =
+      ap (list_any (overlaps_one_of nat_eq later (live_lowers nat_eq later))) (layers_same upper_and_work (λ o real. refl))
+      ∙ ap (λ l. list_any (overlaps_one_of nat_eq later l) (live_upper_and_work world)) (layers_same (λ o. o.lowers) (λ o real. refl))
+      ∙ none_from_among (overlaps_one_of nat_eq later (live_lowers nat_eq world)) (live_upper_and_work world)
+      (λ a m. by a m (overlaps_one_of nat_eq later (live_lowers nat_eq world) a) refl)
+    where
+      inner : (a : Layer ℕ) → Among a (live_upper_and_work world) → (o : ℕ) → lies_or_counts_under nat_eq later a.filesystem o a ≡ true
+          → (b : Layer ℕ) × Among b (live_lowers nat_eq world) × (lies_or_counts_under nat_eq later a.filesystem o b ≡ true) → ⊥
+      inner a m o p (b, n, q) =
+          found (any_among (λ (x : ℕ). lies_or_counts_under nat_eq world a.filesystem x a && list_any (lies_or_counts_under nat_eq world a.filesystem x) (b ∷ []))
+          (filesystem_numbered nat_eq world a.filesystem).files.numbers
+          (overlap_before a b (live_of a m) (low_of b n) a.filesystem o refl p q))
+        where
+          one : (c : Bool) → (c || false) ≡ true → c ≡ true
+          one true e = e
+          one false e = e
+
+          found : (x : ℕ) × Among x (filesystem_numbered nat_eq world a.filesystem).files.numbers
+              × ((lies_or_counts_under nat_eq world a.filesystem x a && (lies_or_counts_under nat_eq world a.filesystem x b || false)) ≡ true) → ⊥
+          found (x, l, f) =
+              never_both _ _
+              (none_among (λ (y : ℕ). lies_or_counts_under nat_eq world a.filesystem y a && list_any (lies_or_counts_under nat_eq world a.filesystem y) (live_lowers nat_eq world))
+              (filesystem_numbered nat_eq world a.filesystem).files.numbers
+              (none_among (overlaps_one_of nat_eq world (live_lowers nat_eq world)) (live_upper_and_work world) conditions.overlays.lowers_apart a m) x l)
+              (and_first (lies_or_counts_under nat_eq world a.filesystem x a) _ f)
+              (any_from_among (lies_or_counts_under nat_eq world a.filesystem x) (live_lowers nat_eq world) b n
+              (one (lies_or_counts_under nat_eq world a.filesystem x b) (and_second (lies_or_counts_under nat_eq world a.filesystem x a) _ f)))
+
+      from : (a : Layer ℕ) → Among a (live_upper_and_work world) → (o : ℕ) × Among o (filesystem_numbered nat_eq later a.filesystem).files.numbers
+          × ((lies_or_counts_under nat_eq later a.filesystem o a && list_any (lies_or_counts_under nat_eq later a.filesystem o) (live_lowers nat_eq world)) ≡ true) → ⊥
+      from a m (o, l, f) =
+          inner a m o (and_first (lies_or_counts_under nat_eq later a.filesystem o a) _ f)
+          (any_among (lies_or_counts_under nat_eq later a.filesystem o) (live_lowers nat_eq world) (and_second (lies_or_counts_under nat_eq later a.filesystem o a) _ f))
+
+      by : (a : Layer ℕ) → Among a (live_upper_and_work world) → (b : Bool) → overlaps_one_of nat_eq later (live_lowers nat_eq world) a ≡ b
+          → overlaps_one_of nat_eq later (live_lowers nat_eq world) a ≡ false
+      by a m false e = e
+      by a m true e =
+          absurd (from a m (any_among (λ (o : ℕ). lies_or_counts_under nat_eq later a.filesystem o a && list_any (lies_or_counts_under nat_eq later a.filesystem o) (live_lowers nat_eq world))
+          (filesystem_numbered nat_eq later a.filesystem).files.numbers e))
+
+  pub stand_apart : StandApart later
+  stand_apart = record { changed = changed_stay; lowers = lowers_stay }
+
+pub layers_stay_apart : LayersStayApart
+layers_stay_apart fresh world location change overlay upper conditions is has reached distinct none asked =
+    stand_apart fresh world location change overlay upper conditions is has reached distinct none asked

@@ -1,3 +1,5 @@
+pub mod UpperSizes
+pub mod ApartInvariants
 pub mod ApartLater
 pub mod ApartPaths
 pub mod UpperOwn

@@ -1,5 +1,5 @@
 -- A plain tree after a change that its call's rules let pass: it is a tree, and the directory of a layer in it is still reached.
-use Rattle.std.proofs.Common.{◌≡◌, ◌≢◌, refl, sym, ap, subst, ◌∙◌, true≢false, ℕ, nat_eq, true, false, List, [], ◌⊎◌, ⊎_elim, inl, inr, Option, Some, None, is_some}
+use Rattle.std.proofs.Common.{◌≡◌, ◌≢◌, refl, sym, ap, subst, ◌∙◌, true≢false, ℕ, nat_eq, false, List, [], ⊎_elim, inl, inr, Option, Some, None, is_some}
 use Rattle.std.proofs.lemmas.Bool.Decides.{eqb_tells}
 use Rattle.std.specs.FinMap.Entries.{is_sorted}
 use Rattle.std.specs.Prelude.{⊤}
@@ -7,13 +7,12 @@ use Rattle.vt_spec.specs.FileTree.{FileTree}
 use Rattle.vt_spec.specs.Language.Changes.{Change, changed, changed_node, node_with_attr, node_with_mark, node_without_entries}
 use Rattle.vt_spec.specs.Language.Changes.Change.{AddName, CopyUp, Make, Move, Remove, SetAttr, SetBytes, SetMark}
 use Rattle.vt_spec.specs.Machine.Invariants.{ListsNumbers}
-use Rattle.vt_spec.specs.Rights.{is_directory}
 use Rattle.vt_spec.specs.Tree.{Content, Node, Tree, entries_in, entries_of, entry_named, is_directory_node, kind_of, name_cmp, node_with_bytes, parent_in, parent_of, with_entries}
 use Rattle.vt_spec.specs.Tree.Content.{Directory, Regular, Symlink, Whiteout}
 use Rattle.vt_spec.specs.TreeLaws.{HasName, HasOwnParents, IsDirectory, IsReached, IsTree, entry_at}
 use Rattle.vt_spec.proofs.Nodes.{directory_used}
 use Rattle.vt_spec.proofs.Trees.{directory_kept, entry_kept, reached_named, used_differs}
-use Rattle.vt_tree_laws.specs.Trees.{IsProper, MayAddName, MayMake, MayMove, MayRemove}
+use Rattle.vt_tree_laws.specs.Trees.{IsProper, MayMake}
 use Rattle.vt_tree_laws.proofs.ChangesKeepTrees.{bytes_keep_place, changes_keep_numbers, changes_keep_own_parents, changes_keep_trees, made_alike, numbers_stay}
 use Rattle.vt_tree_laws.proofs.ChangesNodes.{KeepsPlace, attr_keeps_place, elsewhere, mark_keeps_place, part_stays, there}
 use Rattle.vt_tree_laws.proofs.ChangesOfNames.{Nobody, Nowhere, linked_rearranged, removed_rearranged, still_rearranged, unparented_root}
@@ -68,12 +67,11 @@ made_reached : (files : FileTree ℕ) (d : ℕ) (w : List ℕ) (c : ℕ) (node :
     → (number : ℕ) → IsDirectory files.tree number → IsReached files.tree number
     → IsDirectory (changed nat_eq files (Make d w c node)).tree number × IsReached (changed nat_eq files (Make d w c node)).tree number
 made_reached files d w c node conditions may number is reached =
-    subst (λ t. IsDirectory t number × IsReached t number) (made_alike files d w c node differ)
-    (
+    subst (λ t. IsDirectory t number × IsReached t number) (made_alike files d w c node differ) (
       still,
       stays_reached files.tree (with_it) number
-      (subst IsTree (sym (made_alike files d w c node differ)) (changes_keep_trees files (Make d w c node) conditions may)) refl still reached
-      (λ e n f. (e, n, entry_kept files.tree d w c node conditions may.name_is_free.in_directory may.name_is_free.reached may.name_is_free.free may.number_is_new may.fits e n number f)),
+          (subst IsTree (sym (made_alike files d w c node differ)) (changes_keep_trees files (Make d w c node) conditions may)) refl still reached
+          (λ e n f. (e, n, entry_kept files.tree d w c node conditions may.name_is_free.in_directory may.name_is_free.reached may.name_is_free.free may.number_is_new may.fits e n number f)),
     )
   where
     with_it : Tree ℕ
@@ -91,8 +89,7 @@ still_reached : (files : FileTree ℕ) (object : ℕ) (change : Option (Node ℕ
     → (number : ℕ) → IsDirectory files.tree number → IsReached files.tree number
     → IsDirectory (changed_node nat_eq files object change).tree number × IsReached (changed_node nat_eq files object change).tree number
 still_reached files object change keeps conditions later number is reached =
-    let moves = still_rearranged files object change keeps conditions in
-    (
+    let moves = still_rearranged files object change keeps conditions in (
       moves.directories number ∙ is,
       rearranged_reached files.tree (changed_node nat_eq files object change).tree Nobody Nowhere moves later refl number (λ no. no) is reached,
     )
@@ -103,26 +100,23 @@ pub change_reaches : (files : FileTree ℕ) (change : Change ℕ) → IsTree fil
     → IsDirectory (changed nat_eq files change).tree number × IsReached (changed nat_eq files change).tree number
 change_reaches files (Make d w c node) conditions may number spares is reached = made_reached files d w c node conditions may number is reached
 change_reaches files (AddName d w object) conditions may number spares is reached =
-    let moves = linked_rearranged files d w object conditions may in
-    (
+    let moves = linked_rearranged files d w object conditions may in (
       moves.directories number ∙ is,
       rearranged_reached files.tree (changed nat_eq files (AddName d w object)).tree Nobody Nowhere moves
-      (changes_keep_trees files (AddName d w object) conditions may) refl number (λ no. no) is reached,
+          (changes_keep_trees files (AddName d w object) conditions may) refl number (λ no. no) is reached,
     )
 change_reaches files (Remove d w object) conditions may number spares is reached =
-    let moves = removed_rearranged files d w object conditions may in
-    (
+    let moves = removed_rearranged files d w object conditions may in (
       moves.directories number ∙ is,
       rearranged_reached files.tree (changed nat_eq files (Remove d w object)).tree _ Nowhere moves
-      (changes_keep_trees files (Remove d w object) conditions may) refl number spares is reached,
+          (changes_keep_trees files (Remove d w object) conditions may) refl number spares is reached,
     )
 change_reaches files (Move from old to new object) conditions may number spares is reached =
-    let moves = moved_rearranged files from old to new object conditions may in
-    (
+    let moves = moved_rearranged files from old to new object conditions may in (
       moves.directories number ∙ is,
       rearranged_reached files.tree (changed nat_eq files (Move from old to new object)).tree _ _ moves
-      (changes_keep_trees files (Move from old to new object) conditions may) (unparented_root files (entry_at files.tree to new)) number
-      (⊎_elim spares.0 spares.1) is reached,
+          (changes_keep_trees files (Move from old to new object) conditions may) (unparented_root files (entry_at files.tree to new)) number
+          (⊎_elim spares.0 spares.1) is reached,
     )
 change_reaches files (SetBytes file bytes) conditions may number spares is reached =
     still_reached files file (node_with_bytes bytes) (bytes_keep_place bytes) conditions (changes_keep_trees files (SetBytes file bytes) conditions may) number is reached

@@ -1,8 +1,8 @@
 -- A new name in the upper layer: its tree goes on to be one.
-use Rattle.std.proofs.Common.{◌≡◌, ◌≢◌, refl, sym, ap, subst, ◌∙◌, true≢false, ⊎_elim, inl, inr, ℕ, nat_eq, Bool, true, false, cond, List, [], ◌∷◌, ◌++◌, Option, Some, None, is_some, option_and_then}
+use Rattle.std.proofs.Common.{◌≡◌, ◌≢◌, refl, sym, ap, subst, ◌∙◌, true≢false, inl, inr, ℕ, nat_eq, Bool, true, false, List, [], ◌∷◌, ◌++◌, Some, None, is_some, option_and_then}
 use Rattle.vt_spec.specs.declared.attributes.Kind.TheVariants.{White}
 use Rattle.vt_spec.specs.FileTree.{FileTree, is_kind_in}
-use Rattle.vt_spec.specs.Language.Changes.{changed, content_with_parent, with_inode, with_name}
+use Rattle.vt_spec.specs.Language.Changes.{changed, content_with_parent}
 use Rattle.vt_spec.specs.Language.Changes.Change.{AddName, Make, SetMark}
 use Rattle.vt_spec.specs.Laws.Trees.{IsNewIn}
 use Rattle.vt_spec.specs.Lists.{Fresh}
@@ -10,7 +10,7 @@ use Rattle.vt_spec.specs.Machine.CopyUp.{Merge, Stack, hides_directory, linked, 
 use Rattle.vt_spec.specs.Machine.World.Real.{Upper}
 use Rattle.vt_spec.specs.Machine.Invariants.{number_at_path}
 use Rattle.vt_spec.specs.Rights.{is_directory}
-use Rattle.vt_spec.specs.Tree.{Content, Node, is_directory_node, kind_of, new_directory}
+use Rattle.vt_spec.specs.Tree.{Content, Node, is_directory_node, kind_of}
 use Rattle.vt_spec.specs.Tree.Content.{Directory, Regular, Symlink, Whiteout}
 use Rattle.vt_spec.specs.TreeLaws.{IsDirectory, IsReached, entry_at, led}
 use Rattle.vt_spec.proofs.Nodes.{directory_used}
@@ -21,11 +21,9 @@ use Rattle.vt_layer_laws.specs.Layers.ChangesUpper.{StandsInUpper}
 use Rattle.vt_layer_laws.proofs.ShownAtPath.{none_is_some}
 use Rattle.vt_layer_laws.proofs.ShownDirectories.{no_white_directory}
 use Rattle.vt_layer_laws.proofs.ShownNames.{last_name}
-use Rattle.vt_layer_laws.proofs.UpperLine.{is_reached_in}
-use Rattle.vt_layer_laws.proofs.UpperShown.{way_to}
 use Rattle.vt_layer_laws.proofs.ViewsMoves.{led_parts}
 use Rattle.vt_overlay_laws.specs.WhatIsShown.{IsWhole}
-use Rattle.vt_overlay_laws.proofs.UpperGoes.{Goes, IsGood, change_reaches, goes_both, goes_by, goes_none}
+use Rattle.vt_overlay_laws.proofs.UpperGoes.{Goes, IsGood, goes_both, goes_by, goes_none}
 use Rattle.vt_overlay_laws.proofs.UpperNames.{freed, freed_free, freed_goes, freed_kind, freed_made, freed_named, freed_reached, freed_used}
 use Rattle.vt_overlay_laws.proofs.WholeAttributes.{upper_real}
 use Rattle.vt_overlay_laws.proofs.WholeNames.{above_named, directory_above, named_above, top_good}
@@ -46,8 +44,7 @@ module _ (stack : Stack ℕ) (merge : Merge ℕ) (whole : IsWhole stack merge) (
   pub named_below : (w : List ℕ) (k : ℕ) → entry_at merge.upper.tree ud w ≡ Some k → is_kind_in White (merge.upper.tree.node k) ≡ false
       → (n : ℕ) × (entry_at merge.files.tree d w ≡ Some n) × (merge.real n ≡ Some (Upper k))
   named_below w k e white =
-      let found = above_named stack merge whole (way ++ w ∷ []) k (led-append merge.upper.tree stack.directory way w ud k up_there e) white in
-      (
+      let found = above_named stack merge whole (way ++ w ∷ []) k (led-append merge.upper.tree stack.directory way w ud k up_there e) white in (
         found.0,
         sym (last_name merge.files.tree merge.files.tree.root way w ∙ ap (option_and_then (λ x. entry_at merge.files.tree x w)) there) ∙ found.1,
         found.2,

@@ -1,23 +1,19 @@
 -- An object is moved in the upper layer: its tree goes on to be one.
 use Rattle.std.proofs.Common.{◌≡◌, ◌≢◌, refl, sym, ap, subst, ◌∙◌, true≢false, inr, ℕ, nat_eq, Bool, true, false, cond, List, [], ◌∷◌, ◌++◌, Option, Some, None, is_some}
-use Rattle.vt_spec.specs.declared.attributes.Kind.TheVariants.{White}
-use Rattle.vt_spec.specs.FileTree.{FileTree, is_kind_in}
+use Rattle.vt_spec.specs.FileTree.{FileTree}
 use Rattle.vt_spec.specs.Language.Changes.{changed, changed_node, content_with_parent, node_with_parent, with_moved, with_name, without_name, without_parent}
-use Rattle.vt_spec.specs.Language.Changes.Change.{Make, Move}
+use Rattle.vt_spec.specs.Language.Changes.Change.{Move}
 use Rattle.vt_spec.specs.Lists.{Fresh}
 use Rattle.vt_spec.specs.Machine.CopyUp.{Merge, Stack, emptied, hides_directory, marked, moved, name_left_by, shown_below, upper_directory_named, upper_of, whiteout_of}
 use Rattle.vt_spec.specs.Machine.World.Real.{Upper}
-use Rattle.vt_spec.specs.Machine.Invariants.{number_at_path}
 use Rattle.vt_spec.specs.Tree.{Content, Node, entries_in, entry_named, is_directory_node}
 use Rattle.vt_spec.specs.Tree.Content.{Directory, Regular, Symlink, Whiteout}
-use Rattle.vt_spec.specs.TreeLaws.{IsDirectory, IsReached, entry_at, led}
-use Rattle.vt_spec.proofs.Nodes.{directory_used}
+use Rattle.vt_spec.specs.TreeLaws.{IsDirectory, IsReached, entry_at}
 use Rattle.vt_spec.proofs.Trees.{led_kept}
 use Rattle.vt_tree_laws.specs.Trees.{MayMove}
 use Rattle.vt_tree_laws.proofs.TreesWalked.{no_some}
 use Rattle.vt_layer_laws.specs.Layers.ChangesUpper.{StandsInUpper}
 use Rattle.vt_layer_laws.proofs.ShownAtPath.{none_is_some, some_is_one}
-use Rattle.vt_layer_laws.proofs.UpperLine.{has_entries}
 use Rattle.vt_layer_laws.proofs.ViewsEntries.{is_entry}
 use Rattle.vt_layer_laws.proofs.ViewsMoves.{move_told}
 use Rattle.vt_layer_laws.proofs.ViewsNames.{file_is_empty, names_leave_inodes, no_entries}
@@ -147,8 +143,7 @@ module _ (fresh : Fresh ℕ) (stack : Stack ℕ) (merge : Merge ℕ) (whole : Is
 
     uf_there : IsDirectory moved_up.tree uf × IsReached moved_up.tree uf
     uf_there =
-        change_reaches base (Move uf old ut new uo) to_base.good.tree may_up uf
-        (
+        change_reaches base (Move uf old ut new uo) to_base.good.tree may_up uf (
           λ same. WholeMovedTree.not_up fresh stack merge whole f old t new o stands_f stands_t stands_o may vacant [] (ap Some (sym same)),
           λ e. none_is_some uo (sym (no_entries base.tree uf (empty uf e) old) ∙ named),
         )

@@ -1,18 +1,16 @@
 -- Where the names of the upper layer lead after a change of the overlay, and which inodes are its upper objects.
-use Rattle.std.proofs.Common.{◌≡◌, refl, sym, ap, subst, ◌∙◌, true≢false, inl, inr, ⊎_elim, ◌⊎◌, ◌*◌, ◌+◌, ℕ, nat_eq, Bool, true, false, cond, List, [], ◌∷◌, ◌++◌, Option, Some, None, is_some}
+use Rattle.std.proofs.Common.{◌≡◌, refl, sym, ap, subst, ◌∙◌, inl, inr, ⊎_elim, ◌⊎◌, ℕ, nat_eq, Bool, true, false, cond, List, [], ◌∷◌, ◌++◌, Some, None, is_some}
 use Rattle.vt_spec.specs.Language.Changes.{Change, changed, content_with_parent, node_with_attr, with_inode}
 use Rattle.vt_spec.specs.Language.Changes.Change.{AddName, CopyUp, Make, Move, Remove, SetAttr, SetBytes, SetMark}
-use Rattle.vt_spec.specs.Laws.Trees.{IsNewIn}
 use Rattle.vt_spec.specs.Lists.{Fresh, evens, odds}
-use Rattle.vt_spec.specs.Machine.CopyUp.{Merge, Stack, copied_up, emptied, hides_directory, linked, made, merge_changed, moved, name_left_by, removed, shown_below, upper_directory_named, upper_of}
+use Rattle.vt_spec.specs.Machine.CopyUp.{Merge, Stack, copied_up, emptied, hides_directory, made, merge_changed, moved, name_left_by, removed, shown_below, upper_directory_named, upper_of}
 use Rattle.vt_spec.specs.Machine.World.{upper_object}
 use Rattle.vt_spec.specs.Machine.World.Real.{Upper}
-use Rattle.vt_spec.specs.Tree.{Content, Node, entries_in, entries_of, is_directory_node, kind_of, node_with_bytes}
+use Rattle.vt_spec.specs.Tree.{Content, Node, entries_of, is_directory_node, node_with_bytes}
 use Rattle.vt_spec.specs.TreeLaws.{led}
 use Rattle.vt_spec.proofs.Trees.{led-append}
 use Rattle.vt_spec.specs.Tree.Content.{Directory, Regular, Symlink, Whiteout}
 use Rattle.vt_spec.proofs.Nodes.{directory_used, entries-node_with_bytes}
-use Rattle.vt_tree_laws.specs.Trees.{MayAddName, MayMake, MayMove, MayRemove}
 use Rattle.vt_tree_laws.proofs.ChangesNodes.{attr_keeps_place}
 use Rattle.vt_layer_laws.specs.Layers.ChangesUpper.{StandsInUpper}
 use Rattle.vt_layer_laws.specs.Layers.Upper.{IsThere}
@@ -24,7 +22,7 @@ use Rattle.vt_overlay_laws.specs.WholeChanges.{IsAskedWell}
 use Rattle.vt_overlay_laws.specs.WholeStays.{AreNew, IsNewBy, IsOwnPlaced, NamesLeadToOwn, ObjectsAreOwn}
 use Rattle.vt_overlay_laws.proofs.UpperTold.{Told, told_both, told_emptied, told_inode, told_left, told_marked, told_moved, told_name, told_stay, told_wider}
 use Rattle.vt_overlay_laws.proofs.WholeAttributes.{upper_real}
-use Rattle.vt_overlay_laws.proofs.WholeLines.{IsCopied, object_copied, stands_copied}
+use Rattle.vt_overlay_laws.proofs.WholeLines.{object_copied}
 use Rattle.vt_overlay_laws.proofs.WholeMade.{new_bare}
 use Rattle.vt_overlay_laws.proofs.WholeNames.{directory_above, named_above}
 use Rattle.vt_overlay_laws.proofs.WholeTogether.{both_copied, copied, is_copied, new_of_evens, new_of_odds, odd_distinct, stands_now, still_unused, twice}

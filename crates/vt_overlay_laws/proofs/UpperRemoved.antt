@@ -9,7 +9,7 @@ use Rattle.vt_spec.specs.Machine.World.{upper_object}
 use Rattle.vt_spec.specs.Machine.World.Real.{Upper}
 use Rattle.vt_spec.specs.Machine.Invariants.{number_at_path}
 use Rattle.vt_spec.specs.Tree.{Node, entries_in, entry_named, is_directory_node, node_with_entry}
-use Rattle.vt_spec.specs.TreeLaws.{IsDirectory, IsReached, IsTree, entry_at, led}
+use Rattle.vt_spec.specs.TreeLaws.{IsDirectory, IsReached, entry_at}
 use Rattle.vt_spec.proofs.Nodes.{directory_used}
 use Rattle.vt_spec.proofs.Trees.{led-append}
 use Rattle.vt_tree_laws.specs.Trees.{MayRemove}
@@ -22,7 +22,7 @@ use Rattle.vt_layer_laws.proofs.UpperShown.{way_to}
 use Rattle.vt_layer_laws.proofs.ViewsMoves.{no_way_up}
 use Rattle.vt_layer_laws.proofs.ViewsNames.{no_entries}
 use Rattle.vt_overlay_laws.specs.WhatIsShown.{IsWhole}
-use Rattle.vt_overlay_laws.proofs.UpperGoes.{Goes, IsGood, bare, bare_elsewhere, bare_goes, bare_kept, bare_kind, bare_reached, bare_there, bare_used, change_reaches, goes_both, goes_by}
+use Rattle.vt_overlay_laws.proofs.UpperGoes.{Goes, IsGood, bare, bare_goes, bare_kept, bare_kind, bare_reached, bare_there, bare_used, change_reaches, goes_both, goes_by}
 use Rattle.vt_overlay_laws.proofs.UpperMade.{make_over, named_below, up_reached}
 use Rattle.vt_overlay_laws.proofs.UpperNames.{freed_goes, freed_made, inode_changed, two_changed}
 use Rattle.vt_overlay_laws.proofs.WholeAttributes.{top_open, upper_real}

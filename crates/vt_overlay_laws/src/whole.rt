@@ -1,4 +1,5 @@
 //! Laws of overlays that stay whole: changes follow one another.
+ghost use Rattle.vt_overlay_laws.specs.LayersApart.{LayersStayApart, OverlayInvariantsStay, TreesStay};
 ghost use Rattle.vt_overlay_laws.specs.WholeStays.{ChangesFollowOneAnother, ChangesKeepWhole, LinkKeepsWhole, MakeKeepsWhole};
 ghost use Rattle.vt_overlay_laws.specs.WholeStays.{MergedTreesStay, MoveKeepsWhole, NamesLeadToOwn, ObjectsAreOwn, RemoveKeepsWhole};
 ghost use Rattle.vt_overlay_laws.specs.WholeStays.{UpperTreesStay};
@@ -22,4 +23,13 @@ pub fn changes_keep_both_trees()
     ensures merged { MergedTreesStay }
     ensures names { NamesLeadToOwn }
     ensures objects { ObjectsAreOwn }
+{}
+
+/// In a world that has all invariants a change of an overlay keeps those of overlays, all of them: layers of live overlays stand
+/// apart, layers are directories of plain trees, and each overlay is what its layers show. Each filesystem is still a tree, and names
+/// lead to the directory of the upper layer.
+pub fn changes_keep_overlay_invariants()
+    ensures apart { LayersStayApart }
+    ensures overlays { OverlayInvariantsStay }
+    ensures trees { TreesStay }
 {}

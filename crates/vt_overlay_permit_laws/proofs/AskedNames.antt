@@ -1,5 +1,5 @@
 -- Calls that make, write, remove and rename ask for what may be done.
-use Rattle.std.proofs.Common.{◌≡◌, refl, sym, ap, subst, ◌∙◌, ⊎_elim, inl, inr, true≢false, ℕ, nat_eq, nat_lt, Bool, true, false, not, List, [], ◌∷◌, ◌++◌, ◌*◌, ◌&&◌, length, Option, Some, None, is_some, option_map}
+use Rattle.std.proofs.Common.{◌≡◌, refl, sym, ap, ◌∙◌, ⊎_elim, inl, inr, true≢false, ℕ, nat_eq, nat_lt, Bool, true, false, not, List, [], ◌∷◌, ◌++◌, ◌*◌, ◌&&◌, length, Option, Some, None, is_some, option_map}
 use Rattle.std.specs.Prelude.{⊤, unwrap_or}
 use Rattle.std.specs.List.{All}
 use Rattle.vt_spec.specs.declared.attributes.Kind.TheVariants.{White}
@@ -23,7 +23,7 @@ use Rattle.vt_spec.specs.Machine.Rules.Descriptors.{descriptor_rules, exclusive_
 use Rattle.vt_spec.specs.Machine.Rules.Making.{file_word_rules, hard_link_rules, link_text_rules, make_rules, new_word_rules, rewrite_rules, whiteout_rules}
 use Rattle.vt_spec.specs.Machine.Rules.Removing.{is_one_object, object_there, old_word_rules, rename_new_walk, rename_rules, rmdir_rules, rmdir_word_rules, same_object_rules, unlink_rules}
 use Rattle.vt_spec.specs.Machine.Run.{Serves}
-use Rattle.vt_spec.specs.Machine.Walk.{Here, LastWord, Place, is_dot, is_dot_dot, is_no_word, is_special, name_of, new_name_rules}
+use Rattle.vt_spec.specs.Machine.Walk.{LastWord, Place, is_dot, is_dot_dot, is_no_word, is_special, name_of, new_name_rules}
 use Rattle.vt_spec.specs.Machine.Walk.LastWord.{Dot, DotDot, Named, NoWord}
 use Rattle.vt_spec.specs.Machine.Walking.{file_walk, is_directory_there, new_leaf_walk, new_walk, object_walk, old_leaf_walk, old_walk, symlink_walk}
 use Rattle.vt_spec.specs.Machine.World.{Filesystem, Task, World, files_at, filesystem_at, is_directory_at, is_overlay, mount_at, node_at, task_called}
@@ -36,11 +36,11 @@ use Rattle.vt_tree_laws.proofs.ChangesByLinks.{may_link}
 use Rattle.vt_tree_laws.proofs.ChangesByRemoving.{may_move, no_directory_empty, old_removable}
 use Rattle.vt_tree_laws.proofs.ChangesOfCalls.{place_is_free}
 use Rattle.vt_tree_laws.proofs.TreesOfWorlds.{new_at, numbered_all}
-use Rattle.vt_tree_laws.proofs.TreesWalked.{Ends, IsFilePlace, IsNewFilePlace, IsNewPlace, IsOldPlace, Passed, ends_anyhow, ends_file_walk, ends_new_leaf_walk, ends_new_walk, ends_old_leaf_walk, ends_old_walk, ends_then, ends_unless, file_named, first_false, not_true, place_is_file, place_named}
+use Rattle.vt_tree_laws.proofs.TreesWalked.{Ends, IsFilePlace, IsNewFilePlace, IsNewPlace, IsOldPlace, Passed, ends_anyhow, ends_file_walk, ends_new_leaf_walk, ends_new_walk, ends_old_leaf_walk, ends_old_walk, ends_then, ends_unless, file_named, first_false, place_is_file, place_named}
 use Rattle.vt_world_laws.proofs.CallsKept.{new_numbers}
 use Rattle.vt_world_laws.proofs.ReachedWalks.{Found, link_walk_found}
 use Rattle.vt_permit_laws.proofs.SeesGiven.{Gives, gives_unless, gives_walk}
-use Rattle.vt_overlay_permit_laws.specs.Asked.{AsksWell, AsksWellIf, change_asked}
+use Rattle.vt_overlay_permit_laws.specs.Asked.{AsksWellIf, change_asked}
 
 -- a word that is no word that stands for a directory is a name
 no_special : (last : LastWord) → is_dot_dot last ≡ false → is_dot last ≡ false → is_no_word last ≡ false → is_special last ≡ false

@@ -1,8 +1,7 @@
 -- What each call asks for.
-use Rattle.std.proofs.Common.{◌≡◌, refl, true≢false, sym, ℕ, nat_eq, nat_le, Bool, true, false, [], ◌∷◌, ◌||◌, ◌==◌, length, List, Option, Some, None, is_some, ok_or, ap, arith}
-use Rattle.std.proofs.Math.Nat.{mod-lt}
+use Rattle.std.proofs.Common.{◌≡◌, refl, ℕ, nat_eq, Bool, true, [], ◌∷◌, ◌||◌, ◌==◌, List, Option, Some, None, is_some, ok_or}
 use Rattle.std.specs.Prelude.{⊤}
-use Rattle.vt_permit_laws.proofs.SeesGiven.{Gives, found_there, given_is, gives_then, gives_unless, gives_walk}
+use Rattle.vt_permit_laws.proofs.SeesGiven.{found_there, gives_then, gives_unless, gives_walk}
 use Rattle.vt_overlay_permit_laws.proofs.AskedNames
 use Rattle.vt_overlay_permit_laws.proofs.AskedNames.{link_asked, mkdir_asked, open_asked, rename_asked, rmdir_asked, symlink_asked, unlink_asked, whiteout_asked, write_asked}
 use Rattle.vt_overlay_permit_laws.specs.Asked.{AsksWellIf}
@@ -16,7 +15,6 @@ use Rattle.vt_spec.specs.Errors.{denial}
 use Rattle.vt_spec.specs.FileTree.{is_kind_in}
 use Rattle.vt_spec.specs.Language.Calls.{Call, ForkWords, MountFlags, OverlayWords, TaskName, TypeWord}
 use Rattle.vt_spec.specs.Language.Calls.Call.{Bind, Chdir, Chmod, Chown, Chroot, Close, Drop, Exec, Exit, Fork, Lazy, LinkTo, ListMounts, Ls, Lstat, MakeWhiteout, Mkdir, MountOverlay, MountPlain, MoveMount, Opaque, OpenFile, PivotRoot, Pread, Pwrite, Read, Readlink, Remount, Rename, Rmdir, SetType, Setns, Stat, SymlinkAt, Umask, Umount, Unlink, Unshare, Write}
-use Rattle.vt_spec.specs.Language.Limits.{deepest_name, most_forks}
 use Rattle.vt_spec.specs.Lists.{Fresh}
 use Rattle.vt_spec.specs.Machine.Apply.{overfills}
 use Rattle.vt_spec.specs.Machine.Judge.{Judgement, attr_permit, bind_permit, chdir_permit, chmod_permit, chown_permit, chroot_permit, close_permit, exec_permit, fork_permit, judge_in, lazy_permit, list_permit, lstat_permit, mount_overlay_permit, mount_plain_permit, move_permit, overlay_permit_by, opaque_permit, pivot_permit, pread_permit, pwrite_permit, read_permit, readlink_permit, remount_permit, setns_permit, stat_permit, type_permit, umount_permit, unshare_permit}
@@ -27,7 +25,7 @@ use Rattle.vt_spec.specs.Machine.Outcome.Tasks.{child_credentials}
 use Rattle.vt_spec.specs.Machine.Permits.{Permit}
 use Rattle.vt_spec.specs.Machine.Permits.Permit.{ToBind, ToMountOverlay, ToMountPlain, ToMove}
 use Rattle.vt_spec.specs.Machine.Rules.Attributes.{attr_at, attr_rules, opaque_rules}
-use Rattle.vt_spec.specs.Machine.Rules.Conditions.{kind_at, lacks}
+use Rattle.vt_spec.specs.Machine.Rules.Conditions.{lacks}
 use Rattle.vt_spec.specs.Machine.Rules.Descriptors.{descriptor_at, descriptor_numbered, pwrite_rules}
 use Rattle.vt_spec.specs.Machine.Rules.Looking.{exec_rules, list_rules, read_rules, readlink_rules}
 use Rattle.vt_spec.specs.Machine.Rules.Mounting.{admin_rules, bind_rules, destination_walk, layer_rules, layers_walked, lazy_rules, move_rules, new_mount_rules, overlay_at, pivot_rules, remount_rules, source_walk, type_rules, umount_rules}
@@ -36,11 +34,9 @@ use Rattle.vt_spec.specs.Machine.Walk.{Here}
 use Rattle.vt_spec.specs.Machine.Walking.{directory_walk, object_walk, symlink_walk}
 use Rattle.vt_spec.specs.Machine.World.{Descriptor, Task, World, node_at, task_called}
 use Rattle.vt_spec.specs.Machine.Invariants.{IsWorld, has_regular_files_open}
-use Rattle.vt_spec.specs.Rights.{cap_sys_admin, cap_sys_chroot, is_directory, owns}
-use Rattle.vt_spec.specs.Tree.{Content, Node, is_directory_node, kind_of}
-use Rattle.vt_spec.specs.Tree.Content.{Directory, Regular, Symlink, Whiteout}
-use Rattle.vt_tree_laws.specs.Trees.Calls.{mounts_overlay}
-use Rattle.vt_tree_laws.proofs.TreesWalked.{ends_anyhow, first_false, not_true, second_false}
+use Rattle.vt_spec.specs.Rights.{cap_sys_admin, cap_sys_chroot, owns}
+use Rattle.vt_spec.specs.Tree.{Node}
+use Rattle.vt_tree_laws.proofs.TreesWalked.{ends_anyhow}
 use Rattle.vt_world_laws.proofs.ReachedWalks.{End, FoundDirectory, directory_walk_end, found_among, object_end, task_among}
 
 module _ (world : World ℕ) (whole : IsWorld nat_eq world) (task : Task ℕ) (called : task_called world task.name ≡ Some task)

@@ -1,20 +1,18 @@
 -- What a permit asks of an overlay with an upper layer.
 use Rattle.std.proofs.Common.{◌≡◌, refl, sym, ap, subst, ◌∙◌, ℕ, nat_eq, Bool, true, false, List, [], ◌∷◌, ◌++◌, map, Option, Some, None, is_some, unwrap_or}
 use Rattle.std.specs.Prelude.{option_to_list}
-use Rattle.vt_spec.specs.FileTree.{path_down}
 use Rattle.vt_spec.specs.Language.Changes.{Change}
 use Rattle.vt_spec.specs.Language.Changes.Change.{AddName, CopyUp, Make, Move, Remove, SetAttr, SetBytes, SetMark}
-use Rattle.vt_spec.specs.Machine.Filesystems.{has_lower_directory_at, merge_of, path_of_name, stack_of}
+use Rattle.vt_spec.specs.Machine.Filesystems.{merge_of, path_of_name, stack_of}
 use Rattle.vt_spec.specs.Machine.Judge.{judge_in}
 use Rattle.vt_spec.specs.Machine.Layers.{has_lower_directory}
 use Rattle.vt_spec.specs.Machine.Locked.{overlay_or}
 use Rattle.vt_spec.specs.Machine.Mounts.{Location}
 use Rattle.vt_spec.specs.Machine.World.{Layer, Overlay, World, files_at, filesystem_at, is_overlay, open_layer}
-use Rattle.vt_spec.specs.TreeLaws.{IsDirectory}
 use Rattle.vt_tree_laws.specs.Trees.{IsProper}
 use Rattle.vt_overlay_laws.specs.WholeChanges.{IsAskedWell}
 use Rattle.vt_permit_laws.proofs.SeesGiven.{given_is}
-use Rattle.vt_overlay_permit_laws.specs.Asked.{AsksWell, AsksWellIf, PermitsAskOverlaysWell, PermitsAskProperly, PermitsAskWell, change_asked}
+use Rattle.vt_overlay_permit_laws.specs.Asked.{AsksWell, AsksWellIf, PermitsAskOverlaysWell, PermitsAskProperly, PermitsAskWell}
 use Rattle.vt_overlay_permit_laws.proofs.AskedNames
 use Rattle.vt_overlay_permit_laws.proofs.AskedOthers.{call_asked}
 

@@ -1,24 +1,20 @@
 -- The change of an overlay that a permit asks for can be made.
-use Rattle.std.proofs.Common.{arith, eq-eqb, ◌≡◌, refl, sym, ap, ◌∙◌, ◌*◌, ◌+◌, ℕ, nat_eq, true, false, Some, None}
-use Rattle.vt_spec.specs.Language.Changes.{Change, changed}
+use Rattle.std.proofs.Common.{arith, eq-eqb, ◌≡◌, refl, ◌*◌, ◌+◌, ℕ, nat_eq, None}
+use Rattle.vt_spec.specs.Language.Changes.{Change}
 use Rattle.vt_spec.specs.Language.Changes.Change.{AddName, CopyUp, Make, Move, Remove, SetAttr, SetBytes, SetMark}
 use Rattle.vt_spec.specs.Lists.{Fresh, odds}
 use Rattle.vt_spec.specs.Machine.CopyUp.{Merge, Stack}
 use Rattle.vt_spec.specs.Machine.Filesystems.{merge_of, stack_of}
 use Rattle.vt_spec.specs.Machine.Invariants.{IsWorld, ListsNumbers}
-use Rattle.vt_spec.specs.Machine.Mounts.{Location}
 use Rattle.vt_spec.specs.Machine.Permits.{Permit}
 use Rattle.vt_spec.specs.Machine.Permits.Permit.{Allowed, ToBind, ToChange, ToClose, ToEnterNamespace, ToExit, ToFork, ToList, ToListMounts, ToMake, ToMountOverlay, ToMountPlain, ToMove, ToOpen, ToOpenNew, ToPivot, ToRead, ToReadPart, ToRemoveDirectory, ToRename, ToSetCredentials, ToSetDirectory, ToSetFlags, ToSetRoot, ToSetType, ToSetUmask, ToStat, ToUnmount, ToUnmountLazily, ToUnshare, ToWritePart}
 use Rattle.vt_spec.specs.Machine.Run.{Serves}
 use Rattle.vt_spec.specs.Machine.World.{Filesystem, World, mount_at}
-use Rattle.vt_tree_laws.specs.Trees.{IsProper}
 use Rattle.vt_tree_laws.proofs.ChangesKeepTrees.{changes_keep_numbers, changes_keep_trees}
 use Rattle.vt_tree_laws.proofs.TreesOfWorlds.{numbered_anyhow}
 use Rattle.vt_layer_laws.specs.Layers.Untouched.{inode_in}
 use Rattle.vt_layer_laws.proofs.UpperWorld.{overlay_numbers, overlay_tree}
-use Rattle.vt_overlay_laws.specs.WhatIsShown.{IsWhole}
 use Rattle.vt_overlay_laws.specs.WholeChanges.{IsAskedWell}
-use Rattle.vt_overlay_laws.specs.WholeStays.{AreNew}
 use Rattle.vt_overlay_laws.proofs.UpperWhole.{change_goes, proper}
 use Rattle.vt_overlay_laws.proofs.WholeWorlds.{overlays_are_whole}
 use Rattle.vt_letting_go.specs.FileChanges.{MayChange}

@@ -5,3 +5,4 @@
 
 pub mod asked;
 pub mod changed;
+pub mod kept;

@@ -1,0 +1,12 @@
+use Rattle.vt_overlay_laws.proofs.ApartInvariants
+use Rattle.vt_overlay_laws.proofs.ApartLater
+use Rattle.vt_overlay_laws.proofs.whole.changes_keep_overlay_invariants.Goals as goal
+
+pub returns-clause-apart : goal.returns-clause-apart
+returns-clause-apart c = ApartLater.layers_stay_apart
+
+pub returns-clause-overlays : goal.returns-clause-overlays
+returns-clause-overlays c = ApartInvariants.overlay_invariants_stay
+
+pub returns-clause-trees : goal.returns-clause-trees
+returns-clause-trees c = ApartInvariants.trees_stay
