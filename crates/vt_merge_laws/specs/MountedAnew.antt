@@ -1,14 +1,15 @@
 -- Overlays that are mounted, and mounted anew, in the world that the call leaves: mount(2), and the kernel's
 -- overlayfs document,
 -- "upper and lower" and "changes to underlying filesystems".
-use Rattle.std.specs.Prelude.{All, List, Ok, Some, map, nat_eq, ℕ, ◌≡◌}
+use Rattle.std.specs.Prelude.{All, List, Ok, Option, Some, map, nat_eq, ℕ, ◌≡◌}
 use Rattle.vt_spec.specs.Language.Answers.Answer.{Done}
 use Rattle.vt_spec.specs.Language.Calls.{MountFlags, OverlayWords}
 use Rattle.vt_spec.specs.Language.Calls.Call.{MountOverlay}
 use Rattle.vt_spec.specs.Lists.{Fresh, evens}
 use Rattle.vt_spec.specs.Machine.Invariants.{IsWorld, OverlayInvariants, TreeInvariants}
 use Rattle.vt_spec.specs.Machine.Outcome.Mounting.{LayerPlaces, layers_walked, overlay_at}
-use Rattle.vt_spec.specs.Machine.Policy.{policy}
+use Rattle.vt_spec.specs.Machine.Policy.{call_outcome, policy}
+use Rattle.vt_spec.specs.Machine.Run.{Serves}
 use Rattle.vt_spec.specs.Machine.Settled.{settled}
 use Rattle.vt_spec.specs.Machine.World.{Layer, Overlay, Task, World, filesystem_numbered, open_layer, shown_layers, task_called}
 use Rattle.vt_layer_laws.specs.Layers.Mounted.{AreAsOthers, ShowTheSame}
@@ -67,3 +68,13 @@ MountedOverTheSameLayers =
     → shown_layers (overlay_at nat_eq later task places) ≡ shown_layers left → AreKept before later (shown_layers left)
     → ShowTheSame (filesystem_numbered nat_eq (world_mounted fresh later task path words flags) (number_mounted fresh))
     (filesystem_numbered nat_eq before number)
+
+-- What `mount overlay` of a task of the world leaves, granted or refused, has all invariants: nothing goes, and
+-- mounts, namespaces
+-- and tasks stay as the invariants ask for.
+abbrev pub MountingLeavesAWorld : Type 0
+MountingLeavesAWorld =
+    (fresh : Fresh ℕ) (world : World ℕ) (task : Task ℕ) (path : List ℕ) (options : Option OverlayWords)
+    (flags : MountFlags)
+    → IsWorld nat_eq world → Serves nat_eq world fresh → task_called world task.name ≡ Some task
+    → IsWorld nat_eq (call_outcome nat_eq fresh world task (MountOverlay path options flags)).world

@@ -137,7 +137,8 @@ abbrev pub FrontsHaveTheirCopies : Type 0
 FrontsHaveTheirCopies =
     OfCopies (λ fresh stack merge.
     (path : List (List ℕ)) (object : ℕ) → number_at_path merge.files path ≡ Some object
-    → ((front rest : List (List ℕ)) (number : ℕ) → front ++ rest ≡ path → number_at_path merge.files front ≡ Some number
+    → ((front rest : List (List ℕ)) (number : ℕ) → front ++ rest ≡ path
+    → number_at_path merge.files front ≡ Some number
     → (copied_up nat_eq fresh merge object).real number
     ≡ Some (Upper (unwrap_or (led_above stack merge.upper front) (fresh (length front)))))
     × ((number : ℕ)
