@@ -8,3 +8,4 @@ pub mod UpperAsked
 pub mod MountedLeft
 pub mod MountedAgain
 pub mod MountedWorlds
+pub mod WorldsRaised

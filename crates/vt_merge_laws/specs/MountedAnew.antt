@@ -3,12 +3,12 @@
 -- "upper and lower" and "changes to underlying filesystems".
 use Rattle.std.specs.Prelude.{All, List, Ok, Option, Some, map, nat_eq, ℕ, ◌≡◌}
 use Rattle.vt_spec.specs.Language.Answers.Answer.{Done}
-use Rattle.vt_spec.specs.Language.Calls.{MountFlags, OverlayWords}
+use Rattle.vt_spec.specs.Language.Calls.{MountFlags, OverlayWords, TaskName}
 use Rattle.vt_spec.specs.Language.Calls.Call.{MountOverlay}
 use Rattle.vt_spec.specs.Lists.{Fresh, evens}
 use Rattle.vt_spec.specs.Machine.Invariants.{IsWorld, OverlayInvariants, TreeInvariants}
 use Rattle.vt_spec.specs.Machine.Outcome.Mounting.{LayerPlaces, layers_walked, overlay_at}
-use Rattle.vt_spec.specs.Machine.Policy.{call_outcome, policy}
+use Rattle.vt_spec.specs.Machine.Policy.{call_outcome, numbers_raised, policy}
 use Rattle.vt_spec.specs.Machine.Run.{Serves}
 use Rattle.vt_spec.specs.Machine.Settled.{settled}
 use Rattle.vt_spec.specs.Machine.World.{Layer, Overlay, Task, World, filesystem_numbered, open_layer, shown_layers, task_called}
@@ -78,3 +78,16 @@ MountingLeavesAWorld =
     (flags : MountFlags)
     → IsWorld nat_eq world → Serves nat_eq world fresh → task_called world task.name ≡ Some task
     → IsWorld nat_eq (call_outcome nat_eq fresh world task (MountOverlay path options flags)).world
+
+-- No invariant reads a change number, with overlays or without.
+abbrev pub RaisingKeepsWorlds : Type 0
+RaisingKeepsWorlds =
+    (before : World ℕ) (name : TaskName) (changed : List ℕ) (world : World ℕ)
+    → IsWorld nat_eq world → IsWorld nat_eq (numbers_raised nat_eq before name changed world)
+
+-- So the policy leaves a world with all invariants at each `mount overlay`.
+abbrev pub PolicyMountsAWorld : Type 0
+PolicyMountsAWorld =
+    (fresh : Fresh ℕ) (world : World ℕ) (name : TaskName) (path : List ℕ) (options : Option OverlayWords) (flags : MountFlags)
+    → IsWorld nat_eq world → Serves nat_eq world fresh
+    → IsWorld nat_eq (policy nat_eq fresh world name (MountOverlay path options flags)).world
