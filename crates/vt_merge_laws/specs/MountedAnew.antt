@@ -88,6 +88,7 @@ RaisingKeepsWorlds =
 -- So the policy leaves a world with all invariants at each `mount overlay`.
 abbrev pub PolicyMountsAWorld : Type 0
 PolicyMountsAWorld =
-    (fresh : Fresh ℕ) (world : World ℕ) (name : TaskName) (path : List ℕ) (options : Option OverlayWords) (flags : MountFlags)
+    (fresh : Fresh ℕ) (world : World ℕ) (name : TaskName) (path : List ℕ) (options : Option OverlayWords)
+    (flags : MountFlags)
     → IsWorld nat_eq world → Serves nat_eq world fresh
     → IsWorld nat_eq (policy nat_eq fresh world name (MountOverlay path options flags)).world

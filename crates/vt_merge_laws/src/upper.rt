@@ -1,7 +1,7 @@
 //! Laws of what a change of an overlay makes of its upper layer, in terms of layers alone.
 ghost use Rattle.vt_merge_laws.specs.UpperChanges.{AttrIsSetAbove, BytesAreSetAbove, CopiesAreOfFronts, CopiesHideNothing, FrontsHaveTheirCopies, FrontsLeadToCopies};
 ghost use Rattle.vt_merge_laws.specs.UpperChanges.{HeldHaveTheirCopies, LinkedAbove, MadeAbove, MarkIsSetAbove, MovedAbove, OpenedIsCopied, RemovedAbove};
-ghost use Rattle.vt_merge_laws.specs.UpperCalls.{AskedChangesHavePlaces, ChangesAreByLayers, UpperLayersAfterCalls};
+ghost use Rattle.vt_merge_laws.specs.UpperCalls.{AskedChangesHavePlaces, ChangesAreByLayers, UpperLayersAfterCalls, UpperLayersAfterWholeCalls};
 
 /// What a path leads to is copied up with what is shown at the fronts of the path, where the upper layer has nothing; an object
 /// without a name is copied alone. Each front then leads to its copy, every other path leads where it led, and what lower layers
@@ -33,4 +33,5 @@ pub fn calls_change_the_upper_layer_by_layers()
     ensures changes { ChangesAreByLayers }
     ensures places { AskedChangesHavePlaces }
     ensures calls { UpperLayersAfterCalls }
+    ensures whole { UpperLayersAfterWholeCalls }
 {}
