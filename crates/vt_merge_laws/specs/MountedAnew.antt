@@ -1,6 +1,5 @@
--- Overlays that are mounted, and mounted anew, in the world that the call leaves: mount(2), and the kernel's
--- overlayfs document,
--- "upper and lower" and "changes to underlying filesystems".
+-- Overlays that are mounted, and mounted anew, in the world that the call leaves: mount(2), and the kernel's overlayfs
+-- document, "upper and lower" and "changes to underlying filesystems".
 use Rattle.std.specs.Prelude.{All, List, Ok, Option, Some, map, nat_eq, ℕ, ◌≡◌}
 use Rattle.vt_spec.specs.Language.Answers.Answer.{Done}
 use Rattle.vt_spec.specs.Language.Calls.{MountFlags, OverlayWords, TaskName}
@@ -35,8 +34,7 @@ abbrev pub number_mounted : Fresh ℕ → ℕ
 number_mounted fresh = evens (evens fresh) 0
 
 -- An overlay was left in one world, and a task of another mounts one over layers that lead everywhere to what the
--- first one's led
--- to: it shows the tree that the first one showed, whoever mounts it, and wherever.
+-- first one's led to: it shows the tree that the first one showed, whoever mounts it, and wherever.
 abbrev pub MountedAnewShowsTheSame : Type 0
 MountedAnewShowsTheSame =
     (fresh : Fresh ℕ) (before later : World ℕ) (number : ℕ) (left : Overlay ℕ) (task : Task ℕ) (path : List ℕ)
@@ -70,8 +68,7 @@ MountedOverTheSameLayers =
     (filesystem_numbered nat_eq before number)
 
 -- What `mount overlay` of a task of the world leaves, granted or refused, has all invariants: nothing goes, and
--- mounts, namespaces
--- and tasks stay as the invariants ask for.
+-- mounts, namespaces and tasks stay as the invariants ask for.
 abbrev pub MountingLeavesAWorld : Type 0
 MountingLeavesAWorld =
     (fresh : Fresh ℕ) (world : World ℕ) (task : Task ℕ) (path : List ℕ) (options : Option OverlayWords)

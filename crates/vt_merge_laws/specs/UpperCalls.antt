@@ -1,6 +1,5 @@
 -- What calls make of the upper layer of an overlay: its files after the call, in terms of layers alone. The kernel's
--- overlayfs
--- document, "upper and lower" and "whiteouts and opaque directories".
+-- overlayfs document, "upper and lower" and "whiteouts and opaque directories".
 use Rattle.std.specs.Prelude.{Bool, List, Ok, Option, Some, [], is_some, nat_eq, true, ℕ, ◌++◌, ◌∷◌, ◌≡◌}
 use Rattle.vt_spec.specs.declared.attributes.Attr.{Attr}
 use Rattle.vt_spec.specs.FileTree.{FileTree}
