@@ -7,3 +7,5 @@ pub mod UpperWorlds
 pub mod UpperAsked
 pub mod MountedLeft
 pub mod MountedAgain
+pub mod MountedWorlds
+pub mod WorldsRaised

@@ -441,7 +441,8 @@ module _ (fresh : Fresh ℕ) (distinct : (j k : ℕ) → fresh j ≡ fresh k →
         → ((way rest : List (List ℕ)) → way ++ rest ≡ front ++ name ∷ [] → at way ≢ Some number)
         → (copied_up nat_eq fresh merge object).real number ≡ merge.real number
     real_else number out =
-        real_later number (λ same. out (front ++ name ∷ []) [] (no_more (front ++ name ∷ [])) (leads ∙ ap Some (sym same)))
+        real_later number (λ same. out (front ++ name ∷ []) [] (no_more (front ++ name ∷ []))
+        (leads ∙ ap Some (sym same)))
         ∙ before.else number
         (λ way rest is. out way (rest ++ name ∷ [])
         (sym (append_assoc way rest (name ∷ [])) ∙ ap (λ p. p ++ name ∷ []) is))

@@ -220,7 +220,8 @@ copies_hide_nothing fresh stack merge whole new path way directory name some lea
         let copied = copied_along fresh new.distinct stack merge whole new.unused
         (length path) path object refl there e in
         let cut = ap (λ u. cuts (view_in u stack.directory) way) (sym copied.is)
-        ∙ cuts_stay fresh new.distinct stack merge whole new.unused path object there e way directory leads.0 leads.1 in (
+        ∙ cuts_stay fresh new.distinct stack merge whole new.unused path object there e way directory leads.0 leads.1
+        in (
           seen_same stack merge.upper (copied_to fresh stack merge.upper path) way name cut,
           directory_same stack
               merge.upper (copied_to fresh stack merge.upper path) way name cut,
@@ -239,13 +240,15 @@ led_real stack merge whole path number u leads led = by (is_in_upper merge numbe
     by true stands =
         upper_real merge number stands
         ∙ ap (λ o. Some (Upper o)) (some_is_one (upper_of merge number) u
-        (sym (named_above stack merge whole path number (upper_of merge number) leads (upper_real merge number stands)) ∙ led))
+        (sym (named_above stack merge whole path number (upper_of merge number) leads
+        (upper_real merge number stands)) ∙ led))
     by false low = none_is_some u (sym (led_none (λ k. k) stack merge whole number there path leads low) ∙ led)
 
 pub fronts_have_their_copies : FrontsHaveTheirCopies
 fronts_have_their_copies fresh stack merge whole new path object leads =
     let there = path_there stack merge whole path object leads in
-    let copied = copied_along fresh new.distinct stack merge whole new.unused (length path) path object refl there leads in
+    let copied = copied_along fresh new.distinct stack merge whole new.unused
+    (length path) path object refl there leads in
     let line = object_copied stack fresh new.distinct merge object whole new.unused there in (
       λ front rest number is at_front.
           led_real stack (copied_up nat_eq fresh merge object) line.copied.whole front number

@@ -12,6 +12,8 @@ use Rattle.vt_spec.specs.Machine.Outcome.Descriptors.{opened, with_copy}
 use Rattle.vt_spec.specs.Machine.Detach.{mounts_on, taken_away}
 use Rattle.vt_spec.specs.Machine.Mounts.{mount_tree}
 use Rattle.vt_spec.specs.Machine.Permits.{Permit}
+use Rattle.vt_spec.specs.Machine.Outcomes.{after}
+use Rattle.vt_laws.proofs.CallsJudged.{call_is_judged_then_applied}
 use Rattle.vt_layer_laws.proofs.LowersMounts.{taken_filesystems, taken_mounted}
 use Rattle.vt_spec.specs.Machine.World.{Filesystem, Layer, Overlay, Task, World, filesystem_at, filesystem_numbered, mount_at, no_filesystem, with_filesystem}
 use Rattle.vt_spec.specs.Tree.{is_directory_node}
@@ -21,7 +23,7 @@ use Rattle.vt_layer_laws.proofs.UpperWorld.{upper_elsewhere}
 use Rattle.vt_overlay_laws.specs.WhatIsShown.{IsWhole}
 use Rattle.vt_overlay_laws.proofs.WholeWorlds.{overlays_are_whole}
 use Rattle.vt_merge_laws.specs.UpperChanges.{AreNew}
-use Rattle.vt_merge_laws.specs.UpperCalls.{Asks, ChangeAt, ChangesAreByLayers, Does, UpperLayersAfterCalls, changed_above}
+use Rattle.vt_merge_laws.specs.UpperCalls.{Asks, ChangeAt, ChangesAreByLayers, Does, UpperLayersAfterCalls, UpperLayersAfterWholeCalls, changed_above}
 use Rattle.vt_merge_laws.specs.UpperCalls.Asks.{copies, links, makes, moves, removes, sets_attr, sets_bytes, sets_mark}
 use Rattle.vt_merge_laws.specs.UpperCalls.Does.{does_change, does_make, does_open, does_open_new, does_remove, does_rename, does_write}
 use Rattle.vt_merge_laws.proofs.UpperKinds.{attr_is_set_above, bytes_are_set_above, linked_above, made_above, mark_is_set_above, moved_above, opened_is_copied, removed_above}
@@ -187,3 +189,14 @@ pub upper_layers_after_calls : UpperLayersAfterCalls
 upper_layers_after_calls fresh numbers world task permit location change at overlay upper conditions does is has
     reached new asks =
     after_call fresh world task location at overlay upper conditions is has reached numbers permit change does new asks
+
+pub upper_layers_after_whole_calls : UpperLayersAfterWholeCalls
+upper_layers_after_whole_calls fresh numbers world task call permit location change at overlay upper conditions judged
+    does is
+    has reached new asks =
+    ap (λ o. (filesystem_numbered nat_eq o.world upper.filesystem).files)
+    (call_is_judged_then_applied fresh world task call
+    ∙ ap (λ r. after world r (apply nat_eq fresh world task)) judged)
+    ∙ upper_layers_after_calls fresh numbers world task permit location change at overlay upper conditions does is has
+    reached
+    new asks

@@ -1,6 +1,5 @@
--- The tree of an overlay is a function of what its layers show, of the numbers that objects have, and of what is
--- held without a
--- name: the kernel's overlayfs document, "upper and lower", "directories" and "non-directories".
+-- The tree of an overlay is a function of what its layers show, of the numbers that objects have, and of what is held
+-- without a name: the kernel's overlayfs document, "upper and lower", "directories" and "non-directories".
 use Rattle.std.specs.Prelude.{List, Option, Some, [], false, filter_map, map, nat_eq, option_map, slice_get, unwrap_or, ℕ, ◌++◌, ◌∷◌, ◌≡◌, ◌≢◌}
 use Rattle.vt_spec.specs.Lists.{front_of, then_some}
 use Rattle.vt_spec.specs.Machine.Layers.{OpenLayer, names_shown}

@@ -1,14 +1,14 @@
--- Overlays that are mounted, and mounted anew, in the world that the call leaves: mount(2), and the kernel's
--- overlayfs document,
--- "upper and lower" and "changes to underlying filesystems".
-use Rattle.std.specs.Prelude.{All, List, Ok, Some, map, nat_eq, ℕ, ◌≡◌}
+-- Overlays that are mounted, and mounted anew, in the world that the call leaves: mount(2), and the kernel's overlayfs
+-- document, "upper and lower" and "changes to underlying filesystems".
+use Rattle.std.specs.Prelude.{All, List, Ok, Option, Some, map, nat_eq, ℕ, ◌≡◌}
 use Rattle.vt_spec.specs.Language.Answers.Answer.{Done}
-use Rattle.vt_spec.specs.Language.Calls.{MountFlags, OverlayWords}
+use Rattle.vt_spec.specs.Language.Calls.{MountFlags, OverlayWords, TaskName}
 use Rattle.vt_spec.specs.Language.Calls.Call.{MountOverlay}
 use Rattle.vt_spec.specs.Lists.{Fresh, evens}
 use Rattle.vt_spec.specs.Machine.Invariants.{IsWorld, OverlayInvariants, TreeInvariants}
 use Rattle.vt_spec.specs.Machine.Outcome.Mounting.{LayerPlaces, layers_walked, overlay_at}
-use Rattle.vt_spec.specs.Machine.Policy.{policy}
+use Rattle.vt_spec.specs.Machine.Policy.{call_outcome, numbers_raised, policy}
+use Rattle.vt_spec.specs.Machine.Run.{Serves}
 use Rattle.vt_spec.specs.Machine.Settled.{settled}
 use Rattle.vt_spec.specs.Machine.World.{Layer, Overlay, Task, World, filesystem_numbered, open_layer, shown_layers, task_called}
 use Rattle.vt_layer_laws.specs.Layers.Mounted.{AreAsOthers, ShowTheSame}
@@ -34,8 +34,7 @@ abbrev pub number_mounted : Fresh ℕ → ℕ
 number_mounted fresh = evens (evens fresh) 0
 
 -- An overlay was left in one world, and a task of another mounts one over layers that lead everywhere to what the
--- first one's led
--- to: it shows the tree that the first one showed, whoever mounts it, and wherever.
+-- first one's led to: it shows the tree that the first one showed, whoever mounts it, and wherever.
 abbrev pub MountedAnewShowsTheSame : Type 0
 MountedAnewShowsTheSame =
     (fresh : Fresh ℕ) (before later : World ℕ) (number : ℕ) (left : Overlay ℕ) (task : Task ℕ) (path : List ℕ)
@@ -67,3 +66,26 @@ MountedOverTheSameLayers =
     → shown_layers (overlay_at nat_eq later task places) ≡ shown_layers left → AreKept before later (shown_layers left)
     → ShowTheSame (filesystem_numbered nat_eq (world_mounted fresh later task path words flags) (number_mounted fresh))
     (filesystem_numbered nat_eq before number)
+
+-- What `mount overlay` of a task of the world leaves, granted or refused, has all invariants: nothing goes, and
+-- mounts, namespaces and tasks stay as the invariants ask for.
+abbrev pub MountingLeavesAWorld : Type 0
+MountingLeavesAWorld =
+    (fresh : Fresh ℕ) (world : World ℕ) (task : Task ℕ) (path : List ℕ) (options : Option OverlayWords)
+    (flags : MountFlags)
+    → IsWorld nat_eq world → Serves nat_eq world fresh → task_called world task.name ≡ Some task
+    → IsWorld nat_eq (call_outcome nat_eq fresh world task (MountOverlay path options flags)).world
+
+-- No invariant reads a change number, with overlays or without.
+abbrev pub RaisingKeepsWorlds : Type 0
+RaisingKeepsWorlds =
+    (before : World ℕ) (name : TaskName) (changed : List ℕ) (world : World ℕ)
+    → IsWorld nat_eq world → IsWorld nat_eq (numbers_raised nat_eq before name changed world)
+
+-- So the policy leaves a world with all invariants at each `mount overlay`.
+abbrev pub PolicyMountsAWorld : Type 0
+PolicyMountsAWorld =
+    (fresh : Fresh ℕ) (world : World ℕ) (name : TaskName) (path : List ℕ) (options : Option OverlayWords)
+    (flags : MountFlags)
+    → IsWorld nat_eq world → Serves nat_eq world fresh
+    → IsWorld nat_eq (policy nat_eq fresh world name (MountOverlay path options flags)).world

@@ -1,10 +1,9 @@
 -- What calls make of the upper layer of an overlay: its files after the call, in terms of layers alone. The kernel's
--- overlayfs
--- document, "upper and lower" and "whiteouts and opaque directories".
-use Rattle.std.specs.Prelude.{Bool, List, Option, Some, [], is_some, nat_eq, true, ℕ, ◌++◌, ◌∷◌, ◌≡◌}
+-- overlayfs document, "upper and lower" and "whiteouts and opaque directories".
+use Rattle.std.specs.Prelude.{Bool, List, Ok, Option, Some, [], is_some, nat_eq, true, ℕ, ◌++◌, ◌∷◌, ◌≡◌}
 use Rattle.vt_spec.specs.declared.attributes.Attr.{Attr}
 use Rattle.vt_spec.specs.FileTree.{FileTree}
-use Rattle.vt_spec.specs.Language.Calls.{Access}
+use Rattle.vt_spec.specs.Language.Calls.{Access, Call}
 use Rattle.vt_spec.specs.Language.Changes.{Change, node_with_attr, node_with_mark}
 use Rattle.vt_spec.specs.Language.Changes.Change.{AddName, CopyUp, Make, Move, Remove, SetAttr, SetBytes, SetMark}
 use Rattle.vt_spec.specs.Lists.{Fresh, evens, odds}
@@ -12,7 +11,9 @@ use Rattle.vt_spec.specs.Machine.Apply.{apply}
 use Rattle.vt_spec.specs.Machine.CopyUp.{Merge, Stack, merge_changed}
 use Rattle.vt_spec.specs.Machine.Filesystems.{merge_of, stack_of}
 use Rattle.vt_spec.specs.Machine.Invariants.{IsWorld, number_at_path}
+use Rattle.vt_spec.specs.Machine.Judge.{judge_in}
 use Rattle.vt_spec.specs.Machine.Mounts.{Location}
+use Rattle.vt_spec.specs.Machine.Policy.{call_outcome}
 use Rattle.vt_spec.specs.Machine.Outcome.Descriptors.{is_copied_up, overwritten}
 use Rattle.vt_spec.specs.Machine.Permits.{Permit}
 use Rattle.vt_spec.specs.Machine.Permits.Permit.{ToChange, ToMake, ToOpen, ToOpenNew, ToRemoveDirectory, ToRename, ToWritePart}
@@ -124,5 +125,21 @@ UpperLayersAfterCalls =
     → AreNew numbers (filesystem_numbered nat_eq world upper.filesystem).files
     → Asks (merge_of nat_eq world (filesystem_at nat_eq world location) overlay upper) change at
     → (filesystem_numbered nat_eq (apply nat_eq fresh world task permit).world upper.filesystem).files
+    ≡ changed_above numbers (stack_of nat_eq world overlay upper)
+    (filesystem_numbered nat_eq world upper.filesystem).files at
+
+-- So after a whole call, before what nothing uses is gone.
+abbrev pub UpperLayersAfterWholeCalls : Type 0
+UpperLayersAfterWholeCalls =
+    (fresh numbers : Fresh ℕ) (world : World ℕ) (task : Task ℕ) (call : Call) (permit : Permit ℕ)
+    (location : Location ℕ)
+    (change : Change ℕ) (at : ChangeAt) (overlay : Overlay ℕ) (upper : Layer ℕ)
+    → IsWorld nat_eq world → judge_in nat_eq fresh world task call ≡ Ok permit
+    → Does fresh world permit location numbers change
+    → (filesystem_at nat_eq world location).overlay ≡ Some overlay → overlay.upper ≡ Some upper
+    → IsReached (filesystem_numbered nat_eq world upper.filesystem).files.tree upper.directory
+    → AreNew numbers (filesystem_numbered nat_eq world upper.filesystem).files
+    → Asks (merge_of nat_eq world (filesystem_at nat_eq world location) overlay upper) change at
+    → (filesystem_numbered nat_eq (call_outcome nat_eq fresh world task call).world upper.filesystem).files
     ≡ changed_above numbers (stack_of nat_eq world overlay upper)
     (filesystem_numbered nat_eq world upper.filesystem).files at

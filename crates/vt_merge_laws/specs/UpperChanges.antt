@@ -1,7 +1,6 @@
 -- What a change of an overlay makes of its upper layer, in terms of layers alone: the kernel's overlayfs document,
--- "upper and lower"
--- (copy_up) and "whiteouts and opaque directories". Objects are given by paths, or by their real objects if they
--- have no name.
+-- "upper and lower" (copy_up) and "whiteouts and opaque directories". Objects are given by paths, or by their real
+-- objects if they have no name.
 use Rattle.std.specs.Prelude.{Bool, List, None, Option, Some, [], is_some, length, nat_eq, slice_get, true, unwrap_or, ℕ, ◌++◌, ◌∷◌, ◌≡◌, ◌≢◌}
 use Rattle.vt_spec.specs.declared.attributes.Attr.{Attr}
 use Rattle.vt_spec.specs.Language.Changes.{changed, changed_node, content_with_parent, node_with_attr, node_with_mark, with_inode, with_moved}
@@ -53,8 +52,7 @@ abbrev pub copy_node : ℕ → Node ℕ → Node ℕ
 copy_node parent node = record { attr = node.attr; content = copied_content parent node.content }
 
 -- What is shown at a path is copied into the upper layer's directory above it, if the upper layer has nothing there,
--- by the new
--- number at the place that is how many names the path has.
+-- by the new number at the place that is how many names the path has.
 abbrev pub copy_over : Fresh ℕ → Stack ℕ → FileTree ℕ → List (List ℕ) → Option ℕ → Option (Node ℕ) → FileTree ℕ
 copy_over fresh stack upper path (Some object) seen = upper
 copy_over fresh stack upper path None None = upper
@@ -137,7 +135,8 @@ abbrev pub FrontsHaveTheirCopies : Type 0
 FrontsHaveTheirCopies =
     OfCopies (λ fresh stack merge.
     (path : List (List ℕ)) (object : ℕ) → number_at_path merge.files path ≡ Some object
-    → ((front rest : List (List ℕ)) (number : ℕ) → front ++ rest ≡ path → number_at_path merge.files front ≡ Some number
+    → ((front rest : List (List ℕ)) (number : ℕ) → front ++ rest ≡ path
+    → number_at_path merge.files front ≡ Some number
     → (copied_up nat_eq fresh merge object).real number
     ≡ Some (Upper (unwrap_or (led_above stack merge.upper front) (fresh (length front)))))
     × ((number : ℕ)
@@ -204,9 +203,8 @@ OpenedIsCopied =
     (object : ℕ) (place : Place) → is_some (merge.files.tree.node object) ≡ true → IsAt merge object place
     → (merge_changed nat_eq fresh stack merge (CopyUp object)).upper ≡ copied_for fresh stack merge.upper place)
 
--- A new object: in the upper directory at a path, copied if it lay only below, with an opaque mark where lower
--- layers show a
--- directory under the name.
+-- A new object: in the upper directory at a path, copied if it lay only below, with an opaque mark where lower layers
+-- show a directory under the name.
 abbrev pub made_in : Fresh ℕ → Stack ℕ → FileTree ℕ → FileTree ℕ → List (List ℕ) → List ℕ → Node ℕ → FileTree ℕ
 made_in fresh stack upper copies path name node =
     marked nat_eq (directory_below stack upper (path ++ name ∷ []))
@@ -237,9 +235,8 @@ LinkedAbove =
     ≡ linked_in stack (copied_to (odds fresh) stack (copied_for (evens fresh) stack merge.upper old) path)
     (object_of (evens fresh) stack merge.upper old) path name)
 
--- A name that is removed leaves a whiteout if lower layers show something under it; and a directory that had it
--- loses its
--- whiteouts.
+-- A name that is removed leaves a whiteout if lower layers show something under it; and a directory that had it loses
+-- its whiteouts.
 abbrev pub removed_in : Fresh ℕ → Stack ℕ → FileTree ℕ → FileTree ℕ → List (List ℕ) → List ℕ → FileTree ℕ
 removed_in fresh stack upper copies path name =
     emptied nat_eq
@@ -255,8 +252,8 @@ RemovedAbove =
     ≡ removed_in (odds fresh) stack merge.upper (copied_to (evens fresh) stack merge.upper path) path name)
 
 -- An object that is moved is copied first, and then the new directory; what it replaces loses its whiteouts, the old
--- name leaves a
--- whiteout if lower layers show something under it, and under the new name it is opaque if they show a directory there.
+-- name leaves a whiteout if lower layers show something under it, and under the new name it is opaque if they show a
+-- directory there.
 abbrev pub moved_in : Fresh ℕ → Stack ℕ → FileTree ℕ → FileTree ℕ → List (List ℕ) → List ℕ → List (List ℕ) → List ℕ
     → FileTree ℕ
 moved_in fresh stack upper copies from old to new =

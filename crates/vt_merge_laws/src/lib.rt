@@ -1,5 +1,5 @@
-//! Laws of the merged trees of overlays, for code that keeps none: what a tree is, and what a change makes of the upper layer, in
-//! terms of layers alone.
+//! Laws of the merged trees of overlays, for code that keeps none: what a tree is, and what a change makes of the
+//! upper layer, in terms of layers alone.
 //!
 //! Each public function is a theorem of the written policy, and does nothing.
 #![tactic(auto)]

@@ -1,11 +1,11 @@
 //! Laws of what a change of an overlay makes of its upper layer, in terms of layers alone.
 ghost use Rattle.vt_merge_laws.specs.UpperChanges.{AttrIsSetAbove, BytesAreSetAbove, CopiesAreOfFronts, CopiesHideNothing, FrontsHaveTheirCopies, FrontsLeadToCopies};
 ghost use Rattle.vt_merge_laws.specs.UpperChanges.{HeldHaveTheirCopies, LinkedAbove, MadeAbove, MarkIsSetAbove, MovedAbove, OpenedIsCopied, RemovedAbove};
-ghost use Rattle.vt_merge_laws.specs.UpperCalls.{AskedChangesHavePlaces, ChangesAreByLayers, UpperLayersAfterCalls};
+ghost use Rattle.vt_merge_laws.specs.UpperCalls.{AskedChangesHavePlaces, ChangesAreByLayers, UpperLayersAfterCalls, UpperLayersAfterWholeCalls};
 
-/// What a path leads to is copied up with what is shown at the fronts of the path, where the upper layer has nothing; an object
-/// without a name is copied alone. Each front then leads to its copy, every other path leads where it led, and what lower layers
-/// show at a name is the same before the copies and after them.
+/// What a path leads to is copied up with what is shown at the fronts of the path, where the upper layer has nothing;
+/// an object without a name is copied alone. Each front then leads to its copy, every other path leads where it led,
+/// and what lower layers show at a name is the same before the copies and after them.
 pub fn copies_are_of_fronts()
     ensures copies { CopiesAreOfFronts }
     ensures lead { FrontsLeadToCopies }
@@ -14,8 +14,9 @@ pub fn copies_are_of_fronts()
     ensures below { CopiesHideNothing }
 {}
 
-/// What each change makes of the upper layer: copies, and then the change of that layer's tree. Whether a whiteout is left under a
-/// name, and whether a new or moved directory is opaque, is decided by what lower layers show there before the change.
+/// What each change makes of the upper layer: copies, and then the change of that layer's tree. Whether a whiteout is
+/// left under a name, and whether a new or moved directory is opaque, is decided by what lower layers show there
+/// before the change.
 pub fn changes_of_the_upper_layer_are_by_layers()
     ensures bytes { BytesAreSetAbove }
     ensures attr { AttrIsSetAbove }
@@ -27,10 +28,11 @@ pub fn changes_of_the_upper_layer_are_by_layers()
     ensures moved { MovedAbove }
 {}
 
-/// So a change that is given by places in place of numbers makes of the upper layer's tree what is said by layers alone; and so
-/// does each permitted call that changes an overlay, in the world that it leaves.
+/// So a change that is given by places in place of numbers makes of the upper layer's tree what is said by layers
+/// alone; and so does each permitted call that changes an overlay, in the world that it leaves.
 pub fn calls_change_the_upper_layer_by_layers()
     ensures changes { ChangesAreByLayers }
     ensures places { AskedChangesHavePlaces }
     ensures calls { UpperLayersAfterCalls }
+    ensures whole { UpperLayersAfterWholeCalls }
 {}

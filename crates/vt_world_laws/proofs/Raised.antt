@@ -86,7 +86,7 @@ module _ (of_filesystem : Filesystem ℕ → ℕ) (of_namespace : Namespace ℕ 
   plain_counted : IsPlain world → IsPlain counted
   plain_counted plain = All-map (λ f. is_overlay f ≡ false) filesystem_counted world.filesystems plain
 
-  trees_counted : TreeInvariants nat_eq world → TreeInvariants nat_eq counted
+  pub trees_counted : TreeInvariants nat_eq world → TreeInvariants nat_eq counted
   trees_counted is = record {
     trees = All-map (λ f. IsTree f.files.tree) filesystem_counted world.filesystems is.trees;
     own_parents = All-map (λ f. HasOwnParents f.files.tree) filesystem_counted world.filesystems is.own_parents;
@@ -97,7 +97,7 @@ module _ (of_filesystem : Filesystem ℕ → ℕ) (of_namespace : Namespace ℕ 
     fit_filesystems = all-map is_fit_filesystem filesystem_counted (λ f e. e) world.filesystems is.fit_filesystems;
   }
 
-  mounts_counted : MountInvariants nat_eq world → MountInvariants nat_eq counted
+  pub mounts_counted : MountInvariants nat_eq world → MountInvariants nat_eq counted
   mounts_counted is = record {
     one_number = is.one_number;
     one_child = is.one_child;
@@ -108,7 +108,7 @@ module _ (of_filesystem : Filesystem ℕ → ℕ) (of_namespace : Namespace ℕ 
     groups = is.groups;
   }
 
-  namespaces_counted : NamespaceInvariants nat_eq world → NamespaceInvariants nat_eq counted
+  pub namespaces_counted : NamespaceInvariants nat_eq world → NamespaceInvariants nat_eq counted
   namespaces_counted is = record {
     one_namespace = pair-map (λ (a b : Namespace ℕ). nat_eq a.number b.number)
         (λ (a b : Namespace ℕ). nat_eq a.number b.number)
@@ -169,7 +169,7 @@ module _ (of_filesystem : Filesystem ℕ → ℕ) (of_namespace : Namespace ℕ 
       (contains_from_among world.tasks two.0 two.1)
       (sym (ap (λ (t : Task ℕ). t.name) two.2) ∙ e ∙ ap (λ (t : Task ℕ). t.name ++ (number ∷ rest)) one.2))
 
-  tasks_counted : TaskInvariants nat_eq world → TaskInvariants nat_eq counted
+  pub tasks_counted : TaskInvariants nat_eq world → TaskInvariants nat_eq counted
   tasks_counted is = record {
     one_task = pair-map (λ (a b : Task ℕ). same_name a.name b.name) (λ (a b : Task ℕ). same_name a.name b.name)
         task_counted world.tasks (λ a b m n e. e) is.one_task;
@@ -183,7 +183,7 @@ module _ (of_filesystem : Filesystem ℕ → ℕ) (of_namespace : Namespace ℕ 
         ∙ all-map (has_open_by (files_by world)) task_counted (λ task e. e) world.tasks is.open_files;
   }
 
-  roots_counted : MountsShow world → MountsShow counted
+  pub roots_counted : MountsShow world → MountsShow counted
   roots_counted is = ap (λ files. list_all (has_root_by files) world.mounts) same_files ∙ is
 
   pub unsettled_counted : IsWorldButForUse world → IsWorldButForUse counted

@@ -89,7 +89,7 @@ module _ (of_filesystem : Filesystem ℕ → ℕ) (of_namespace : Namespace ℕ 
       (any-map (λ merged. has_layer_on nat_eq filesystem.number merged && is_mounted nat_eq world merged.number)
       filesystem_later world.filesystems (λ f. refl))
 
-  in_use_later : AllInUse world → AllInUse later
+  pub in_use_later : AllInUse world → AllInUse later
   in_use_later is = record {
     mounts = ap (λ locations. list_all
         (λ (mount : Mount ℕ). is_some mount.namespace

@@ -1,3 +1,5 @@
+use Rattle.vt_merge_laws.proofs.WorldsRaised.{policy_mounts_a_world, raising_keeps_worlds}
+use Rattle.vt_merge_laws.proofs.MountedWorlds.{mounting_leaves_a_world}
 use Rattle.vt_merge_laws.proofs.MountedLeft.{mounting_leaves_overlays, mounting_leaves_trees, mounting_lets_nothing_go}
 use Rattle.vt_merge_laws.proofs.mounted.mounting_an_overlay_leaves_the_invariants.Goals as goal
 
@@ -9,3 +11,12 @@ returns-clause-trees c = mounting_leaves_trees
 
 pub returns-clause-overlays : goal.returns-clause-overlays
 returns-clause-overlays c = mounting_leaves_overlays
+
+pub returns-clause-world : goal.returns-clause-world
+returns-clause-world c = mounting_leaves_a_world
+
+pub returns-clause-raised : goal.returns-clause-raised
+returns-clause-raised c = raising_keeps_worlds
+
+pub returns-clause-policy : goal.returns-clause-policy
+returns-clause-policy c = policy_mounts_a_world
