@@ -5,3 +5,4 @@ pub mod Counting
 pub mod Indexing
 pub mod Planning
 pub mod Fallen
+pub mod Pushed
