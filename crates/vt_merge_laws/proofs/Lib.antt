@@ -9,3 +9,4 @@ pub mod MountedLeft
 pub mod MountedAgain
 pub mod MountedWorlds
 pub mod WorldsRaised
+pub mod LayersReached
