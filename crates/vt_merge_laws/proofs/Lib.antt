@@ -10,3 +10,4 @@ pub mod MountedAgain
 pub mod MountedWorlds
 pub mod WorldsRaised
 pub mod LayersReached
+pub mod MountedReached

@@ -100,3 +100,17 @@ LayersAreReached =
     → All (λ (layer : Layer ℕ).
     IsReached (filesystem_numbered nat_eq world layer.filesystem).files.tree layer.directory)
     (layers_of (overlay_at nat_eq world task places))
+
+-- So they are in the world that a granted call leaves: names lead to the layers of the new overlay.
+abbrev pub MountedLayersAreReached : Type 0
+MountedLayersAreReached =
+    (fresh : Fresh ℕ) (world : World ℕ) (task : Task ℕ) (path : List ℕ) (words : OverlayWords) (flags : MountFlags)
+    (places : LayerPlaces ℕ)
+    → IsWorld nat_eq world → AreNewNumbers fresh world → task_called world task.name ≡ Some task
+    → (policy nat_eq fresh world task.name (MountOverlay path (Some words) flags)).answer ≡ Ok Done
+    → layers_walked nat_eq world task words ≡ Ok places
+    → All (λ (layer : Layer ℕ).
+    IsReached (filesystem_numbered nat_eq
+    (world_mounted fresh world task path words flags) layer.filesystem).files.tree
+    layer.directory)
+    (layers_of (overlay_at nat_eq world task places))
