@@ -29,7 +29,7 @@ use Rattle.vt_layer_laws.proofs.ShownMounted.{remount_shows_the_same}
 use Rattle.vt_merge_laws.specs.MountedAnew.{AreKept, MountedAnewShowsTheSame, MountedOverTheSameLayers, number_mounted, world_mounted}
 use Rattle.vt_merge_laws.proofs.MountedLeft.{mounting_lets_nothing_go}
 
-abbrev is_answer : Result Answer Deny → Bool
+abbrev pub is_answer : Result Answer Deny → Bool
 is_answer (Ok a) = true
 is_answer (Err deny) = false
 
@@ -79,7 +79,7 @@ last_answer true before name changed outcome = refl
 last_answer false before name changed outcome = refl
 
 -- raises numbers, and leaves files
-files_raised : (changed : List ℕ) (number : ℕ) (list : List (Filesystem ℕ))
+pub files_raised : (changed : List ℕ) (number : ℕ) (list : List (Filesystem ℕ))
     → (unwrap_or (find (λ f. nat_eq number f.number) (map (raised_if_changed nat_eq changed) list))
     (no_filesystem number)).files
     ≡ (unwrap_or (find (λ f. nat_eq number f.number) list) (no_filesystem number)).files
@@ -126,13 +126,13 @@ module _ (fresh : Fresh ℕ) (later : World ℕ) (conditions : IsWorld nat_eq la
       (filesystems_changed_by nat_eq later (judge_in nat_eq fresh later t (MountOverlay path (Some words) flags)))
       (call_outcome nat_eq fresh later t (MountOverlay path (Some words) flags)))) is
 
-  granted_so : mounted.answer ≡ Ok Done
+  pub granted_so : mounted.answer ≡ Ok Done
   granted_so =
       sym (last_answer (only_looks (MountOverlay path (Some words) flags) || not
       (is_ok mounted.answer)) later task.name changed mounted)
       ∙ ap (λ o. o.answer) (sym policy_is) ∙ grants
 
-  world_is : world_mounted fresh later task path words flags
+  pub world_is : world_mounted fresh later task path words flags
       ≡ numbers_raised nat_eq later task.name changed mounted.world
   world_is =
       ap (λ o. o.world) policy_is

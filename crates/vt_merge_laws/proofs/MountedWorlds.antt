@@ -360,7 +360,8 @@ module _ (world : World ℕ) (is : IsWorld nat_eq world) (fresh : Fresh ℕ) (se
             let to = destination here top free.0 in
             record {
               mounts = mounts_kept (overlay_at nat_eq world task places) layers here.location flags to;
-              namespaces = namespaces_kept (overlay_at nat_eq world task places) layers here.location flags to free.1.0;
+              namespaces = namespaces_kept (overlay_at nat_eq world task places) layers here.location flags to
+                  free.1.0;
               tasks = tasks_kept (overlay_at nat_eq world task places) layers here.location flags to;
               roots = mounts_show (overlay_mounted nat_eq fresh world task here.location places flags)
                   (shows (overlay_at nat_eq world task places) layers here.location flags to);

@@ -10,7 +10,8 @@ use Rattle.vt_spec.specs.Machine.Outcome.Mounting.{LayerPlaces, layers_walked, o
 use Rattle.vt_spec.specs.Machine.Policy.{call_outcome, numbers_raised, policy}
 use Rattle.vt_spec.specs.Machine.Run.{Serves}
 use Rattle.vt_spec.specs.Machine.Settled.{settled}
-use Rattle.vt_spec.specs.Machine.World.{Layer, Overlay, Task, World, filesystem_numbered, open_layer, shown_layers, task_called}
+use Rattle.vt_spec.specs.Machine.World.{Layer, Overlay, Task, World, filesystem_numbered, layers_of, open_layer, shown_layers, task_called}
+use Rattle.vt_spec.specs.TreeLaws.{IsReached}
 use Rattle.vt_layer_laws.specs.Layers.Mounted.{AreAsOthers, ShowTheSame}
 use Rattle.vt_layer_laws.specs.Layers.Mounting.{AreNewNumbers, OfMounting}
 
@@ -89,3 +90,27 @@ PolicyMountsAWorld =
     (flags : MountFlags)
     → IsWorld nat_eq world → Serves nat_eq world fresh
     → IsWorld nat_eq (policy nat_eq fresh world name (MountOverlay path options flags)).world
+
+-- The layers that the words of `mount overlay` lead to are directories to which names lead from the root of their
+-- tree: W8 refuses one that was removed.
+abbrev pub LayersAreReached : Type 0
+LayersAreReached =
+    (world : World ℕ) (task : Task ℕ) (words : OverlayWords) (places : LayerPlaces ℕ)
+    → IsWorld nat_eq world → layers_walked nat_eq world task words ≡ Ok places
+    → All (λ (layer : Layer ℕ).
+    IsReached (filesystem_numbered nat_eq world layer.filesystem).files.tree layer.directory)
+    (layers_of (overlay_at nat_eq world task places))
+
+-- So they are in the world that a granted call leaves: names lead to the layers of the new overlay.
+abbrev pub MountedLayersAreReached : Type 0
+MountedLayersAreReached =
+    (fresh : Fresh ℕ) (world : World ℕ) (task : Task ℕ) (path : List ℕ) (words : OverlayWords) (flags : MountFlags)
+    (places : LayerPlaces ℕ)
+    → IsWorld nat_eq world → AreNewNumbers fresh world → task_called world task.name ≡ Some task
+    → (policy nat_eq fresh world task.name (MountOverlay path (Some words) flags)).answer ≡ Ok Done
+    → layers_walked nat_eq world task words ≡ Ok places
+    → All (λ (layer : Layer ℕ).
+    IsReached (filesystem_numbered nat_eq
+    (world_mounted fresh world task path words flags) layer.filesystem).files.tree
+    layer.directory)
+    (layers_of (overlay_at nat_eq world task places))

@@ -1,10 +1,12 @@
 //! Laws of overlays that are mounted, of the world that the call leaves.
-ghost use Rattle.vt_merge_laws.specs.MountedAnew.{MountedAnewShowsTheSame, MountedOverTheSameLayers, MountingLeavesAWorld, MountingLeavesOverlays, MountingLeavesTrees, MountingLetsNothingGo, PolicyMountsAWorld, RaisingKeepsWorlds};
+ghost use Rattle.vt_merge_laws.specs.MountedAnew.{LayersAreReached, MountedAnewShowsTheSame, MountedLayersAreReached, MountedOverTheSameLayers, MountingLeavesAWorld, MountingLeavesOverlays, MountingLeavesTrees, MountingLetsNothingGo, PolicyMountsAWorld, RaisingKeepsWorlds};
 
 /// In a world with all invariants `mount overlay`, granted or refused, leaves nothing that nothing uses, and so trees
 /// and overlays with all of their invariants when that is gone. Of a task of the world, by unused numbers, it leaves a
 /// world with all invariants, and so does the policy, whose last step raises change numbers.
 pub fn mounting_an_overlay_leaves_the_invariants()
+    ensures reached { LayersAreReached }
+    ensures reached_later { MountedLayersAreReached }
     ensures nothing { MountingLetsNothingGo }
     ensures trees { MountingLeavesTrees }
     ensures overlays { MountingLeavesOverlays }

@@ -1,3 +1,5 @@
+use Rattle.vt_merge_laws.proofs.MountedReached.{mounted_layers_are_reached}
+use Rattle.vt_merge_laws.proofs.LayersReached.{layers_are_reached}
 use Rattle.vt_merge_laws.proofs.WorldsRaised.{policy_mounts_a_world, raising_keeps_worlds}
 use Rattle.vt_merge_laws.proofs.MountedWorlds.{mounting_leaves_a_world}
 use Rattle.vt_merge_laws.proofs.MountedLeft.{mounting_leaves_overlays, mounting_leaves_trees, mounting_lets_nothing_go}
@@ -20,3 +22,9 @@ returns-clause-raised c = raising_keeps_worlds
 
 pub returns-clause-policy : goal.returns-clause-policy
 returns-clause-policy c = policy_mounts_a_world
+
+pub returns-clause-reached : goal.returns-clause-reached
+returns-clause-reached c = layers_are_reached
+
+pub returns-clause-reached_later : goal.returns-clause-reached_later
+returns-clause-reached_later c = mounted_layers_are_reached
