@@ -1,8 +1,8 @@
 -- Names, texts and files of the upper layer stay within their limits in each change of an overlay.
-use Rattle.std.proofs.Common.{◌≡◌, refl, sym, ap, subst, ◌∙◌, ℕ, nat_eq, Bool, true, false, List, [], Option, Some, None, is_some}
+use Rattle.std.proofs.Common.{◌≡◌, sym, ap, subst, ◌∙◌, ℕ, nat_eq, true, List, None, is_some}
 use Rattle.vt_spec.specs.Language.Changes.{Change, changed, content_with_parent, with_inode, with_moved}
 use Rattle.vt_spec.specs.Language.Changes.Change.{AddName, CopyUp, Make, Move, Remove, SetAttr, SetBytes, SetMark}
-use Rattle.vt_spec.specs.Lists.{Fresh, evens, odds}
+use Rattle.vt_spec.specs.Lists.{Fresh, odds}
 use Rattle.vt_spec.specs.Machine.CopyUp.{Merge, Stack, copied_up, emptied, hides_directory, made, merge_changed, moved, name_left_by, removed, shown_below, upper_directory_named, upper_of}
 use Rattle.vt_spec.specs.Tree.{Node}
 use Rattle.vt_spec.proofs.Nodes.{directory_used}
