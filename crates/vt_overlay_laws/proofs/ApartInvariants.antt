@@ -5,20 +5,24 @@ use Rattle.std.specs.List.{list_all, list_any}
 use Rattle.vt_spec.specs.Language.Changes.{Change}
 use Rattle.vt_spec.specs.Lists.{Fresh, any_pair}
 use Rattle.vt_spec.specs.Machine.Filesystems.{merge_of, stack_of, with_change}
-use Rattle.vt_spec.specs.Machine.Invariants.{IsMerged, IsWorld, OverlayInvariants, has_fit_layers, is_plain_layer, live_lowers}
+use Rattle.vt_spec.specs.Machine.Invariants.{IsMerged, IsWorld, ListsNumbers, OverlayInvariants, TreeInvariants, has_fit_layers, is_fit_filesystem, is_plain_layer, live_lowers}
 use Rattle.vt_spec.specs.Machine.Locked.{of_overlay, overlay_or, upper_and_work}
 use Rattle.vt_spec.specs.Machine.Mounts.{Location}
 use Rattle.vt_spec.specs.Machine.World.{Filesystem, Layer, Overlay, World, filesystem_at, filesystem_numbered, is_overlay, layers_of, mount_at, replaced_if_numbered}
 use Rattle.vt_spec.specs.Tree.{is_directory_node}
 use Rattle.vt_spec.specs.TreeLaws.{HasOwnParents, IsReached, IsTree}
 use Rattle.vt_spec.proofs.Lists.{Among, all_from_among, among-append, among-flat_map, among-from_map, among_from_all, among_from_list_all, list_all_from_among}
+use Rattle.std.proofs.lemmas.List.Elements.{All-weaker}
 use Rattle.vt_tree_laws.specs.Trees.{IsFileTree}
+use Rattle.vt_tree_laws.specs.Trees.Sizes.{is_fit_tree}
+use Rattle.vt_tree_laws.proofs.TreesOfWorlds.{numbered_anyhow}
+use Rattle.vt_overlay_laws.proofs.UpperLimits.{sizes_stay}
 use Rattle.vt_layer_laws.specs.Layers.Locked.{AreNoInodes}
 use Rattle.vt_layer_laws.proofs.LockedApart.{layer_among, layer_plain, no_overlay_in}
 use Rattle.vt_layer_laws.proofs.ShownAtPath.{none_is_some}
 use Rattle.vt_layer_laws.proofs.UpperLine.{and_first, and_second}
 use Rattle.vt_layer_laws.proofs.ViewsNames.{alike_kept}
-use Rattle.vt_overlay_laws.specs.LayersApart.{OverlayInvariantsStay, TreesAfter, TreesStay}
+use Rattle.vt_overlay_laws.specs.LayersApart.{OverlayInvariantsStay, TreeInvariantsStay, TreesAfter, TreesStay}
 use Rattle.vt_overlay_laws.specs.WholeChanges.{IsAskedWell}
 use Rattle.vt_overlay_laws.proofs.ApartLater
 use Rattle.vt_overlay_laws.proofs.UpperWhole.{merged_trees_stay, upper_trees_stay}
@@ -69,7 +73,7 @@ module _ (fresh : Fresh ℕ) (world : World ℕ) (location : Location ℕ) (chan
   upper_none = no_overlay_in world conditions upper (ApartLater.upper_plain fresh world location change overlay upper conditions is has reached distinct none asked)
 
   -- the filesystems afterwards
-  filesystem_then : (f : Filesystem ℕ) → Among f later.filesystems → (f ≡ changed) ⊎ ((f ≡ changed_upper) ⊎ Among f world.filesystems)
+  pub filesystem_then : (f : Filesystem ℕ) → Among f later.filesystems → (f ≡ changed) ⊎ ((f ≡ changed_upper) ⊎ Among f world.filesystems)
   filesystem_then f m =
       from (among-from_map (replaced_if_numbered nat_eq changed_upper) (map (replaced_if_numbered nat_eq changed) world.filesystems) f
       (subst (λ w. Among f w.filesystems) later_is m))
@@ -249,3 +253,39 @@ overlay_invariants_stay fresh world location change overlay upper conditions is 
 pub trees_stay : TreesStay
 trees_stay fresh world location change overlay upper conditions is has reached distinct none asked =
     trees_after fresh world location change overlay upper conditions is has reached distinct none asked
+
+-- With what it gives within the limits
+pub tree_invariants_stay : TreeInvariantsStay
+tree_invariants_stay fresh world location change overlay upper conditions is has reached distinct none asked fit =
+    let after = trees_after fresh world location change overlay upper conditions is has reached distinct none asked in
+    let later = with_change nat_eq fresh world location change in
+    record {
+      trees = All-weaker (λ (f : Filesystem ℕ). IsFileTree f.files) (λ f. IsTree f.files.tree) (λ f t. t.tree) later.filesystems after.trees;
+      own_parents = All-weaker (λ (f : Filesystem ℕ). IsFileTree f.files) (λ f. HasOwnParents f.files.tree) (λ f t. t.own_parents) later.filesystems after.trees;
+      numbers = All-weaker (λ (f : Filesystem ℕ). IsFileTree f.files) (λ f. ListsNumbers nat_eq f.files) (λ f t. t.numbers) later.filesystems after.trees;
+      one_filesystem = after.one_filesystem;
+      fit_filesystems = list_all_from_among is_fit_filesystem later.filesystems (λ f m.
+          by f (filesystem_then fresh world location change overlay upper conditions is has reached distinct none asked f m));
+    }
+  where
+    fit_numbered : (n : ℕ) → is_fit_tree (filesystem_numbered nat_eq world n).files ≡ true
+    fit_numbered n =
+        numbered_anyhow (λ (f : Filesystem ℕ). is_fit_filesystem f ≡ true) n world.filesystems
+        (all_from_among (λ (f : Filesystem ℕ). is_fit_filesystem f ≡ true) world.filesystems
+        (λ f m. among_from_list_all is_fit_filesystem world.filesystems conditions.files.fit_filesystems f m)) refl
+
+    sizes : (is_fit_tree (ApartLater.merge fresh world location change overlay upper conditions is has reached distinct none asked).files ≡ true)
+        × (is_fit_tree (ApartLater.merge fresh world location change overlay upper conditions is has reached distinct none asked).upper ≡ true)
+    sizes =
+        sizes_stay fresh (stack_of nat_eq world overlay upper) (merge_of nat_eq world (filesystem_at nat_eq world location) overlay upper) change
+        (ApartLater.whole fresh world location change overlay upper conditions is has reached distinct none asked)
+        (ApartLater.new fresh world location change overlay upper conditions is has reached distinct none asked) asked fit
+        (fit_numbered (mount_at nat_eq world location).filesystem) (fit_numbered upper.filesystem)
+
+    by : (f : Filesystem ℕ)
+        → (f ≡ ApartLater.changed fresh world location change overlay upper conditions is has reached distinct none asked)
+        ⊎ ((f ≡ ApartLater.changed_upper fresh world location change overlay upper conditions is has reached distinct none asked) ⊎ Among f world.filesystems)
+        → is_fit_filesystem f ≡ true
+    by f (inl same) = ap is_fit_filesystem same ∙ sizes.0
+    by f (inr (inl same)) = ap is_fit_filesystem same ∙ sizes.1
+    by f (inr (inr m)) = among_from_list_all is_fit_filesystem world.filesystems conditions.files.fit_filesystems f m

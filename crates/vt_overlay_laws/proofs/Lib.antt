@@ -1,3 +1,4 @@
+pub mod UpperLimits
 pub mod UpperSizes
 pub mod ApartInvariants
 pub mod ApartLater

@@ -9,7 +9,7 @@ use Rattle.vt_spec.specs.Language.Changes.Change.{AddName, Move, Remove, SetMark
 use Rattle.vt_spec.specs.Lists.{Fresh}
 use Rattle.vt_spec.specs.Machine.CopyUp.{Stack, copied_content, emptied, marked, name_left_by, whiteout_of}
 use Rattle.vt_spec.specs.Machine.Invariants.{ListsNumbers, has_fit_names, has_fit_text, is_no_larger}
-use Rattle.vt_spec.specs.Tree.{Content, Entries, Node, entries_in, entry_named, is_directory_node, name_cmp}
+use Rattle.vt_spec.specs.Tree.{Content, Entries, Node, entries_in, entry_named, name_cmp}
 use Rattle.vt_spec.specs.Tree.Content.{Directory, Regular, Symlink, Whiteout}
 use Rattle.vt_spec.specs.TreeLaws.{entry_at}
 use Rattle.vt_spec.proofs.Lists.{Among, among_from_list_all, among_numbers, list_all_from_among}

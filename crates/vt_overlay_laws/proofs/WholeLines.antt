@@ -24,6 +24,9 @@ use Rattle.vt_layer_laws.proofs.ShownObjects.{Among}
 use Rattle.vt_layer_laws.proofs.UpperChain.{depth_bound, up_at_root, up_from}
 use Rattle.vt_layer_laws.proofs.UpperLine.{ReachedIn, has_entries, is_reached_in, named_so, reached_directory}
 use Rattle.vt_overlay_laws.proofs.UpperGoes.{Goes, goes_both, goes_none}
+use Rattle.vt_tree_laws.specs.Trees.Sizes.{is_fit_node, is_fit_tree}
+use Rattle.vt_tree_laws.proofs.ChangesOfSizes.{fits}
+use Rattle.vt_overlay_laws.proofs.UpperSizes.{copy_fits_limits, fits_here, inode_sized, name_fits, name_sized}
 use Rattle.vt_overlay_laws.proofs.UpperTold.{Told, told_both, told_inode, told_name, told_none}
 use Rattle.vt_overlay_laws.specs.WholeStays.{IsNewBy}
 use Rattle.vt_overlay_laws.proofs.WholeCopied.{copy_bare, copy_cuts, copy_goes, copy_keeps_whole}
@@ -124,6 +127,7 @@ pub record IsCopied (stack : Stack ℕ) (fresh : Fresh ℕ) (merge later : Merge
   pub upper : Goes stack.directory merge.upper later.upper
   pub names : Told (IsNewBy fresh) merge.upper later.upper
   pub objects : (n object : ℕ) → later.real n ≡ Some (Upper object) → (merge.real n ≡ Some (Upper object)) ⊎ IsNewBy fresh object
+  pub sizes : is_fit_tree merge.files ≡ true → is_fit_tree merge.upper ≡ true → is_fit_tree later.upper ≡ true
 
 pub record IsLineCopied (stack : Stack ℕ) (fresh : Fresh ℕ) (merge later : Merge ℕ) (list : List ℕ) : Type 0 where
   pub copied : IsCopied stack fresh merge later
@@ -169,6 +173,26 @@ module _ (stack : Stack ℕ) (fresh : Fresh ℕ) (distinct : (j k : ℕ) → fre
       (told_inode (IsNewBy fresh) merge.upper copy node bare)
       (told_name (IsNewBy fresh) (with_inode nat_eq merge.upper copy node) (upper_of merge name.0) name.1 copy own)
 
+  -- a copy is within the limits, and so is its name
+  copy_sized : (merge : Merge ℕ) → IsWhole stack merge → (object copy : ℕ) (node : Node ℕ) → merge.files.tree.node object ≡ Some node
+      → (o : Option (ℕ × List ℕ)) → a_name nat_eq merge.files object ≡ o → is_fit_tree merge.files ≡ true → is_fit_tree merge.upper ≡ true
+      → is_fit_tree (copy_named nat_eq merge copy o
+      (with_inode nat_eq merge.upper copy (record { attr = node.attr; content = copied_content (copy_parent merge copy o) node.content }))) ≡ true
+  copy_sized merge whole object copy node is o named f h = by o named
+    where
+      limits : (p : ℕ) → is_fit_node (record { attr = node.attr; content = copied_content p node.content }) ≡ true
+      limits p = copy_fits_limits p node (ap fits (sym is) ∙ fits_here merge.files whole.numbers f object (ap is_some is))
+
+      by : (o : Option (ℕ × List ℕ)) → a_name nat_eq merge.files object ≡ o
+          → is_fit_tree (copy_named nat_eq merge copy o
+          (with_inode nat_eq merge.upper copy (record { attr = node.attr; content = copied_content (copy_parent merge copy o) node.content }))) ≡ true
+      by None e = inode_sized merge.upper copy (record { attr = node.attr; content = copied_content copy node.content }) (limits copy) h
+      by (Some name) e =
+          let inode : Node ℕ = record { attr = node.attr; content = copied_content (upper_of merge name.0) node.content } in
+          name_sized (with_inode nat_eq merge.upper copy inode) (upper_of merge name.0) name.1 copy
+          (name_fits merge.files whole.numbers f name.0 name.1 object (named_so merge.files whole.tree object name e))
+          (inode_sized merge.upper copy inode (limits (upper_of merge name.0)) h)
+
   grown_still : (merge : Merge ℕ) (object copy n : ℕ) → StandsInUpper merge n → is_some (upper_object (with_real nat_eq merge.real object (Upper copy) n)) ≡ true
   grown_still merge object copy n h = by (nat_eq n object)
     where
@@ -196,6 +220,7 @@ module _ (stack : Stack ℕ) (fresh : Fresh ℕ) (distinct : (j k : ℕ) → fre
       upper = goes_none stack.directory merge.upper (top_good stack merge whole);
       names = told_none (IsNewBy fresh) merge.upper;
       objects = λ n o e. inl e;
+      sizes = λ f h. h;
     };
     all = λ n m. absurd m;
     cut = λ d path. refl;
@@ -244,6 +269,7 @@ module _ (stack : Stack ℕ) (fresh : Fresh ℕ) (distinct : (j k : ℕ) → fre
                   (copy_bare (copy_parent merge (fresh k) (a_name nat_eq merge.files object)) node.content) (a_name nat_eq merge.files object) (k, refl))
                   next.copied.names;
               objects = λ n o e. ⊎_elim (λ f. own_before merge object k n o f) inr (next.copied.objects n o e);
+              sizes = λ f h. next.copied.sizes f (copy_sized merge whole object (fresh k) node is (a_name nat_eq merge.files object) refl f h);
             };
             all = λ n m. ⊎_elim (λ e. subst (StandsInUpper (copied_each nat_eq fresh (k + 1) one rest)) e (next.copied.grows object stands)) (λ l. next.all n l) m;
             cut = λ d path.

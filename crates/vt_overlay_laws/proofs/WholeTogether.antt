@@ -1,5 +1,5 @@
 -- A whole change of an overlay: copies first, and then what is asked.
-use Rattle.std.proofs.Common.{arith, ◌⊎◌, ⊎_elim, inl, inr, ◌*◌, ◌+◌, ◌≡◌, ◌≢◌, sym, subst, ◌∙◌, ℕ, nat_eq, None, refl, ap, List, [], ◌∷◌, ◌++◌, ◌&&◌, ◌||◌, map, not, false, Option, Some, is_some, option_and_then, unwrap_or}
+use Rattle.std.proofs.Common.{true, arith, ◌⊎◌, ⊎_elim, inl, inr, ◌*◌, ◌+◌, ◌≡◌, ◌≢◌, sym, subst, ◌∙◌, ℕ, nat_eq, None, refl, ap, List, [], ◌∷◌, ◌++◌, ◌&&◌, ◌||◌, map, not, false, Option, Some, is_some, option_and_then, unwrap_or}
 use Rattle.vt_spec.specs.Language.Changes.Change.{AddName, CopyUp, Make, Move, Remove, SetAttr, SetBytes, SetMark}
 use Rattle.vt_spec.specs.Lists.{Fresh, evens, odds}
 use Rattle.vt_spec.specs.Machine.CopyUp.{Merge, Stack, copied_up, path_to, upper_of}
@@ -23,6 +23,7 @@ use Rattle.vt_spec.specs.TreeLaws.{IsDirectory, entry_at, led}
 use Rattle.vt_overlay_laws.specs.WhatIsShown.{IsWhole}
 use Rattle.vt_overlay_laws.specs.WholeChanges.{ChangesKeepShown}
 use Rattle.vt_overlay_laws.proofs.UpperGoes.{Goes, goes_both}
+use Rattle.vt_tree_laws.specs.Trees.Sizes.{is_fit_tree}
 use Rattle.vt_overlay_laws.proofs.UpperTold.{Told, told_both, told_wider}
 use Rattle.vt_overlay_laws.specs.WholeStays.{IsNewBy}
 use Rattle.vt_overlay_laws.proofs.WholeAttributes.{attr_keeps_whole, bytes_keep_whole, upper_real}
@@ -103,6 +104,7 @@ pub record IsReadyToMove (fresh : Fresh ℕ) (stack : Stack ℕ) (merge : Merge 
   pub upper : Goes stack.directory merge.upper two.upper
   pub names : Told (IsNewBy fresh) merge.upper two.upper
   pub objects : (n object : ℕ) → two.real n ≡ Some (Upper object) → (merge.real n ≡ Some (Upper object)) ⊎ IsNewBy fresh object
+  pub sizes : is_fit_tree merge.files ≡ true → is_fit_tree merge.upper ≡ true → is_fit_tree two.upper ≡ true
 
 pub twice : (fresh : Fresh ℕ) (stack : Stack ℕ) (merge : Merge ℕ) → IsWhole stack merge → ((j k : ℕ) → fresh j ≡ fresh k → j ≡ k)
     → ((k : ℕ) → merge.upper.tree.node (fresh k) ≡ None) → (f : ℕ) (old : List ℕ) (t : ℕ) (new : List ℕ) (o : ℕ) → MayMove merge.files.tree f old t new o
@@ -146,6 +148,7 @@ twice fresh stack merge whole distinct unused f old t new o may =
           (λ f. ⊎_elim inl (λ g. inr (new_of_evens fresh object g)) (first.copied.objects n object f))
           (λ g. inr (new_of_odds fresh object (new_of_evens (odds fresh) object g)))
           (second.copied.objects n object e);
+      sizes = λ f h. second.copied.sizes (ap is_fit_tree same ∙ f) (first.copied.sizes f h);
     }
 
 pub changes_keep_shown : ChangesKeepShown

@@ -4,12 +4,13 @@ use Rattle.std.specs.List.{list_any}
 use Rattle.vt_spec.specs.Language.Changes.{Change}
 use Rattle.vt_spec.specs.Lists.{Fresh, any_pair}
 use Rattle.vt_spec.specs.Machine.Filesystems.{merge_of, stack_of, with_change}
-use Rattle.vt_spec.specs.Machine.Invariants.{IsWorld, OverlayInvariants, live_lowers, overlap}
+use Rattle.vt_spec.specs.Machine.Invariants.{IsWorld, OverlayInvariants, TreeInvariants, live_lowers, overlap}
 use Rattle.vt_spec.specs.Machine.Locked.{live_upper_and_work, overlaps_one_of}
 use Rattle.vt_spec.specs.Machine.Mounts.{Location}
 use Rattle.vt_spec.specs.Machine.World.{Filesystem, Layer, Overlay, World, filesystem_at, filesystem_numbered}
 use Rattle.vt_spec.specs.TreeLaws.{IsReached}
 use Rattle.vt_tree_laws.specs.Trees.{IsFileTree}
+use Rattle.vt_tree_laws.specs.Trees.Sizes.{IsFitChange}
 use Rattle.vt_layer_laws.specs.Layers.Locked.{AreNoInodes}
 use Rattle.vt_overlay_laws.specs.WholeChanges.{IsAskedWell}
 
@@ -58,3 +59,14 @@ TreesStay =
     → ((j k : ℕ) → fresh j ≡ fresh k → j ≡ k) → ((filesystem : ℕ) → AreNoInodes fresh world filesystem)
     → IsAskedWell (stack_of nat_eq world overlay upper) (merge_of nat_eq world (filesystem_at nat_eq world location) overlay upper) change
     → TreesAfter (with_change nat_eq fresh world location change) upper
+
+-- All invariants of trees hold after it, where what it gives is within the limits of names, texts and files.
+abbrev pub TreeInvariantsStay : Type 0
+TreeInvariantsStay =
+    (fresh : Fresh ℕ) (world : World ℕ) (location : Location ℕ) (change : Change ℕ) (overlay : Overlay ℕ) (upper : Layer ℕ)
+    → IsWorld nat_eq world
+    → (filesystem_at nat_eq world location).overlay ≡ Some overlay → overlay.upper ≡ Some upper
+    → IsReached (filesystem_numbered nat_eq world upper.filesystem).files.tree upper.directory
+    → ((j k : ℕ) → fresh j ≡ fresh k → j ≡ k) → ((filesystem : ℕ) → AreNoInodes fresh world filesystem)
+    → IsAskedWell (stack_of nat_eq world overlay upper) (merge_of nat_eq world (filesystem_at nat_eq world location) overlay upper) change
+    → IsFitChange change → TreeInvariants nat_eq (with_change nat_eq fresh world location change)

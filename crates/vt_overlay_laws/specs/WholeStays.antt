@@ -1,6 +1,6 @@
 -- An overlay stays whole in each change, so that changes follow one another, and the tree of its upper layer stays a tree: the
 -- kernel's overlayfs document, "upper and lower", "directories" and "whiteouts and opaque directories".
-use Rattle.std.specs.Prelude.{List, [], None, Some, false, nat_eq, ℕ, ⊤, ◌∷◌, ◌≡◌, ◌⊎◌}
+use Rattle.std.specs.Prelude.{List, [], None, Some, false, nat_eq, true, ℕ, ⊤, ◌∷◌, ◌≡◌, ◌⊎◌}
 use Rattle.vt_spec.specs.declared.attributes.Kind.TheVariants.{White}
 use Rattle.vt_spec.specs.FileTree.{is_kind}
 use Rattle.vt_spec.specs.Language.Changes.{Change}
@@ -11,6 +11,7 @@ use Rattle.vt_spec.specs.Tree.{Node, is_directory_node, kind_of}
 use Rattle.vt_spec.specs.Machine.World.Real.{Upper}
 use Rattle.vt_spec.specs.TreeLaws.{IsDirectory, entry_at, led}
 use Rattle.vt_tree_laws.specs.Trees.{IsFileTree, MayAddName, MayMake, MayMove, MayRemove}
+use Rattle.vt_tree_laws.specs.Trees.Sizes.{IsFitChange, is_fit_tree}
 use Rattle.vt_layer_laws.specs.Layers.ChangesUpper.{StandsInUpper}
 use Rattle.vt_overlay_laws.specs.WhatIsShown.{IsWhole}
 use Rattle.vt_overlay_laws.specs.WholeChanges.{IsAskedWell}
@@ -120,3 +121,12 @@ ObjectsAreOwn =
     → IsWhole stack merge → AreNew fresh merge → IsAskedWell stack merge change
     → (merge_changed nat_eq fresh stack merge change).real number ≡ Some (Upper object)
     → (merge.real number ≡ Some (Upper object)) ⊎ IsNewBy fresh object
+
+-- Names, texts and files of both trees stay within their limits, where what the change gives is: NAME_MAX, EFBIG.
+abbrev pub SizesStay : Type 0
+SizesStay =
+    (fresh : Fresh ℕ) (stack : Stack ℕ) (merge : Merge ℕ) (change : Change ℕ)
+    → IsWhole stack merge → AreNew fresh merge → IsAskedWell stack merge change → IsFitChange change
+    → is_fit_tree merge.files ≡ true → is_fit_tree merge.upper ≡ true
+    → (is_fit_tree (merge_changed nat_eq fresh stack merge change).files ≡ true)
+    × (is_fit_tree (merge_changed nat_eq fresh stack merge change).upper ≡ true)

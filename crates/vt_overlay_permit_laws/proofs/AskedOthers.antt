@@ -1,5 +1,5 @@
 -- What each call asks for.
-use Rattle.std.proofs.Common.{◌≡◌, refl, ℕ, nat_eq, Bool, true, [], ◌∷◌, ◌||◌, ◌==◌, List, Option, Some, None, is_some, ok_or}
+use Rattle.std.proofs.Common.{false, length, sym, true≢false, le-leb, leb-true, ltb-false, not, ◌&&◌, ◌+◌, ◌++◌, take, drop, nat_le, nat_lt, arith, ◌≡◌, refl, ℕ, nat_eq, Bool, true, [], ◌∷◌, ◌||◌, ◌==◌, List, Option, Some, None, is_some, ok_or}
 use Rattle.std.specs.Prelude.{⊤}
 use Rattle.vt_permit_laws.proofs.SeesGiven.{found_there, gives_then, gives_unless, gives_walk}
 use Rattle.vt_overlay_permit_laws.proofs.AskedNames
@@ -7,8 +7,16 @@ use Rattle.vt_overlay_permit_laws.proofs.AskedNames.{link_asked, mkdir_asked, op
 use Rattle.vt_overlay_permit_laws.specs.Asked.{AsksWellIf}
 use Rattle.vt_call_laws.specs.Inodes.{written_if_some}
 use Rattle.vt_spec.specs.declared.attributes.Kind.TheVariants.{File}
-use Rattle.vt_spec.proofs.Lists.{among_from_list_all}
+use Rattle.vt_spec.proofs.Lists.{all_from_among, among_from_list_all}
 use Rattle.vt_spec.specs.Machine.Run.{Serves}
+use Rattle.std.proofs.lemmas.List.{length-append, length-drop, length-take}
+use Rattle.vt_spec.specs.Language.Limits.{largest_file}
+use Rattle.vt_spec.specs.Machine.Outcome.Descriptors.{overwritten, padded}
+use Rattle.vt_spec.specs.PathText.{is_empty}
+use Rattle.vt_spec.specs.Tree.Content.{Directory, Regular, Symlink, Whiteout}
+use Rattle.vt_tree_laws.proofs.ChangesOfSizes.{fits}
+use Rattle.vt_tree_laws.proofs.TreesOfWorlds.{numbered_anyhow}
+use Rattle.vt_overlay_laws.proofs.UpperSizes.{fits_here}
 use Rattle.vt_spec.specs.declared.attributes.Attr.{Attr}
 use Rattle.vt_spec.specs.declared.errors.Rule.TheVariants.{K1, S2, S4}
 use Rattle.vt_spec.specs.Errors.{denial}
@@ -32,10 +40,10 @@ use Rattle.vt_spec.specs.Machine.Rules.Mounting.{admin_rules, bind_rules, destin
 use Rattle.vt_spec.specs.Machine.Rules.Tasks.{enter_rules, fork_rules}
 use Rattle.vt_spec.specs.Machine.Walk.{Here}
 use Rattle.vt_spec.specs.Machine.Walking.{directory_walk, object_walk, symlink_walk}
-use Rattle.vt_spec.specs.Machine.World.{Descriptor, Task, World, node_at, task_called}
-use Rattle.vt_spec.specs.Machine.Invariants.{IsWorld, has_regular_files_open}
+use Rattle.vt_spec.specs.Machine.World.{Descriptor, Filesystem, Task, World, files_at, mount_at, node_at, task_called}
+use Rattle.vt_spec.specs.Machine.Invariants.{IsWorld, ListsNumbers, has_regular_files_open, is_fit_filesystem}
 use Rattle.vt_spec.specs.Rights.{cap_sys_admin, cap_sys_chroot, owns}
-use Rattle.vt_spec.specs.Tree.{Node}
+use Rattle.vt_spec.specs.Tree.{Content, Node, bytes_in}
 use Rattle.vt_tree_laws.proofs.TreesWalked.{ends_anyhow}
 use Rattle.vt_world_laws.proofs.ReachedWalks.{End, FoundDirectory, directory_walk_end, found_among, object_end, task_among}
 
@@ -99,7 +107,7 @@ module _ (world : World ℕ) (whole : IsWorld nat_eq world) (task : Task ℕ) (c
 
   attr_asked : (object : Location ℕ) (allowed : Bool) (attr : Attr) → is_some (node_at nat_eq world object) ≡ true
       → Asked (attr_permit nat_eq looks object allowed attr)
-  attr_asked object allowed attr there = gives_unless Asks (attr_rules looks object allowed attr) _ (λ passed. there)
+  attr_asked object allowed attr there = gives_unless Asks (attr_rules looks object allowed attr) _ (λ passed. (there, tt))
 
   chmod_asked : (path : List ℕ) (mode : ℕ) → Asked (chmod_permit nat_eq looks task path mode)
   unfolding chmod_permit
@@ -122,7 +130,7 @@ module _ (world : World ℕ) (whole : IsWorld nat_eq world) (task : Task ℕ) (c
       gives_unless Asks (admin_rules task) _ (λ admin.
       gives_walk Asks DirectoryHere (directory_walk nat_eq looks task path) _
       (directory_walk_end world whole task called path) (λ here is.
-      gives_unless Asks (opaque_rules looks here.location) _ (λ passed. passed.1.1.1.0)))
+      gives_unless Asks (opaque_rules looks here.location) _ (λ passed. (passed.1.1.1.0, tt))))
 
   -- Calls on open files
   pread_asked : (number offset size : ℕ) → Asked (pread_permit task number offset size)
@@ -130,32 +138,74 @@ module _ (world : World ℕ) (whole : IsWorld nat_eq world) (task : Task ℕ) (c
   pread_asked number offset size =
       gives_then Asks (descriptor_at task number (λ descriptor. descriptor.reads)) _ (λ descriptor e. tt)
 
-  -- an open file is there
-  open_there : (number : ℕ) (descriptor : Descriptor ℕ) → descriptor_numbered task number ≡ Some descriptor
-      → is_some (node_at nat_eq world descriptor.location) ≡ true
-  open_there number descriptor e =
-      regular_there (node_at nat_eq world descriptor.location)
-      (among_from_list_all (λ (d : Descriptor ℕ). is_kind_in File (node_at nat_eq world d.location)) task.descriptors
+  -- an open file is a regular one
+  open_file_is : (number : ℕ) (descriptor : Descriptor ℕ) → descriptor_numbered task number ≡ Some descriptor
+      → is_kind_in File (node_at nat_eq world descriptor.location) ≡ true
+  open_file_is number descriptor e =
+      among_from_list_all (λ (d : Descriptor ℕ). is_kind_in File (node_at nat_eq world d.location)) task.descriptors
       (among_from_list_all (has_regular_files_open nat_eq world) world.tasks whole.tasks.open_files task
       (task_among world whole task called))
-      descriptor (found_among (λ (d : Descriptor ℕ). number == d.number) task.descriptors descriptor e))
-    where
-      regular_there : (o : Option (Node ℕ)) → is_kind_in File o ≡ true → is_some o ≡ true
-      regular_there None e = e
-      regular_there (Some node) e = refl
+      descriptor (found_among (λ (d : Descriptor ℕ). number == d.number) task.descriptors descriptor e)
 
-  written_asked : (file : Location ℕ) (offset : ℕ) (bytes : List ℕ) → is_some (node_at nat_eq world file) ≡ true
-      → AsksWellIf world (written_if_some world file offset bytes)
-  written_asked file offset [] there = tt
-  written_asked file offset (byte ∷ bytes) there = there
+  regular_there : (o : Option (Node ℕ)) → is_kind_in File o ≡ true → is_some o ≡ true
+  regular_there None e = e
+  regular_there (Some node) e = refl
+
+  -- whose bytes are within the limit
+  bytes_small : (o : Option (Node ℕ)) → is_kind_in File o ≡ true → fits o ≡ true → nat_le (length (bytes_in o)) largest_file ≡ true
+  bytes_small None e k = absurd (true≢false (sym e))
+  bytes_small (Some node) e k = by node.attr node.content e k
+    where
+      by : (attr : Attr) (content : Content ℕ) → is_kind_in File (Some (record { attr = attr; content = content })) ≡ true
+          → fits (Some (record { attr = attr; content = content })) ≡ true
+          → nat_le (length (bytes_in (Some (record { attr = attr; content = content })))) largest_file ≡ true
+      by attr (Directory parent entries opaque) f g = absurd (true≢false (sym f))
+      by attr (Regular bytes) f g = first _ _ _ g
+        where
+          first : (a b c : Bool) → (a && b && c) ≡ true → a ≡ true
+          first true b c e = refl
+          first false b c e = e
+      by attr (Symlink text) f g = absurd (true≢false (sym f))
+      by attr Whiteout f g = absurd (true≢false (sym f))
+
+  file_fits : (file : Location ℕ) → is_some (node_at nat_eq world file) ≡ true → fits (node_at nat_eq world file) ≡ true
+  file_fits file there =
+      fits_here (files_at nat_eq world file)
+      (numbered_anyhow (λ (f : Filesystem ℕ). ListsNumbers nat_eq f.files) (mount_at nat_eq world file).filesystem world.filesystems
+      whole.files.numbers (λ k. refl))
+      (numbered_anyhow (λ (f : Filesystem ℕ). is_fit_filesystem f ≡ true) (mount_at nat_eq world file).filesystem world.filesystems
+      (all_from_among (λ (f : Filesystem ℕ). is_fit_filesystem f ≡ true) world.filesystems
+      (λ f m. among_from_list_all is_fit_filesystem world.filesystems whole.files.fit_filesystems f m)) refl)
+      file.node there
+
+  written_asked : (file : Location ℕ) (offset : ℕ) (bytes : List ℕ) → is_kind_in File (node_at nat_eq world file) ≡ true
+      → (not (is_empty bytes) && nat_lt largest_file (offset + length bytes)) ≡ false → AsksWellIf world (written_if_some world file offset bytes)
+  written_asked file offset [] kind short = tt
+  written_asked file offset (byte ∷ bytes) kind short =
+      let old = bytes_in (node_at nat_eq world file) in
+      let there = regular_there (node_at nat_eq world file) kind in
+      let small = leb-true (length old) largest_file (bytes_small (node_at nat_eq world file) kind (file_fits file there)) in
+      let room = ltb-false largest_file (offset + length (byte ∷ bytes)) short in (
+        there,
+        le-leb (length (overwritten offset (byte ∷ bytes) old)) largest_file
+            (omega (
+              arith,
+              length-append (take offset (padded offset old) ++ (byte ∷ bytes)) (drop (offset + length (byte ∷ bytes)) old),
+              length-append (take offset (padded offset old)) (byte ∷ bytes),
+              length-drop (offset + length (byte ∷ bytes)) old,
+              length-take offset (padded offset old),
+              room,
+              small,
+            )),
+      )
 
   pwrite_asked : (number offset : ℕ) (bytes : List ℕ) → Asked (pwrite_permit looks task number offset bytes)
   unfolding pwrite_permit
   pwrite_asked number offset bytes =
       gives_then Asks (descriptor_at task number (λ descriptor. descriptor.writes)) _ (λ descriptor e.
       gives_unless Asks (pwrite_rules looks descriptor.location offset bytes) _ (λ passed.
-      written_asked descriptor.location offset bytes (open_there number descriptor
-      (found_there (descriptor_numbered task number) (λ descriptor. descriptor.writes) (denial S4) descriptor e).0)))
+      written_asked descriptor.location offset bytes (open_file_is number descriptor
+      (found_there (descriptor_numbered task number) (λ descriptor. descriptor.writes) (denial S4) descriptor e).0) passed.0))
 
   close_asked : (number : ℕ) → Asked (close_permit task number)
   unfolding close_permit

@@ -34,8 +34,8 @@ proper world location (CopyUp object) asked = tt
 
 pub permits_ask_properly : PermitsAskProperly
 permits_ask_properly world fresh task call permit location change whole serves called judged asks =
-    proper world location change
-    (subst (AsksWellIf world) asks (permits_ask_well world fresh task call permit whole serves called judged))
+    let asked = subst (AsksWellIf world) asks (permits_ask_well world fresh task call permit whole serves called judged) in
+    (proper world location change asked.0, asked.1)
 
 -- An overlay with an upper layer
 module _ (world : World ℕ) (location : Location ℕ) (overlay : Overlay ℕ) (upper : Layer ℕ)
@@ -72,4 +72,4 @@ module _ (world : World ℕ) (location : Location ℕ) (overlay : Overlay ℕ) (
 pub permits_ask_overlays_well : PermitsAskOverlaysWell
 permits_ask_overlays_well world fresh task call permit location change overlay upper whole serves called judged asks is has =
     asked_well world location overlay upper is has change
-    (subst (AsksWellIf world) asks (permits_ask_well world fresh task call permit whole serves called judged))
+    (subst (AsksWellIf world) asks (permits_ask_well world fresh task call permit whole serves called judged)).0

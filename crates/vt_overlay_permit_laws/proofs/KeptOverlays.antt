@@ -1,27 +1,25 @@
 -- A granted call that changes an overlay keeps the invariants of overlays.
 use Rattle.std.proofs.Common.{◌≡◌, refl, sym, ap, subst, ◌∙◌, ℕ, nat_eq, Bool, true, false, List, [], ◌∷◌, Option, Some, None}
-use Rattle.std.specs.Prelude.{All, ⊤}
+use Rattle.std.specs.Prelude.{⊤}
 use Rattle.vt_spec.specs.Language.Changes.{Change}
 use Rattle.vt_spec.specs.Language.Changes.Change.{CopyUp, Move, Remove}
-use Rattle.vt_spec.specs.Lists.{Fresh, any_pair, when}
+use Rattle.vt_spec.specs.Lists.{Fresh, when}
 use Rattle.vt_spec.specs.Machine.Apply.{apply}
 use Rattle.vt_spec.specs.Machine.Detach.{without_mounts_on}
 use Rattle.vt_spec.specs.Machine.Filesystems.{filesystem_changed, with_change}
-use Rattle.vt_spec.specs.Machine.Invariants.{IsMerged, OverlayInvariants}
+use Rattle.vt_spec.specs.Machine.Invariants.{IsMerged, OverlayInvariants, TreeInvariants}
 use Rattle.vt_spec.specs.Machine.Mounts.{Location}
 use Rattle.vt_spec.specs.Machine.Outcome.Descriptors.{is_copied_up, with_copy}
 use Rattle.vt_spec.specs.Machine.Permits.{Permit}
 use Rattle.vt_spec.specs.Machine.Permits.Permit.{Allowed, ToBind, ToChange, ToClose, ToEnterNamespace, ToExit, ToFork, ToList, ToListMounts, ToMake, ToMountOverlay, ToMountPlain, ToMove, ToOpen, ToOpenNew, ToPivot, ToRead, ToReadPart, ToRemoveDirectory, ToRename, ToSetCredentials, ToSetDirectory, ToSetFlags, ToSetRoot, ToSetType, ToSetUmask, ToStat, ToUnmount, ToUnmountLazily, ToUnshare, ToWritePart}
 use Rattle.vt_spec.specs.Machine.World.{Filesystem, Layer, Overlay, Task, World, filesystem_numbered, mount_at}
 use Rattle.vt_spec.specs.TreeLaws.{IsReached}
-use Rattle.vt_tree_laws.specs.Trees.{IsFileTree}
 use Rattle.vt_layer_laws.proofs.LowersMounts.{same_filesystems_without, same_mounted_without}
-use Rattle.vt_overlay_laws.specs.LayersApart.{TreesAfter}
-use Rattle.vt_overlay_laws.proofs.ApartInvariants.{overlay_invariants_stay, trees_stay}
+use Rattle.vt_overlay_laws.proofs.ApartInvariants.{overlay_invariants_stay, tree_invariants_stay, trees_stay}
 use Rattle.vt_overlay_permit_laws.specs.Asked.{change_asked}
 use Rattle.vt_overlay_permit_laws.specs.Changed.{numbers_left}
 use Rattle.vt_overlay_permit_laws.specs.Kept.{PermitsKeepOverlayInvariants, PermitsMakeTheirChange}
-use Rattle.vt_overlay_permit_laws.proofs.AskedOverlays.{permits_ask_overlays_well}
+use Rattle.vt_overlay_permit_laws.proofs.AskedOverlays.{permits_ask_overlays_well, permits_ask_properly}
 use Rattle.vt_overlay_permit_laws.proofs.ChangedOverlays.{are_left}
 
 -- A change of filesystems depends on filesystems alone
@@ -145,21 +143,34 @@ overlays_in a b same is =
       lowers_apart = is.lowers_apart;
     })
 
-pub trees_in : (a b : World ℕ) (upper : Layer ℕ) → a.filesystems ≡ b.filesystems → TreesAfter b upper → TreesAfter a upper
-trees_in a b upper same is = record {
-  trees = subst (All (λ f. IsFileTree f.files)) (sym same) is.trees;
-  one_filesystem = ap (any_pair (λ (x y : Filesystem ℕ). nat_eq x.number y.number)) same ∙ is.one_filesystem;
-  reached = subst (λ fs. IsReached (filesystem_numbered nat_eq (record a { filesystems = fs }) upper.filesystem).files.tree upper.directory) (sym same) is.reached;
-}
+pub trees_in : (a b : World ℕ) → a.filesystems ≡ b.filesystems → TreeInvariants nat_eq b → TreeInvariants nat_eq a
+trees_in a b same is =
+    subst (λ fs. TreeInvariants nat_eq (record a { filesystems = fs })) (sym same)
+    (record {
+      trees = is.trees;
+      own_parents = is.own_parents;
+      numbers = is.numbers;
+      one_filesystem = is.one_filesystem;
+      fit_filesystems = is.fit_filesystems;
+    })
+
+pub reached_in : (a b : World ℕ) (upper : Layer ℕ) → a.filesystems ≡ b.filesystems
+    → IsReached (filesystem_numbered nat_eq b upper.filesystem).files.tree upper.directory
+    → IsReached (filesystem_numbered nat_eq a upper.filesystem).files.tree upper.directory
+reached_in a b upper same reached =
+    subst (λ fs. IsReached (filesystem_numbered nat_eq (record a { filesystems = fs }) upper.filesystem).files.tree upper.directory) (sym same) reached
 
 pub permits_keep_overlay_invariants : PermitsKeepOverlayInvariants
 permits_keep_overlay_invariants world fresh task call permit location change overlay upper conditions serves called judged asks is has reached =
     let left = are_left world fresh conditions serves permit in
     let asked = permits_ask_overlays_well world fresh task call permit location change overlay upper conditions serves called judged asks is has in
+    let fit = (permits_ask_properly world fresh task call permit location change conditions serves called judged asks).1 in
     let same = permits_make_their_change world fresh task permit location change asks in
-    let then = with_change nat_eq (numbers_left fresh permit) world location change in (
+    let then = with_change nat_eq (numbers_left fresh permit) world location change in
+    let trees = trees_stay (numbers_left fresh permit) world location change overlay upper conditions is has reached left.0 left.1 asked in (
       overlays_in (apply nat_eq fresh world task permit).world then same
           (overlay_invariants_stay (numbers_left fresh permit) world location change overlay upper conditions is has reached left.0 left.1 asked),
-      trees_in (apply nat_eq fresh world task permit).world then upper same
-          (trees_stay (numbers_left fresh permit) world location change overlay upper conditions is has reached left.0 left.1 asked),
+      trees_in (apply nat_eq fresh world task permit).world then same
+          (tree_invariants_stay (numbers_left fresh permit) world location change overlay upper conditions is has reached left.0 left.1 asked fit),
+      reached_in (apply nat_eq fresh world task permit).world then upper same trees.reached,
     )

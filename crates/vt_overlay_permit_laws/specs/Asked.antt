@@ -19,6 +19,7 @@ use Rattle.vt_spec.specs.Machine.World.{Layer, Overlay, Task, World, files_at, f
 use Rattle.vt_spec.specs.Tree.{kind_of}
 use Rattle.vt_spec.specs.TreeLaws.{IsDirectory}
 use Rattle.vt_tree_laws.specs.Trees.{IsProper, MayAddName, MayMake, MayMove, MayRemove}
+use Rattle.vt_tree_laws.specs.Trees.Sizes.{IsFitChange}
 use Rattle.vt_layer_laws.specs.Layers.Upper.{IsThere}
 use Rattle.vt_overlay_laws.specs.WholeChanges.{IsAskedWell}
 use Rattle.vt_call_laws.specs.Inodes.{change_of}
@@ -46,10 +47,10 @@ AsksWell world location (SetAttr object attr) = IsThere (files_at nat_eq world l
 AsksWell world location (SetMark directory opaque) = is_overlay (filesystem_at nat_eq world location) ≡ false
 AsksWell world location (CopyUp object) = IsThere (files_at nat_eq world location) object
 
--- nothing is asked for, or this
+-- nothing is asked for, or this, and what it gives is within the limits of names, texts and files
 abbrev pub AsksWellIf : World ℕ → Option (Location ℕ × Change ℕ) → Type 0
 AsksWellIf world None = ⊤
-AsksWellIf world (Some made) = AsksWell world made.0 made.1
+AsksWellIf world (Some made) = AsksWell world made.0 made.1 × IsFitChange made.1
 
 abbrev pub PermitsAskWell : Type 0
 PermitsAskWell =
@@ -57,13 +58,13 @@ PermitsAskWell =
     → Serves nat_eq world fresh → task_called world task.name ≡ Some task
     → judge_in nat_eq fresh world task call ≡ Ok permit → AsksWellIf world (change_asked fresh world permit)
 
--- So the change is one that its tree lets pass,
+-- So the change is one that its tree lets pass, within the limits,
 abbrev pub PermitsAskProperly : Type 0
 PermitsAskProperly =
     (world : World ℕ) (fresh : Fresh ℕ) (task : Task ℕ) (call : Call) (permit : Permit ℕ) (location : Location ℕ) (change : Change ℕ)
     → IsWorld nat_eq world → Serves nat_eq world fresh → task_called world task.name ≡ Some task
     → judge_in nat_eq fresh world task call ≡ Ok permit → change_asked fresh world permit ≡ Some (location, change)
-    → IsProper (files_at nat_eq world location).tree change
+    → IsProper (files_at nat_eq world location).tree change × IsFitChange change
 
 -- and so does an overlay with an upper layer.
 abbrev pub PermitsAskOverlaysWell : Type 0

@@ -5,14 +5,13 @@ use Rattle.vt_spec.specs.Language.Changes.{Change}
 use Rattle.vt_spec.specs.Lists.{Fresh}
 use Rattle.vt_spec.specs.Machine.Apply.{apply}
 use Rattle.vt_spec.specs.Machine.Filesystems.{with_change}
-use Rattle.vt_spec.specs.Machine.Invariants.{IsWorld, OverlayInvariants}
+use Rattle.vt_spec.specs.Machine.Invariants.{IsWorld, OverlayInvariants, TreeInvariants}
 use Rattle.vt_spec.specs.Machine.Judge.{judge_in}
 use Rattle.vt_spec.specs.Machine.Mounts.{Location}
 use Rattle.vt_spec.specs.Machine.Permits.{Permit}
 use Rattle.vt_spec.specs.Machine.Run.{Serves}
 use Rattle.vt_spec.specs.Machine.World.{Layer, Overlay, Task, World, filesystem_at, filesystem_numbered, task_called}
 use Rattle.vt_spec.specs.TreeLaws.{IsReached}
-use Rattle.vt_overlay_laws.specs.LayersApart.{TreesAfter}
 use Rattle.vt_overlay_permit_laws.specs.Asked.{change_asked}
 use Rattle.vt_overlay_permit_laws.specs.Changed.{numbers_left}
 
@@ -25,8 +24,8 @@ PermitsMakeTheirChange =
     → (apply nat_eq fresh world task permit).world.filesystems
     ≡ (with_change nat_eq (numbers_left fresh permit) world location change).filesystems
 
--- In a world that has all invariants a granted call that changes an overlay, before the sweep, leaves all invariants of overlays,
--- where names lead to the directory of its upper layer; each filesystem is a tree, and names lead there still.
+-- In a world that has all invariants a granted call that changes an overlay, before the sweep, leaves all invariants of overlays
+-- and of trees, where names lead to the directory of its upper layer; and names lead there still.
 abbrev pub PermitsKeepOverlayInvariants : Type 0
 PermitsKeepOverlayInvariants =
     (world : World ℕ) (fresh : Fresh ℕ) (task : Task ℕ) (call : Call) (permit : Permit ℕ) (location : Location ℕ) (change : Change ℕ)
@@ -36,4 +35,5 @@ PermitsKeepOverlayInvariants =
     → (filesystem_at nat_eq world location).overlay ≡ Some overlay → overlay.upper ≡ Some upper
     → IsReached (filesystem_numbered nat_eq world upper.filesystem).files.tree upper.directory
     → OverlayInvariants nat_eq (apply nat_eq fresh world task permit).world
-    × TreesAfter (apply nat_eq fresh world task permit).world upper
+    × TreeInvariants nat_eq (apply nat_eq fresh world task permit).world
+    × IsReached (filesystem_numbered nat_eq (apply nat_eq fresh world task permit).world upper.filesystem).files.tree upper.directory

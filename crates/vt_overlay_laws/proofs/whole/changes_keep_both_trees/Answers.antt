@@ -1,3 +1,4 @@
+use Rattle.vt_overlay_laws.proofs.UpperLimits
 use Rattle.vt_overlay_laws.proofs.UpperOwn
 use Rattle.vt_overlay_laws.proofs.UpperWhole
 use Rattle.vt_overlay_laws.proofs.whole.changes_keep_both_trees.Goals as goal
@@ -13,3 +14,6 @@ returns-clause-names c = UpperOwn.names_lead_to_own
 
 pub returns-clause-objects : goal.returns-clause-objects
 returns-clause-objects c = UpperOwn.objects_are_own
+
+pub returns-clause-sizes : goal.returns-clause-sizes
+returns-clause-sizes c = UpperLimits.sizes_stay

@@ -10,3 +10,6 @@ returns-clause-overlays c = ApartInvariants.overlay_invariants_stay
 
 pub returns-clause-trees : goal.returns-clause-trees
 returns-clause-trees c = ApartInvariants.trees_stay
+
+pub returns-clause-files : goal.returns-clause-files
+returns-clause-files c = ApartInvariants.tree_invariants_stay
