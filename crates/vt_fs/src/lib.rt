@@ -7,6 +7,3 @@ mod paths;
 
 pub use filesystems::Filesystems;
 pub use laws::{filesystems_are_found, numbers_are_those_of_inodes, trees_name_parents};
-
-#[cfg(test)]
-mod tests;

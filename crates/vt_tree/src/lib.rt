@@ -7,6 +7,3 @@ mod slots;
 mod trees;
 
 pub use trees::Tree;
-
-#[cfg(test)]
-mod tests;
