@@ -1,6 +1,7 @@
 //! How mounts and unmounts propagate between peer groups: mount_namespaces(7), and the kernel's document sharedsubtree.
 #![tactic(auto)]
 
+mod attaching;
 mod copying;
 mod falling;
 mod filling;
@@ -11,7 +12,8 @@ mod reach;
 mod receiving;
 mod unmounting;
 
-pub use copying::{Counts, Graft, NewGroup, copies, new_groups};
+pub use attaching::{Plan, attachment};
+pub use copying::{Counts, Graft, copies, new_groups};
 pub use falling::{NewPoint, points_left};
 pub use filling::{Load, overfills};
 pub use pushing::pushes;
