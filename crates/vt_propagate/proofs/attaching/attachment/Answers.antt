@@ -11,6 +11,8 @@ pushes-requires c = ap length c.deref.ensures.value ∙ c.in_ok-copies.ensures.l
 pub returns-clause-ok : goal.returns-clause-ok
 returns-clause-ok c world seen one_child parts =
     let copies = c.in_ok-copies.ensures.ok world seen parts in
-    attached_by_plans world c.args.graft.now c.args.counts (map mount_of c.in_ok-copies.copies.items) (map new_group c.in_ok-new.new.items)
+    attached_by_plans world c.args.graft.now c.args.counts (map mount_of c.in_ok-copies.copies.items)
+    (map new_group c.in_ok-new.new.items)
     (map point_of c.in_ok-points.points.items) copies (c.in_ok-new.ensures.ok world seen parts)
-    (c.in_ok-points.ensures.ok world c.args.counts seen.mounts one_child parts (ap (map mount_of) c.deref.ensures.value ∙ copies))
+    (c.in_ok-points.ensures.ok world c.args.counts seen.mounts one_child parts (ap
+    (map mount_of) c.deref.ensures.value ∙ copies))
