@@ -3,6 +3,7 @@
 
 mod attaching;
 mod copying;
+mod detaching;
 mod falling;
 mod filling;
 mod groups;
@@ -14,6 +15,7 @@ mod unmounting;
 
 pub use attaching::{Plan, attachment};
 pub use copying::{Counts, Graft, copies, new_groups};
+pub use detaching::{Detachment, unmount};
 pub use falling::{NewPoint, points_left};
 pub use filling::{Load, overfills};
 pub use pushing::pushes;
