@@ -21,47 +21,66 @@ use Rattle.vt_group.specs.Together.{Grows, all_added, if_sourced, new_group, typ
 use Rattle.vt_group.proofs.Changes.{lookup-inserted, rising-inserted}
 use Rattle.vt_group.proofs.Regrouping.{lookup-low}
 
-pub folded-snoc : {A B : Type 0} (add : B → A → B) (b : B) (list : List A) (a : A) → folded add b (list ++ a ∷ []) ≡ add (folded add b list) a
+pub folded-snoc : {A B : Type 0} (add : B → A → B) (b : B) (list : List A) (a : A) → folded add b (list ++ a ∷ [])
+    ≡ add (folded add b list) a
 folded-snoc add b [] a = refl
 folded-snoc add b (first ∷ list) a = folded-snoc add (add b first) list a
 
 -- a fold over one more of what a list is seen as
-pub folded_more : {X A B : Type 0} (add : B → A → B) (b : B) (see : X → A) (list : List X) (i : ℕ) (default : X) → i < length list
-    → folded add b (map see (take (i + 1) list)) ≡ add (folded add b (map see (take i list))) (see (get_or list i default))
+pub folded_more : {X A B : Type 0} (add : B → A → B) (b : B) (see : X → A) (list : List X) (i : ℕ) (default : X)
+    → i < length list
+    → folded add b (map see (take (i + 1) list))
+    ≡ add (folded add b (map see (take i list))) (see (get_or list i default))
 folded_more add b see list i default less =
     ap (λ l. folded add b (map see l)) (take_more list i default less)
     ∙ ap (folded add b) (map-append see (take i list) (get_or list i default ∷ []))
     ∙ folded-snoc add b (map see (take i list)) (see (get_or list i default))
 
 -- one more of the types and of the masters
-pub typed_more : (self grown next : Grouping) (mounts : List CodeMount) (i : ℕ) (default : CodeMount) → i < length mounts
+pub typed_more : (self grown next : Grouping) (mounts : List CodeMount) (i : ℕ) (default : CodeMount)
+    → i < length mounts
     → next ≡ record grown { peers = with_type_of grown.peers (typed (get_or mounts i default)) }
     → grown ≡ record self { peers = folded with_type_of self.peers (map typed (take i mounts)) }
     → next ≡ record self { peers = folded with_type_of self.peers (map typed (take (i + 1) mounts)) }
 typed_more self grown next mounts i default less step so_far =
     step
-    ∙ (λ j. record { peers = with_type_of (so_far j).peers (typed (get_or mounts i default)); masters = (so_far j).masters })
-    ∙ (λ j. record { peers = sym (folded_more with_type_of self.peers typed mounts i default less) j; masters = self.masters })
+    ∙ (λ j. record {
+      peers = with_type_of (so_far j).peers (typed (get_or mounts i default));
+      masters =
+          (so_far j).masters;
+    })
+    ∙ (λ j. record {
+      peers = sym (folded_more with_type_of self.peers typed mounts i default less) j;
+      masters =
+          self.masters;
+    })
 
-pub mastered_more : (self grown next : Grouping) (mounts : List CodeMount) (new : List NewGroup) (i : ℕ) (default : NewGroup) → i < length new
+pub mastered_more : (self grown next : Grouping) (mounts : List CodeMount) (new : List NewGroup) (i : ℕ)
+    (default : NewGroup) → i < length new
     → next ≡ record grown { masters = with_master_of grown.masters (new_group (get_or new i default)) }
     → grown ≡ all_added self (map typed mounts) (map new_group (take i new))
     → next ≡ all_added self (map typed mounts) (map new_group (take (i + 1) new))
 mastered_more self grown next mounts new i default less step so_far =
     step
-    ∙ (λ j. record { peers = (so_far j).peers; masters = with_master_of (so_far j).masters (new_group (get_or new i default)) })
+    ∙ (λ j. record {
+      peers = (so_far j).peers;
+      masters = with_master_of (so_far j).masters (new_group
+          (get_or new i default));
+    })
     ∙ (λ j. record {
       peers = folded with_type_of self.peers (map typed mounts);
       masters = sym (folded_more with_master_of self.masters new_group new i default less) j;
     })
 
 -- whether there is a source
-pub put_sourced : (found : Option GroupId) (source : Option ℕ) (peers more : List (ℕ × Propagation ℕ)) → option_map group_number found ≡ source
+pub put_sourced : (found : Option GroupId) (source : Option ℕ) (peers more : List (ℕ × Propagation ℕ))
+    → option_map group_number found ≡ source
     → is_some found ≡ true → more ≡ if_sourced source peers more
 put_sourced None source peers more e is = absurd (true≢false (sym is))
 put_sourced (Some group) source peers more e is = ap (λ o. if_sourced o peers more) e
 
-pub put_nothing : (found : Option GroupId) (source : Option ℕ) (peers more : List (ℕ × Propagation ℕ)) → option_map group_number found ≡ source
+pub put_nothing : (found : Option GroupId) (source : Option ℕ) (peers more : List (ℕ × Propagation ℕ))
+    → option_map group_number found ≡ source
     → is_some found ≡ false → peers ≡ if_sourced source peers more
 put_nothing None source peers more e is = ap (λ o. if_sourced o peers more) e
 put_nothing (Some group) source peers more e is = absurd (true≢false is)
@@ -81,10 +100,12 @@ low-removed low group (e ∷ masters) all = by (nat_eq group e.0) (low-removed l
     by true later = (and_parts _ _ all).1
     by false later = and_from _ _ (and_parts _ _ all).0 later
 
-rising-removed : (group : ℕ) (masters : List (ℕ × ℕ)) → are_rising (keys masters) ≡ true → are_rising (keys (remove_entry (nat_eq group) masters)) ≡ true
+rising-removed : (group : ℕ) (masters : List (ℕ × ℕ)) → are_rising (keys masters) ≡ true
+    → are_rising (keys (remove_entry (nat_eq group) masters)) ≡ true
 rising-removed group [] rising = refl
 rising-removed group (e ∷ masters) rising =
-    by (nat_eq group e.0) (rising-removed group masters (and_parts _ _ rising).1) (low-removed e.0 group masters (and_parts _ _ rising).0)
+    by (nat_eq group e.0) (rising-removed group masters (and_parts _ _ rising).1) (low-removed e.0 group masters
+    (and_parts _ _ rising).0)
   where
     by : (b : Bool) → are_rising (keys (remove_entry (nat_eq group) masters)) ≡ true
         → list_all (nat_lt e.0) (keys (remove_entry (nat_eq group) masters)) ≡ true
@@ -93,26 +114,31 @@ rising-removed group (e ∷ masters) rising =
     by false later low = and_from _ _ low later
 
 lookup-removed : (other group : ℕ) (masters : List (ℕ × ℕ)) → are_rising (keys masters) ≡ true
-    → lookup (nat_eq other) (remove_entry (nat_eq group) masters) ≡ cond (nat_eq other group) None (lookup (nat_eq other) masters)
+    → lookup (nat_eq other) (remove_entry (nat_eq group) masters)
+    ≡ cond (nat_eq other group) None (lookup (nat_eq other) masters)
 lookup-removed other group [] rising = by (nat_eq other group) None refl
   where
     by : (b : Bool) (empty : Option ℕ) → empty ≡ None → empty ≡ cond b None empty
     by true empty e = e
     by false empty e = refl
-lookup-removed other group (e ∷ masters) rising = by (nat_eq group e.0) refl (lookup-removed other group masters parts.1)
+lookup-removed other group (e ∷ masters) rising = by (nat_eq group e.0) refl
+    (lookup-removed other group masters parts.1)
   where
     parts : (list_all (nat_lt e.0) (keys masters) ≡ true) × (are_rising (keys masters) ≡ true)
     parts = and_parts _ _ rising
 
     gone : group ≡ e.0 → (t : Bool) → nat_eq other group ≡ t
-        → lookup (nat_eq other) masters ≡ cond t None (cond (nat_eq other e.0) (Some e.1) (lookup (nat_eq other) masters))
+        → lookup (nat_eq other) masters
+        ≡ cond t None (cond (nat_eq other e.0) (Some e.1) (lookup (nat_eq other) masters))
     gone same true is =
-        lookup-low other masters (ap (λ g. list_all (nat_lt g) (keys masters)) (eqb-true other group is ∙ same) ∙ parts.0)
+        lookup-low other masters (ap (λ g. list_all (nat_lt g) (keys masters)) (eqb-true other group is ∙ same)
+        ∙ parts.0)
     gone same false is =
         ap (λ b. cond b (Some e.1) (lookup (nat_eq other) masters)) (sym (ap (nat_eq other) (sym same) ∙ is))
 
     kept : nat_eq group e.0 ≡ false → (t : Bool) → nat_eq other e.0 ≡ t
-        → lookup (nat_eq other) (remove_entry (nat_eq group) masters) ≡ cond (nat_eq other group) None (lookup (nat_eq other) masters)
+        → lookup (nat_eq other) (remove_entry (nat_eq group) masters)
+        ≡ cond (nat_eq other group) None (lookup (nat_eq other) masters)
         → cond t (Some e.1) (lookup (nat_eq other) (remove_entry (nat_eq group) masters))
         ≡ cond (nat_eq other group) None (cond t (Some e.1) (lookup (nat_eq other) masters))
     kept apart true is later =
@@ -121,13 +147,15 @@ lookup-removed other group (e ∷ masters) rising = by (nat_eq group e.0) refl (
     kept apart false is later = later
 
     by : (b : Bool) → nat_eq group e.0 ≡ b
-        → lookup (nat_eq other) (remove_entry (nat_eq group) masters) ≡ cond (nat_eq other group) None (lookup (nat_eq other) masters)
+        → lookup (nat_eq other) (remove_entry (nat_eq group) masters)
+        ≡ cond (nat_eq other group) None (lookup (nat_eq other) masters)
         → lookup (nat_eq other) (cond b masters (e ∷ remove_entry (nat_eq group) masters))
         ≡ cond (nat_eq other group) None (cond (nat_eq other e.0) (Some e.1) (lookup (nat_eq other) masters))
     by true is later = gone (eqb-true group e.0 is) (nat_eq other group) refl
     by false is later = kept is (nat_eq other e.0) refl later
 
-rising-one : (masters : List (ℕ × ℕ)) (new : ℕ × Option ℕ) → are_rising (keys masters) ≡ true → are_rising (keys (with_master_of masters new)) ≡ true
+rising-one : (masters : List (ℕ × ℕ)) (new : ℕ × Option ℕ) → are_rising (keys masters) ≡ true
+    → are_rising (keys (with_master_of masters new)) ≡ true
 rising-one masters new rising = by new.1
   where
     by : (o : Option ℕ) → are_rising (keys (with_entry_of new.0 o masters)) ≡ true
@@ -135,16 +163,20 @@ rising-one masters new rising = by new.1
     by (Some master) = rising-inserted new.0 master masters rising
 
 lookup-one : (group : ℕ) (masters : List (ℕ × ℕ)) (new : ℕ × Option ℕ) → are_rising (keys masters) ≡ true
-    → lookup (nat_eq group) (with_master_of masters new) ≡ cond (nat_eq group new.0) new.1 (lookup (nat_eq group) masters)
+    → lookup (nat_eq group) (with_master_of masters new)
+    ≡ cond (nat_eq group new.0) new.1 (lookup (nat_eq group) masters)
 lookup-one group masters new rising = by new.1
   where
-    by : (o : Option ℕ) → lookup (nat_eq group) (with_entry_of new.0 o masters) ≡ cond (nat_eq group new.0) o (lookup (nat_eq group) masters)
+    by : (o : Option ℕ) → lookup (nat_eq group) (with_entry_of new.0 o masters)
+        ≡ cond (nat_eq group new.0) o (lookup (nat_eq group) masters)
     by None = lookup-removed group new.0 masters rising
     by (Some master) = lookup-inserted group new.0 master masters
 
-rising-all : (masters : List (ℕ × ℕ)) (new : List (ℕ × Option ℕ)) → are_rising (keys masters) ≡ true → are_rising (keys (folded with_master_of masters new)) ≡ true
+rising-all : (masters : List (ℕ × ℕ)) (new : List (ℕ × Option ℕ)) → are_rising (keys masters) ≡ true
+    → are_rising (keys (folded with_master_of masters new)) ≡ true
 rising-all masters [] rising = rising
-rising-all masters (first ∷ new) rising = rising-all (with_master_of masters first) new (rising-one masters first rising)
+rising-all masters (first ∷ new) rising = rising-all (with_master_of masters first) new
+    (rising-one masters first rising)
 
 -- what a fold of masters finds depends on what it starts from at a group that it does not name
 module _ (group : ℕ) where
@@ -155,20 +187,25 @@ module _ (group : ℕ) where
       → folded (masters_with nat_eq) one new group ≡ folded (masters_with nat_eq) other new group
   same_folds one other [] same = same refl
   same_folds one other (first ∷ new) same =
-      same_folds (masters_with nat_eq one first) (masters_with nat_eq other first) new (λ unnamed. by (nat_eq group first.0) refl unnamed)
+      same_folds (masters_with nat_eq one first) (masters_with nat_eq other first) new (λ unnamed. by
+      (nat_eq group first.0) refl unnamed)
     where
-      by : (b : Bool) → nat_eq group first.0 ≡ b → named new ≡ false → masters_with nat_eq one first group ≡ masters_with nat_eq other first group
+      by : (b : Bool) → nat_eq group first.0 ≡ b → named new ≡ false → masters_with nat_eq one first group
+          ≡ masters_with nat_eq other first group
       by true is unnamed =
           ap (λ b. if b then first.1 else one group) is ∙ ap (λ b. if b then first.1 else other group) (sym is)
       by false is unnamed =
-          ap (λ b. if b then first.1 else one group) is ∙ same (λ i. is i || unnamed i) ∙ ap (λ b. if b then first.1 else other group) (sym is)
+          ap (λ b. if b then first.1 else one group) is ∙ same (λ i. is i || unnamed i)
+          ∙ ap (λ b. if b then first.1 else other group) (sym is)
 
   lookup-all : (masters : List (ℕ × ℕ)) (new : List (ℕ × Option ℕ)) → are_rising (keys masters) ≡ true
-      → lookup (nat_eq group) (folded with_master_of masters new) ≡ folded (masters_with nat_eq) (λ other. lookup (nat_eq other) masters) new group
+      → lookup (nat_eq group) (folded with_master_of masters new)
+      ≡ folded (masters_with nat_eq) (λ other. lookup (nat_eq other) masters) new group
   lookup-all masters [] rising = refl
   lookup-all masters (first ∷ new) rising =
       lookup-all (with_master_of masters first) new (rising-one masters first rising)
-      ∙ same_folds (λ other. lookup (nat_eq other) (with_master_of masters first)) (masters_with nat_eq (λ other. lookup (nat_eq other) masters) first) new
+      ∙ same_folds (λ other. lookup (nat_eq other) (with_master_of masters first)) (masters_with nat_eq
+      (λ other. lookup (nat_eq other) masters) first) new
       (λ unnamed. lookup-one group masters first rising)
 
 -- where each entry of a group is without a master, and it starts without one, it has none
@@ -177,13 +214,15 @@ none_folded : (group : ℕ) (new : List (ℕ × Option ℕ)) (master : ℕ → O
     → folded (masters_with nat_eq) master new group ≡ None
 none_folded group [] master each start = start
 none_folded group (first ∷ rest) master each start =
-    none_folded group rest (masters_with nat_eq master first) (λ entry m e. each entry (inr m) e) (by (nat_eq group first.0) refl)
+    none_folded group rest (masters_with nat_eq master first) (λ entry m e. each entry (inr m) e) (by
+    (nat_eq group first.0) refl)
   where
     by : (b : Bool) → nat_eq group first.0 ≡ b → (if b then first.1 else master group) ≡ None
     by true is = each first (inl refl) (eqb-true group first.0 is)
     by false is = start
 
-pub grown_has : (world after : World ℕ) (groups : Grouping) (types : List (ℕ × Propagation ℕ)) (new : List (ℕ × Option ℕ)) → Has world groups
+pub grown_has : (world after : World ℕ) (groups : Grouping) (types : List (ℕ × Propagation ℕ)) (new : List (ℕ
+    × Option ℕ)) → Has world groups
     → Grows world after types new → Has after (all_added groups types new)
 grown_has world after groups types new has grows = record {
   order = grows.order;
@@ -195,18 +234,21 @@ grown_has world after groups types new has grows = record {
 }
   where
     -- where a group that is there has members, it had them, or is named
-    there : (group : ℕ) (b : Bool) → has_members nat_eq after.mounts group ≡ true → has_members nat_eq world.mounts group ≡ b
+    there : (group : ℕ) (b : Bool) → has_members nat_eq after.mounts group ≡ true
+        → has_members nat_eq world.mounts group ≡ b
         → named group new ≡ false → master_in groups group ≡ world.master group
     there group true is was unnamed = has.masters group ∙ ap (λ b. cond b (world.master group) None) was
     there group false is was unnamed = absurd (true≢false (sym (grows.named group was is) ∙ unnamed))
 
     -- where it has none, it had none, and no entry gives it a master
-    not_there : (group : ℕ) (b : Bool) → has_members nat_eq after.mounts group ≡ false → has_members nat_eq world.mounts group ≡ b
+    not_there : (group : ℕ) (b : Bool) → has_members nat_eq after.mounts group ≡ false
+        → has_members nat_eq world.mounts group ≡ b
         → master_in groups group ≡ None
     not_there group true is was = absurd (true≢false (sym (grows.stay group was) ∙ is))
     not_there group false is was = has.masters group ∙ ap (λ b. cond b (world.master group) None) was
 
-    unmastered : (group : ℕ) → has_members nat_eq after.mounts group ≡ false → (entry : ℕ × Option ℕ) → Among entry new → group ≡ entry.0
+    unmastered : (group : ℕ) → has_members nat_eq after.mounts group ≡ false → (entry : ℕ × Option ℕ)
+        → Among entry new → group ≡ entry.0
         → entry.1 ≡ None
     unmastered group is entry m same = choose entry.1 refl
       where
@@ -214,13 +256,16 @@ grown_has world after groups types new has grows = record {
         choose None e = e
         choose (Some master) e =
             absurd (true≢false (sym (ap (has_members nat_eq after.mounts) same
-            ∙ among_from_all (λ one. is_some one.1 ≡ true → HasGroup after one.0) new grows.begin entry m (ap is_some e)) ∙ is))
+            ∙ among_from_all (λ one. is_some one.1 ≡ true
+            → HasGroup after one.0) new grows.begin entry m (ap is_some e)) ∙ is))
 
     by : (group : ℕ) (b : Bool) → has_members nat_eq after.mounts group ≡ b
         → folded (masters_with nat_eq) (master_in groups) new group ≡ (without_dead_groups nat_eq after).master group
     by group true is =
-        same_folds group (master_in groups) world.master new (there group (has_members nat_eq world.mounts group) is refl)
+        same_folds group (master_in groups) world.master new (there group
+        (has_members nat_eq world.mounts group) is refl)
         ∙ sym (grows.master group) ∙ ap (λ b. cond b (after.master group) None) (sym is)
     by group false is =
-        none_folded group new (master_in groups) (unmastered group is) (not_there group (has_members nat_eq world.mounts group) is refl)
+        none_folded group new (master_in groups) (unmastered group is) (not_there group
+        (has_members nat_eq world.mounts group) is refl)
         ∙ ap (λ b. cond b (after.master group) None) (sym is)

@@ -48,45 +48,56 @@ members-keys group (mount ∷ rest) =
 
 -- the peer that a key becomes
 abbrev inherited_key : World ℕ → ℕ × Propagation ℕ → Option (ℕ × Propagation ℕ)
-inherited_key world key = option_map (λ s. (key.0, inherited nat_eq world key.1)) (source_of (inherited nat_eq world key.1))
+inherited_key world key = option_map (λ s. (key.0, inherited nat_eq world key.1)) (source_of
+    (inherited nat_eq world key.1))
 
-peer-keys : (world : World ℕ) (mount : Mount ℕ) → peer_of (inheriting nat_eq world mount) ≡ inherited_key world (key_of mount)
+peer-keys : (world : World ℕ) (mount : Mount ℕ) → peer_of (inheriting nat_eq world mount)
+    ≡ inherited_key world (key_of mount)
 peer-keys world mount = by mount.propagation
   where
-    by : (kind : Propagation ℕ) → option_map (λ s. (mount.number, inherited nat_eq world kind)) (source_of (inherited nat_eq world kind))
+    by : (kind : Propagation ℕ) → option_map (λ s. (mount.number, inherited nat_eq world kind)) (source_of
+        (inherited nat_eq world kind))
         ≡ inherited_key world (mount.number, shown kind)
     by (Shared group) = refl
     by (Slave master) = refl
     by Private = refl
     by Unbindable = refl
 
-peers-keys : (world : World ℕ) (mounts : List (Mount ℕ)) → peers_of (map (inheriting nat_eq world) mounts) ≡ filter_map (inherited_key world) (keys_of mounts)
+peers-keys : (world : World ℕ) (mounts : List (Mount ℕ)) → peers_of (map (inheriting nat_eq world) mounts)
+    ≡ filter_map (inherited_key world) (keys_of mounts)
 peers-keys world [] = refl
 peers-keys world (mount ∷ rest) = λ i. cons_option (peer-keys world mount i) (peers-keys world rest i)
 
 module _ (one other : World ℕ) (keys : keys_of one.mounts ≡ keys_of other.mounts) (known : ℕ → Bool)
     (masters : (group : ℕ) → known group ≡ true → other.master group ≡ one.master group)
-    (lives : (mount : Mount ℕ) → Among mount one.mounts → (source : ℕ) → source_of mount.propagation ≡ Some source → Lives known one.master source) where
+    (lives : (mount : Mount ℕ) → Among mount one.mounts → (source : ℕ) → source_of mount.propagation ≡ Some source
+    → Lives known one.master source) where
   same_members : (group : ℕ) → has_members nat_eq one.mounts group ≡ has_members nat_eq other.mounts group
   same_members group =
-      members-keys group one.mounts ∙ ap (list_any (λ key. holds_of (nat_eq group) (group_of key.1))) keys ∙ sym (members-keys group other.mounts)
+      members-keys group one.mounts ∙ ap (list_any (λ key. holds_of (nat_eq group) (group_of key.1))) keys
+      ∙ sym (members-keys group other.mounts)
 
   same_length : length one.mounts ≡ length other.mounts
   same_length = length-keys one.mounts ∙ ap length keys ∙ sym (length-keys other.mounts)
 
-  same_heir : (group : ℕ) → Lives known one.master group → heir nat_eq one (Some group) ≡ heir nat_eq other (Some group)
+  same_heir : (group : ℕ) → Lives known one.master group → heir nat_eq one (Some group)
+      ≡ heir nat_eq other (Some group)
   same_heir group life =
       (λ i. find (λ g. same_members g i) (chain (same_length i) one.master group))
       ∙ ap (find (has_members nat_eq other.mounts))
-      (sym (chain_alike one.master other.master known masters (length other.mounts) group (all_on_way one.master known (length other.mounts) group life)))
+      (sym (chain_alike one.master other.master known masters (length other.mounts) group
+      (all_on_way one.master known (length other.mounts) group life)))
 
-  same_key : (mount : Mount ℕ) → Among mount one.mounts → inherited_key one (key_of mount) ≡ inherited_key other (key_of mount)
+  same_key : (mount : Mount ℕ) → Among mount one.mounts → inherited_key one (key_of mount)
+      ≡ inherited_key other (key_of mount)
   same_key mount m = by mount.propagation refl
     where
-      by : (kind : Propagation ℕ) → mount.propagation ≡ kind → inherited_key one (mount.number, shown kind) ≡ inherited_key other (mount.number, shown kind)
+      by : (kind : Propagation ℕ) → mount.propagation ≡ kind → inherited_key one (mount.number, shown kind)
+          ≡ inherited_key other (mount.number, shown kind)
       by (Shared group) e = refl
       by (Slave master) e =
-          ap (λ o. option_map {U = ℕ × Propagation ℕ} (λ s. (mount.number, slave_of_heir o)) (source_of (slave_of_heir o)))
+          ap (λ o. option_map {U = ℕ × Propagation ℕ} (λ s. (mount.number, slave_of_heir o)) (source_of
+          (slave_of_heir o)))
           (same_heir master (lives mount m master (ap source_of e)))
       by Private e = refl
       by Unbindable e = refl
@@ -100,7 +111,8 @@ module _ (one other : World ℕ) (keys : keys_of one.mounts ≡ keys_of other.mo
   same_peers : peers_of (regrouped nat_eq one).mounts ≡ peers_of (regrouped nat_eq other).mounts
   same_peers =
       ap peers_of (mounts-regrouped one) ∙ peers-keys one one.mounts ∙ same_keys one.mounts (λ mount m. m)
-      ∙ ap (filter_map (inherited_key other)) keys ∙ sym (peers-keys other other.mounts) ∙ ap peers_of (sym (mounts-regrouped other))
+      ∙ ap (filter_map (inherited_key other)) keys ∙ sym (peers-keys other other.mounts)
+      ∙ ap peers_of (sym (mounts-regrouped other))
 
   numbers-kept : (world : World ℕ) → numbers_of (regrouped nat_eq world).mounts ≡ numbers_of world.mounts
   numbers-kept world = ap numbers_of (mounts-regrouped world) ∙ same world.mounts
@@ -111,11 +123,14 @@ module _ (one other : World ℕ) (keys : keys_of one.mounts ≡ keys_of other.mo
 
   same_numbers : numbers_of (regrouped nat_eq one).mounts ≡ numbers_of (regrouped nat_eq other).mounts
   same_numbers =
-      numbers-kept one ∙ numbers-keys one.mounts ∙ ap (map (λ key. key.0)) keys ∙ sym (numbers-keys other.mounts) ∙ sym (numbers-kept other)
+      numbers-kept one ∙ numbers-keys one.mounts ∙ ap (map (λ key. key.0)) keys ∙ sym (numbers-keys other.mounts)
+      ∙ sym (numbers-kept other)
 
-  same_master : (group : ℕ) → has_members nat_eq one.mounts group ≡ true → (regrouped nat_eq one).master group ≡ (regrouped nat_eq other).master group
+  same_master : (group : ℕ) → has_members nat_eq one.mounts group ≡ true → (regrouped nat_eq one).master group
+      ≡ (regrouped nat_eq other).master group
   same_master group has =
-      master_inherited one group has ∙ by (lives member.0 member.1 group (ap source_of (member_shared group member.0 member.2)))
+      master_inherited one group has
+      ∙ by (lives member.0 member.1 group (ap source_of (member_shared group member.0 member.2)))
       ∙ sym (master_inherited other group (sym (same_members group) ∙ has))
     where
       member : (x : Mount ℕ) × Among x one.mounts × (is_member_of nat_eq group x ≡ true)
@@ -123,9 +138,11 @@ module _ (one other : World ℕ) (keys : keys_of one.mounts ≡ keys_of other.mo
 
       by : Lives known one.master group → heir nat_eq one (one.master group) ≡ heir nat_eq other (other.master group)
       by (has_no_master it h e) = ap (heir nat_eq one) e ∙ ap (heir nat_eq other) (sym (masters it h ∙ e))
-      by (has_master it next h e later) = ap (heir nat_eq one) e ∙ same_heir next later ∙ ap (heir nat_eq other) (sym (masters it h ∙ e))
+      by (has_master it next h e later) = ap (heir nat_eq one) e ∙ same_heir next later
+          ∙ ap (heir nat_eq other) (sym (masters it h ∙ e))
 
-  same_masters : (group : ℕ) → (without_dead_groups nat_eq (regrouped nat_eq one)).master group ≡ (without_dead_groups nat_eq (regrouped nat_eq other)).master group
+  same_masters : (group : ℕ) → (without_dead_groups nat_eq (regrouped nat_eq one)).master group
+      ≡ (without_dead_groups nat_eq (regrouped nat_eq other)).master group
   same_masters group =
       ap (λ b. cond b ((regrouped nat_eq one).master group) None) (members-regrouped one group)
       ∙ by (has_members nat_eq one.mounts group) refl
@@ -137,7 +154,8 @@ module _ (one other : World ℕ) (keys : keys_of one.mounts ≡ keys_of other.mo
           ≡ cond (has_members nat_eq one.mounts group) ((regrouped nat_eq other).master group) None
       by true e = ap (λ o. cond (has_members nat_eq one.mounts group) o None) (same_master group e)
       by false e =
-          ap (λ b. cond b ((regrouped nat_eq one).master group) None) e ∙ ap (λ b. cond b ((regrouped nat_eq other).master group) None) (sym e)
+          ap (λ b. cond b ((regrouped nat_eq one).master group) None) e
+          ∙ ap (λ b. cond b ((regrouped nat_eq other).master group) None) (sym e)
 
   pub has_alike : (groups : Grouping) → Has (regrouped nat_eq one) groups → Has (regrouped nat_eq other) groups
   has_alike groups has = record {

@@ -18,13 +18,16 @@ module _ (p : ℕ → Bool) (master : ℕ → Option ℕ) where
 
   ends_above : (n group next : ℕ) → master group ≡ Some next → Ends master (suc n) group → Ends master n next
   ends_above n group next e ends =
-      sym (ap (λ g. is_some (master g)) (ap (last_or group) (chain_goes_on master n group next e) ∙ last_of_chain master n next group)) ∙ ends
+      sym (ap (λ g. is_some (master g)) (ap (last_or group) (chain_goes_on master n group next e)
+      ∙ last_of_chain master n next group)) ∙ ends
 
   -- a group that does not pass: what is found is found from its master on
-  one_up : (n group : ℕ) → Ends master n group → p group ≡ false → find p (chain n master group) ≡ found_from n (master group)
+  one_up : (n group : ℕ) → Ends master n group → p group ≡ false → find p (chain n master group)
+      ≡ found_from n (master group)
   one_up n group ends fails = by n ends (master group) refl
     where
-      by : (n : ℕ) → Ends master n group → (o : Option ℕ) → master group ≡ o → find p (chain n master group) ≡ found_from n o
+      by : (n : ℕ) → Ends master n group → (o : Option ℕ) → master group ≡ o → find p (chain n master group)
+          ≡ found_from n o
       by zero ends None e = ap (λ b. cond b (Some group) None) fails
       by zero ends (Some next) e = absurd (true≢false (sym (ap is_some e) ∙ ends))
       by (suc n) ends None e = ap (find p) (chain_ends master n group e) ∙ ap (λ b. cond b (Some group) None) fails
@@ -42,28 +45,34 @@ module _ (world : World ℕ) where
 
   pub heir_above : (group : ℕ) → Ends world.master (length world.mounts) group → members group ≡ false
       → heir nat_eq world (Some group) ≡ heir nat_eq world (world.master group)
-  heir_above group ends fails = one_up members world.master (length world.mounts) group ends fails ∙ by (world.master group)
+  heir_above group ends fails = one_up members world.master (length world.mounts) group ends fails
+      ∙ by (world.master group)
     where
       by : (o : Option ℕ) → found_from members world.master (length world.mounts) o ≡ heir nat_eq world o
       by None = refl
       by (Some next) = refl
 
   -- a group with members has its master's heir as its master, also where nothing is lost
-  pub master_inherited : (group : ℕ) → members group ≡ true → (regrouped nat_eq world).master group ≡ heir nat_eq world (world.master group)
+  pub master_inherited : (group : ℕ) → members group ≡ true → (regrouped nat_eq world).master group
+      ≡ heir nat_eq world (world.master group)
   master_inherited group has = by (list_any (lost_a_group nat_eq world) world.mounts) refl
     where
       member : (x : Mount ℕ) × Among x world.mounts × (is_member_of nat_eq group x ≡ true)
       member = any_among (is_member_of nat_eq group) world.mounts has
 
-      above : list_any (lost_a_group nat_eq world) world.mounts ≡ false → (o : Option ℕ) → world.master group ≡ o → o ≡ heir nat_eq world o
+      above : list_any (lost_a_group nat_eq world) world.mounts ≡ false → (o : Option ℕ) → world.master group ≡ o
+          → o ≡ heir nat_eq world o
       above unlost None e = refl
       above unlost (Some next) e =
           let kept : not (members next) ≡ false =
-          sym (ap (is_lost_group nat_eq world) (ap (λ k. then_some (source_of k) world.master) (member_shared group member.0 member.2) ∙ e))
-          ∙ (or_parts (is_lost_group nat_eq world (source_of member.0.propagation)) (is_lost_group nat_eq world (then_some (source_of member.0.propagation) world.master))
+          sym (ap (is_lost_group nat_eq world) (ap (λ k. then_some (source_of k) world.master)
+          (member_shared group member.0 member.2) ∙ e))
+          ∙ (or_parts (is_lost_group nat_eq world (source_of member.0.propagation)) (is_lost_group nat_eq world
+          (then_some (source_of member.0.propagation) world.master))
           (none_among (lost_a_group nat_eq world) world.mounts unlost member.0 member.1)).1 in
           sym (heir_itself next (not-false _ kept))
 
-      by : (b : Bool) → list_any (lost_a_group nat_eq world) world.mounts ≡ b → (regrouped_by nat_eq b world).master group ≡ heir nat_eq world (world.master group)
+      by : (b : Bool) → list_any (lost_a_group nat_eq world) world.mounts ≡ b
+          → (regrouped_by nat_eq b world).master group ≡ heir nat_eq world (world.master group)
       by true e = refl
       by false e = above e (world.master group) refl

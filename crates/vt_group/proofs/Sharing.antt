@@ -29,30 +29,44 @@ use Rattle.vt_group.proofs.Showing.{shows_types}
 use Rattle.vt_group.proofs.Together.{map_alike, map-twice, old_masters, regrouped_living}
 
 -- one more of the mounts that become shared
-pub shared_more : (self grown typed next : Grouping) (named : List (MountId × GroupId)) (i : ℕ) (default : MountId × GroupId) → i < length named
+pub shared_more : (self grown typed next : Grouping) (named : List (MountId × GroupId)) (i : ℕ) (default : MountId
+    × GroupId) → i < length named
     → typed ≡ record grown { peers = with_type_of grown.peers (shared_type self (pair_of (get_or named i default))) }
-    → next ≡ record typed { masters = with_master_of typed.masters (shared_group self (pair_of (get_or named i default))) }
-    → grown ≡ all_added self (map (λ pair. shared_type self (pair_of pair)) (take i named)) (map (λ pair. shared_group self (pair_of pair)) (take i named))
-    → next ≡ all_added self (map (λ pair. shared_type self (pair_of pair)) (take (i + 1) named)) (map (λ pair. shared_group self (pair_of pair)) (take (i + 1) named))
+    → next ≡ record typed {
+      masters = with_master_of typed.masters (shared_group self (pair_of
+          (get_or named i default)));
+    }
+    → grown ≡ all_added self (map (λ pair. shared_type self (pair_of pair)) (take i named)) (map
+    (λ pair. shared_group self (pair_of pair)) (take i named))
+    → next ≡ all_added self (map (λ pair. shared_type self (pair_of pair)) (take (i + 1) named)) (map
+    (λ pair. shared_group self (pair_of pair)) (take (i + 1) named))
 shared_more self grown typed next named i default less one two so_far =
     two
-    ∙ (λ j. record { peers = (one j).peers; masters = with_master_of (one j).masters (shared_group self (pair_of (get_or named i default))) })
+    ∙ (λ j. record {
+      peers = (one j).peers;
+      masters = with_master_of (one j).masters (shared_group self (pair_of
+          (get_or named i default)));
+    })
     ∙ (λ j. record {
       peers = with_type_of (so_far j).peers (shared_type self (pair_of (get_or named i default)));
       masters = with_master_of (so_far j).masters (shared_group self (pair_of (get_or named i default)));
     })
     ∙ (λ j. record {
-      peers = sym (folded_more with_type_of self.peers (λ pair. shared_type self (pair_of pair)) named i default less) j;
-      masters = sym (folded_more with_master_of self.masters (λ pair. shared_group self (pair_of pair)) named i default less) j;
+      peers = sym (folded_more with_type_of self.peers (λ pair. shared_type self
+          (pair_of pair)) named i default less) j;
+      masters = sym (folded_more with_master_of self.masters (λ pair. shared_group self
+          (pair_of pair)) named i default less) j;
     })
 
 -- mounts with one number are one
-one_number : (mounts : List (Mount ℕ)) → are_rising (numbers_of mounts) ≡ true → (a b : Mount ℕ) → Among a mounts → Among b mounts
+one_number : (mounts : List (Mount ℕ)) → are_rising (numbers_of mounts) ≡ true → (a b : Mount ℕ) → Among a mounts
+    → Among b mounts
     → a.number ≡ b.number → a ≡ b
 one_number [] rising a b m n same = absurd m
 one_number (first ∷ rest) rising a b m n same =
     ⊎_elim (λ e. ⊎_elim (λ f. e ∙ sym f) (λ l. absurd (apart b l (sym same ∙ ap (λ x. x.number) e))) n)
-    (λ k. ⊎_elim (λ f. absurd (apart a k (same ∙ ap (λ x. x.number) f))) (λ l. one_number rest (and_parts _ _ rising).1 a b k l same) n) m
+    (λ k. ⊎_elim (λ f. absurd (apart a k (same
+    ∙ ap (λ x. x.number) f))) (λ l. one_number rest (and_parts _ _ rising).1 a b k l same) n) m
   where
     apart : (x : Mount ℕ) → Among x rest → x.number ≡ first.number → ⊥
     apart x l e = eqb-false first.number x.number (above_first first.number rest (and_parts _ _ rising).0 x l) (sym e)
@@ -81,7 +95,8 @@ module _ (world : World ℕ) (live : GroupsLive world) (groups : Grouping) (has 
   shares_with : (mount : Mount ℕ) → (source : ℕ) × (source_of (to_shared mount) ≡ Some source)
   shares_with mount = by mount.propagation
     where
-      by : (kind : Propagation ℕ) → (source : ℕ) × (source_of (type_after (group mount.number) ToShared kind) ≡ Some source)
+      by : (kind : Propagation ℕ) → (source : ℕ) × (source_of (type_after (group mount.number) ToShared kind)
+          ≡ Some source)
       by (Shared own) = (own, refl)
       by (Slave master) = (group mount.number, refl)
       by Private = (group mount.number, refl)
@@ -98,9 +113,11 @@ module _ (world : World ℕ) (live : GroupsLive world) (groups : Grouping) (has 
       (λ mount m. ap (is_among nat_eq mount.number) numbers ∙ within mount (inr m))
       ∙ ap (λ peers. folded with_type_of peers (types named))
       (peers-set one.number (to_shared one) source.0 source.1 mounts rising (within one (inl refl))
-      ∙ ap (λ o. if_sourced o (peers_of mounts) (insert_entry nat_cmp (peers_of mounts) one.number (to_shared one))) (sym source.1))
+      ∙ ap (λ o. if_sourced o (peers_of mounts) (insert_entry nat_cmp (peers_of mounts) one.number (to_shared one)))
+      (sym source.1))
 
-  folded-map : (named mounts : List (Mount ℕ)) → one_by_one mounts named ≡ map (λ mount. folded share_one mount named) mounts
+  folded-map : (named mounts : List (Mount ℕ)) → one_by_one mounts named
+      ≡ map (λ mount. folded share_one mount named) mounts
   folded-map [] mounts = same mounts
     where
       same : (list : List (Mount ℕ)) → list ≡ map (λ mount. mount) list
@@ -111,33 +128,46 @@ module _ (world : World ℕ) (live : GroupsLive world) (groups : Grouping) (has 
       ∙ map-twice (λ mount. folded share_one mount named) (retyped_if one.number (to_shared one)) mounts
 
   -- a mount that is shared stays so
-  stays_shared : (mount : Mount ℕ) → Among mount world.mounts → (named : List (Mount ℕ)) → ((one : Mount ℕ) → Among one named → Among one world.mounts)
-      → folded share_one (record mount { propagation = to_shared mount }) named ≡ record mount { propagation = to_shared mount }
+  stays_shared : (mount : Mount ℕ) → Among mount world.mounts → (named : List (Mount ℕ)) → ((one : Mount ℕ)
+      → Among one named → Among one world.mounts)
+      → folded share_one (record mount { propagation = to_shared mount }) named
+      ≡ record mount { propagation = to_shared mount }
   stays_shared mount m [] within = refl
   stays_shared mount m (one ∷ named) within =
-      ap (λ x. folded share_one x named) (by (nat_eq one.number mount.number) refl) ∙ stays_shared mount m named (λ x l. within x (inr l))
+      ap (λ x. folded share_one x named) (by (nat_eq one.number mount.number) refl)
+      ∙ stays_shared mount m named (λ x l. within x (inr l))
     where
       by : (b : Bool) → nat_eq one.number mount.number ≡ b
-          → (if b then record mount { propagation = to_shared one } else record mount { propagation = to_shared mount })
+          → (if b then record mount { propagation = to_shared one } else record mount {
+            propagation = to_shared mount;
+          })
           ≡ record mount { propagation = to_shared mount }
       by true e =
-          let same = one_number world.mounts has.order one mount (within one (inl refl)) m (eqb-true one.number mount.number e) in
+          let same = one_number world.mounts has.order one mount (within one (inl refl)) m
+          (eqb-true one.number mount.number e) in
           λ i. record mount { propagation = to_shared (same i) }
       by false e = refl
 
-  all_shared : (mount : Mount ℕ) → Among mount world.mounts → (named : List (Mount ℕ)) → ((one : Mount ℕ) → Among one named → Among one world.mounts)
+  all_shared : (mount : Mount ℕ) → Among mount world.mounts → (named : List (Mount ℕ)) → ((one : Mount ℕ)
+      → Among one named → Among one world.mounts)
       → folded share_one mount named ≡ retyped_mount nat_eq group ToShared named mount
   all_shared mount m [] within = refl
   all_shared mount m (one ∷ named) within =
-      by (nat_eq one.number mount.number) refl (nat_eq mount.number one.number) refl (all_shared mount m named (λ x l. within x (inr l)))
+      by (nat_eq one.number mount.number) refl (nat_eq mount.number one.number) refl (all_shared mount m named
+      (λ x l. within x (inr l)))
     where
       by : (b : Bool) → nat_eq one.number mount.number ≡ b → (c : Bool) → nat_eq mount.number one.number ≡ c
           → folded share_one mount named ≡ retyped_mount nat_eq group ToShared named mount
           → folded share_one (if b then record mount { propagation = to_shared one } else mount) named
-          ≡ (if c || list_any (λ other. nat_eq mount.number other.number) named then record mount { propagation = to_shared mount } else mount)
+          ≡ (if c || list_any (λ other. nat_eq mount.number other.number) named then record mount {
+            propagation =
+                to_shared mount;
+          } else mount)
       by true e true f later =
-          let same = one_number world.mounts has.order one mount (within one (inl refl)) m (eqb-true one.number mount.number e) in
-          ap (λ x. folded share_one (record mount { propagation = to_shared x }) named) same ∙ stays_shared mount m named (λ x l. within x (inr l))
+          let same = one_number world.mounts has.order one mount (within one (inl refl)) m
+          (eqb-true one.number mount.number e) in
+          ap (λ x. folded share_one (record mount { propagation = to_shared x }) named) same
+          ∙ stays_shared mount m named (λ x l. within x (inr l))
       by true e false f later = absurd (eqb-false mount.number one.number f (sym (eqb-true one.number mount.number e)))
       by false e true f later = absurd (eqb-false one.number mount.number e (sym (eqb-true mount.number one.number f)))
       by false e false f later = later
@@ -145,35 +175,46 @@ module _ (world : World ℕ) (live : GroupsLive world) (groups : Grouping) (has 
   masters-folded : (named : List (Mount ℕ)) (master : ℕ → Option ℕ) (one : ℕ)
       → with_new_groups nat_eq group master named one ≡ folded (masters_with nat_eq) master (begun named) one
   masters-folded [] master one = refl
-  masters-folded (mount ∷ named) master one = masters-folded named (with_master nat_eq master (group mount.number) (master_after mount.propagation)) one
+  masters-folded (mount ∷ named) master one = masters-folded named (with_master nat_eq master (group mount.number)
+      (master_after mount.propagation)) one
 
   -- the master of a new group is that of one of them
-  unnamed_master : (named : List (Mount ℕ)) (master : ℕ → Option ℕ) (one : ℕ) → is_among nat_eq one (map (λ entry. entry.0) (begun named)) ≡ false
+  unnamed_master : (named : List (Mount ℕ)) (master : ℕ → Option ℕ) (one : ℕ)
+      → is_among nat_eq one (map (λ entry. entry.0) (begun named)) ≡ false
       → with_new_groups nat_eq group master named one ≡ master one
   unnamed_master [] master one e = refl
-  unnamed_master (mount ∷ named) master one e = by (nat_eq one (group mount.number)) refl e (unnamed_master named (with_master nat_eq master (group mount.number) (master_after mount.propagation)) one)
+  unnamed_master (mount ∷ named) master one e = by (nat_eq one (group mount.number)) refl e (unnamed_master named
+      (with_master nat_eq master (group mount.number) (master_after mount.propagation)) one)
     where
-      by : (b : Bool) → nat_eq one (group mount.number) ≡ b → (b || is_among nat_eq one (map (λ entry. entry.0) (begun named))) ≡ false
+      by : (b : Bool) → nat_eq one (group mount.number) ≡ b
+          → (b || is_among nat_eq one (map (λ entry. entry.0) (begun named))) ≡ false
           → (is_among nat_eq one (map (λ entry. entry.0) (begun named)) ≡ false
-          → with_new_groups nat_eq group (with_master nat_eq master (group mount.number) (master_after mount.propagation)) named one
+          → with_new_groups nat_eq group (with_master nat_eq master (group mount.number)
+          (master_after mount.propagation)) named one
           ≡ with_master nat_eq master (group mount.number) (master_after mount.propagation) one)
-          → with_new_groups nat_eq group (with_master nat_eq master (group mount.number) (master_after mount.propagation)) named one ≡ master one
+          → with_new_groups nat_eq group (with_master nat_eq master (group mount.number)
+          (master_after mount.propagation)) named one ≡ master one
       by true is e later = absurd (true≢false e)
       by false is e later = later e ∙ ap (λ b. if b then master_after mount.propagation else master one) is
 
-  named_master : (named : List (Mount ℕ)) (master : ℕ → Option ℕ) (one : ℕ) → is_among nat_eq one (map (λ entry. entry.0) (begun named)) ≡ true
-      → (mount : Mount ℕ) × Among mount named × (with_new_groups nat_eq group master named one ≡ master_after mount.propagation)
+  named_master : (named : List (Mount ℕ)) (master : ℕ → Option ℕ) (one : ℕ)
+      → is_among nat_eq one (map (λ entry. entry.0) (begun named)) ≡ true
+      → (mount : Mount ℕ) × Among mount named × (with_new_groups nat_eq group master named one
+      ≡ master_after mount.propagation)
   named_master [] master one e = absurd (true≢false (sym e))
   named_master (mount ∷ named) master one e =
       by (is_among nat_eq one (map (λ entry. entry.0) (begun named))) refl (nat_eq one (group mount.number)) refl e
       (named_master named (with_master nat_eq master (group mount.number) (master_after mount.propagation)) one)
     where
       by : (later : Bool) → is_among nat_eq one (map (λ entry. entry.0) (begun named)) ≡ later
-          → (here : Bool) → nat_eq one (group mount.number) ≡ here → (here || is_among nat_eq one (map (λ entry. entry.0) (begun named))) ≡ true
+          → (here : Bool) → nat_eq one (group mount.number) ≡ here
+          → (here || is_among nat_eq one (map (λ entry. entry.0) (begun named))) ≡ true
           → (is_among nat_eq one (map (λ entry. entry.0) (begun named)) ≡ true → (x : Mount ℕ) × Among x named
-          × (with_new_groups nat_eq group (with_master nat_eq master (group mount.number) (master_after mount.propagation)) named one ≡ master_after x.propagation))
+          × (with_new_groups nat_eq group (with_master nat_eq master (group mount.number)
+          (master_after mount.propagation)) named one ≡ master_after x.propagation))
           → (x : Mount ℕ) × Among x (mount ∷ named)
-          × (with_new_groups nat_eq group (with_master nat_eq master (group mount.number) (master_after mount.propagation)) named one ≡ master_after x.propagation)
+          × (with_new_groups nat_eq group (with_master nat_eq master (group mount.number)
+          (master_after mount.propagation)) named one ≡ master_after x.propagation)
       by true l b is e further = let t = further l in (t.0, inr t.1, t.2)
       by false l true is e further = (
         mount,
@@ -196,96 +237,138 @@ module _ (world : World ℕ) (live : GroupsLive world) (groups : Grouping) (has 
     abbrev type_if : Mount ℕ → Bool → Propagation ℕ
     type_if mount b = (if b then record mount { propagation = to_shared mount } else mount).propagation
 
-    member_after : (mount : Mount ℕ) → Among mount world.mounts → (one : ℕ) → type_if mount (is_named mount) ≡ Shared one → HasGroup after one
+    member_after : (mount : Mount ℕ) → Among mount world.mounts → (one : ℕ) → type_if mount (is_named mount)
+        ≡ Shared one → HasGroup after one
     member_after mount m one e =
         any_from_among (is_member_of nat_eq one) after.mounts (retyped_mount nat_eq group ToShared named mount)
-        (among-map (retyped_mount nat_eq group ToShared named) world.mounts mount m) (shared_member one (retyped_mount nat_eq group ToShared named mount) e)
+        (among-map (retyped_mount nat_eq group ToShared named) world.mounts mount m) (shared_member one
+        (retyped_mount nat_eq group ToShared named mount) e)
 
-    keeps_group : (mount : Mount ℕ) (one : ℕ) → mount.propagation ≡ Shared one → (b : Bool) → type_if mount b ≡ Shared one
+    keeps_group : (mount : Mount ℕ) (one : ℕ) → mount.propagation ≡ Shared one → (b : Bool) → type_if mount b
+        ≡ Shared one
     keeps_group mount one e true = ap (type_after (group mount.number) ToShared) e
     keeps_group mount one e false = e
 
     members_stay : (one : ℕ) → were one ≡ true → HasGroup after one
     members_stay one h =
         let member = any_among (is_member_of nat_eq one) world.mounts h in
-        member_after member.0 member.1 one (keeps_group member.0 one (member_shared one member.0 member.2) (is_named member.0))
+        member_after member.0 member.1 one (keeps_group member.0 one (member_shared one member.0 member.2)
+        (is_named member.0))
 
-    named_number : (mount : Mount ℕ) → is_named mount ≡ true → is_among nat_eq (group mount.number) (map (λ entry. entry.0) (begun named)) ≡ true
+    named_number : (mount : Mount ℕ) → is_named mount ≡ true
+        → is_among nat_eq (group mount.number) (map (λ entry. entry.0) (begun named)) ≡ true
     named_number mount h =
         let t = any_among (λ other. nat_eq mount.number other.number) named h in
         is_among_numbers (map (λ entry. entry.0) (begun named)) (group mount.number)
-        (subst (λ n. Among n (map (λ entry. entry.0) (begun named))) (ap group (sym (eqb-true mount.number t.0.number t.2)))
-        (among-map (λ entry. entry.0) (begun named) (group t.0.number, master_after t.0.propagation) (among-map (λ x. (group x.number, master_after x.propagation)) named t.0 t.1)))
+        (subst (λ n. Among n (map (λ entry. entry.0) (begun named))) (ap group (sym
+        (eqb-true mount.number t.0.number t.2)))
+        (among-map (λ entry. entry.0) (begun named) (group t.0.number, master_after t.0.propagation) (among-map
+        (λ x. (group x.number, master_after x.propagation)) named t.0 t.1)))
 
     -- the source of a mount is as it was, or the new group
     old_or_new : (mount : Mount ℕ) (one : ℕ) (b : Bool) → source_of (type_if mount b) ≡ Some one
-        → (source_of mount.propagation ≡ Some one) ⊎ ((b ≡ true) × (group mount.number ≡ one) × (to_shared mount ≡ Shared one))
+        → (source_of mount.propagation ≡ Some one) ⊎ ((b ≡ true) × (group mount.number ≡ one) × (to_shared mount
+        ≡ Shared one))
     old_or_new mount one false e = inl e
     old_or_new mount one true e = by mount.propagation refl e
       where
-        by : (kind : Propagation ℕ) → mount.propagation ≡ kind → source_of (type_after (group mount.number) ToShared kind) ≡ Some one
-            → (source_of mount.propagation ≡ Some one) ⊎ ((true ≡ true) × (group mount.number ≡ one) × (to_shared mount ≡ Shared one))
+        by : (kind : Propagation ℕ) → mount.propagation ≡ kind
+            → source_of (type_after (group mount.number) ToShared kind) ≡ Some one
+            → (source_of mount.propagation ≡ Some one) ⊎ ((true ≡ true) × (group mount.number ≡ one)
+            × (to_shared mount ≡ Shared one))
         by (Shared own) f e = inl (ap source_of f ∙ e)
-        by (Slave master) f e = inr (refl, same_Some (group mount.number) one e, ap (type_after (group mount.number) ToShared) f ∙ ap Shared (same_Some (group mount.number) one e))
-        by Private f e = inr (refl, same_Some (group mount.number) one e, ap (type_after (group mount.number) ToShared) f ∙ ap Shared (same_Some (group mount.number) one e))
-        by Unbindable f e = inr (refl, same_Some (group mount.number) one e, ap (type_after (group mount.number) ToShared) f ∙ ap Shared (same_Some (group mount.number) one e))
+        by (Slave master) f e = inr (
+          refl,
+          same_Some (group mount.number) one e,
+          ap (type_after
+              (group mount.number) ToShared) f ∙ ap Shared (same_Some (group mount.number) one e),
+        )
+        by Private f e = inr (
+          refl,
+          same_Some (group mount.number) one e,
+          ap (type_after
+              (group mount.number) ToShared) f ∙ ap Shared (same_Some (group mount.number) one e),
+        )
+        by Unbindable f e = inr (
+          refl,
+          same_Some (group mount.number) one e,
+          ap (type_after
+              (group mount.number) ToShared) f ∙ ap Shared (same_Some (group mount.number) one e),
+        )
 
-    named_or_old : (one : ℕ) → LacksGroup world one → HasGroup after one → is_among nat_eq one (map (λ entry. entry.0) (begun named)) ≡ true
+    named_or_old : (one : ℕ) → LacksGroup world one → HasGroup after one
+        → is_among nat_eq one (map (λ entry. entry.0) (begun named)) ≡ true
     named_or_old one none h =
         let member = any_among (is_member_of nat_eq one) after.mounts h in
         let from = among-from_map (retyped_mount nat_eq group ToShared named) world.mounts member.0 member.1 in
-        by from.0 from.1 (is_named from.0) refl (ap (λ x. x.propagation) (sym from.2) ∙ member_shared one member.0 member.2)
+        by from.0 from.1 (is_named from.0) refl (ap (λ x. x.propagation) (sym from.2)
+        ∙ member_shared one member.0 member.2)
       where
         lacking : (mount : Mount ℕ) → Among mount world.mounts → mount.propagation ≡ Shared one → ⊥
-        lacking mount m e = true≢false (sym (any_from_among (is_member_of nat_eq one) world.mounts mount m (shared_member one mount e)) ∙ none)
+        lacking mount m e = true≢false (sym (any_from_among (is_member_of nat_eq one) world.mounts mount m
+            (shared_member one mount e)) ∙ none)
 
-        joined : (mount : Mount ℕ) → Among mount world.mounts → is_named mount ≡ true → (kind : Propagation ℕ) → mount.propagation ≡ kind
-            → type_after (group mount.number) ToShared kind ≡ Shared one → is_among nat_eq one (map (λ entry. entry.0) (begun named)) ≡ true
+        joined : (mount : Mount ℕ) → Among mount world.mounts → is_named mount ≡ true → (kind : Propagation ℕ)
+            → mount.propagation ≡ kind
+            → type_after (group mount.number) ToShared kind ≡ Shared one
+            → is_among nat_eq one (map (λ entry. entry.0) (begun named)) ≡ true
         joined mount m h (Shared own) f e = absurd (lacking mount m (f ∙ e))
-        joined mount m h (Slave master) f e = subst (λ n. is_among nat_eq n (map (λ entry. entry.0) (begun named)) ≡ true) (same_Some (group mount.number) one (ap group_of e)) (named_number mount h)
-        joined mount m h Private f e = subst (λ n. is_among nat_eq n (map (λ entry. entry.0) (begun named)) ≡ true) (same_Some (group mount.number) one (ap group_of e)) (named_number mount h)
-        joined mount m h Unbindable f e = subst (λ n. is_among nat_eq n (map (λ entry. entry.0) (begun named)) ≡ true) (same_Some (group mount.number) one (ap group_of e)) (named_number mount h)
+        joined mount m h (Slave master) f e = subst (λ n. is_among nat_eq n (map (λ entry. entry.0) (begun named))
+            ≡ true) (same_Some (group mount.number) one (ap group_of e)) (named_number mount h)
+        joined mount m h Private f e = subst (λ n. is_among nat_eq n (map (λ entry. entry.0) (begun named))
+            ≡ true) (same_Some (group mount.number) one (ap group_of e)) (named_number mount h)
+        joined mount m h Unbindable f e = subst (λ n. is_among nat_eq n (map (λ entry. entry.0) (begun named))
+            ≡ true) (same_Some (group mount.number) one (ap group_of e)) (named_number mount h)
 
-        by : (mount : Mount ℕ) → Among mount world.mounts → (b : Bool) → is_named mount ≡ b → type_if mount b ≡ Shared one
+        by : (mount : Mount ℕ) → Among mount world.mounts → (b : Bool) → is_named mount ≡ b → type_if mount b
+            ≡ Shared one
             → is_among nat_eq one (map (λ entry. entry.0) (begun named)) ≡ true
         by mount m true h e = joined mount m h mount.propagation refl e
         by mount m false h e = absurd (lacking mount m e)
 
     masters_begin : All (λ entry. is_some entry.1 ≡ true → HasGroup after entry.0) (begun named)
-    masters_begin = all_from_among (λ entry. is_some entry.1 ≡ true → HasGroup after entry.0) (begun named) (λ entry m is.
+    masters_begin = all_from_among (λ entry. is_some entry.1 ≡ true
+        → HasGroup after entry.0) (begun named) (λ entry m is.
         let from = among-from_map (λ x. (group x.number, master_after x.propagation)) named entry m in
         ap (λ e. has_members nat_eq after.mounts e.0) from.2
         ∙ slave from.0 from.1 from.0.propagation refl (sym (ap (λ e. is_some e.1) from.2) ∙ is))
       where
         itself : (mount : Mount ℕ) → Among mount named → is_named mount ≡ true
-        itself mount m = any_from_among (λ other. nat_eq mount.number other.number) named mount m (eq-eqb mount.number mount.number refl)
+        itself mount m = any_from_among (λ other. nat_eq mount.number other.number) named mount m
+            (eq-eqb mount.number mount.number refl)
 
-        slave : (mount : Mount ℕ) → Among mount named → (kind : Propagation ℕ) → mount.propagation ≡ kind → is_some (master_after kind) ≡ true
+        slave : (mount : Mount ℕ) → Among mount named → (kind : Propagation ℕ) → mount.propagation ≡ kind
+            → is_some (master_after kind) ≡ true
             → HasGroup after (group mount.number)
         slave mount m (Shared own) f e = absurd (true≢false (sym e))
         slave mount m (Slave master) f e =
-            member_after mount (within mount m) (group mount.number) (ap (type_if mount) (itself mount m) ∙ ap (type_after (group mount.number) ToShared) f)
+            member_after mount (within mount m) (group mount.number) (ap (type_if mount) (itself mount m)
+            ∙ ap (type_after (group mount.number) ToShared) f)
         slave mount m Private f e = absurd (true≢false (sym e))
         slave mount m Unbindable f e = absurd (true≢false (sym e))
 
     numbers-shared : numbers_of after.mounts ≡ numbers_of world.mounts
     numbers-shared = same world.mounts
       where
-        one : (mount : Mount ℕ) (b : Bool) → (if b then record mount { propagation = to_shared mount } else mount).number ≡ mount.number
+        one : (mount : Mount ℕ) (b : Bool)
+            → (if b then record mount { propagation = to_shared mount } else mount).number ≡ mount.number
         one mount true = refl
         one mount false = refl
 
-        same : (mounts : List (Mount ℕ)) → numbers_of (map (retyped_mount nat_eq group ToShared named) mounts) ≡ numbers_of mounts
+        same : (mounts : List (Mount ℕ)) → numbers_of (map (retyped_mount nat_eq group ToShared named) mounts)
+            ≡ numbers_of mounts
         same [] = refl
         same (mount ∷ rest) = λ i. one mount (is_named mount) i ∷ same rest i
 
     grows : Grows world after (types named) (begun named)
     grows = record {
       order = ap are_rising numbers-shared ∙ has.order;
-      peers = ap peers_of (sym (folded-map named world.mounts ∙ map_alike (λ mount. folded share_one mount named) (retyped_mount nat_eq group ToShared named) world.mounts
+      peers = ap peers_of (sym (folded-map named world.mounts
+          ∙ map_alike (λ mount. folded share_one mount named) (retyped_mount nat_eq group ToShared named) world.mounts
           (λ mount m. all_shared mount m named within)))
           ∙ peers-typed named world.mounts has.order (λ mount m.
-          is_among_numbers (numbers_of world.mounts) mount.number (among-map (λ x. x.number) world.mounts mount (within mount m)));
+          is_among_numbers (numbers_of world.mounts) mount.number (among-map (λ x. x.number) world.mounts mount
+          (within mount m)));
       master = λ one. masters-folded named world.master one;
       stay = members_stay;
       begin = masters_begin;
@@ -298,25 +381,31 @@ module _ (world : World ℕ) (live : GroupsLive world) (groups : Grouping) (has 
 
     lives_on : (one : ℕ) → Lives were world.master one → Lives (has_members nat_eq after.mounts) after.master one
     lives_on one (has_no_master it h e) = has_no_master it (members_stay it h) (old_masters_after it h ∙ e)
-    lives_on one (has_master it next h e later) = has_master it next (members_stay it h) (old_masters_after it h ∙ e) (lives_on next later)
+    lives_on one (has_master it next h e later) = has_master it next (members_stay it h) (old_masters_after it h
+        ∙ e) (lives_on next later)
 
-    source_lives : (mount : Mount ℕ) → Among mount world.mounts → (one : ℕ) → source_of mount.propagation ≡ Some one → Lives were world.master one
+    source_lives : (mount : Mount ℕ) → Among mount world.mounts → (one : ℕ) → source_of mount.propagation
+        ≡ Some one → Lives were world.master one
     source_lives mount m one e = among_from_all (HasLivingGroups nat_eq world) world.mounts live mount m one e
 
-    new_lives : (mount : Mount ℕ) → Among mount world.mounts → is_named mount ≡ true → (one : ℕ) → group mount.number ≡ one → to_shared mount ≡ Shared one
+    new_lives : (mount : Mount ℕ) → Among mount world.mounts → is_named mount ≡ true → (one : ℕ)
+        → group mount.number ≡ one → to_shared mount ≡ Shared one
         → Lives (has_members nat_eq after.mounts) after.master one
     new_lives mount m h one same e =
-        let t = named_master named world.master one (subst (λ n. is_among nat_eq n (map (λ entry. entry.0) (begun named)) ≡ true) same (named_number mount h)) in
+        let t = named_master named world.master one (subst (λ n. is_among nat_eq n (map (λ entry. entry.0)
+        (begun named)) ≡ true) same (named_number mount h)) in
         by t.0 t.1 t.0.propagation refl t.2
       where
         here : HasGroup after one
         here = member_after mount m one (ap (type_if mount) h ∙ e)
 
-        by : (x : Mount ℕ) → Among x named → (kind : Propagation ℕ) → x.propagation ≡ kind → after.master one ≡ master_after x.propagation
+        by : (x : Mount ℕ) → Among x named → (kind : Propagation ℕ) → x.propagation ≡ kind → after.master one
+            ≡ master_after x.propagation
             → Lives (has_members nat_eq after.mounts) after.master one
         by x l (Shared own) f is = has_no_master one here (is ∙ ap master_after f)
         by x l (Slave master) f is =
-            has_master one master here (is ∙ ap master_after f) (lives_on master (source_lives x (within x l) master (ap source_of f)))
+            has_master one master here (is
+            ∙ ap master_after f) (lives_on master (source_lives x (within x l) master (ap source_of f)))
         by x l Private f is = has_no_master one here (is ∙ ap master_after f)
         by x l Unbindable f is = has_no_master one here (is ∙ ap master_after f)
 
@@ -325,10 +414,12 @@ module _ (world : World ℕ) (live : GroupsLive world) (groups : Grouping) (has 
         let from = among-from_map (retyped_mount nat_eq group ToShared named) world.mounts x l in
         by from.0 from.1 one (sym (ap (λ y. source_of y.propagation) from.2) ∙ e))
       where
-        by : (mount : Mount ℕ) → Among mount world.mounts → (one : ℕ) → source_of (type_if mount (is_named mount)) ≡ Some one
+        by : (mount : Mount ℕ) → Among mount world.mounts → (one : ℕ) → source_of (type_if mount (is_named mount))
+            ≡ Some one
             → Lives (has_members nat_eq after.mounts) after.master one
         by mount m one e =
-            ⊎_elim (λ old. lives_on one (source_lives mount m one old)) (λ new. new_lives mount m new.0 one new.1 new.2)
+            ⊎_elim (λ old. lives_on one (source_lives mount m one old))
+            (λ new. new_lives mount m new.0 one new.1 new.2)
             (old_or_new mount one (is_named mount) e)
 
     -- by the types that groups tell
@@ -336,7 +427,8 @@ module _ (world : World ℕ) (live : GroupsLive world) (groups : Grouping) (has 
     told_types = map_alike _ (λ mount. (mount.number, to_shared mount)) named (λ mount m i. (
       mount.number,
       (ap (type_after (group mount.number) ToShared)
-          (among_from_all (λ x. propagation_in groups x.number ≡ shown x.propagation) world.mounts (shows_types world groups has) mount (within mount m))
+          (among_from_all (λ x. propagation_in groups x.number
+          ≡ shown x.propagation) world.mounts (shows_types world groups has) mount (within mount m))
           ∙ by (group mount.number) mount.propagation) i,
     ))
       where
@@ -350,7 +442,8 @@ module _ (world : World ℕ) (live : GroupsLive world) (groups : Grouping) (has 
     told_groups = map_alike _ (λ mount. (group mount.number, master_after mount.propagation)) named (λ mount m i. (
       group mount.number,
       (ap master_after
-          (among_from_all (λ x. propagation_in groups x.number ≡ shown x.propagation) world.mounts (shows_types world groups has) mount (within mount m))
+          (among_from_all (λ x. propagation_in groups x.number
+          ≡ shown x.propagation) world.mounts (shows_types world groups has) mount (within mount m))
           ∙ by mount.propagation) i,
     ))
       where
@@ -364,16 +457,23 @@ pub shared_has : (world : World ℕ) → GroupsLive world → (groups : Grouping
     → ((number : ℕ) → LacksGroup world (group number)) → (named : List (Mount ℕ)) → All (Contains world.mounts) named
     → (pairs : List (MountId × GroupId)) → map (λ mount. (mount.number, group mount.number)) named ≡ map pair_of pairs
     → Has (retyped nat_eq world group ToShared named)
-    (all_added groups (map (λ pair. shared_type groups (pair_of pair)) pairs) (map (λ pair. shared_group groups (pair_of pair)) pairs))
+    (all_added groups (map (λ pair. shared_type groups (pair_of pair)) pairs) (map (λ pair. shared_group groups
+    (pair_of pair)) pairs))
 shared_has world live groups has group lacks named there pairs same =
     let within : (mount : Mount ℕ) → Among mount named → Among mount world.mounts =
     λ mount m. among_from_contains world.mounts mount (among_from_all (Contains world.mounts) named there mount m) in
-    let types_same = sym (told_types world live groups has group lacks named within) ∙ sym (map-twice (shared_type groups) (λ mount. (mount.number, group mount.number)) named)
+    let types_same = sym (told_types world live groups has group lacks named within)
+    ∙ sym (map-twice (shared_type groups) (λ mount. (mount.number, group mount.number)) named)
     ∙ ap (map (shared_type groups)) same ∙ map-twice (shared_type groups) pair_of pairs in
-    let groups_same = sym (told_groups world live groups has group lacks named within) ∙ sym (map-twice (shared_group groups) (λ mount. (mount.number, group mount.number)) named)
+    let groups_same = sym (told_groups world live groups has group lacks named within)
+    ∙ sym (map-twice (shared_group groups) (λ mount. (mount.number, group mount.number)) named)
     ∙ ap (map (shared_group groups)) same ∙ map-twice (shared_group groups) pair_of pairs in
-    subst (λ w. Has w (all_added groups (map (λ pair. shared_type groups (pair_of pair)) pairs) (map (λ pair. shared_group groups (pair_of pair)) pairs)))
-    (sym (regrouped_living (after world live groups has group lacks named within) (after_live world live groups has group lacks named within)))
-    (subst (Has (after world live groups has group lacks named within)) (λ i. all_added groups (types_same i) (groups_same i))
-    (grown_has world (after world live groups has group lacks named within) groups (types world live groups has group lacks named) (begun world live groups has group lacks named) has
+    subst (λ w. Has w (all_added groups (map (λ pair. shared_type groups (pair_of pair)) pairs) (map
+    (λ pair. shared_group groups (pair_of pair)) pairs)))
+    (sym (regrouped_living (after world live groups has group lacks named within)
+    (after_live world live groups has group lacks named within)))
+    (subst (Has (after world live groups has group lacks named within)) (λ i. all_added groups (types_same i)
+    (groups_same i))
+    (grown_has world (after world live groups has group lacks named within) groups
+    (types world live groups has group lacks named) (begun world live groups has group lacks named) has
     (grows world live groups has group lacks named within)))

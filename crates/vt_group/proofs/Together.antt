@@ -46,7 +46,8 @@ module _ (world : World ℕ) (live : GroupsLive world) where
           → (not (members group) || is_lost_group nat_eq world (world.master group)) ≡ false
       above group (has_no_master it has e) = (λ i. not (has i) || is_lost_group nat_eq world (e i))
       above group (has_master it next has e later) =
-          (λ i. not (has i) || is_lost_group nat_eq world (e i)) ∙ ap not (live_members members world.master next later)
+          (λ i. not (has i) || is_lost_group nat_eq world (e i))
+          ∙ ap not (live_members members world.master next later)
 
       by : (o : Option ℕ) → source_of mount.propagation ≡ o → lost_a_group nat_eq world mount ≡ false
       by None e = ap (λ o. is_lost_group nat_eq world o || is_lost_group nat_eq world (then_some o world.master)) e
@@ -66,8 +67,10 @@ module _ (world : World ℕ) (live : GroupsLive world) where
 
 -- Which mounts were visited
 
-is_among-snoc : (number one : ℕ) (numbers : List ℕ) → is_among nat_eq number (numbers ++ one ∷ []) ≡ (is_among nat_eq number numbers || nat_eq number one)
-is_among-snoc number one numbers = list_any-append (nat_eq number) numbers (one ∷ []) ∙ ap (λ b. is_among nat_eq number numbers || b) (or_false (nat_eq number one))
+is_among-snoc : (number one : ℕ) (numbers : List ℕ) → is_among nat_eq number (numbers ++ one ∷ [])
+    ≡ (is_among nat_eq number numbers || nat_eq number one)
+is_among-snoc number one numbers = list_any-append (nat_eq number) numbers (one ∷ [])
+    ∙ ap (λ b. is_among nat_eq number numbers || b) (or_false (nat_eq number one))
   where
     or_false : (b : Bool) → (b || false) ≡ b
     or_false true = refl
@@ -77,7 +80,8 @@ eqb-swapped : (a b : ℕ) (t : Bool) → nat_eq a b ≡ t → nat_eq b a ≡ t
 eqb-swapped a b true e = eq-eqb b a (sym (eqb-true a b e))
 eqb-swapped a b false e = ne_eqb b a (λ same. eqb-false a b e (sym same))
 
-pub map_alike : {A B : Type 0} (f g : A → B) (list : List A) → ((a : A) → Among a list → f a ≡ g a) → map f list ≡ map g list
+pub map_alike : {A B : Type 0} (f g : A → B) (list : List A) → ((a : A) → Among a list → f a ≡ g a) → map f list
+    ≡ map g list
 map_alike f g [] same = refl
 map_alike f g (a ∷ list) same = λ i. same a (inl refl) i ∷ map_alike f g list (λ x m. same x (inr m)) i
 
@@ -86,15 +90,20 @@ map-twice f g [] = refl
 map-twice f g (a ∷ list) = ap (λ l. f (g a) ∷ l) (map-twice f g list)
 
 module _ (change : Propagation ℕ → Propagation ℕ) (world : World ℕ) (numbers : List ℕ) (number : ℕ) where
-  changed_by : (a b : Bool) (mount : Mount ℕ) → is_among nat_eq mount.number numbers ≡ a → nat_eq mount.number number ≡ b
-      → changed_if change (numbers ++ number ∷ []) mount ≡ (if a || b then record mount { propagation = change mount.propagation } else mount)
+  changed_by : (a b : Bool) (mount : Mount ℕ) → is_among nat_eq mount.number numbers ≡ a
+      → nat_eq mount.number number ≡ b
+      → changed_if change (numbers ++ number ∷ []) mount
+      ≡ (if a || b then record mount { propagation = change mount.propagation } else mount)
   changed_by a b mount e f =
-      ap (λ c. if c then record mount { propagation = change mount.propagation } else mount) (is_among-snoc mount.number number numbers ∙ (λ i. e i || f i))
+      ap (λ c. if c then record mount { propagation = change mount.propagation } else mount)
+      (is_among-snoc mount.number number numbers ∙ (λ i. e i || f i))
 
   -- one more is changed
   pub next_changed : (kind : Propagation ℕ)
-      → ((mount : Mount ℕ) → Among mount world.mounts → nat_eq number mount.number ≡ true → kind ≡ change mount.propagation)
-      → with_propagation (with_changed change world numbers) number kind ≡ with_changed change world (numbers ++ number ∷ [])
+      → ((mount : Mount ℕ) → Among mount world.mounts → nat_eq number mount.number ≡ true → kind
+      ≡ change mount.propagation)
+      → with_propagation (with_changed change world numbers) number kind
+      ≡ with_changed change world (numbers ++ number ∷ [])
   next_changed kind same =
       λ i. record world {
         mounts = (map-twice (retyped_if number kind) (changed_if change numbers) world.mounts
@@ -106,21 +115,25 @@ module _ (change : Propagation ℕ → Propagation ℕ) (world : World ℕ) (num
           → (b : Bool) → nat_eq number mount.number ≡ b
           → retyped_if number kind (changed_if change numbers mount) ≡ changed_if change (numbers ++ number ∷ []) mount
       by mount m true e true f =
-          ap (λ c. retyped_if number kind (if c then record mount { propagation = change mount.propagation } else mount)) e
+          ap (λ c. retyped_if number kind
+          (if c then record mount { propagation = change mount.propagation } else mount)) e
           ∙ retyped_same number kind (record mount { propagation = change mount.propagation }) f
           ∙ (λ i. record mount { propagation = same mount m f i })
           ∙ sym (changed_by true true mount e (eqb-swapped number mount.number true f))
       by mount m true e false f =
-          ap (λ c. retyped_if number kind (if c then record mount { propagation = change mount.propagation } else mount)) e
+          ap (λ c. retyped_if number kind
+          (if c then record mount { propagation = change mount.propagation } else mount)) e
           ∙ retyped_other number kind (record mount { propagation = change mount.propagation }) f
           ∙ sym (changed_by true false mount e (eqb-swapped number mount.number false f))
       by mount m false e true f =
-          ap (λ c. retyped_if number kind (if c then record mount { propagation = change mount.propagation } else mount)) e
+          ap (λ c. retyped_if number kind
+          (if c then record mount { propagation = change mount.propagation } else mount)) e
           ∙ retyped_same number kind mount f
           ∙ (λ i. record mount { propagation = same mount m f i })
           ∙ sym (changed_by false true mount e (eqb-swapped number mount.number true f))
       by mount m false e false f =
-          ap (λ c. retyped_if number kind (if c then record mount { propagation = change mount.propagation } else mount)) e
+          ap (λ c. retyped_if number kind
+          (if c then record mount { propagation = change mount.propagation } else mount)) e
           ∙ retyped_other number kind mount f
           ∙ sym (changed_by false false mount e (eqb-swapped number mount.number false f))
 
@@ -131,12 +144,14 @@ module _ (change : Propagation ℕ → Propagation ℕ) (world : World ℕ) (num
       → with_changed change world numbers ≡ with_changed change world (numbers ++ number ∷ [])
   next_same same =
       λ i. record world {
-        mounts = map_alike (changed_if change numbers) (changed_if change (numbers ++ number ∷ [])) world.mounts (λ mount m.
+        mounts = map_alike (changed_if change numbers) (changed_if change (numbers ++ number ∷ [])) world.mounts
+            (λ mount m.
             by mount m (is_among nat_eq mount.number numbers) refl (nat_eq number mount.number) refl) i;
       }
     where
       by : (mount : Mount ℕ) → Among mount world.mounts → (a : Bool) → is_among nat_eq mount.number numbers ≡ a
-          → (b : Bool) → nat_eq number mount.number ≡ b → changed_if change numbers mount ≡ changed_if change (numbers ++ number ∷ []) mount
+          → (b : Bool) → nat_eq number mount.number ≡ b → changed_if change numbers mount
+          ≡ changed_if change (numbers ++ number ∷ []) mount
       by mount m true e b f =
           ap (λ c. if c then record mount { propagation = change mount.propagation } else mount) e
           ∙ sym (changed_by true b mount e (eqb-swapped number mount.number b f))
@@ -155,10 +170,12 @@ none_changed change world = λ i. record world { mounts = same world.mounts i }
     same [] = refl
     same (mount ∷ rest) = ap (λ l. mount ∷ l) (same rest)
 
-pub none_yet : (change : Propagation ℕ → Propagation ℕ) (world : World ℕ) (groups : Grouping) → GroupsLive world → Has world groups
+pub none_yet : (change : Propagation ℕ → Propagation ℕ) (world : World ℕ) (groups : Grouping) → GroupsLive world
+    → Has world groups
     → Has (regrouped nat_eq (with_changed change world [])) groups
 none_yet change world groups live has =
-    subst (λ w. Has w groups) (sym (ap (regrouped nat_eq) (none_changed change world) ∙ regrouped_living world live)) has
+    subst (λ w. Has w groups) (sym (ap (regrouped nat_eq) (none_changed change world)
+    ∙ regrouped_living world live)) has
 
 -- Mounts become private
 
@@ -172,30 +189,35 @@ changed_loses change world numbers sourced grouped = record {
   grouped = λ mount group. by_group mount group (is_among nat_eq mount.number numbers);
 }
   where
-    by_own : (mount : Mount ℕ) (b : Bool) → (if b then record mount { propagation = change mount.propagation } else mount).number ≡ mount.number
+    by_own : (mount : Mount ℕ) (b : Bool)
+        → (if b then record mount { propagation = change mount.propagation } else mount).number ≡ mount.number
     by_own mount true = refl
     by_own mount false = refl
 
     by_source : (mount : Mount ℕ) (source : ℕ) (b : Bool)
-        → source_of (if b then record mount { propagation = change mount.propagation } else mount).propagation ≡ Some source
+        → source_of (if b then record mount { propagation = change mount.propagation } else mount).propagation
+        ≡ Some source
         → source_of mount.propagation ≡ Some source
     by_source mount source true e = sourced mount.propagation source e
     by_source mount source false e = e
 
     by_group : (mount : Mount ℕ) (group : ℕ) (b : Bool)
-        → group_of (if b then record mount { propagation = change mount.propagation } else mount).propagation ≡ Some group
+        → group_of (if b then record mount { propagation = change mount.propagation } else mount).propagation
+        ≡ Some group
         → group_of mount.propagation ≡ Some group
     by_group mount group true e = grouped mount.propagation group e
     by_group mount group false e = e
 
 private_loses : (world : World ℕ) (numbers : List ℕ) → OnlyLoses world (changed_if as_private numbers)
 private_loses world numbers =
-    changed_loses as_private world numbers (λ kind source e. absurd (true≢false (sym (ap is_some e)))) (λ kind group e. absurd (true≢false (sym (ap is_some e))))
+    changed_loses as_private world numbers (λ kind source e. absurd (true≢false (sym (ap is_some e))))
+    (λ kind group e. absurd (true≢false (sym (ap is_some e))))
 
 slave_loses : (world : World ℕ) (numbers : List ℕ) → OnlyLoses world (changed_if as_slave numbers)
 slave_loses world numbers = changed_loses as_slave world numbers sources groups
   where
-    sources : (kind : Propagation ℕ) (source : ℕ) → source_of (as_slave kind) ≡ Some source → source_of kind ≡ Some source
+    sources : (kind : Propagation ℕ) (source : ℕ) → source_of (as_slave kind) ≡ Some source → source_of kind
+        ≡ Some source
     sources (Shared group) source e = e
     sources (Slave master) source e = e
     sources Private source e = e
@@ -208,17 +230,21 @@ slave_loses world numbers = changed_loses as_slave world numbers sources groups
     groups Unbindable group e = e
 
 pub one_more_private : (world : World ℕ) → GroupsLive world → (numbers : List ℕ) (number : ℕ) (groups : Grouping)
-    → Has (regrouped nat_eq (with_propagation (regrouped nat_eq (with_changed as_private world numbers)) number Private)) groups
+    → Has (regrouped nat_eq (with_propagation (regrouped nat_eq
+    (with_changed as_private world numbers)) number Private)) groups
     → Has (regrouped nat_eq (with_changed as_private world (numbers ++ number ∷ []))) groups
 one_more_private world live numbers number groups has =
-    subst (λ w. Has (regrouped nat_eq w) groups) (next_changed as_private world numbers number Private (λ mount m e. refl))
+    subst (λ w. Has (regrouped nat_eq w) groups) (next_changed as_private world numbers number Private
+    (λ mount m e. refl))
     (steps_together world live (changed_if as_private numbers) (private_loses world numbers) number Private refl
     (λ source e. absurd (true≢false (sym (ap is_some e)))) groups has)
 
-pub left_live : (world : World ℕ) → GroupsLive world → (numbers : List ℕ) → GroupsLive (regrouped nat_eq (with_changed as_private world numbers))
+pub left_live : (world : World ℕ) → GroupsLive world → (numbers : List ℕ)
+    → GroupsLive (regrouped nat_eq (with_changed as_private world numbers))
 left_live world live numbers = between_live world live (changed_if as_private numbers) (private_loses world numbers)
 
-pub slaves_live : (world : World ℕ) → GroupsLive world → (numbers : List ℕ) → GroupsLive (regrouped nat_eq (with_changed as_slave world numbers))
+pub slaves_live : (world : World ℕ) → GroupsLive world → (numbers : List ℕ)
+    → GroupsLive (regrouped nat_eq (with_changed as_slave world numbers))
 slaves_live world live numbers = between_live world live (changed_if as_slave numbers) (slave_loses world numbers)
 
 -- The definitions' worlds
@@ -227,7 +253,8 @@ module _ (world : World ℕ) (live : GroupsLive world) where
   abbrev were : ℕ → Bool
   were = has_members nat_eq world.mounts
 
-  changed_lives : (change : Propagation ℕ → Propagation ℕ) (numbers : List ℕ) → OnlyLoses world (changed_if change numbers)
+  changed_lives : (change : Propagation ℕ → Propagation ℕ) (numbers : List ℕ)
+      → OnlyLoses world (changed_if change numbers)
       → (mount : Mount ℕ) → Among mount (with_changed change world numbers).mounts → (source : ℕ)
       → source_of mount.propagation ≡ Some source → Lives were world.master source
   changed_lives change numbers loses mount m source e =
@@ -235,44 +262,61 @@ module _ (world : World ℕ) (live : GroupsLive world) where
       among_from_all (HasLivingGroups nat_eq world) world.mounts live from.0 from.1 source
       (loses.sourced from.0 source (sym (ap (λ x. source_of x.propagation) from.2) ∙ e))
 
-  keys_alike : (f g : Mount ℕ → Mount ℕ) → ((mount : Mount ℕ) → key_of (f mount) ≡ key_of (g mount)) → (mounts : List (Mount ℕ))
+  keys_alike : (f g : Mount ℕ → Mount ℕ) → ((mount : Mount ℕ) → key_of (f mount) ≡ key_of (g mount))
+      → (mounts : List (Mount ℕ))
       → keys_of (map f mounts) ≡ keys_of (map g mounts)
   keys_alike f g same [] = refl
   keys_alike f g same (mount ∷ rest) = λ i. same mount i ∷ keys_alike f g same rest i
 
-  pub taken_has : (numbers : List ℕ) (groups : Grouping) → Has (regrouped nat_eq (with_changed as_private world numbers)) groups
+  pub taken_has : (numbers : List ℕ) (groups : Grouping)
+      → Has (regrouped nat_eq (with_changed as_private world numbers)) groups
       → Has (taken_away nat_eq world numbers) groups
   taken_has numbers groups has =
-      has_alike (with_changed as_private world numbers) (with_mounts world (map (after_going nat_eq world numbers) world.mounts))
-      (keys_alike (changed_if as_private numbers) (after_going nat_eq world numbers) (λ mount. by mount (is_among nat_eq mount.number numbers)) world.mounts)
+      has_alike (with_changed as_private world numbers) (with_mounts world (map
+      (after_going nat_eq world numbers) world.mounts))
+      (keys_alike (changed_if as_private numbers) (after_going nat_eq world numbers) (λ mount. by mount
+      (is_among nat_eq mount.number numbers)) world.mounts)
       were (λ group h. refl) (changed_lives as_private numbers (private_loses world numbers)) groups has
     where
       by : (mount : Mount ℕ) (b : Bool)
           → key_of (if b then record mount { propagation = Private } else mount)
-          ≡ key_of (if b then detached mount else record mount { mount_point = option_map (mount_point_left nat_eq world numbers) mount.mount_point })
+          ≡ key_of (if b then detached mount else record mount {
+            mount_point = option_map
+                (mount_point_left nat_eq world numbers) mount.mount_point;
+          })
       by mount true = refl
       by mount false = refl
 
   -- the masters of the groups that were there stay
-  pub old_masters : (group : ℕ → ℕ) → ((number : ℕ) → LacksGroup world (group number)) → (named : List (Mount ℕ)) (master : ℕ → Option ℕ)
+  pub old_masters : (group : ℕ → ℕ) → ((number : ℕ) → LacksGroup world (group number))
+      → (named : List (Mount ℕ)) (master : ℕ → Option ℕ)
       (one : ℕ) → were one ≡ true → with_new_groups nat_eq group master named one ≡ master one
   old_masters group lacks [] master one has = refl
   old_masters group lacks (mount ∷ rest) master one has =
-      old_masters group lacks rest (with_master nat_eq master (group mount.number) (master_after mount.propagation)) one has
+      old_masters group lacks rest (with_master nat_eq master (group mount.number)
+      (master_after mount.propagation)) one has
       ∙ ap (λ b. if b then master_after mount.propagation else master one)
       (ne_eqb one (group mount.number) (λ same. true≢false (sym has ∙ ap were same ∙ lacks mount.number)))
 
-  named_numbers : (number : ℕ) (named : List (Mount ℕ)) → list_any (λ other. nat_eq number other.number) named ≡ is_among nat_eq number (numbers_of named)
+  named_numbers : (number : ℕ) (named : List (Mount ℕ)) → list_any (λ other. nat_eq number other.number) named
+      ≡ is_among nat_eq number (numbers_of named)
   named_numbers number [] = refl
   named_numbers number (mount ∷ rest) = ap (λ b. nat_eq number mount.number || b) (named_numbers number rest)
 
-  pub retyped_has : (word : TypeWord) (change : Propagation ℕ → Propagation ℕ) (numbers : List ℕ) → OnlyLoses world (changed_if change numbers)
+  pub retyped_has : (word : TypeWord) (change : Propagation ℕ → Propagation ℕ) (numbers : List ℕ)
+      → OnlyLoses world (changed_if change numbers)
       → ((new : ℕ) (kind : Propagation ℕ) → shown (change kind) ≡ shown (type_after new word kind))
-      → (group : ℕ → ℕ) (named : List (Mount ℕ)) → numbers_of named ≡ numbers → ((number : ℕ) → LacksGroup world (group number))
-      → (groups : Grouping) → Has (regrouped nat_eq (with_changed change world numbers)) groups → Has (retyped nat_eq world group word named) groups
+      → (group : ℕ → ℕ) (named : List (Mount ℕ)) → numbers_of named ≡ numbers → ((number : ℕ)
+      → LacksGroup world (group number))
+      → (groups : Grouping) → Has (regrouped nat_eq (with_changed change world numbers)) groups
+      → Has (retyped nat_eq world group word named) groups
   retyped_has word change numbers loses same group named are lacks groups has =
       has_alike (with_changed change world numbers)
-      (record world { mounts = map (retyped_mount nat_eq group word named) world.mounts; master = with_new_groups nat_eq group world.master named })
+      (record world {
+        mounts = map (retyped_mount nat_eq group word named) world.mounts;
+        master = with_new_groups
+            nat_eq group world.master named;
+      })
       (keys_alike (changed_if change numbers) (retyped_mount nat_eq group word named)
       (λ mount. ap (λ b. key_of (if b then record mount { propagation = change mount.propagation } else mount))
       (ap (is_among nat_eq mount.number) (sym are) ∙ sym (named_numbers mount.number named))
@@ -281,23 +325,29 @@ module _ (world : World ℕ) (live : GroupsLive world) where
     where
       by : (mount : Mount ℕ) (b : Bool)
           → key_of (if b then record mount { propagation = change mount.propagation } else mount)
-          ≡ key_of (if b then record mount { propagation = type_after (group mount.number) word mount.propagation } else mount)
+          ≡ key_of (if b then record mount {
+            propagation = type_after
+                (group mount.number) word mount.propagation;
+          } else mount)
       by mount true = λ i. (mount.number, same (group mount.number) mount.propagation i)
       by mount false = refl
 
   pub privately_has : (numbers : List ℕ) (group : ℕ → ℕ) (named : List (Mount ℕ)) → numbers_of named ≡ numbers
       → ((number : ℕ) → LacksGroup world (group number)) → (groups : Grouping)
-      → Has (regrouped nat_eq (with_changed as_private world numbers)) groups → Has (retyped nat_eq world group ToPrivate named) groups
+      → Has (regrouped nat_eq (with_changed as_private world numbers)) groups
+      → Has (retyped nat_eq world group ToPrivate named) groups
   privately_has numbers = retyped_has ToPrivate as_private numbers (private_loses world numbers) (λ new kind. refl)
 
   pub unbindably_has : (numbers : List ℕ) (group : ℕ → ℕ) (named : List (Mount ℕ)) → numbers_of named ≡ numbers
       → ((number : ℕ) → LacksGroup world (group number)) → (groups : Grouping)
-      → Has (regrouped nat_eq (with_changed as_private world numbers)) groups → Has (retyped nat_eq world group ToUnbindable named) groups
+      → Has (regrouped nat_eq (with_changed as_private world numbers)) groups
+      → Has (retyped nat_eq world group ToUnbindable named) groups
   unbindably_has numbers = retyped_has ToUnbindable as_private numbers (private_loses world numbers) (λ new kind. refl)
 
   pub slavishly_has : (numbers : List ℕ) (group : ℕ → ℕ) (named : List (Mount ℕ)) → numbers_of named ≡ numbers
       → ((number : ℕ) → LacksGroup world (group number)) → (groups : Grouping)
-      → Has (regrouped nat_eq (with_changed as_slave world numbers)) groups → Has (retyped nat_eq world group ToSlave named) groups
+      → Has (regrouped nat_eq (with_changed as_slave world numbers)) groups
+      → Has (retyped nat_eq world group ToSlave named) groups
   slavishly_has numbers = retyped_has ToSlave as_slave numbers (slave_loses world numbers) same
     where
       same : (new : ℕ) (kind : Propagation ℕ) → shown (as_slave kind) ≡ shown (type_after new ToSlave kind)
@@ -319,12 +369,15 @@ module _ (world : World ℕ) (live : GroupsLive world) (numbers : List ℕ) (num
   told mount m same =
       let there : Among (inheriting nat_eq now (changed_if as_slave numbers mount)) (regrouped nat_eq now).mounts =
       subst (Among (inheriting nat_eq now (changed_if as_slave numbers mount))) (sym (mounts-regrouped now))
-      (among-map (inheriting nat_eq now) now.mounts (changed_if as_slave numbers mount) (among-map (changed_if as_slave numbers) world.mounts mount m)) in
+      (among-map (inheriting nat_eq now) now.mounts (changed_if as_slave numbers mount) (among-map
+      (changed_if as_slave numbers) world.mounts mount m)) in
       ap (propagation_in groups) (eqb-true number mount.number same ∙ sym ((slave_loses world numbers).own mount))
-      ∙ among_from_all (λ mount. propagation_in groups mount.number ≡ shown mount.propagation) (regrouped nat_eq now).mounts
+      ∙ among_from_all (λ mount. propagation_in groups mount.number
+      ≡ shown mount.propagation) (regrouped nat_eq now).mounts
       (shows_types (regrouped nat_eq now) groups has) (inheriting nat_eq now (changed_if as_slave numbers mount)) there
 
-  still_shared : (group : ℕ) (kind : Propagation ℕ) → shown (inherited nat_eq now kind) ≡ Shared group → kind ≡ Shared group
+  still_shared : (group : ℕ) (kind : Propagation ℕ) → shown (inherited nat_eq now kind) ≡ Shared group → kind
+      ≡ Shared group
   still_shared group kind e = by kind (group-inherited now kind) e
     where
       shown_group : (k : Propagation ℕ) → shown k ≡ Shared group → group_of k ≡ Some group
@@ -333,14 +386,17 @@ module _ (world : World ℕ) (live : GroupsLive world) (numbers : List ℕ) (num
       shown_group Private f = absurd (true≢false (sym (ap (λ o. is_some (group_of o)) f)))
       shown_group Unbindable f = absurd (true≢false (sym (ap (λ o. is_some (group_of o)) f)))
 
-      by : (k : Propagation ℕ) → group_of (inherited nat_eq now k) ≡ group_of k → shown (inherited nat_eq now k) ≡ Shared group → k ≡ Shared group
+      by : (k : Propagation ℕ) → group_of (inherited nat_eq now k) ≡ group_of k → shown (inherited nat_eq now k)
+          ≡ Shared group → k ≡ Shared group
       by (Shared own) g f = f
-      by (Slave master) g f = absurd (true≢false (sym (ap is_some (sym g ∙ shown_group (inherited nat_eq now (Slave master)) f))))
+      by (Slave master) g f = absurd (true≢false (sym (ap is_some (sym g
+          ∙ shown_group (inherited nat_eq now (Slave master)) f))))
       by Private g f = absurd (true≢false (sym (ap (λ o. is_some (group_of o)) f)))
       by Unbindable g f = absurd (true≢false (sym (ap (λ o. is_some (group_of o)) f)))
 
   was_shared : (group : ℕ) (mount : Mount ℕ) (b : Bool)
-      → (if b then record mount { propagation = as_slave mount.propagation } else mount).propagation ≡ Shared group → mount.propagation ≡ Shared group
+      → (if b then record mount { propagation = as_slave mount.propagation } else mount).propagation ≡ Shared group
+      → mount.propagation ≡ Shared group
   was_shared group mount true e = absurd (never mount.propagation e)
     where
       never : (kind : Propagation ℕ) → as_slave kind ≡ Shared group → ⊥
@@ -351,39 +407,49 @@ module _ (world : World ℕ) (live : GroupsLive world) (numbers : List ℕ) (num
   was_shared group mount false e = e
 
   module _ (group : ℕ) (is : propagation_in groups number ≡ Shared group) where
-    found : (mount : Mount ℕ) × Among mount (regrouped nat_eq now).mounts × (mount.number ≡ number) × (mount.propagation ≡ Shared group)
+    found : (mount : Mount ℕ) × Among mount (regrouped nat_eq now).mounts × (mount.number ≡ number)
+        × (mount.propagation ≡ Shared group)
     found = by (lookup (nat_eq number) groups.peers) refl is
       where
-        by : (o : Option (Propagation ℕ)) → lookup (nat_eq number) groups.peers ≡ o → unwrap_or o Private ≡ Shared group
-            → (mount : Mount ℕ) × Among mount (regrouped nat_eq now).mounts × (mount.number ≡ number) × (mount.propagation ≡ Shared group)
+        by : (o : Option (Propagation ℕ)) → lookup (nat_eq number) groups.peers ≡ o → unwrap_or o Private
+            ≡ Shared group
+            → (mount : Mount ℕ) × Among mount (regrouped nat_eq now).mounts × (mount.number ≡ number)
+            × (mount.propagation ≡ Shared group)
         by None f e = absurd (true≢false (sym (ap (λ o. is_some (group_of o)) e)))
         by (Some kind) f e =
-            let t = lookup-among number kind (regrouped nat_eq now).mounts (sym (ap (lookup (nat_eq number)) has.peers) ∙ f) in
+            let t = lookup-among number kind (regrouped nat_eq now).mounts (sym (ap (lookup
+            (nat_eq number)) has.peers) ∙ f) in
             (t.0, t.1, t.2, t.3 ∙ e)
 
     pub is_mount : HasMount (regrouped nat_eq now) number
     is_mount =
         subst (Contains (numbers_of (regrouped nat_eq now).mounts)) found.2
-        (contains_from_among (numbers_of (regrouped nat_eq now).mounts) found.0.number (among-map (λ mount. mount.number) (regrouped nat_eq now).mounts found.0 found.1))
+        (contains_from_among (numbers_of (regrouped nat_eq now).mounts) found.0.number (among-map
+        (λ mount. mount.number) (regrouped nat_eq now).mounts found.0 found.1))
 
     pub is_group : HasGroup (regrouped nat_eq now) group
-    is_group = any_from_among (is_member_of nat_eq group) (regrouped nat_eq now).mounts found.0 found.1 (shared_member group found.0 found.3)
+    is_group = any_from_among (is_member_of nat_eq group) (regrouped nat_eq now).mounts found.0 found.1
+        (shared_member group found.0 found.3)
 
-    pub one_more_slave : (new : Grouping) → Has (regrouped nat_eq (with_propagation (regrouped nat_eq now) number (Slave group))) new
+    pub one_more_slave : (new : Grouping)
+        → Has (regrouped nat_eq (with_propagation (regrouped nat_eq now) number (Slave group))) new
         → Has (regrouped nat_eq (with_changed as_slave world (numbers ++ number ∷ []))) new
     one_more_slave new later =
-        subst (λ w. Has (regrouped nat_eq w) new) (next_changed as_slave world numbers number (Slave group) (λ mount m e.
+        subst (λ w. Has (regrouped nat_eq w) new) (next_changed as_slave world numbers number (Slave group)
+        (λ mount m e.
         ap as_slave (sym (was_shared group mount (is_among nat_eq mount.number numbers)
         (still_shared group (changed_if as_slave numbers mount).propagation (sym (told mount m e) ∙ is))))))
         (steps_together world live (changed_if as_slave numbers) (slave_loses world numbers) number (Slave group) refl
-        (λ source e. ap (has_members nat_eq now.mounts) (sym (same_Some group source e)) ∙ sym (members-regrouped now group) ∙ is_group) new later)
+        (λ source e. ap (has_members nat_eq now.mounts) (sym (same_Some group source e))
+        ∙ sym (members-regrouped now group) ∙ is_group) new later)
 
   pub no_more_slaves : ((group : ℕ) → propagation_in groups number ≡ Shared group → ⊥)
       → Has (regrouped nat_eq (with_changed as_slave world (numbers ++ number ∷ []))) groups
   no_more_slaves apart =
       subst (λ w. Has (regrouped nat_eq w) groups) (next_same as_slave world numbers number (λ mount m e unvisited.
       same mount.propagation (λ group f. apart group (told mount m e
-      ∙ ap (λ c. shown (inherited nat_eq now (if c then record mount { propagation = as_slave mount.propagation } else mount).propagation)) unvisited
+      ∙ ap (λ c. shown (inherited nat_eq now
+      (if c then record mount { propagation = as_slave mount.propagation } else mount).propagation)) unvisited
       ∙ ap (λ k. shown (inherited nat_eq now k)) f)))) has
     where
       same : (kind : Propagation ℕ) → ((group : ℕ) → kind ≡ Shared group → ⊥) → kind ≡ as_slave kind
@@ -408,13 +474,18 @@ pub slave_or_same : (world : World ℕ) → GroupsLive world → (numbers : List
     → Has (regrouped nat_eq (with_changed as_slave world (numbers ++ number ∷ []))) new
 slave_or_same world live numbers number groups new has member other = by (group_of (propagation_in groups number)) refl
   where
-    by : (o : Option ℕ) → group_of (propagation_in groups number) ≡ o → Has (regrouped nat_eq (with_changed as_slave world (numbers ++ number ∷ []))) new
+    by : (o : Option ℕ) → group_of (propagation_in groups number) ≡ o
+        → Has (regrouped nat_eq (with_changed as_slave world (numbers ++ number ∷ []))) new
     by None e =
         subst (Has (regrouped nat_eq (with_changed as_slave world (numbers ++ number ∷ [])))) (sym (other e))
-        (no_more_slaves world live numbers number groups has (λ group f. true≢false (sym (ap (λ k. is_some (group_of k)) f) ∙ ap is_some e)))
+        (no_more_slaves world live numbers number groups has (λ group f. true≢false (sym (ap (λ k. is_some
+        (group_of k)) f) ∙ ap is_some e)))
     by (Some group) e =
         let shared = group_shared (propagation_in groups number) group e in
         one_more_slave world live numbers number groups has group shared new
-        (subst (Has (regrouped nat_eq (with_propagation (regrouped nat_eq (with_changed as_slave world numbers)) number (Slave group)))) (sym (member group shared))
-        (slave_regroups (regrouped nat_eq (with_changed as_slave world numbers)) groups has (slaves_live world live numbers) number group
-        (is_mount world live numbers number groups has group shared) (is_group world live numbers number groups has group shared)))
+        (subst (Has (regrouped nat_eq (with_propagation (regrouped nat_eq
+        (with_changed as_slave world numbers)) number (Slave group)))) (sym (member group shared))
+        (slave_regroups (regrouped nat_eq (with_changed as_slave world numbers)) groups has
+        (slaves_live world live numbers) number group
+        (is_mount world live numbers number groups has group shared)
+        (is_group world live numbers number groups has group shared)))

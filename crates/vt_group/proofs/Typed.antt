@@ -22,14 +22,16 @@ module _ (world : World ℕ) (groups : Grouping) (has : Has (regrouped nat_eq wo
       told =
           among_from_all (λ x. propagation_in groups x.number ≡ shown x.propagation) (regrouped nat_eq world).mounts
           (shows_types (regrouped nat_eq world) groups has) (inheriting nat_eq world mount)
-          (subst (Among (inheriting nat_eq world mount)) (sym (mounts-regrouped world)) (among-map (inheriting nat_eq world) world.mounts mount m))
+          (subst (Among (inheriting nat_eq world mount)) (sym (mounts-regrouped world)) (among-map
+          (inheriting nat_eq world) world.mounts mount m))
 
       slave : (o : Option ℕ) → shown (slave_of_heir o) ≡ slave_of_heir o
       slave None = refl
       slave (Some master) = refl
 
       by : (kind : Propagation ℕ) → propagation_in groups mount.number ≡ shown (inherited nat_eq world kind)
-          → inherited nat_eq world kind ≡ (if is_unbindable kind then Unbindable else propagation_in groups mount.number)
+          → inherited nat_eq world kind ≡
+          (if is_unbindable kind then Unbindable else propagation_in groups mount.number)
       by (Shared group) e = sym e
       by (Slave master) e = sym (e ∙ slave (heir nat_eq world (Some master)))
       by Private e = sym e
@@ -40,9 +42,13 @@ module _ (world : World ℕ) (groups : Grouping) (has : Has (regrouped nat_eq wo
   all_else true = refl
   all_else false = refl
 
-  pub is_typed : without_dead_groups nat_eq (regrouped nat_eq world) ≡ record world { mounts = map (typed_by groups) world.mounts; master = master_in groups }
+  pub is_typed : without_dead_groups nat_eq (regrouped nat_eq world)
+      ≡ record world { mounts = map (typed_by groups) world.mounts; master = master_in groups }
   is_typed =
-      (λ i. record (all_else (list_any (lost_a_group nat_eq world) world.mounts) i) { master = λ group. sym (has.masters group) i })
+      (λ i. record (all_else (list_any (lost_a_group nat_eq world) world.mounts) i) {
+        master = λ group. sym
+            (has.masters group) i;
+      })
       ∙ (λ i. record world {
         mounts = (mounts-regrouped world ∙ map_alike (inheriting nat_eq world) (typed_by groups) world.mounts typed) i;
         master = master_in groups;

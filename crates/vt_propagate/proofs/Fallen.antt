@@ -17,26 +17,37 @@ use Rattle.vt_propagate.specs.Falling.{LeavesBy, all_points_left, left_by, moved
 use Rattle.vt_propagate.proofs.Found.{numbered, numbered_among, numbers}
 use Rattle.vt_propagate.proofs.Leaving.{found_one, numbered-number}
 
-module _ (mounts : List (Mount ℕ)) (gone : List ℕ) (number : ℕ) (mount : Mount ℕ) (found : Some mount ≡ numbered mounts number) where
+module _ (mounts : List (Mount ℕ)) (gone : List ℕ) (number : ℕ) (mount : Mount ℕ) (found : Some mount
+    ≡ numbered mounts number) where
   pub left_none : is_going nat_eq gone number ≡ true → None ≡ point_left_of mounts gone number
   left_none is =
-      sym (ap (λ b. if b then None else option_map (λ place. (mount.number, mount_point_left nat_eq (of_mounts mounts) gone place)) mount.mount_point)
+      sym (ap (λ b. if b then None else option_map (λ place. (
+        mount.number,
+        mount_point_left nat_eq
+            (of_mounts mounts) gone place,
+      )) mount.mount_point)
       (ap (is_going nat_eq gone) (sym (numbered-number mounts number mount found)) ∙ is))
       ∙ ap (λ o. then_some o (point_left mounts gone)) found
 
   pub left_some : is_going nat_eq gone number ≡ false → (place : Location ℕ) → mount.mount_point ≡ Some place
       → Some (number, mount_point_left nat_eq (of_mounts mounts) gone place) ≡ point_left_of mounts gone number
   left_some stays place at =
-      ap (λ n. Some (n, mount_point_left nat_eq (of_mounts mounts) gone place)) (numbered-number mounts number mount found)
+      ap (λ n. Some (n, mount_point_left nat_eq (of_mounts mounts) gone place))
+      (numbered-number mounts number mount found)
       ∙ ap (option_map (λ place. (mount.number, mount_point_left nat_eq (of_mounts mounts) gone place))) (sym at)
-      ∙ sym (ap (λ b. if b then None else option_map (λ place. (mount.number, mount_point_left nat_eq (of_mounts mounts) gone place)) mount.mount_point)
+      ∙ sym (ap (λ b. if b then None else option_map (λ place. (
+        mount.number,
+        mount_point_left nat_eq
+            (of_mounts mounts) gone place,
+      )) mount.mount_point)
       (ap (is_going nat_eq gone) (sym (numbered-number mounts number mount found)) ∙ stays))
       ∙ ap (λ o. then_some o (point_left mounts gone)) found
 
 -- Lists of pairs
 
 module _ {B : Type 0} where
-  lookup_pair : (number : ℕ) (pairs : List (ℕ × B)) (b : B) → lookup (nat_eq number) pairs ≡ Some b → Among (number, b) pairs
+  lookup_pair : (number : ℕ) (pairs : List (ℕ × B)) (b : B) → lookup (nat_eq number) pairs ≡ Some b
+      → Among (number, b) pairs
   lookup_pair number [] b e = absurd (true≢false (sym (ap is_some e)))
   lookup_pair number (pair ∷ rest) b e = by (nat_eq number pair.0) refl e (lookup_pair number rest b)
     where
@@ -45,11 +56,13 @@ module _ {B : Type 0} where
       by true is f later = inl (λ i. (eqb-true number pair.0 is i, sym (same_Some pair.1 b f) i))
       by false is f later = inr (later f)
 
-  pair_found : (number : ℕ) (pairs : List (ℕ × B)) (b : B) → Among (number, b) pairs → is_some (lookup (nat_eq number) pairs) ≡ true
+  pair_found : (number : ℕ) (pairs : List (ℕ × B)) (b : B) → Among (number, b) pairs
+      → is_some (lookup (nat_eq number) pairs) ≡ true
   pair_found number [] b m = absurd m
   pair_found number (pair ∷ rest) b m = by (nat_eq number pair.0) refl (pair_found number rest b)
     where
-      by : (t : Bool) → nat_eq number pair.0 ≡ t → (Among (number, b) rest → is_some (lookup (nat_eq number) rest) ≡ true)
+      by : (t : Bool) → nat_eq number pair.0 ≡ t → (Among (number, b) rest → is_some (lookup (nat_eq number) rest)
+          ≡ true)
           → is_some (cond t (Some pair.1) (lookup (nat_eq number) rest)) ≡ true
       by true is later = refl
       by false is later = ⊎_elim (λ e. absurd (true≢false (sym (eq-eqb number pair.0 (ap (λ p. p.0) e)) ∙ is))) later m
@@ -60,7 +73,8 @@ module _ {A B : Type 0} (f : A → Option B) where
   among_kept (a ∷ rest) b m = by (f a) refl m (among_kept rest b)
     where
       by : (o : Option B) → f a ≡ o → Among b (cons_option o (filter_map f rest))
-          → (Among b (filter_map f rest) → (x : A) × Among x rest × (f x ≡ Some b)) → (x : A) × Among x (a ∷ rest) × (f x ≡ Some b)
+          → (Among b (filter_map f rest) → (x : A) × Among x rest × (f x ≡ Some b)) → (x : A) × Among x (a ∷ rest)
+          × (f x ≡ Some b)
       by None e m later = let t = later m in (t.0, inr t.1, t.2)
       by (Some one) e m later =
           ⊎_elim (λ same. (a, inl refl, e ∙ ap Some (sym same))) (λ l. let t = later l in (t.0, inr t.1, t.2)) m
@@ -79,7 +93,8 @@ module _ {A B : Type 0} (f : A → Option B) where
 module _ {A B : Type 0} (f : A → List B) where
   among_flat : (list : List A) (b : B) → Among b (flat_map f list) → (a : A) × Among a list × Among b (f a)
   among_flat [] b m = absurd m
-  among_flat (a ∷ rest) b m = ⊎_elim (λ l. (a, inl refl, l)) (λ l. let t = among_flat rest b l in (t.0, inr t.1, t.2)) (either (f a) m)
+  among_flat (a ∷ rest) b m = ⊎_elim (λ l. (a, inl refl, l)) (λ l. let t = among_flat rest b l in
+      (t.0, inr t.1, t.2)) (either (f a) m)
     where
       either : (xs : List B) → Among b (xs ++ flat_map f rest) → (Among b xs) ⊎ (Among b (flat_map f rest))
       either [] m = inr m
@@ -88,7 +103,8 @@ module _ {A B : Type 0} (f : A → List B) where
   flat_among : (list : List A) (a : A) (b : B) → Among a list → Among b (f a) → Among b (flat_map f list)
   flat_among [] a b m l = absurd m
   flat_among (first ∷ rest) a b m l =
-      ⊎_elim (λ e. front (f first) (subst (λ x. Among b (f x)) e l)) (λ k. behind (f first) (flat_among rest a b k l)) m
+      ⊎_elim (λ e. front (f first) (subst (λ x. Among b (f x)) e l)) (λ k. behind (f first)
+      (flat_among rest a b k l)) m
     where
       front : (xs : List B) → Among b xs → Among b (xs ++ flat_map f rest)
       front [] k = absurd k
@@ -108,61 +124,76 @@ module _ (world : World ℕ) (up : are_ascending world.mounts ≡ true) (gone : 
   left place = mount_point_left nat_eq world gone place
 
   -- what an entry tells of the mount with its number
-  entry_tells : (mount : Mount ℕ) → Among mount world.mounts → (place : Location ℕ) → Among (mount.number, place) points
+  entry_tells : (mount : Mount ℕ) → Among mount world.mounts → (place : Location ℕ)
+      → Among (mount.number, place) points
       → option_map left mount.mount_point ≡ Some place
   entry_tells mount m place among =
       let on = among_flat (points_left_on world.mounts gone) gone (mount.number, place) among in
-      let from = among_kept (point_left_of world.mounts gone) (numbers (children nat_eq world.mounts on.0)) (mount.number, place) on.2 in
+      let from = among_kept (point_left_of world.mounts gone) (numbers (children nat_eq world.mounts on.0))
+      (mount.number, place) on.2 in
       by from.0 (numbered world.mounts from.0) refl from.2
     where
       told : (other : Mount ℕ) → Among other world.mounts → (b : Bool)
-          → (if b then None else option_map {U = ℕ × Location ℕ} (λ at. (other.number, left at)) other.mount_point) ≡ Some (mount.number, place)
+          → (if b then None else option_map {U = ℕ × Location ℕ} (λ at. (other.number, left at)) other.mount_point)
+          ≡ Some (mount.number, place)
           → option_map left mount.mount_point ≡ Some place
       told other l true e = absurd (true≢false (sym (ap is_some e)))
       told other l false e = point other.mount_point refl e
         where
-          point : (o : Option (Location ℕ)) → other.mount_point ≡ o → option_map {U = ℕ × Location ℕ} (λ at. (other.number, left at)) o ≡ Some (mount.number, place)
+          point : (o : Option (Location ℕ)) → other.mount_point ≡ o → option_map {U = ℕ
+              × Location ℕ} (λ at. (other.number, left at)) o ≡ Some (mount.number, place)
               → option_map left mount.mount_point ≡ Some place
           point None f e = absurd (true≢false (sym (ap is_some e)))
           point (Some at) f e =
               let pair = same_Some (other.number, left at) (mount.number, place) e in
               let same : other ≡ mount =
-              same_Some other mount (sym (numbered_among world.mounts up other l) ∙ ap (numbered world.mounts) (ap (λ p. p.0) pair) ∙ numbered_among world.mounts up mount m) in
+              same_Some other mount (sym (numbered_among world.mounts up other l)
+              ∙ ap (numbered world.mounts) (ap (λ p. p.0) pair) ∙ numbered_among world.mounts up mount m) in
               ap (λ x. option_map left x.mount_point) (sym same) ∙ ap (option_map left) f ∙ ap (λ p. Some p.1) pair
 
-      by : (number : ℕ) (o : Option (Mount ℕ)) → numbered world.mounts number ≡ o → then_some o (point_left world.mounts gone) ≡ Some (mount.number, place)
+      by : (number : ℕ) (o : Option (Mount ℕ)) → numbered world.mounts number ≡ o
+          → then_some o (point_left world.mounts gone) ≡ Some (mount.number, place)
           → option_map left mount.mount_point ≡ Some place
       by number None f e = absurd (true≢false (sym (ap is_some e)))
       by number (Some other) f e =
-          told other (found_one (λ (x : Mount ℕ). nat_eq number x.number) world.mounts other f).0 (is_going nat_eq gone other.number) e
+          told other (found_one (λ (x : Mount ℕ). nat_eq number x.number) world.mounts other f).0
+          (is_going nat_eq gone other.number) e
 
   -- a mount on one that goes has an entry
-  has_entry : (mount : Mount ℕ) → Among mount world.mounts → is_going nat_eq gone mount.number ≡ false → (place : Location ℕ)
-      → mount.mount_point ≡ Some place → is_going nat_eq gone place.mount ≡ true → Among (mount.number, left place) points
+  has_entry : (mount : Mount ℕ) → Among mount world.mounts → is_going nat_eq gone mount.number ≡ false
+      → (place : Location ℕ)
+      → mount.mount_point ≡ Some place → is_going nat_eq gone place.mount ≡ true
+      → Among (mount.number, left place) points
   has_entry mount m stays place at goes =
-      flat_among (points_left_on world.mounts gone) gone place.mount (mount.number, left place) (among_numbers gone place.mount goes)
-      (kept_among (point_left_of world.mounts gone) (numbers (children nat_eq world.mounts place.mount)) mount.number (mount.number, left place)
+      flat_among (points_left_on world.mounts gone) gone place.mount (mount.number, left place)
+      (among_numbers gone place.mount goes)
+      (kept_among (point_left_of world.mounts gone) (numbers
+      (children nat_eq world.mounts place.mount)) mount.number (mount.number, left place)
       (among-map (λ x. x.number) (children nat_eq world.mounts place.mount) mount
       (among-filter (stands_on nat_eq place.mount) world.mounts mount m
       (ap (holds_of (λ p. nat_eq place.mount p.mount)) at ∙ eq-eqb place.mount place.mount refl)))
-      (sym (left_some world.mounts gone mount.number mount (sym (numbered_among world.mounts up mount m)) stays place at)))
+      (sym (left_some world.mounts gone mount.number mount (sym
+      (numbered_among world.mounts up mount m)) stays place at)))
 
   same_point : (mount : Mount ℕ) → Among mount world.mounts → is_going nat_eq gone mount.number ≡ false
       → option_map left mount.mount_point ≡ or_else (lookup (nat_eq mount.number) points) mount.mount_point
   same_point mount m stays = by (lookup (nat_eq mount.number) points) refl
     where
-      unmoved : lookup (nat_eq mount.number) points ≡ None → (o : Option (Location ℕ)) → mount.mount_point ≡ o → option_map left o ≡ o
+      unmoved : lookup (nat_eq mount.number) points ≡ None → (o : Option (Location ℕ)) → mount.mount_point ≡ o
+          → option_map left o ≡ o
       unmoved absent None at = refl
       unmoved absent (Some place) at = ap Some (choose (is_going nat_eq gone place.mount) refl)
         where
           choose : (b : Bool) → is_going nat_eq gone place.mount ≡ b → left place ≡ place
           choose true goes =
-              absurd (true≢false (sym (pair_found mount.number points (left place) (has_entry mount m stays place at goes)) ∙ ap is_some absent))
+              absurd (true≢false (sym (pair_found mount.number points (left place)
+              (has_entry mount m stays place at goes)) ∙ ap is_some absent))
           choose false goes =
               end-here (mount_point_of_parent nat_eq world gone) (length world.mounts) place
               (ap (λ b. if b then (mount_in nat_eq world.mounts place.mount).mount_point else None) goes)
 
-      by : (o : Option (Location ℕ)) → lookup (nat_eq mount.number) points ≡ o → option_map left mount.mount_point ≡ or_else o mount.mount_point
+      by : (o : Option (Location ℕ)) → lookup (nat_eq mount.number) points ≡ o → option_map left mount.mount_point
+          ≡ or_else o mount.mount_point
       by None e = unmoved e mount.mount_point refl
       by (Some place) e = entry_tells mount m place (lookup_pair mount.number points place e)
 

@@ -6,3 +6,4 @@ pub mod Indexing
 pub mod Planning
 pub mod Fallen
 pub mod Pushed
+pub mod Attached

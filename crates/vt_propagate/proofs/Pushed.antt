@@ -41,25 +41,34 @@ cons-one : {A : Type 0} (o : Option A) (list : List A) → cons_option o list �
 cons-one None list = refl
 cons-one (Some a) list = refl
 
-pub push_more : (mounts : List (Mount ℕ)) (left : Option ℕ) (place : Location ℕ) (size : ℕ) (parts : List Kept) (i : ℕ) (default : Kept) → i < length parts
+pub push_more : (mounts : List (Mount ℕ)) (left : Option ℕ) (place : Location ℕ) (size : ℕ) (parts : List Kept)
+    (i : ℕ) (default : Kept) → i < length parts
     → (rest here later : List Kept) → here ≡ take size rest → later ≡ drop size rest
     → (before after all : List (ℕ × Location ℕ))
-    → after ≡ before ++ cons_option (pushed_at mounts left place (counted (get_or parts i default).number.count) (map mount_of here)) []
+    → after ≡ before ++ cons_option (pushed_at mounts left place (counted (get_or parts i default).number.count)
+    (map mount_of here)) []
     → before ++ pushes_from mounts left place size (map mount_of (drop i parts)) (map mount_of rest) ≡ all
     → after ++ pushes_from mounts left place size (map mount_of (drop (i + 1) parts)) (map mount_of later) ≡ all
 push_more mounts left place size parts i default less rest here later front back before after all one so_far =
     ap (λ l. l ++ pushes_from mounts left place size (map mount_of (drop (i + 1) parts)) (map mount_of later)) one
-    ∙ append_assoc before (cons_option (pushed_at mounts left place (counted (get_or parts i default).number.count) (map mount_of here)) []) _
-    ∙ ap (λ l. before ++ l) (sym (cons-one (pushed_at mounts left place (counted (get_or parts i default).number.count) (map mount_of here)) _))
-    ∙ (λ j. before ++ cons_option (pushed_at mounts left place (counted (get_or parts i default).number.count) ((ap (map mount_of) front ∙ map-take size rest) j))
-    (pushes_from mounts left place size (map mount_of (drop (i + 1) parts)) ((ap (map mount_of) back ∙ map-drop size rest) j)))
-    ∙ ap (λ l. before ++ pushes_from mounts left place size (map mount_of l) (map mount_of rest)) (sym (drop_more parts i default less))
+    ∙ append_assoc before (cons_option (pushed_at mounts left place (counted (get_or parts i default).number.count)
+    (map mount_of here)) []) _
+    ∙ ap (λ l. before ++ l) (sym (cons-one (pushed_at mounts left place (counted
+    (get_or parts i default).number.count) (map mount_of here)) _))
+    ∙ (λ j. before ++ cons_option (pushed_at mounts left place (counted (get_or parts i default).number.count) ((ap
+    (map mount_of) front ∙ map-take size rest) j))
+    (pushes_from mounts left place size (map mount_of (drop (i + 1) parts)) ((ap (map mount_of) back
+    ∙ map-drop size rest) j)))
+    ∙ ap (λ l. before ++ pushes_from mounts left place size (map mount_of l) (map mount_of rest)) (sym
+    (drop_more parts i default less))
     ∙ so_far
 
-pub rest_more : (parts : List Kept) (i : ℕ) → i < length parts → (size all later : ℕ) → all ≡ length (drop i parts) * size
+pub rest_more : (parts : List Kept) (i : ℕ) → i < length parts → (size all later : ℕ) → all
+    ≡ length (drop i parts) * size
     → later + size ≡ all → later ≡ length (drop (i + 1) parts) * size
 rest_more parts i less size all later so_far one =
-    let count : length (drop i parts) ≡ suc (length (drop (i + 1) parts)) = omega (arith, less, length-drop i parts, length-drop (i + 1) parts) in
+    let count : length (drop i parts)
+    ≡ suc (length (drop (i + 1) parts)) = omega (arith, less, length-drop i parts, length-drop (i + 1) parts) in
     by (length (drop (i + 1) parts)) (so_far ∙ ap (λ n. n * size) count)
   where
     by : (n : ℕ) → all ≡ suc n * size → later ≡ n * size
@@ -67,11 +76,13 @@ rest_more parts i less size all later so_far one =
 
 -- Mounts at a place
 
-found_some : {A : Type 0} (p : A → Bool) (list : List A) (a : A) → Among a list → p a ≡ true → (first : A) × (seek p list ≡ Some first)
+found_some : {A : Type 0} (p : A → Bool) (list : List A) (a : A) → Among a list → p a ≡ true → (first : A)
+    × (seek p list ≡ Some first)
 found_some p [] a m e = absurd m
 found_some p (b ∷ list) a m e = by (p b) refl (found_some p list a)
   where
-    by : (t : Bool) → p b ≡ t → (Among a list → p a ≡ true → (first : _) × (seek p list ≡ Some first)) → (first : _) × (seek p (b ∷ list) ≡ Some first)
+    by : (t : Bool) → p b ≡ t → (Among a list → p a ≡ true → (first : _) × (seek p list ≡ Some first))
+        → (first : _) × (seek p (b ∷ list) ≡ Some first)
     by true is later = (b, ap (λ t. cond t (Some b) (seek p list)) is)
     by false is later =
         ⊎_elim (λ same. absurd (true≢false (sym e ∙ ap p same ∙ is)))
@@ -79,32 +90,41 @@ found_some p (b ∷ list) a m e = by (p b) refl (found_some p list a)
 
 module _ (world : World ℕ) (one_child : OneChild world) (up : are_ascending world.mounts ≡ true) where
   -- two mounts at one place are one
-  one_at : (list : List (Mount ℕ)) → any_pair (share_a_mount_point nat_eq) list ≡ false → (a b : Mount ℕ) → Among a list → Among b list
+  one_at : (list : List (Mount ℕ)) → any_pair (share_a_mount_point nat_eq) list ≡ false → (a b : Mount ℕ)
+      → Among a list → Among b list
       → share_a_mount_point nat_eq a b ≡ true → share_a_mount_point nat_eq b a ≡ true → a ≡ b
   one_at [] apart a b m n one two = absurd m
   one_at (first ∷ rest) apart a b m n one two =
-      let parts : (list_any (share_a_mount_point nat_eq first) rest ≡ false) × (any_pair (share_a_mount_point nat_eq) rest ≡ false) = or_parts _ _ apart in
+      let parts : (list_any (share_a_mount_point nat_eq first) rest ≡ false)
+      × (any_pair (share_a_mount_point nat_eq) rest ≡ false) = or_parts _ _ apart in
       ⊎_elim
       (λ e. ⊎_elim (λ f. e ∙ sym f)
-      (λ l. absurd (true≢false (sym (any_from_among (share_a_mount_point nat_eq first) rest b l (ap (λ x. share_a_mount_point nat_eq x b) (sym e) ∙ one)) ∙ parts.0))) n)
+      (λ l. absurd (true≢false (sym (any_from_among (share_a_mount_point nat_eq first) rest b l (ap
+      (λ x. share_a_mount_point nat_eq x b) (sym e) ∙ one)) ∙ parts.0))) n)
       (λ k. ⊎_elim
-      (λ f. absurd (true≢false (sym (any_from_among (share_a_mount_point nat_eq first) rest a k (ap (λ x. share_a_mount_point nat_eq x a) (sym f) ∙ two)) ∙ parts.0)))
+      (λ f. absurd (true≢false (sym (any_from_among (share_a_mount_point nat_eq first) rest a k (ap
+      (λ x. share_a_mount_point nat_eq x a) (sym f) ∙ two)) ∙ parts.0)))
       (λ l. one_at rest parts.1 a b k l one two) n)
       m
 
-  both_at : (place : Location ℕ) (a b : Mount ℕ) → stands_at nat_eq place a ≡ true → stands_at nat_eq place b ≡ true → share_a_mount_point nat_eq a b ≡ true
+  both_at : (place : Location ℕ) (a b : Mount ℕ) → stands_at nat_eq place a ≡ true → stands_at nat_eq place b
+      ≡ true → share_a_mount_point nat_eq a b ≡ true
   both_at place a b one two = by a.mount_point refl b.mount_point refl one two
     where
       by : (p : Option (Location ℕ)) → a.mount_point ≡ p → (q : Option (Location ℕ)) → b.mount_point ≡ q
-          → holds_of (same_location nat_eq place) a.mount_point ≡ true → holds_of (same_location nat_eq place) b.mount_point ≡ true
+          → holds_of (same_location nat_eq place) a.mount_point ≡ true
+          → holds_of (same_location nat_eq place) b.mount_point ≡ true
           → (is_some a.mount_point && same_option (same_location nat_eq) a.mount_point b.mount_point) ≡ true
       by None e q f s t = absurd (true≢false (sym s ∙ ap (holds_of (same_location nat_eq place)) e))
       by (Some x) e None f s t = absurd (true≢false (sym t ∙ ap (holds_of (same_location nat_eq place)) f))
       by (Some x) e (Some y) f s t =
-          let xs : (nat_eq place.mount x.mount ≡ true) × (nat_eq place.node x.node ≡ true) = and_parts _ _ (sym (ap (holds_of (same_location nat_eq place)) e) ∙ s) in
-          let ys : (nat_eq place.mount y.mount ≡ true) × (nat_eq place.node y.node ≡ true) = and_parts _ _ (sym (ap (holds_of (same_location nat_eq place)) f) ∙ t) in
+          let xs : (nat_eq place.mount x.mount ≡ true) × (nat_eq place.node x.node
+          ≡ true) = and_parts _ _ (sym (ap (holds_of (same_location nat_eq place)) e) ∙ s) in
+          let ys : (nat_eq place.mount y.mount ≡ true) × (nat_eq place.node y.node
+          ≡ true) = and_parts _ _ (sym (ap (holds_of (same_location nat_eq place)) f) ∙ t) in
           (λ i. is_some (e i) && same_option (same_location nat_eq) (e i) (f i))
-          ∙ and_from _ _ (eq-eqb x.mount y.mount (sym (eqb-true place.mount x.mount xs.0) ∙ eqb-true place.mount y.mount ys.0))
+          ∙ and_from _ _ (eq-eqb x.mount y.mount (sym (eqb-true place.mount x.mount xs.0)
+          ∙ eqb-true place.mount y.mount ys.0))
           (eq-eqb x.node y.node (sym (eqb-true place.node x.node xs.1) ∙ eqb-true place.node y.node ys.1))
 
   child_is : (place : Location ℕ) (mount : Mount ℕ) → Among mount world.mounts → stands_at nat_eq place mount ≡ true
@@ -112,10 +132,13 @@ module _ (world : World ℕ) (one_child : OneChild world) (up : are_ascending wo
   child_is place mount m at =
       let t = found_some (stands_at nat_eq place) world.mounts mount m at in
       let first = found_one (stands_at nat_eq place) world.mounts t.0 t.1 in
-      t.1 ∙ ap Some (one_at world.mounts one_child t.0 mount first.0 m (both_at place t.0 mount first.1 at) (both_at place mount t.0 at first.1))
+      t.1 ∙ ap Some (one_at world.mounts one_child t.0 mount first.0 m (both_at place t.0 mount first.1 at)
+      (both_at place mount t.0 at first.1))
 
-  module _ (left : Option ℕ) (place : Location ℕ) (size : ℕ) (copies : Mount ℕ → List (Mount ℕ)) (sized : (part : Mount ℕ) → length (copies part) ≡ size)
-      (before mount : Mount ℕ) (there : Among before world.mounts) (stays : holds_of (nat_eq before.number) left ≡ false)
+  module _ (left : Option ℕ) (place : Location ℕ) (size : ℕ) (copies : Mount ℕ
+      → List (Mount ℕ)) (sized : (part : Mount ℕ) → length (copies part) ≡ size)
+      (before mount : Mount ℕ) (there : Among before world.mounts) (stays : holds_of (nat_eq before.number) left
+      ≡ false)
       (number : mount.number ≡ before.number) (point : mount.mount_point ≡ before.mount_point) where
     abbrev at_part : Mount ℕ → Location ℕ
     at_part part = record { mount = part.number; node = place.node }
@@ -124,54 +147,66 @@ module _ (world : World ℕ) (one_child : OneChild world) (up : are_ascending wo
     top_at part = top_of_copies nat_eq (copies part) place
 
     front : (part : Mount ℕ) (others : List (Mount ℕ)) → take size (copies part ++ others) ≡ copies part
-    front part others = ap (λ n. take n (copies part ++ others)) (sym (sized part)) ∙ take-append_seam (copies part) others
+    front part others = ap (λ n. take n (copies part ++ others)) (sym (sized part))
+        ∙ take-append_seam (copies part) others
 
     back : (part : Mount ℕ) (others : List (Mount ℕ)) → drop size (copies part ++ others) ≡ others
-    back part others = ap (λ n. drop n (copies part ++ others)) (sym (sized part)) ∙ drop-append_seam (copies part) others
+    back part others = ap (λ n. drop n (copies part ++ others)) (sym (sized part))
+        ∙ drop-append_seam (copies part) others
 
     -- the mount stands there
-    standing : (part : Mount ℕ) → stands_at nat_eq (at_part part) before ≡ true → stander world.mounts left (at_part part) ≡ Some before.number
+    standing : (part : Mount ℕ) → stands_at nat_eq (at_part part) before ≡ true
+        → stander world.mounts left (at_part part) ≡ Some before.number
     standing part at =
-        ap (λ o. then_some (option_map (λ (child : Mount ℕ). child.number) o) (λ n. if holds_of (nat_eq n) left then None else Some n)) (child_is (at_part part) before there at)
+        ap (λ o. then_some (option_map (λ (child : Mount ℕ). child.number) o) (λ n. if holds_of
+        (nat_eq n) left then None else Some n)) (child_is (at_part part) before there at)
         ∙ ap (λ b. if b then None else Some before.number) stays
 
     -- another stands there, or none
     skipped : (part : Mount ℕ) → stands_at nat_eq (at_part part) before ≡ false → (rest : List (ℕ × Location ℕ))
-        → lookup (nat_eq mount.number) (cons_option (option_map (λ n. (n, top_at part)) (stander world.mounts left (at_part part))) rest)
+        → lookup (nat_eq mount.number) (cons_option (option_map (λ n. (n, top_at part)) (stander world.mounts left
+        (at_part part))) rest)
         ≡ lookup (nat_eq mount.number) rest
     skipped part apart rest = by (child_at nat_eq world.mounts (at_part part)) refl
       where
-        other : (child : Mount ℕ) → child_at nat_eq world.mounts (at_part part) ≡ Some child → (b : Bool) → nat_eq mount.number child.number ≡ b
+        other : (child : Mount ℕ) → child_at nat_eq world.mounts (at_part part) ≡ Some child → (b : Bool)
+            → nat_eq mount.number child.number ≡ b
             → cond b (Some (top_at part)) (lookup (nat_eq mount.number) rest) ≡ lookup (nat_eq mount.number) rest
         other child e false is = refl
         other child e true is =
             let first = found_one (stands_at nat_eq (at_part part)) world.mounts child e in
             let same : child ≡ before =
-            same_Some child before (sym (numbered_among world.mounts up child first.0) ∙ ap (numbered world.mounts) (sym (eqb-true mount.number child.number is) ∙ number)
+            same_Some child before (sym (numbered_among world.mounts up child first.0)
+            ∙ ap (numbered world.mounts) (sym (eqb-true mount.number child.number is) ∙ number)
             ∙ numbered_among world.mounts up before there) in
             absurd (true≢false (sym first.1 ∙ ap (stands_at nat_eq (at_part part)) same ∙ apart))
 
         leaving : (child : Mount ℕ) → child_at nat_eq world.mounts (at_part part) ≡ Some child → (b : Bool)
-            → lookup (nat_eq mount.number) (cons_option (option_map (λ n. (n, top_at part)) (if b then None else Some child.number)) rest)
+            → lookup (nat_eq mount.number) (cons_option (option_map (λ n. (n, top_at part))
+            (if b then None else Some child.number)) rest)
             ≡ lookup (nat_eq mount.number) rest
         leaving child e true = refl
         leaving child e false = other child e (nat_eq mount.number child.number) refl
 
         by : (o : Option (Mount ℕ)) → child_at nat_eq world.mounts (at_part part) ≡ o
             → lookup (nat_eq mount.number) (cons_option (option_map (λ n. (n, top_at part))
-            (then_some (option_map (λ (child : Mount ℕ). child.number) o) (λ n. if holds_of (nat_eq n) left then None else Some n))) rest)
+            (then_some (option_map (λ (child : Mount ℕ). child.number) o) (λ n. if holds_of
+            (nat_eq n) left then None else Some n))) rest)
             ≡ lookup (nat_eq mount.number) rest
         by None e = refl
         by (Some child) e = leaving child e (holds_of (nat_eq child.number) left)
 
-    points_at : (parts : List (Mount ℕ)) → ((part : Mount ℕ) → Among part parts → nat_eq part.number place.mount ≡ false)
+    points_at : (parts : List (Mount ℕ)) → ((part : Mount ℕ) → Among part parts → nat_eq part.number place.mount
+        ≡ false)
         → lookup (nat_eq mount.number) (pushes_from world.mounts left place size parts (flat_map copies parts))
         ≡ option_map top_at (seek (λ part. stands_at nat_eq (at_part part) mount) parts)
     points_at [] apart = refl
     points_at (part ∷ parts) apart =
-        (λ i. lookup (nat_eq mount.number) (cons_option (pushed_at world.mounts left place part.number (front part (flat_map copies parts) i))
+        (λ i. lookup (nat_eq mount.number) (cons_option (pushed_at world.mounts left place part.number (front part
+        (flat_map copies parts) i))
         (pushes_from world.mounts left place size parts (back part (flat_map copies parts) i))))
-        ∙ ap (λ b. lookup (nat_eq mount.number) (cons_option (if b then None else option_map (λ n. (n, top_at part)) (stander world.mounts left (at_part part)))
+        ∙ ap (λ b. lookup (nat_eq mount.number) (cons_option (if b then None else option_map (λ n. (n, top_at part))
+        (stander world.mounts left (at_part part)))
         (pushes_from world.mounts left place size parts (flat_map copies parts)))) (apart part (inl refl))
         ∙ by (stands_at nat_eq (at_part part) mount) refl (points_at parts (λ x m. apart x (inr m)))
       where
@@ -181,18 +216,25 @@ module _ (world : World ℕ) (one_child : OneChild world) (up : are_ascending wo
         by : (b : Bool) → stands_at nat_eq (at_part part) mount ≡ b
             → lookup (nat_eq mount.number) (pushes_from world.mounts left place size parts (flat_map copies parts))
             ≡ option_map top_at (seek (λ part. stands_at nat_eq (at_part part) mount) parts)
-            → lookup (nat_eq mount.number) (cons_option (option_map (λ n. (n, top_at part)) (stander world.mounts left (at_part part)))
+            → lookup (nat_eq mount.number) (cons_option (option_map (λ n. (n, top_at part))
+            (stander world.mounts left (at_part part)))
             (pushes_from world.mounts left place size parts (flat_map copies parts)))
-            ≡ option_map top_at (cond (stands_at nat_eq (at_part part) mount) (Some part) (seek (λ part. stands_at nat_eq (at_part part) mount) parts))
+            ≡ option_map top_at (cond (stands_at nat_eq (at_part part) mount) (Some part) (seek
+            (λ part. stands_at nat_eq (at_part part) mount) parts))
         by true is later =
-            ap (λ o. lookup (nat_eq mount.number) (cons_option (option_map (λ n. (n, top_at part)) o) (pushes_from world.mounts left place size parts (flat_map copies parts))))
+            ap (λ o. lookup (nat_eq mount.number) (cons_option (option_map (λ n. (n, top_at part)) o)
+            (pushes_from world.mounts left place size parts (flat_map copies parts))))
             (standing part (sym as_before ∙ is))
-            ∙ ap (λ b. cond b (Some (top_at part)) (lookup (nat_eq mount.number) (pushes_from world.mounts left place size parts (flat_map copies parts))))
+            ∙ ap (λ b. cond b (Some (top_at part)) (lookup (nat_eq mount.number)
+            (pushes_from world.mounts left place size parts (flat_map copies parts))))
             (eq-eqb mount.number before.number number)
-            ∙ ap (λ b. option_map top_at (cond b (Some part) (seek (λ part. stands_at nat_eq (at_part part) mount) parts))) (sym is)
+            ∙ ap (λ b. option_map top_at (cond b (Some part) (seek (λ part. stands_at nat_eq
+            (at_part part) mount) parts))) (sym is)
         by false is later =
-            skipped part (sym as_before ∙ is) (pushes_from world.mounts left place size parts (flat_map copies parts)) ∙ later
-            ∙ ap (λ b. option_map top_at (cond b (Some part) (seek (λ part. stands_at nat_eq (at_part part) mount) parts))) (sym is)
+            skipped part (sym as_before ∙ is) (pushes_from world.mounts left place size parts
+            (flat_map copies parts)) ∙ later
+            ∙ ap (λ b. option_map top_at (cond b (Some part) (seek (λ part. stands_at nat_eq
+            (at_part part) mount) parts))) (sym is)
 
 eqb-turned : (a b : ℕ) → nat_eq b a ≡ false → nat_eq a b ≡ false
 eqb-turned a b e = ne_eqb a b (λ same. eqb-false b a e (sym same))
@@ -200,17 +242,22 @@ eqb-turned a b e = ne_eqb a b (λ same. eqb-false b a e (sym same))
 number_at : (mounts : List (Mount ℕ)) (number : ℕ) → (mount_in nat_eq mounts number).number ≡ number
 number_at mounts number = by (seek (λ mount. nat_eq number mount.number) mounts) refl
   where
-    by : (o : Option (Mount ℕ)) → seek (λ mount. nat_eq number mount.number) mounts ≡ o → (unwrap_or o (no_mount number)).number ≡ number
+    by : (o : Option (Mount ℕ)) → seek (λ mount. nat_eq number mount.number) mounts ≡ o
+        → (unwrap_or o (no_mount number)).number ≡ number
     by None e = refl
-    by (Some mount) e = sym (eqb-true number mount.number (found_one (λ mount. nat_eq number mount.number) mounts mount e).1)
+    by (Some mount) e = sym (eqb-true number mount.number (found_one
+        (λ mount. nat_eq number mount.number) mounts mount e).1)
 
-pub all_pushed : (world : World ℕ) → OneChild world → are_ascending world.mounts ≡ true → (graft : Graft) (counts : Counts)
-    → PushesBy world graft counts (pushes_from world.mounts (leaver graft) (location_of graft.place) (length graft.tree.now)
+pub all_pushed : (world : World ℕ) → OneChild world → are_ascending world.mounts ≡ true
+    → (graft : Graft) (counts : Counts)
+    → PushesBy world graft counts (pushes_from world.mounts (leaver graft) (location_of graft.place)
+    (length graft.tree.now)
     (parts_of nat_eq world (location_of graft.place)) (planned_copies world graft counts))
 all_pushed world one_child up graft counts before mount there stays number point =
     onto (seek (λ part. stands_at nat_eq (record { mount = part.number; node = place.node }) mount) receivers)
     (found_at
-    ∙ points_at world one_child up (leaver graft) place size copies sized before mount (among_from_contains world.mounts before there) stays number point receivers apart)
+    ∙ points_at world one_child up (leaver graft) place size copies sized before mount
+    (among_from_contains world.mounts before there) stays number point receivers apart)
   where
     place : Location ℕ
     place = location_of graft.place
@@ -219,40 +266,61 @@ all_pushed world one_child up graft counts before mount there stays number point
     size = length graft.tree.now
 
     receivers : List (Mount ℕ)
-    receivers = filter (takes_part nat_eq world (location_of graft.place)) (receivers_of nat_eq world (mount_at nat_eq world (location_of graft.place)))
+    receivers = filter (takes_part nat_eq world (location_of graft.place)) (receivers_of nat_eq world
+        (mount_at nat_eq world (location_of graft.place)))
 
     copies : Mount ℕ → List (Mount ℕ)
-    copies = copies_at nat_eq world (numbers_at world graft counts) (graft_in world graft counts) (parts_of nat_eq world (location_of graft.place))
+    copies = copies_at nat_eq world (numbers_at world graft counts) (graft_in world graft counts)
+        (parts_of nat_eq world (location_of graft.place))
 
     sized : (part : Mount ℕ) → length (copies part) ≡ size
-    sized part = length-map (graft_in world graft counts).twigs _ ∙ length-map (map mount_of graft.tree.now) _ ∙ length-map graft.tree.now mount_of
+    sized part = length-map (graft_in world graft counts).twigs _ ∙ length-map (map mount_of graft.tree.now) _
+        ∙ length-map graft.tree.now mount_of
 
     apart : (part : Mount ℕ) → Among part receivers → nat_eq part.number place.mount ≡ false
     apart part m =
-        let takes = (among-from_filter (takes_part nat_eq world (location_of graft.place)) (receivers_of nat_eq world (mount_at nat_eq world (location_of graft.place))) part m).1 in
-        turned (nat_eq place.mount part.number) refl (and_parts (not (nat_eq place.mount part.number)) _ (and_parts _ _ (and_parts _ _ takes).0).0).0
+        let takes = (among-from_filter (takes_part nat_eq world (location_of graft.place))
+        (receivers_of nat_eq world (mount_at nat_eq world (location_of graft.place))) part m).1 in
+        turned (nat_eq place.mount part.number) refl (and_parts (not (nat_eq place.mount part.number)) _
+        (and_parts _ _ (and_parts _ _ takes).0).0).0
       where
-        turned : (b : Bool) → nat_eq place.mount part.number ≡ b → not (nat_eq place.mount part.number) ≡ true → nat_eq part.number place.mount ≡ false
+        turned : (b : Bool) → nat_eq place.mount part.number ≡ b → not (nat_eq place.mount part.number) ≡ true
+            → nat_eq part.number place.mount ≡ false
         turned b is e = eqb-turned part.number place.mount (not-true (nat_eq place.mount part.number) e)
 
     -- the first part is the destination
-    found_at : lookup (nat_eq mount.number) (pushes_from world.mounts (leaver graft) place size (mount_at nat_eq world place ∷ receivers)
+    found_at : lookup (nat_eq mount.number) (pushes_from world.mounts (leaver graft) place size
+        (mount_at nat_eq world place ∷ receivers)
         (copies (mount_at nat_eq world place) ++ flat_map copies receivers))
-        ≡ lookup (nat_eq mount.number) (pushes_from world.mounts (leaver graft) place size receivers (flat_map copies receivers))
+        ≡ lookup (nat_eq mount.number) (pushes_from world.mounts (leaver graft) place size receivers
+        (flat_map copies receivers))
     found_at =
         ap (λ b. lookup (nat_eq mount.number) (cons_option
-        (if b then None else option_map (λ n. (n, top_of_copies nat_eq (take size (copies (mount_at nat_eq world place) ++ flat_map copies receivers)) place))
-        (stander world.mounts (leaver graft) (record { mount = (mount_at nat_eq world place).number; node = place.node })))
-        (pushes_from world.mounts (leaver graft) place size receivers (drop size (copies (mount_at nat_eq world place) ++ flat_map copies receivers)))))
+        (if b then None else option_map (λ n. (
+          n,
+          top_of_copies nat_eq (take size (copies
+              (mount_at nat_eq world place) ++ flat_map copies receivers)) place,
+        ))
+        (stander world.mounts (leaver graft) (record {
+          mount =
+              (mount_at nat_eq world place).number;
+          node = place.node;
+        })))
+        (pushes_from world.mounts (leaver graft) place size receivers (drop size (copies
+        (mount_at nat_eq world place) ++ flat_map copies receivers)))))
         (eq-eqb (mount_at nat_eq world place).number place.mount (number_at world.mounts place.mount))
         ∙ ap (λ l. lookup (nat_eq mount.number) (pushes_from world.mounts (leaver graft) place size receivers l))
-        (ap (λ n. drop n (copies (mount_at nat_eq world place) ++ flat_map copies receivers)) (sym (sized (mount_at nat_eq world place)))
+        (ap (λ n. drop n (copies (mount_at nat_eq world place) ++ flat_map copies receivers)) (sym (sized
+        (mount_at nat_eq world place)))
         ∙ drop-append_seam (copies (mount_at nat_eq world place)) (flat_map copies receivers))
 
-    onto : (found : Option (Mount ℕ)) → lookup (nat_eq mount.number) (pushes_from world.mounts (leaver graft) place size (mount_at nat_eq world place ∷ receivers)
+    onto : (found : Option (Mount ℕ))
+        → lookup (nat_eq mount.number) (pushes_from world.mounts (leaver graft) place size
+        (mount_at nat_eq world place ∷ receivers)
         (copies (mount_at nat_eq world place) ++ flat_map copies receivers))
         ≡ option_map (λ part. top_of_copies nat_eq (copies part) place) found
-        → pushed_onto nat_eq world (numbers_at world graft counts) (graft_in world graft counts) (parts_of nat_eq world (location_of graft.place)) mount found
+        → pushed_onto nat_eq world (numbers_at world graft counts) (graft_in world graft counts)
+        (parts_of nat_eq world (location_of graft.place)) mount found
         ≡ moved_by (pushes_from world.mounts (leaver graft) place size (mount_at nat_eq world place ∷ receivers)
         (copies (mount_at nat_eq world place) ++ flat_map copies receivers)) mount
     onto None e = λ i. record mount { mount_point = or_else (sym e i) mount.mount_point }

@@ -1,5 +1,5 @@
 -- What an attachment makes, as code has it: copies of mounts, and new groups.
-use Rattle.std.specs.Prelude.{List, Option, Some, [], length, map, nat_eq, not, option_map, if◌then◌else◌, ℕ, ◌*◌, ◌+◌, ◌<◌}
+use Rattle.std.specs.Prelude.{List, Option, Some, [], length, map, nat_eq, not, if◌then◌else◌, ℕ, ◌*◌, ◌+◌, ◌<◌}
 use Rattle.vt_spec.specs.Lists.{Fresh, then_some, when}
 use Rattle.vt_spec.specs.Machine.Attach as meant
 use Rattle.vt_spec.specs.Machine.Attach.{Copies, Twig, copies_from, copy_number, copy_place, copy_type, image, is_destination}
@@ -8,19 +8,14 @@ use Rattle.vt_spec.specs.Machine.Mounts.{Mount, group_of}
 use Rattle.vt_spec.specs.Machine.Receives.{is_member_of}
 use Rattle.vt_spec.specs.Machine.World.{World}
 use Rattle.vt_group.specs.Grouping.{Grouping, master_in}
-use Rattle.vt_group.specs.Steps.{group_number}
+pub use Rattle.vt_group.specs.Together.{new_group}
 use Rattle.vt_location.specs.Locations.{location_of}
 use Rattle.vt_location.specs.MountValue.{mount_of}
 use Rattle.vt_location.specs.Numbers.{counted}
 use Rattle.vt_mount.specs.MountsValue.{MountEntry, mounts_in}
 use Rattle.vt_propagate.specs.declared.copying.Counts.{Counts}
 use Rattle.vt_propagate.specs.declared.copying.Graft.{Graft}
-use Rattle.vt_propagate.specs.declared.copying.NewGroup.{NewGroup}
 use Rattle.vt_propagate.specs.declared.numbering.Copying.{Copying}
-
--- a new group, with its master
-abbrev pub new_group : NewGroup → ℕ × Option ℕ
-new_group new = (group_number new.group, option_map group_number new.master)
 
 -- the numbers of counts, each as far from the one before
 abbrev pub counts_from : Counts → Fresh ℕ

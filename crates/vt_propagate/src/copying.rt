@@ -1,5 +1,5 @@
 //! What an attachment makes: copies of a tree of mounts at its parts, and the groups that they form.
-ghost use Rattle.std.specs.Prelude.{◌≡◌, ◌<◌, ◌++◌, IfErr, IfOk, OnOk, filter_map, flat_map, length, map, nat_eq, option_map, ℕ};
+ghost use Rattle.std.specs.Prelude.{◌≡◌, ◌<◌, ◌*◌, ◌++◌, IfErr, IfOk, OnOk, filter_map, flat_map, length, map, nat_eq, option_map, ℕ};
 ghost use Rattle.vt_spec.specs.declared.errors.Rule.TheVariants.{S5};
 ghost use Rattle.vt_spec.specs.Errors.{denial};
 ghost use Rattle.vt_spec.specs.Machine.Attach.{copy_place as copy_place_of, is_top as is_top_of, parts_of, twig_master};
@@ -16,7 +16,7 @@ ghost use Rattle.vt_propagate.specs.Seen.{IsSeen};
 
 use crate::numbering::{Copying, is_member};
 use std::alloc::{AllocError, Global};
-use vt_group::Groups;
+use vt_group::{Groups, NewGroup};
 use vt_location::{GroupId, Location, Mount, MountId, Propagation};
 use vt_mount::Mounts;
 use vt_spec::errors::{Deny, Rule};
@@ -41,13 +41,6 @@ pub struct Counts {
     pub step: u64,
 }
 
-/// A group that copies of a mount form, and its master.
-#[derive(Clone, Copy, Debug, PartialEq, Eq)]
-pub struct NewGroup {
-    pub group: GroupId,
-    pub master: Option<GroupId>,
-}
-
 /// The copies that are attached, with their types: all at the destination, in the order of the tree, then all at each receiver.
 /// Where a tree moves, those at the destination are the mounts themselves, as they are there. The copy at the i-th part of the
 /// j-th mount of n, both from 0, is the `2·(n·i + j)`-th of the counts. For each copy all parts and the whole tree are passed over.
@@ -61,6 +54,7 @@ pub fn copies(
     counts: Counts,
 ) -> Result<Vec<Mount>, Deny>
     requires { HasRoomFor graft.now counts }
+    ensures length { IfOk result (λ copies. length copies.items ≡ length graft.now.parts.now * length graft.now.tree.now) }
     ensures ok { IfOk result (λ copies. (world : World ℕ) → IsSeen world mounts.now groups.now
         → map mount_of graft.now.parts.now ≡ parts_of nat_eq world (location_of graft.now.place)
         → map mount_of copies.items ≡ planned_copies world graft.now counts) }

@@ -1,7 +1,9 @@
 //! How mounts and unmounts propagate between peer groups: mount_namespaces(7), and the kernel's document sharedsubtree.
 #![tactic(auto)]
 
+mod attaching;
 mod copying;
+mod detaching;
 mod falling;
 mod filling;
 mod groups;
@@ -11,7 +13,9 @@ mod reach;
 mod receiving;
 mod unmounting;
 
-pub use copying::{Counts, Graft, NewGroup, copies, new_groups};
+pub use attaching::{Plan, attachment};
+pub use copying::{Counts, Graft, copies, new_groups};
+pub use detaching::{Detachment, unmount};
 pub use falling::{NewPoint, points_left};
 pub use filling::{Load, overfills};
 pub use pushing::pushes;

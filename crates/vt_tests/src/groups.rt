@@ -1,7 +1,11 @@
 //! Peer groups as mount_namespaces(7) tells of them.
 use std::test::Fail;
+<<<<<<< HEAD:crates/vt_tests/src/groups.rt
 use vt_group::Groups;
 use vt_location::{GroupId, MountId, Propagation};
+=======
+use vt_location::{FilesystemId, GroupId, Mount, MountFlags, MountId, NodeRef, Propagation};
+>>>>>>> propagation:crates/vt_group/src/tests.rt
 
 fn mount(count: u64) -> MountId {
     MountId::new(count)
@@ -64,5 +68,61 @@ fn slaves_without_an_heir_are_private(rt: HostRuntime) -> Result<(), Fail> {
         Some(Propagation::Shared(group(11)))
     );
     assert_eq!(rt; groups.master_of(group(11)), None);
+    Ok(())
+}
+
+#[test]
+fn mounts_become_shared_and_slaves_at_once(rt: HostRuntime) -> Result<(), Fail> {
+    let mut groups = family(rt)?;
+    groups.share([(mount(3), group(12)), (mount(6), group(13))].as_slice())?;
+    assert_eq!(rt; groups.master_of(group(12)), Some(group(10)));
+    assert_eq!(rt;
+        groups.propagation_of(mount(6)),
+        Some(Propagation::Shared(group(13)))
+    );
+    groups.make_slaves([mount(1), mount(2), mount(6)].as_slice());
+    assert_eq!(rt; groups.propagation_of(mount(1)), None);
+    assert_eq!(rt; groups.propagation_of(mount(6)), None);
+    assert_eq!(rt; groups.master_of(group(12)), None);
+    Ok(())
+}
+
+// A mount with this number and type.
+fn typed(count: u64, propagation: Propagation) -> Mount {
+    Mount {
+        number: mount(count),
+        namespace: None,
+        mount_point: None,
+        root: NodeRef {
+            filesystem: FilesystemId::new(0),
+            slot: 0,
+        },
+        flags: MountFlags::plain(),
+        propagation,
+    }
+}
+
+#[test]
+fn a_group_is_added_before_its_master(rt: HostRuntime) -> Result<(), Fail> {
+    let mut groups = family(rt)?;
+    let mounts = [
+        typed(6, Propagation::Shared(group(12))),
+        typed(7, Propagation::Shared(group(13))),
+    ];
+    let new = [
+        NewGroup {
+            group: group(12),
+            master: Some(group(13)),
+        },
+        NewGroup {
+            group: group(13),
+            master: Some(group(10)),
+        },
+    ];
+    groups.add(mounts.as_slice(), new.as_slice())?;
+    let below = groups.receivers(rt.alloc(), group(13))?;
+    assert_eq!(rt; below.as_slice(), [mount(6), mount(7)].as_slice());
+    groups.leave_all([mount(7)].as_slice());
+    assert_eq!(rt; groups.master_of(group(12)), Some(group(10)));
     Ok(())
 }

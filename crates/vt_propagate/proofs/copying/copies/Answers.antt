@@ -1,4 +1,8 @@
-use Rattle.std.proofs.Common.{◌∙◌}
+use Rattle.std.proofs.Common.{ap, length, sym, ◌∙◌, ◌*◌}
+use Rattle.std.proofs.lemmas.List.{length-map}
+use Rattle.vt_location.specs.MountValue.{mount_of}
+use Rattle.vt_propagate.specs.Copying.{as_kept, copied, parts_seen, tree_seen}
+use Rattle.vt_propagate.proofs.Attached.{length-rows}
 use Rattle.vt_propagate.specs.declared.numbering.Copying.{Copying}
 use Rattle.vt_propagate.proofs.Planning.{copies_planned, first_part}
 use Rattle.vt_propagate.proofs.copying.copies.Goals as goal
@@ -9,3 +13,10 @@ returns-clause-ok c world seen are =
     c.in-Ok.ensures
     ∙ copies_planned world c.args.mounts.now c.args.groups.now seen copying
     (first_part c.args.graft.now.parts.now c.in-Some.destination.now c.in-Some.ensures.value _ _ are) are
+
+pub returns-clause-length : goal.returns-clause-length
+returns-clause-length c =
+    let copying : Copying = record { graft = c.args.graft.now; destination = c.in-Some.destination.now; counts = c.args.counts } in
+    sym (length-map c.in-Ok.copies.items mount_of) ∙ ap length c.in-Ok.ensures
+    ∙ length-rows (copied (as_kept c.args.mounts.now c.args.groups.now) copying) (tree_seen copying) (parts_seen copying)
+    ∙ (λ i. length-map c.args.graft.now.parts.now mount_of i * length-map c.args.graft.now.tree.now mount_of i)

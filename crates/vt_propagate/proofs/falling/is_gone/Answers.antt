@@ -10,5 +10,7 @@ pub returns : goal.returns
 returns c =
     let id = c.args.id.count in
     let test = (λ (other : MountId). nat_eq other.count id) in
-    any_from_yields_List test _ _ _ c.any.ensures.ran (YieldsList-from_slice c.args.gone.now cc) (λ x b q k. search rules)
-    ∙ any-seen (λ (other : MountId). counted other.count) test (nat_eq (counted id)) (λ other. turned_count other.count id) c.args.gone.now
+    any_from_yields_List test _ _ _ c.any.ensures.ran (YieldsList-from_slice c.args.gone.now cc)
+    (λ x b q k. search rules)
+    ∙ any-seen (λ (other : MountId). counted other.count) test (nat_eq (counted id))
+    (λ other. turned_count other.count id) c.args.gone.now

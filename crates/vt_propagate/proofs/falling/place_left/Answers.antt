@@ -11,5 +11,9 @@ pub loop-preserved : goal.loop-preserved
 loop-preserved c =
     let step = mount_point_of_parent nat_eq (of_mounts (mounts_in c.args.mounts.now)) (counts c.args.gone.now) in
     let is : step (location_of c.loop.here) ≡ Some (location_of c.in-Some.below) = sym c.in-Some.ensures in
-    let one : c.len-end.result - c.loop.counter ≡ suc (c.len-end.result - (c.loop.counter + 1)) = omega (arith, c.loop-test.true) in
-    (c.loop.invariant.0, sym (end-more step _ _ _ is) ∙ ap (λ n. end_of step n (location_of c.loop.here)) (sym one) ∙ c.loop.invariant.1)
+    let one : c.len-end.result - c.loop.counter
+    ≡ suc (c.len-end.result - (c.loop.counter + 1)) = omega (arith, c.loop-test.true) in (
+      c.loop.invariant.0,
+      sym (end-more step _ _ _ is) ∙ ap (λ n. end_of step n (location_of c.loop.here)) (sym one)
+          ∙ c.loop.invariant.1,
+    )

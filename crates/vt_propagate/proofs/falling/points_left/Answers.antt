@@ -7,5 +7,6 @@ use Rattle.vt_propagate.proofs.falling.points_left.Goals as goal
 
 pub returns-clause-ok : goal.returns-clause-ok
 returns-clause-ok c world same =
-    subst (LeavesBy world (counts c.args.gone.now)) (sym (c.in-Ok.ensures ∙ ap (λ mounts. all_points_left mounts (counts c.args.gone.now)) same))
+    subst (LeavesBy world (counts c.args.gone.now)) (sym (c.in-Ok.ensures
+    ∙ ap (λ mounts. all_points_left mounts (counts c.args.gone.now)) same))
     (leaves world (ap are_ascending (sym same) ∙ c.are_ascending.ensures) (counts c.args.gone.now))

@@ -22,17 +22,25 @@ loop-mount-preserved c world has live =
 pub returns-clause-detached : goal.returns-clause-detached
 returns-clause-detached c world has live =
     taken_has world live (map (λ mount. counted mount.count) c.args.mounts.now) c.loop-mount.self
-    (subst (λ mounts. Has (regrouped nat_eq (with_changed as_private world (map (λ mount. counted mount.count) mounts))) c.loop-mount.self)
-    (take_all c.loop-mount.mount-index c.args.mounts.now c.loop-mount-test.false) (c.loop-mount.invariant world has live))
+    (subst (λ mounts. Has (regrouped nat_eq (with_changed as_private world (map
+    (λ mount. counted mount.count) mounts))) c.loop-mount.self)
+    (take_all c.loop-mount.mount-index c.args.mounts.now c.loop-mount-test.false)
+    (c.loop-mount.invariant world has live))
 
 pub returns-clause-private : goal.returns-clause-private
 returns-clause-private c world group named has live are lacks =
-    privately_has world live (map (λ mount. counted mount.count) c.args.mounts.now) group named are lacks c.loop-mount.self
-    (subst (λ mounts. Has (regrouped nat_eq (with_changed as_private world (map (λ mount. counted mount.count) mounts))) c.loop-mount.self)
-    (take_all c.loop-mount.mount-index c.args.mounts.now c.loop-mount-test.false) (c.loop-mount.invariant world has live))
+    privately_has world live (map (λ mount. counted mount.count) c.args.mounts.now) group named are lacks
+    c.loop-mount.self
+    (subst (λ mounts. Has (regrouped nat_eq (with_changed as_private world (map
+    (λ mount. counted mount.count) mounts))) c.loop-mount.self)
+    (take_all c.loop-mount.mount-index c.args.mounts.now c.loop-mount-test.false)
+    (c.loop-mount.invariant world has live))
 
 pub returns-clause-unbindable : goal.returns-clause-unbindable
 returns-clause-unbindable c world group named has live are lacks =
-    unbindably_has world live (map (λ mount. counted mount.count) c.args.mounts.now) group named are lacks c.loop-mount.self
-    (subst (λ mounts. Has (regrouped nat_eq (with_changed as_private world (map (λ mount. counted mount.count) mounts))) c.loop-mount.self)
-    (take_all c.loop-mount.mount-index c.args.mounts.now c.loop-mount-test.false) (c.loop-mount.invariant world has live))
+    unbindably_has world live (map
+    (λ mount. counted mount.count) c.args.mounts.now) group named are lacks c.loop-mount.self
+    (subst (λ mounts. Has (regrouped nat_eq (with_changed as_private world (map
+    (λ mount. counted mount.count) mounts))) c.loop-mount.self)
+    (take_all c.loop-mount.mount-index c.args.mounts.now c.loop-mount-test.false)
+    (c.loop-mount.invariant world has live))

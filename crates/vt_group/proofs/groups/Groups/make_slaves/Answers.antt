@@ -20,6 +20,9 @@ loop-mount-preserved c world has live =
 
 pub returns : goal.returns
 returns c world group named has live are lacks =
-    slavishly_has world live (map (λ mount. counted mount.count) c.args.mounts.now) group named are lacks c.loop-mount.self
-    (subst (λ mounts. Has (regrouped nat_eq (with_changed as_slave world (map (λ mount. counted mount.count) mounts))) c.loop-mount.self)
-    (take_all c.loop-mount.mount-index c.args.mounts.now c.loop-mount-test.false) (c.loop-mount.invariant world has live))
+    slavishly_has world live (map (λ mount. counted mount.count) c.args.mounts.now) group named are lacks
+    c.loop-mount.self
+    (subst (λ mounts. Has (regrouped nat_eq (with_changed as_slave world (map
+    (λ mount. counted mount.count) mounts))) c.loop-mount.self)
+    (take_all c.loop-mount.mount-index c.args.mounts.now c.loop-mount-test.false)
+    (c.loop-mount.invariant world has live))

@@ -9,4 +9,5 @@ use Rattle.vt_group.proofs.groups.Groups.make_slaves.Given as goal
 abbrev pub invariant-loop-mount : goal.invariant-loop-mount
 invariant-loop-mount l =
     (world : World ℕ) → Has world l.initial.self → GroupsLive world
-    → Has (regrouped nat_eq (with_changed as_slave world (map (λ mount. counted mount.count) (take l.mount-index l.mounts)))) l.self
+    → Has (regrouped nat_eq (with_changed as_slave world (map (λ mount. counted mount.count)
+    (take l.mount-index l.mounts)))) l.self

@@ -12,10 +12,22 @@ pub returns-in_ok-insert : goal.returns-in_ok-insert
 returns-in_ok-insert c =
     let count = c.args.mount.count in
     let kind = c.args.kind in
-    let inserted = ap (map numbered_peer) c.in_ok-insert.ensures.entries ∙ inserted-numbered propagation_of count kind c.self.inside.mounts.entries
+    let inserted = ap (map numbered_peer) c.in_ok-insert.ensures.entries
+    ∙ inserted-numbered propagation_of count kind c.self.inside.mounts.entries
     ∙ (λ i. insert_entry nat_cmp (c.self.view_is i).peers (counted count) (propagation_of kind)) in
-    (λ i. record { peers = (inserted ∙ put_sourced c.source.result _ c.args.self.now.peers _ c.source.ensures (sym c.is_some.ensures ∙ c.if-is_some.true)) i; masters = (c.self.view_is i).masters })
+    (λ i. record {
+      peers = (inserted
+          ∙ put_sourced c.source.result _ c.args.self.now.peers _ c.source.ensures (sym c.is_some.ensures
+          ∙ c.if-is_some.true)) i;
+      masters = (c.self.view_is i).masters;
+    })
 
 pub returns-else-is_some : goal.returns-else-is_some
 returns-else-is_some c =
-    λ i. record { peers = put_nothing c.source.result _ c.args.self.now.peers (insert_entry nat_cmp c.args.self.now.peers (counted c.args.mount.count) (propagation_of c.args.kind)) c.source.ensures (sym c.is_some.ensures ∙ c.if-is_some.false) i; masters = c.args.self.now.masters }
+    λ i. record {
+      peers = put_nothing c.source.result _ c.args.self.now.peers
+          (insert_entry nat_cmp c.args.self.now.peers (counted c.args.mount.count)
+          (propagation_of c.args.kind)) c.source.ensures (sym c.is_some.ensures
+          ∙ c.if-is_some.false) i;
+      masters = c.args.self.now.masters;
+    }

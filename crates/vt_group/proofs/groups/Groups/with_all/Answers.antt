@@ -15,14 +15,17 @@ loop-mount-preserved c =
 pub loop-group-init : goal.loop-group-init
 loop-group-init c =
     c.loop-mount.invariant
-    ∙ ap (λ mounts. all_added c.args.self.now (map typed mounts) []) (take_all c.loop-mount.mount-index c.args.mounts.now c.loop-mount-test.false)
+    ∙ ap (λ mounts. all_added c.args.self.now (map typed mounts) [])
+    (take_all c.loop-mount.mount-index c.args.mounts.now c.loop-mount-test.false)
 
 pub loop-group-preserved : goal.loop-group-preserved
 loop-group-preserved c =
-    mastered_more c.args.self.now c.loop-group.grown _ c.args.mounts.now c.args.new.now c.loop-group.group-index _ c.loop-group-test.true
+    mastered_more c.args.self.now c.loop-group.grown _ c.args.mounts.now c.args.new.now c.loop-group.group-index _
+    c.loop-group-test.true
     c.in_ok-put_master.ensures c.loop-group.invariant
 
 pub returns : goal.returns
 returns c =
     c.loop-group.invariant
-    ∙ ap (λ new. all_added c.args.self.now (map typed c.args.mounts.now) (map new_group new)) (take_all c.loop-group.group-index c.args.new.now c.loop-group-test.false)
+    ∙ ap (λ new. all_added c.args.self.now (map typed c.args.mounts.now) (map new_group new))
+    (take_all c.loop-group.group-index c.args.new.now c.loop-group-test.false)

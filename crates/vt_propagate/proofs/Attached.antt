@@ -1,0 +1,68 @@
+-- An attachment is what its plans say.
+use Rattle.std.proofs.Common.{◌≡◌, ℕ, false, List, [], ◌∷◌, ◌++◌, map, nat_eq, refl, sym, ap, ◌∙◌, arith, length, ◌+◌, ◌*◌}
+use Rattle.std.proofs.lemmas.List.{append_assoc, length-append, length-map}
+use Rattle.std.specs.Prelude.{None, Option, flat_map, if◌then◌else◌, option_map}
+use Rattle.vt_spec.specs.Lists.{first_of_list, folded, holds_of, rest_of}
+use Rattle.vt_spec.specs.Machine.Attach.{added_mounts, copies_at, masters_with, parts_of, pushed_up, with_moved_mounts}
+use Rattle.vt_spec.specs.Machine.Mounts.{Location, Mount}
+use Rattle.vt_spec.specs.Machine.World.{World, mount_at}
+use Rattle.vt_spec.proofs.Lists.{contains_from_among}
+use Rattle.vt_group.proofs.Together.{map_alike}
+use Rattle.vt_location.specs.Locations.{location_of}
+use Rattle.vt_location.specs.Numbers.{counted}
+use Rattle.vt_propagate.specs.declared.copying.Counts.{Counts}
+use Rattle.vt_propagate.specs.declared.copying.Graft.{Graft}
+use Rattle.vt_propagate.specs.Attaching.{AttachesBy}
+use Rattle.vt_propagate.specs.Falling.{moved_by}
+use Rattle.vt_propagate.specs.Planned.{graft_in, numbers_at, planned_copies, planned_groups}
+use Rattle.vt_propagate.specs.Pushing.{PushesBy, leaver}
+
+pub length-rows : {A B C : Type 0} (f : A → B → C) (row : List B) (list : List A)
+    → length (flat_map (λ a. map (f a) row) list) ≡ length list * length row
+length-rows f row [] = omega arith
+length-rows f row (a ∷ list) =
+    let whole : length (map (f a) row ++ flat_map (λ a. map (f a) row) list)
+    ≡ length (map (f a) row) + length (flat_map (λ a. map (f a) row) list) =
+    length-append (map (f a) row) (flat_map (λ a. map (f a) row) list) in
+    let one : length (map (f a) row) ≡ length row = length-map row (f a) in
+    let rest : length (flat_map (λ a. map (f a) row) list) ≡ length list * length row = length-rows f row list in
+    omega (arith, whole, one, rest)
+
+pub attached_by_plans : (world : World ℕ) (graft : Graft) (counts : Counts) (copies : List (Mount ℕ)) (new : List
+    (ℕ × Option ℕ))
+    (points : List (ℕ × Location ℕ)) → copies ≡ planned_copies world graft counts → new
+    ≡ planned_groups world graft counts
+    → PushesBy world graft counts points → AttachesBy world graft counts copies new points
+attached_by_plans world graft counts copies new points copies_are groups_are pushes = record {
+  copies_are = copies_are;
+  groups_are = groups_are;
+  pushes = pushes;
+  bind = λ binds i. record world {
+    mounts = (append_assoc (map pushed (with_moved_mounts nat_eq graft.moves world.mounts moved))
+        (added_mounts graft.moves moved) elsewhere
+        ∙ (λ j. map pushed (with_moved_mounts nat_eq (binds j) world.mounts moved) ++ (added_mounts
+        (binds j) moved ++ elsewhere))
+        ∙ ap (λ mounts. mounts ++ (moved ++ elsewhere)) (map_alike pushed (moved_by points) world.mounts (λ mount m.
+        pushes mount mount (contains_from_among world.mounts mount m) (stays mount.number binds) refl refl))
+        ∙ ap (λ more. map (moved_by points) world.mounts ++ more) (sym copies_are)) i;
+    master = folded (masters_with nat_eq) world.master (sym groups_are i);
+  };
+}
+  where
+    pushed : Mount ℕ → Mount ℕ
+    pushed = pushed_up nat_eq world (numbers_at world graft counts) (graft_in world graft counts)
+        (parts_of nat_eq world (location_of graft.place))
+
+    moved : List (Mount ℕ)
+    moved = copies_at nat_eq world (numbers_at world graft counts) (graft_in world graft counts)
+        (parts_of nat_eq world (location_of graft.place))
+        (mount_at nat_eq world (location_of graft.place))
+
+    elsewhere : List (Mount ℕ)
+    elsewhere = flat_map (copies_at nat_eq world (numbers_at world graft counts) (graft_in world graft counts)
+        (parts_of nat_eq world (location_of graft.place)))
+        (rest_of (parts_of nat_eq world (location_of graft.place)))
+
+    stays : (number : ℕ) → graft.moves ≡ false → holds_of (nat_eq number) (leaver graft) ≡ false
+    stays number binds = ap (λ b. holds_of (nat_eq number) (if b then option_map (λ top. counted top.number.count)
+        (first_of_list graft.tree.now) else None)) binds

@@ -1,0 +1,14 @@
+use Rattle.std.proofs.Common.{ap, map, nat_eq, sym, ◌∙◌}
+use Rattle.vt_spec.specs.Machine.Detach.{taken_away}
+use Rattle.vt_spec.specs.Machine.Receives.{regrouped}
+use Rattle.vt_spec.specs.Machine.World.{with_mounts}
+use Rattle.vt_propagate.specs.Falling.{left_by, point_of}
+use Rattle.vt_propagate.proofs.Found.{counts}
+use Rattle.vt_propagate.proofs.detaching.unmount.Goals as goal
+
+pub returns-clause-ok : goal.returns-clause-ok
+returns-clause-ok c world seen =
+    ap (taken_away nat_eq world) (sym (c.in_ok-gone.ensures.ok world seen)) ∙ ap (λ ids. taken_away nat_eq world (counts ids)) (sym c.deref.ensures.value)
+    ∙ c.in_ok-points.ensures.ok world seen.mounts
+    ∙ ap (λ ids. regrouped nat_eq (with_mounts world (map (left_by (counts ids) (map point_of c.in_ok-points.points.items)) world.mounts)))
+    c.deref.ensures.value

@@ -1,0 +1,61 @@
+//! All that an attachment makes, planned at once.
+ghost use Rattle.std.specs.Prelude.{◌≡◌, IfErr, IfOk, map, nat_eq, ℕ};
+ghost use Rattle.vt_spec.specs.declared.errors.Rule.TheVariants.{S5};
+ghost use Rattle.vt_spec.specs.Errors.{denial};
+ghost use Rattle.vt_spec.specs.Machine.Attach.{parts_of};
+ghost use Rattle.vt_spec.specs.Machine.World.{World};
+ghost use Rattle.vt_location.specs.Locations.{location_of};
+ghost use Rattle.vt_location.specs.MountValue.{mount_of};
+ghost use Rattle.vt_propagate.specs.Attaching.{AttachesBy};
+ghost use Rattle.vt_propagate.specs.Copying.{HasRoomFor, new_group};
+ghost use Rattle.vt_propagate.specs.Falling.{point_of};
+ghost use Rattle.vt_propagate.specs.Pushing.{OneChild};
+ghost use Rattle.vt_propagate.specs.Seen.{IsSeen};
+
+use crate::copying::{Counts, Graft, copies, new_groups};
+use crate::falling::NewPoint;
+use crate::pushing::pushes;
+use std::alloc::Global;
+use vt_group::{Groups, NewGroup};
+use vt_location::Mount;
+use vt_mount::Mounts;
+use vt_spec::errors::Deny;
+
+/// The plan of an attachment.
+#[derive(Debug, Drop)]
+pub struct Plan {
+    /// The copies at the destination, then those at each receiver, as `copies` returns them.
+    pub copies: Vec<Mount>,
+    /// The groups that they form.
+    pub groups: Vec<NewGroup>,
+    /// The new mount points of the mounts that stood at the places of receivers.
+    pub points: Vec<NewPoint>,
+}
+
+/// Plans an attachment. It changes nothing: the mounts that stood at receivers' places are to be moved, the copies to be attached,
+/// and their types and groups to be added to the groups.
+///
+/// S5 (ENOMEM): an allocation failed.
+pub fn attachment(
+    alloc: Global,
+    mounts: &Mounts,
+    groups: &Groups,
+    graft: &Graft,
+    counts: Counts,
+) -> Result<Plan, Deny>
+    requires { HasRoomFor graft.now counts }
+    ensures ok { IfOk result (λ plan. (world : World ℕ) → IsSeen world mounts.now groups.now → OneChild world
+        → map mount_of graft.now.parts.now ≡ parts_of nat_eq world (location_of graft.now.place)
+        → AttachesBy world graft.now counts (map mount_of plan.copies.items) (map new_group plan.groups.items)
+        (map point_of plan.points.items)) }
+    ensures memory { IfErr result (λ deny. deny ≡ denial S5) }
+{
+    let copies = copies(alloc, mounts, groups, graft, counts)?;
+    let new = new_groups(alloc, mounts, groups, graft, counts)?;
+    let points = pushes(alloc, mounts, graft, &copies)?;
+    Ok(Plan {
+        copies,
+        groups: new,
+        points,
+    })
+}
