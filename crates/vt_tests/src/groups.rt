@@ -1,11 +1,7 @@
 //! Peer groups as mount_namespaces(7) tells of them.
 use std::test::Fail;
-<<<<<<< HEAD:crates/vt_tests/src/groups.rt
-use vt_group::Groups;
-use vt_location::{GroupId, MountId, Propagation};
-=======
+use vt_group::{Groups, NewGroup};
 use vt_location::{FilesystemId, GroupId, Mount, MountFlags, MountId, NodeRef, Propagation};
->>>>>>> propagation:crates/vt_group/src/tests.rt
 
 fn mount(count: u64) -> MountId {
     MountId::new(count)
