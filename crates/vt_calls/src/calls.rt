@@ -9,11 +9,11 @@ ghost use Rattle.vt_calls.specs.Meets.{Ends};
 ghost use Rattle.vt_calls.specs.Permitted.{IsPermitted};
 
 use crate::spending::spend;
-use vt_policy::judge;
+use vt_ns::World;
 use vt_permits::Permit;
+use vt_policy::judge;
 use vt_request::{Answer, Call, TaskName};
 use vt_spec::errors::{Deny, Rule};
-use vt_ns::World;
 
 /// The calls of tasks.
 pub trait Calls {

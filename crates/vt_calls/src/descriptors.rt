@@ -3,10 +3,10 @@ ghost use Rattle.std.specs.Prelude.{◌≡◌, true};
 ghost use Rattle.vt_calls.specs.Kinds.{is_on_descriptor};
 ghost use Rattle.vt_calls.specs.Permitted.{EndsGiven, IsGiven};
 
+use vt_ns::World;
 use vt_permits::Permit;
 use vt_request::{Answer, TaskName};
 use vt_spec::errors::Deny;
-use vt_ns::World;
 
 // Opens or closes a file as a permit allows. S5 (ENOMEM): an allocation failed, or a count of uses is full; nothing has changed.
 pub(crate) fn change_descriptors(

@@ -3,10 +3,10 @@ ghost use Rattle.std.specs.Prelude.{◌≡◌, true};
 ghost use Rattle.vt_calls.specs.Kinds.{is_to_look};
 ghost use Rattle.vt_calls.specs.Permitted.{EndsGiven, IsGiven};
 
+use vt_ns::World;
 use vt_permits::Permit;
 use vt_request::{Answer, TaskName};
 use vt_spec::errors::Deny;
-use vt_ns::World;
 
 // What a permit to look is answered. S5 (ENOMEM): an allocation failed.
 pub(crate) fn look(world: &World, name: &TaskName, permit: Permit) -> Result<Answer, Deny>

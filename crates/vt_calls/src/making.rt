@@ -4,10 +4,10 @@ ghost use Rattle.vt_calls.specs.Kinds.{is_to_make};
 ghost use Rattle.vt_calls.specs.Permitted.{EndsGiven, IsGiven};
 
 use crate::answers::done;
+use vt_ns::World;
 use vt_permits::Permit;
 use vt_request::{Answer, TaskName};
 use vt_spec::errors::Deny;
-use vt_ns::World;
 
 // Makes a name as a permit allows. S5 (ENOMEM): an allocation failed, or a count of uses is full; nothing has changed.
 pub(crate) fn make(world: &mut World, name: &TaskName, permit: Permit) -> Result<Answer, Deny>

@@ -10,10 +10,10 @@ ghost use Rattle.vt_calls.specs.Permitted.{EndsGiven, IsGiven};
 
 use crate::answers::done;
 use vt_location::MountId;
+use vt_ns::World;
 use vt_permits::Permit;
 use vt_request::{Answer, TaskName, TypeWord};
 use vt_spec::errors::Deny;
-use vt_ns::World;
 
 // Changes mounts as a permit allows. S5 (ENOMEM): an allocation failed, or a count of uses is full; nothing has changed.
 pub(crate) fn change_mounts(

@@ -8,10 +8,10 @@ use crate::making::make;
 use crate::mounting::change_mounts;
 use crate::removing::remove;
 use crate::tasks::change_tasks;
+use vt_ns::World;
 use vt_permits::Permit;
 use vt_request::{Answer, TaskName};
 use vt_spec::errors::Deny;
-use vt_ns::World;
 
 // Does what a permit allows. S5 (ENOMEM): an allocation failed, or a count of uses is full; nothing has changed.
 pub(crate) fn spend(world: &mut World, name: &TaskName, permit: Permit) -> Result<Answer, Deny>
