@@ -50,7 +50,8 @@ impl Filesystem {
     }
 }
 
-// The filesystem of a number. The first one is the root filesystem, where most walks are: it is compared before a hash is taken.
+// The filesystem of a number. The first one is mostly the root filesystem, where most walks are: it is compared before a hash is
+// taken.
 fn found_under(
     by_number: &IndexMap<FilesystemId, Filesystem>,
     id: FilesystemId,

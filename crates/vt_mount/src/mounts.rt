@@ -48,8 +48,8 @@ impl Model for Mounts {
     ghost invariant = { λ m. IsIndexed m.indexes (in_order m.by_number.entries) };
 }
 
-// What is kept under a number. The first mount is the root of the first namespace, where most walks are: it is compared before
-// a hash is taken.
+// What is kept under a number. The first mount is mostly the root of the first namespace, where most walks are: it is compared
+// before a hash is taken.
 pub(crate) fn kept_under(by_number: &IndexMap<MountId, Mounted>, id: MountId) -> Option<&Mounted>
     ensures { option_copied result ≡ lookup (same_id id) by_number.now.entries }
 {
